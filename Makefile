@@ -72,6 +72,12 @@ uninstall: uninstall_library
 
 lib_dir = $(DESTDIR)$(PREFIX)/lib
 PYTHON_DIR ?= $(PREFIX)/lib/python3/dist-packages
+# The folder with the library, as the installed module names it: as seen from its own folder, or, if that is anywhere else, from the root.
+ifeq ($(PYTHON_DIR),$(PREFIX)/lib/python3/dist-packages)
+installed = ../..
+else
+installed = $(PREFIX)/lib
+endif
 
 install_library: $(library)
 	install -d '$(lib_dir)/pkgconfig' '$(DESTDIR)$(PREFIX)/include' '$(DESTDIR)$(PYTHON_DIR)'
@@ -79,7 +85,8 @@ install_library: $(library)
 	ln -sf libsgflines.so.0 '$(lib_dir)/libsgflines.so'
 	install -m 644 include/sgf_lines.h '$(DESTDIR)$(PREFIX)/include/sgf_lines.h'
 	sed 's|@PREFIX@|$(PREFIX)|; s|@VERSION@|$(shell cat VERSION)|' packaging/sgflines.pc.in > '$(lib_dir)/pkgconfig/sgflines.pc'
-	install -m 644 python/sgflines.py '$(DESTDIR)$(PYTHON_DIR)/sgflines.py'
+	sed 's|^INSTALLED = None|INSTALLED = "$(installed)"|' python/sgflines.py > '$(DESTDIR)$(PYTHON_DIR)/sgflines.py'
+	chmod 644 '$(DESTDIR)$(PYTHON_DIR)/sgflines.py'
 
 uninstall_library:
 	rm -f '$(lib_dir)/libsgflines.so.0' '$(lib_dir)/libsgflines.so' '$(lib_dir)/pkgconfig/sgflines.pc' \

@@ -31,6 +31,21 @@ print(*sgflines.count(open(sys.argv[1], "rb").read()))
 assert sgflines._LIBRARY._name.startswith(sys.argv[2]), sgflines._LIBRARY._name' "$top/examples/ko.sgf" "$root" > got
     same want got "what the Python module counts"
 fi
+# A module in a folder of its own finds the library, too. An installed module looks for no checkout.
+if command -v python3 > /dev/null; then
+    apart="PREFIX=$work/apart PYTHON_DIR=$work/modules/python"
+    make --no-print-directory -C "$top" install_library $apart > /dev/null
+    mkdir "$work/modules/include" "$work/modules/out"
+    touch "$work/modules/include/sgf_lines.h"
+    cp "$work/apart/lib/libsgflines.so.0" "$work/modules/out"
+    PYTHONPATH=$work/modules/python PYTHONDONTWRITEBYTECODE=1 env -u SGFLINES python3 -c '
+import sgflines
+print(sgflines._LIBRARY._name)' > got
+    echo "$work/apart/lib/libsgflines.so.0" > want
+    same want got "the library that a module in a folder of its own loads"
+    make --no-print-directory -C "$top" uninstall_library $apart > /dev/null
+    [ -z "$(find "$work/apart" "$work/modules/python" ! -type d)" ] || failed "files are left of the library"
+fi
 # The tools call the program that was installed with them, by its name, or the one that SGFSPLIT names.
 if command -v python3 > /dev/null; then
     "$SGFSPLIT" split "$top/examples/corner.sgf" > want

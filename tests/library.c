@@ -5,11 +5,14 @@
  *   library judge FILE                     judges the lines with the places that are read from standard input, and writes their verdicts
  *   library threads FILE                   four threads at once over the same bytes, in every form, with small stacks
  *   library refused FILE                   each request for memory refused in turn, in every form (built with REFUSED)
+ *   library memory FILE                    the memory of a split into a room that is too small, in every form (built with REFUSED)
  *
  * Texts and rooms end where memory does, so that a byte too far is a fault, and a room is tried with one byte too few and with some more.
  */
 #define _GNU_SOURCE
 #include <assert.h>
+#include <limits.h>
+#include <malloc.h>
 #include <pthread.h>
 #include <sgf_lines.h>
 #include <stdio.h>
@@ -231,33 +234,45 @@ void *__real_realloc(void *block, size_t size);
 void __real_free(void *block);
 
 static long asked_for, refused_at, blocks;
+static size_t held, most_held; /* bytes that the library has; while a block is moved, its old place and its new one */
+
+static void hold(size_t size) {
+    held += size;
+    if (held > most_held) most_held = held;
+}
 
 void *__wrap_malloc(size_t size) {
     void *block = refused_at && ++asked_for == refused_at ? NULL : __real_malloc(size);
-    if (refused_at && block) blocks++;
+    if (refused_at && block) blocks++, hold(malloc_usable_size(block));
     return block;
 }
 
 void *__wrap_realloc(void *block, size_t size) {
     check(block);
-    return refused_at && ++asked_for == refused_at ? NULL : __real_realloc(block, size);
+    if (!refused_at) return __real_realloc(block, size);
+    if (++asked_for == refused_at) return NULL;
+    size_t before = malloc_usable_size(block);
+    void *moved = __real_realloc(block, size);
+    if (moved) hold(malloc_usable_size(moved)), held -= before;
+    return moved;
 }
 
 void __wrap_free(void *block) {
-    if (refused_at && block) blocks--;
+    if (refused_at && block) blocks--, held -= malloc_usable_size(block);
     __real_free(block);
 }
 
-/* Refuses each request of a split in turn: the answer is want of memory, and nothing else is told but how many lines there was memory for. */
-static long refused_split(const uint8_t *text, size_t length, uint32_t form, long *most_lines) {
+/* Refuses each request of a split into a room of this size in turn: the answer is want of memory, and nothing else is told but how many lines
+ * there was memory for. */
+static long refused_split(const uint8_t *text, size_t length, uint32_t form, size_t size, long *most_lines) {
     struct sgf_lines_asked asked = {.form = form};
     struct sgf_lines_answer whole, answer;
-    uint8_t *room = __real_malloc(1 << 20);
-    uint32_t status = split(text, length, &asked, room, 1 << 20, &whole);
+    uint8_t *room = __real_malloc(size + 1);
+    uint32_t status = split(text, length, &asked, room, size, &whole);
     for (long number = 1;; number++) {
         asked_for = blocks = 0;
         refused_at = number;
-        uint32_t got = split(text, length, &asked, room, 1 << 20, &answer);
+        uint32_t got = split(text, length, &asked, room, size, &answer);
         refused_at = 0;
         check(blocks == 0);
         if (asked_for < number) {
@@ -311,7 +326,10 @@ static int refused(const char *name) {
     uint8_t *read = read_file(name, &length), *text = __real_malloc(length), *rows = __real_malloc(1 << 20);
     memcpy(text, read, length);
     long requests = refused_count(text, length), most_lines = 0;
-    for (uint32_t form = 0; form < 3; form++) requests += refused_split(text, length, form, &most_lines);
+    for (uint32_t form = 0; form < 3; form++) {
+        requests += refused_split(text, length, form, 1 << 20, &most_lines);
+        requests += refused_split(text, length, form, 0, &most_lines);
+    }
     struct sgf_lines_asked asked = {.form = SGF_LINES_LIST};
     struct sgf_lines_answer answer;
     requests += refused_judge(text, length, length);
@@ -321,6 +339,25 @@ static int refused(const char *name) {
     __real_free(rows);
     printf("%ld requests refused, memory for %ld lines at most\n", requests, most_lines);
     __real_free(text);
+    return 0;
+}
+
+/* A split into a room that is too small takes memory for all records, and at most for three times as many bytes, besides the text's nodes. */
+static int memory(const char *name) {
+    size_t length;
+    uint8_t *text = read_file(name, &length), none[1];
+    for (uint32_t form = 0; form < 3; form++) {
+        struct sgf_lines_asked asked = {.form = form};
+        struct sgf_lines_answer answer;
+        held = most_held = 0;
+        refused_at = LONG_MAX;
+        uint32_t status = split(text, length, &asked, none, 0, &answer);
+        refused_at = 0;
+        check(status == SGF_LINES_ROOM_TOO_SMALL && held == 0);
+        check(answer.bytes <= most_held && most_held <= 3 * answer.bytes + 32 * length + (1 << 18));
+        printf("form %u: %zu bytes for records of %llu\n", (unsigned)form, most_held, (unsigned long long)answer.bytes);
+    }
+    let_go(text, length);
     return 0;
 }
 
@@ -339,6 +376,7 @@ int main(int count, char **words) {
     if (!strcmp(what, "threads")) return threads(words[2]);
 #ifdef REFUSED
     if (!strcmp(what, "refused")) return refused(words[2]);
+    if (!strcmp(what, "memory")) return memory(words[2]);
 #endif
     return 2;
 }

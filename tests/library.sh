@@ -123,6 +123,9 @@ if cc "${strict[@]}" -g -fsanitize=address -o sanitized "$top/tests/library.c" "
         [ "$lines" -le "$most" ] || most=$lines
     done
     check 'some after a line' 1 "$([ "$most" -gt 0 ] && echo 1)"
+    { printf '(;SZ[9]C['; head -c 20000 /dev/zero | tr '\0' x; printf ']'; yes '(;B[aa])' | head -n 1000; printf ')'; } > lines.sgf
+    ./sanitized memory lines.sgf > out 2> err
+    check 'the memory of a split into no room' '0  3' "$? $(cat err) $(grep -c '^form' out)"
     for file in inputs/*.sgf; do
         for form in 0 1 2; do
             ./sanitized split $form - - "$file" > out 2> err

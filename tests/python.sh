@@ -1,6 +1,7 @@
 #!/usr/bin/env bash
-# The Python module over the shared library. On the examples and on inputs made to hurt it returns what the program writes, in every form and on
-# pages. Its faults are the program's, with their places. Its records and rows are those of the output. Threads split at once.
+# The Python module over the shared library. On the examples and on inputs made to hurt it returns what the program writes, in every form
+# and on pages. Its faults are the program's, with their places. Its records and rows are those of the output. Threads split at once. With
+# each Python from 3.9 on that is found, it keeps what it says of texts, arguments, faults, threads, processes and its library.
 . "$(dirname "$0")/lib.sh"
 [ -e "$top/out/libsgflines.so.0" ] || failed "no library at $top/out/libsgflines.so.0: run make lib first"
 needs python3
@@ -10,6 +11,23 @@ cp "$top"/examples/*.sgf inputs
 export PYTHONPATH=$top/python PYTHONDONTWRITEBYTECODE=1
 unset SGFLINES
 python3 -m doctest "$top/python/sgflines.py" || failed "an example of its text isn't so"
+
+# Each Python from 3.9 on that is on the PATH or that pyenv has, once.
+pythons=() versions=' '
+for python in $(compgen -c python3. | sort -u) "$HOME"/.pyenv/versions/*/bin/python3.*; do
+    [[ $python =~ (^|/)python3\.[0-9]+$ ]] || continue
+    version=$("$python" -c 'import ctypes, sys; print("%d.%d" % sys.version_info[:2] if sys.version_info >= (3, 9) else "")' 2> /dev/null) || continue
+    [ -n "$version" ] && [[ $versions != *" $version "* ]] || continue
+    versions+="$version " pythons+=("$python")
+done
+[ ${#pythons[@]} -gt 0 ] || pythons=(python3)
+for python in "${pythons[@]}"; do
+    mkdir calls
+    "$python" "$top/tests/python_calls.py" calls || failed "$python: status $?"
+    rm -r calls
+done
+echo "tried with ${pythons[*]}"
+
 python3 - inputs <<'PYTHON'
 import ctypes
 import glob
