@@ -22,6 +22,10 @@ counted-le (suc n) (o ∷ os) h =
     let one : suc n ≡ suc o.older_in_stretch = h.0 (omega arith) in
     omega (arith, one, counted-le o.older_in_stretch os h.1)
 
+-- so its count is below any number that they are below
+pub counted-below : (was older : List Older) (n most : ℕ) → older ≡ was → length older < most → AreCounted n (reverse was) → n < most
+counted-below was older n most same low counted = omega (arith, ap (λ (os : List Older). length os) same, low, counted-le n (reverse was) counted, length-reverse was)
+
 pub length-held : (g : Grid) (os : List Older) (changes : List Change) → length (held_before g os changes) ≡ length os
 length-held g [] changes = refl
 length-held g (o ∷ os) changes = ap suc (length-held (before g o changes) os (changes_before o changes))

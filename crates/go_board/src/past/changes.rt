@@ -17,7 +17,7 @@ use crate::stones::{Cell, Colour};
 
 /// One step in this many keeps all rows of the colouring before it. So an older colouring
 /// can be worked out from the next such step, or else from the newest colouring.
-pub(crate) const FULL: usize = 256;
+pub(crate) const FULL: usize = 128;
 
 /// The stones of a row before a step: a bit for each column.
 #[derive(Clone, Copy)]
@@ -33,7 +33,7 @@ pub(crate) struct Older {
     /// The index of the first of the changes that lead back to it from the colouring after it.
     pub start: usize,
     /// The number of older colourings in its stretch: 0 if it begins the stretch.
-    pub older_in_stretch: usize,
+    pub older_in_stretch: u32,
     /// Whether every stone of it is known to have a liberty.
     pub settled: bool,
 }

@@ -1,6 +1,7 @@
 //! Past colourings. The newest is kept whole. An older one is kept as the rows that lead back to it.
 
 ghost use Rattle.std.specs.Prelude.{◌≡◌, ◌+◌, ◌-◌, ◌*◌, ◌<◌, ◌≤◌, ◌↔◌, ◌∷◌, false, IsTrue, IsFalse, IfOk, OnOk, OnErr, if◌then◌else◌, length, map, take, drop};
+ghost use Rattle.std.specs.Vec.{vec_capacity};
 ghost use Rattle.go_board.specs.declared.stones.Cell.TheVariants.{Empty};
 ghost use Rattle.go_board.specs.Point.{IsOn};
 ghost use Rattle.go_board.specs.Grid.{cell_at};
@@ -24,6 +25,9 @@ use std::marker::Model;
 
 /// The number of older colourings that a new past has room for.
 const FIRST_OLDER: usize = 256;
+
+/// The most older colourings that are kept, so that a count of them fits into 32 bits.
+const MOST: usize = 0xffff_ffff;
 
 /// The colourings of a past, numbered from 0 in the order in which they were added.
 #[derive(Drop)]
@@ -90,7 +94,7 @@ impl Colourings {
         if number == self.older.len() {
             return number - self.older_in_stretch;
         }
-        number - self.older[number].older_in_stretch
+        number - self.older[number].older_in_stretch as usize
     }
 
     /// Whether the colouring with this number is the same as the board's.
@@ -135,16 +139,16 @@ impl Colourings {
     {
         self.newest.has_all_cells();
         board.has_all_cells();
-        self.older.reserve(1)?;
+        make_room(&mut self.older)?;
         let kept = Older {
             start: self.changes.len(),
-            older_in_stretch: self.older_in_stretch,
+            older_in_stretch: self.older_in_stretch as u32,
             settled: self.newest.is_settled(),
         };
         let all = is_full(self.older.len());
         let rows = rows_apart(&self.newest, board, all);
         keep_rows(&self.newest, rows, &mut self.changes)?;
-        self.older.push(kept).unwrap();
+        self.older.push_reserved(kept);
         self.newest = board.copy();
         self.older_in_stretch = next_older_in_stretch(self.older_in_stretch, begins);
         Ok(())
@@ -180,16 +184,16 @@ impl Colourings {
         ensures err { OnErr result (self.new ≡ self.old) }
     {
         self.newest.has_all_cells();
-        self.older.reserve(1)?;
+        make_room(&mut self.older)?;
         let kept = Older {
             start: self.changes.len(),
-            older_in_stretch: self.older_in_stretch,
+            older_in_stretch: self.older_in_stretch as u32,
             settled: self.newest.is_settled(),
         };
         let full = is_full(self.older.len());
         keep_played(&self.newest, point, taken, full, &mut self.changes)?;
         self.newest.put(colour, point, taken);
-        self.older.push(kept).unwrap();
+        self.older.push_reserved(kept);
         self.older_in_stretch += 1;
         Ok(())
     }
@@ -203,7 +207,7 @@ impl Colourings {
         take_back(&mut self.newest, &self.changes[kept.start..]);
         self.newest.restore(kept.settled);
         self.changes.truncate(kept.start);
-        self.older_in_stretch = kept.older_in_stretch;
+        self.older_in_stretch = kept.older_in_stretch as usize;
     }
 
     /// Forgets all colourings, and then holds this one alone, which begins a stretch.
@@ -215,6 +219,20 @@ impl Colourings {
         self.older.clear();
         self.changes.clear();
     }
+}
+
+/// Makes room for one more older colouring. There are at most `MOST`.
+#[inline(always)]
+fn make_room(older: &mut Vec<Older>) -> Result<(), MemoryFault>
+    ensures items { older.new.items ≡ older.old.items }
+    ensures ok { OnOk result (length older.new.items < vec_capacity older.new) }
+    ensures few { OnOk result (length older.new.items < MOST) }
+{
+    if older.len() >= MOST {
+        return Err(MemoryFault);
+    }
+    older.reserve(1)?;
+    Ok(())
 }
 
 /// How many older colourings the stretch has after one more colouring: one more than before, or 0

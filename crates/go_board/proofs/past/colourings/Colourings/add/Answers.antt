@@ -1,4 +1,5 @@
 use Rattle.std.proofs.Common.{◌≡◌, ◌++◌, [], ◌∷◌, length, reverse, refl, ap, sym, subst, ◌∙◌, arith, rules}
+use Rattle.std.proofs.Math.Facts.{Fits-of_lt}
 use Rattle.std.proofs.lemmas.List.{length-reverse}
 use Rattle.go_board.specs.declared.past.changes.Older.{Older}
 use Rattle.go_board.specs.Grid.{Grid}
@@ -6,14 +7,16 @@ use Rattle.go_board.specs.Past.{PastColourings, newest_grid, with_next}
 use Rattle.go_board.specs.inner.Changes.{after_changes, is_full, AreOn}
 use Rattle.go_board.specs.inner.Rows.{has_bit}
 use Rattle.go_board.proofs.ChangesLemmas.{leads_back, makes_one, kept_on}
-use Rattle.go_board.proofs.ColouringsLemmas.{counted-le, past_held, past-push, held-push}
+use Rattle.go_board.proofs.ColouringsLemmas.{counted-below, past_held, past-push, held-push}
 use Rattle.go_board.proofs.past.colourings.Colourings.add.Goals as goal
 
 pub next_older_in_stretch-self-inside-requires : goal.next_older_in_stretch-self-inside-requires
 next_older_in_stretch-self-inside-requires c =
-    let was = c.self.inside in
-    let count : c.len-2.result ≡ length was.older.items = search rules in
-    omega (arith, count, c.reserve.ensures, counted-le was.older_in_stretch (reverse was.older.items) c.self.invariant.counted, length-reverse was.older.items)
+    omega (arith, counted-below c.self.inside.older.items _ c.self.inside.older_in_stretch 4294967295 c.in_ok-make_room.ensures.items c.in_ok-make_room.ensures.few c.self.invariant.counted)
+
+pub overflow_cast-kept : goal.overflow_cast-kept
+overflow_cast-kept c =
+    Fits-of_lt (omega (arith, counted-below c.self.inside.older.items _ c.self.inside.older_in_stretch 4294967295 c.in_ok-make_room.ensures.items c.in_ok-make_room.ensures.few c.self.invariant.counted))
 
 pub invariant_of-self-2 : goal.invariant_of-self-2
 invariant_of-self-2 c =
@@ -27,7 +30,7 @@ invariant_of-self-2 c =
     let back = ap (λ (b : Grid). after_changes b m.more) c.copy-self-inside.ensures ∙ leads_back was.newest board c.is_full-all.result rows was.changes.items c.keep_rows.new.changes.items c.has_all_cells.ensures.all c.rows_apart-rows.ensures.cover m side c.has_all_cells-2.ensures.all in
     let count : c.len-2.result ≡ length was.older.items = search rules in
     let start : c.len.result ≡ length was.changes.items = search rules in
-    let older : c.push.new.self.items ≡ was.older.items ++ kept ∷ [] = search rules in
+    let older : c.push_reserved.new.self.items ≡ was.older.items ++ kept ∷ [] = search rules in
     rw older
     (past-push was.newest c.copy-self-inside.result was.older_in_stretch c.next_older_in_stretch-self-inside.result was.older.items kept was.changes.items m.more c.keep_rows.new.changes.items c.args.begins
     c.next_older_in_stretch-self-inside.ensures refl start m.added back c.self.invariant c.is_settled.ensures
@@ -44,7 +47,7 @@ returns-clause-ok c =
     let side : board.side ≡ was.newest.side = sym c.requires ∙ sym (ap (λ (past : PastColourings). (newest_grid past).side) c.self.view_is) in
     let back = ap (λ (b : Grid). after_changes b m.more) c.copy-self-inside.ensures ∙ leads_back was.newest board c.is_full-all.result rows was.changes.items c.keep_rows.new.changes.items c.has_all_cells.ensures.all c.rows_apart-rows.ensures.cover m side c.has_all_cells-2.ensures.all in
     let start : c.len.result ≡ length was.changes.items = search rules in
-    let older : c.push.new.self.items ≡ was.older.items ++ kept ∷ [] = search rules in
+    let older : c.push_reserved.new.self.items ≡ was.older.items ++ kept ∷ [] = search rules in
     rw older
     (held-push was.newest c.copy-self-inside.result was.older_in_stretch c.next_older_in_stretch-self-inside.result was.older.items kept was.changes.items m.more c.keep_rows.new.changes.items c.args.begins
     c.next_older_in_stretch-self-inside.ensures refl start m.added back

@@ -1,4 +1,5 @@
 use Rattle.std.proofs.Common.{◌≡◌, ◌+◌, ◌++◌, [], ◌∷◌, false, length, reverse, refl, ap, sym, subst, ◌∙◌, arith, rules}
+use Rattle.std.proofs.Math.Facts.{Fits-of_lt}
 use Rattle.std.proofs.lemmas.List.{length-reverse}
 use Rattle.go_board.specs.declared.past.changes.Older.{Older}
 use Rattle.go_board.specs.Grid.{Grid}
@@ -7,15 +8,17 @@ use Rattle.go_board.specs.Past.{PastColourings, newest_grid, with_next}
 use Rattle.go_board.specs.inner.Changes.{after_changes, is_full, AreOn, CoverChange}
 use Rattle.go_board.specs.inner.Groups.{TakesOff}
 use Rattle.go_board.proofs.ChangesLemmas.{leads_back, makes_one, kept_on, play_cells}
-use Rattle.go_board.proofs.ColouringsLemmas.{counted-le, past_held, past-push, held-push}
+use Rattle.go_board.proofs.ColouringsLemmas.{counted-below, past_held, past-push, held-push}
 use Rattle.go_board.proofs.SettledLemmas.{side_play}
 use Rattle.go_board.proofs.past.colourings.Colourings.add_stone.Goals as goal
 
 pub overflow_add-self : goal.overflow_add-self
 overflow_add-self c =
-    let was = c.self.inside in
-    let count : c.len-2.result ≡ length was.older.items = search rules in
-    omega (arith, count, c.reserve.ensures, counted-le was.older_in_stretch (reverse was.older.items) c.self.invariant.counted, length-reverse was.older.items)
+    omega (arith, counted-below c.self.inside.older.items _ c.self.inside.older_in_stretch 4294967295 c.in_ok-make_room.ensures.items c.in_ok-make_room.ensures.few c.self.invariant.counted)
+
+pub overflow_cast-kept : goal.overflow_cast-kept
+overflow_cast-kept c =
+    Fits-of_lt (omega (arith, counted-below c.self.inside.older.items _ c.self.inside.older_in_stretch 4294967295 c.in_ok-make_room.ensures.items c.in_ok-make_room.ensures.few c.self.invariant.counted))
 
 pub invariant_of-self-2 : goal.invariant_of-self-2
 invariant_of-self-2 c =
@@ -36,7 +39,7 @@ invariant_of-self-2 c =
     let side : made.side ≡ was.newest.side = ap (λ (g : Grid). g.side) c.put.ensures ∙ side_play was.newest k p in
     let start : c.len.result ≡ length was.changes.items = search rules in
     let count : c.len-2.result ≡ length was.older.items = search rules in
-    let older : c.push.new.self.items ≡ was.older.items ++ kept ∷ [] = search rules in
+    let older : c.push_reserved.new.self.items ≡ was.older.items ++ kept ∷ [] = search rules in
     rw older
     (past-push was.newest made was.older_in_stretch (was.older_in_stretch + 1) was.older.items kept was.changes.items m.more c.keep_played.new.changes.items false
     refl refl start m.added back c.self.invariant c.is_settled.ensures
@@ -60,7 +63,7 @@ returns-clause-ok c =
     let cover : CoverChange was.newest next full rows = played.cover k takes in
     let back = ap (λ (b : Grid). after_changes b m.more) c.put.ensures ∙ leads_back was.newest next full rows was.changes.items c.keep_played.new.changes.items all cover m (side_play was.newest k p) (play_cells was.newest k p c.args.taken.now all takes) in
     let start : c.len.result ≡ length was.changes.items = search rules in
-    let older : c.push.new.self.items ≡ was.older.items ++ kept ∷ [] = search rules in
+    let older : c.push_reserved.new.self.items ≡ was.older.items ++ kept ∷ [] = search rules in
     rw older
     (held-push was.newest made was.older_in_stretch (was.older_in_stretch + 1) was.older.items kept was.changes.items m.more c.keep_played.new.changes.items false
     refl refl start m.added back
