@@ -49,7 +49,7 @@ module _ (x y : ℕ → Bool) (a b index : ℕ) (is_a : (col : ℕ) → col < 64
   pub parts_there : (col : ℕ) → col < 64 → bit_at (bit_xor a b) col ≡ 1 → x (64 * index + col) ≢ y (64 * index + col)
   parts_there col low e same = other_bits a b col e (is_a col low ∙ same ∙ sym (is_b col low))
 
--- The front of a key: the start of the stretch, and the print.
+-- The front of a key: the print, and the start of the stretch.
 
 key_at : (start print : ℕ) (grid : Grid) (index col : ℕ) → col < 64 → key_row start print grid (64 * index + col) ≡ key_bit start print grid index col
 key_at start print grid index col low =
@@ -61,10 +61,10 @@ module _ (start start' print print' : ℕ) (grid grid' : Grid) where
   pub front_same : start < 2 ^ 64 → start' < 2 ^ 64 → print < 2 ^ 64 → print' < 2 ^ 64 → Agree (key_row start print grid) (key_row start' print' grid') 128 → (start ≡ start') × (print ≡ print')
   front_same few few' small small' a = (
     same_from_bits_below 64 start start' few few' (λ i h. bit_same start start' i (
-      sym (key_at start print grid 0 i h) ∙ a.each (64 * 0 + i) (omega (arith, h)) ∙ key_at start' print' grid' 0 i h
+      sym (key_at start print grid 1 i h) ∙ a.each (64 * 1 + i) (omega (arith, h)) ∙ key_at start' print' grid' 1 i h
     )),
     same_from_bits_below 64 print print' small small' (λ i h. bit_same print print' i (
-      sym (key_at start print grid 1 i h) ∙ a.each (64 * 1 + i) (omega (arith, h)) ∙ key_at start' print' grid' 1 i h
+      sym (key_at start print grid 0 i h) ∙ a.each (64 * 0 + i) (omega (arith, h)) ∙ key_at start' print' grid' 0 i h
     )),
   )
 
@@ -74,13 +74,13 @@ module _ (start start' print print' : ℕ) (grid grid' : Grid) where
       | inl low ↦
           let at : 64 * 0 + p ≡ p = omega arith in
           subst (λ m. key_row start print grid m ≡ key_row start' print' grid' m) at
-          (key_at start print grid 0 p low ∙ ap (λ n. has_bit n p) e ∙ sym (key_at start' print' grid' 0 p low))
+          (key_at start print grid 0 p low ∙ ap (λ n. has_bit n p) f ∙ sym (key_at start' print' grid' 0 p low))
       | inr high ↦
           let col = p - 64 in
           let low : col < 64 = omega (arith, h, high) in
           let at : 64 * 1 + col ≡ p = omega (arith, high) in
           subst (λ m. key_row start print grid m ≡ key_row start' print' grid' m) at
-          (key_at start print grid 1 col low ∙ ap (λ n. has_bit n col) f ∙ sym (key_at start' print' grid' 1 col low))
+          (key_at start print grid 1 col low ∙ ap (λ n. has_bit n col) e ∙ sym (key_at start' print' grid' 1 col low))
     ];
   }
 

@@ -33,7 +33,8 @@
 //! | `past` | the colourings that a game has been through; `past/list_past` and `past/print_past` keep them |
 //! | `past/colourings`, `past/changes` | past colourings as rows that lead back |
 //! | `past/print`, `past/powers` | the print of a colouring, a number in base 31; the powers of 31 |
-//! | `past/table` | prints looked up in a table |
+//! | `past/table` | how a past colouring is looked up, and what that costs |
+//! | `past/key`, `past/trie` | a colouring as a row of bits; the trie of such rows |
 //! | `reason`, `fault` | why a turn, or a node, isn't allowed; the errors |
 //! | `referee` | the referee and undo; below it `plays`, `setup` and `turn` |
 //! | `laws` | what follows from the definitions |

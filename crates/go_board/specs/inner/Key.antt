@@ -1,4 +1,4 @@
--- What a colouring is looked up by, as a row of bits: the words of the stretch, of the print, and of each row of the board.
+-- What a colouring is looked up by, as a row of bits: the words of the print, of the stretch, and of each row of the board.
 use Rattle.std.specs.Prelude.{ℕ, zero, suc, ◌/◌, ◌%◌, Bool, ◌==◌, ◌&&◌, nat_lt, if◌then◌else◌, List, [], ◌∷◌, length, drop, ◌-◌}
 use Rattle.go_board.specs.declared.past.key.Key.{Key}
 use Rattle.go_board.specs.declared.stones.Cell.{Cell}
@@ -14,10 +14,10 @@ abbrev pub has_stone : Grid → Cell → ℕ → ℕ → Bool
 has_stone grid stone row col =
     (nat_lt row grid.side && nat_lt col grid.side) && same_cell (cell_at grid (record { col = col; row = row })) stone
 
--- a bit of a word of the key: word 0 is the start of the stretch, word 1 the print; then each row has a word for Black and one for White
+-- a bit of a word of the key: word 0 is the print, word 1 the start of the stretch; then each row has a word for Black and one for White
 abbrev pub key_bit : ℕ → ℕ → Grid → ℕ → ℕ → Bool
-key_bit start print grid zero col = has_bit start col
-key_bit start print grid (suc zero) col = has_bit print col
+key_bit start print grid zero col = has_bit print col
+key_bit start print grid (suc zero) col = has_bit start col
 key_bit start print grid (suc (suc index)) col =
     has_stone grid (if index % 2 == 0 then Black else White) (index / 2) col
 

@@ -1,5 +1,5 @@
-//! What a colouring is looked up by, as a row of bits: first the number of the first colouring of its stretch, then its print,
-//! then what stands on each row. So colourings of other stretches, and those with another print, part from it at the first bits.
+//! What a colouring is looked up by, as a row of bits: first its print, then the number of the first colouring of its stretch,
+//! then what stands on each row. So colourings with another print, and those of other stretches, part from it at the first bits.
 
 ghost use Rattle.std.specs.Prelude.{◌≡◌, ◌≢◌, ℕ, ◌+◌, ◌*◌, ◌/◌, ◌%◌, ◌<◌, ◌≤◌, Bool, MatchOption};
 ghost use Rattle.go_board.specs.inner.Key.{key_row, bits_of};
@@ -14,7 +14,7 @@ use crate::stones::Colour;
 /// The bits of a word.
 pub(crate) const WORD: u32 = 64;
 
-/// The bits before those of the board: the start of the stretch, and the print.
+/// The bits before those of the board: the print, and the start of the stretch.
 pub(crate) const FRONT: u32 = 2 * WORD;
 
 /// All bits of a key: a row of the largest board has a word for Black and one for White.
@@ -42,7 +42,20 @@ impl<'a> Key<'a> {
     }
 
     /// The bit at a place.
+    #[inline(always)]
     pub(crate) fn bit(&self, place: u32) -> bool
+        ensures { result ≡ bits_of self.now place }
+    {
+        // nearly all nodes of a trie stand at bits of the print
+        if place < WORD {
+            return has_column(self.print, place as usize);
+        }
+        self.later_bit(place)
+    }
+
+    /// The same, for any place.
+    #[inline(never)]
+    fn later_bit(&self, place: u32) -> bool
         ensures { result ≡ bits_of self.now place }
     {
         has_column(self.word(place / WORD), (place % WORD) as usize)
@@ -53,10 +66,10 @@ impl<'a> Key<'a> {
         ensures { (col : ℕ) → col < 64 → has_bit result col ≡ bits_of self.now (64 * index + col) }
     {
         if index == 0 {
-            return self.start;
+            return self.print;
         }
         if index == 1 {
-            return self.print;
+            return self.start;
         }
         let row = (index - 2) / 2;
         if row >= u32::from(self.board.size().side()) {
