@@ -1,5 +1,5 @@
 -- A stone that stays can repeat a colouring of the stretch only on a point that was emptied.
-use Rattle.std.proofs.Common.{◌≡◌, ◌≢◌, ◌*◌, zero, suc, inl, inr, ℕ, Bool, true, false, cond, List, [], ◌∷◌, length, reverse, Contains, refl, ap, sym, subst, ◌∙◌, arith}
+use Rattle.std.proofs.Common.{◌≡◌, ◌≢◌, ◌*◌, zero, suc, inl, inr, ℕ, Bool, true, false, cond, if◌then◌else◌, IfSome, None, Some, List, [], ◌∷◌, length, reverse, Contains, refl, ap, sym, subst, ◌∙◌, arith}
 use Rattle.std.proofs.lemmas.Bool.{cases_Bool, false≢true}
 use Rattle.go_board.specs.declared.stones.Cell.TheVariants.{Empty}
 use Rattle.go_board.specs.declared.stones.Colour.{Colour}
@@ -8,9 +8,9 @@ use Rattle.go_board.specs.Colour.{same_cell, stone_of}
 use Rattle.go_board.specs.Point.{IsOn}
 use Rattle.go_board.specs.Grid.{Grid, cell_at}
 use Rattle.go_board.specs.Clearing.{play}
-use Rattle.go_board.specs.Past.{Held, PastColourings, all_of, newest_grid, only, stretch_of, present_stretch, AllHaveSide, HaveSide}
+use Rattle.go_board.specs.Past.{Held, PastColourings, all_of, newest_grid, only, with_next, stretch_of, present_stretch, AllHaveSide, HaveSide}
 use Rattle.go_board.specs.Reason.{WasEmptied}
-use Rattle.go_board.specs.inner.Emptied.{HasEmptied, HasAllEmptied, IsPrintPast}
+use Rattle.go_board.specs.inner.Emptied.{HasEmptied, HasAllEmptied, IsLastStone, IsPrintPast}
 use Rattle.go_board.specs.declared.past.table.Table.{Table}
 use Rattle.go_board.specs.inner.Table.{IsTable}
 use Rattle.go_board.specs.inner.Groups.{TakesOff}
@@ -18,6 +18,7 @@ use Rattle.go_board.specs.inner.Rows.{is_set, IsAmong}
 use Rattle.go_board.proofs.PointLemmas.{same_or_not}
 use Rattle.go_board.proofs.GridLemmas.{Decides-same_cell, cell_at-with_cell, cell_at-with_cell_elsewhere}
 use Rattle.go_board.proofs.GroupLemmas.{stone_of≢Empty}
+use Rattle.go_board.proofs.SettledLemmas.{side_play}
 
 -- a colouring that has a stone where the newest has none comes back only where that point was emptied
 pub emptied-if_back : (point : Point) (made newest : Grid) (others : List Grid) → cell_at newest point ≡ Empty → cell_at made point ≢ Empty → Contains (newest ∷ others) made → WasEmptied point (newest ∷ others)
@@ -75,9 +76,46 @@ never_back past k p rows emptied on all none sides kept takes fresh stays has =
     let was = emptied-if_back p (play g k p) g (cond past.newest.begins [] (stretch_of past.older)) none (λ e. stone_of≢Empty k (sym there ∙ e)) has in
     false≢true (sym fresh ∙ was_in_set (is_set emptied) g.side p on (all_of past) sides kept was)
 
+-- a stone that stays on such a point is in no older colouring of the stretch
+pub last_stone_put : (past : PastColourings) (k : Colour) (p : Point) (rows emptied : List ℕ) → IsOn (newest_grid past).side p → length (newest_grid past).cells ≡ (newest_grid past).side * (newest_grid past).side → cell_at (newest_grid past) p ≡ Empty → HaveSide (newest_grid past).side past → HasAllEmptied (is_set emptied) (all_of past)
+    → TakesOff (newest_grid past) k p rows → is_set emptied p ≡ false → is_set rows p ≡ false → IsLastStone (with_next past (play (newest_grid past) k p) false) p
+last_stone_put past k p rows emptied on all none sides kept takes fresh stays =
+    let g = newest_grid past in
+    let there : cell_at (play g k p) p ≡ stone_of k = takes.played.kept p on (λ taken. false≢true (sym stays ∙ taken)) ∙ cell_at-with_cell g p (stone_of k) on all in
+    record {
+      on = subst (λ n. IsOn n p) (sym (side_play g k p)) on;
+      there = λ e. stone_of≢Empty k (sym there ∙ e);
+      new = λ grid has.
+          let here = Decides-same_cell (cell_at grid p) Empty in
+          elim (cases_Bool (same_cell (cell_at grid p) Empty)) [
+            | inl free ↦ here.0 free
+            | inr taken ↦
+                let was = emptied-if_back p grid g (cond past.newest.begins [] (stretch_of past.older)) none (λ is. false≢true (sym taken ∙ here.1 is)) has in
+                absurd (false≢true (sym fresh ∙ was_in_set (is_set emptied) g.side p on (all_of past) sides kept was))
+          ];
+    }
+
+pub last_unless : (asked : Bool) (past : PastColourings) (p : Point) → (asked ≡ false → IsLastStone past p) → IfSome (if asked then None else Some p) (IsLastStone past)
+last_unless true past p is = tt
+last_unless false past p is = is refl
+
+-- while such a stone stays, a stone that stays makes no colouring of the present stretch
+pub never_back_with : (past : PastColourings) (k : Colour) (p q : Point) (rows : List ℕ) → IsOn (newest_grid past).side p → length (newest_grid past).cells ≡ (newest_grid past).side * (newest_grid past).side → cell_at (newest_grid past) p ≡ Empty
+    → TakesOff (newest_grid past) k p rows → IsLastStone past q → is_set rows q ≡ false → is_set rows p ≡ false → Contains (present_stretch past) (play (newest_grid past) k p) → ⊥
+never_back_with past k p q rows on all none takes last stays_too stays (zero, h, e) =
+    let g = newest_grid past in
+    let there : cell_at (play g k p) p ≡ stone_of k = takes.played.kept p on (λ taken. false≢true (sym stays ∙ taken)) ∙ cell_at-with_cell g p (stone_of k) on all in
+    stone_of≢Empty k (sym there ∙ ap (λ (x : Grid). cell_at x p) (sym e) ∙ none)
+never_back_with past k p q rows on all none takes last stays_too stays (suc j, h, e) =
+    let g = newest_grid past in
+    let free : cell_at (play g k p) q ≡ Empty = last.new (play g k p) (j, omega (arith, h), e) in
+    let other : q ≢ p = λ same. last.there (ap (cell_at g) same ∙ none) in
+    last.there (sym (cell_at-with_cell_elsewhere g p q (stone_of k) on last.on other) ∙ sym (takes.played.kept q last.on (λ taken. false≢true (sym stays_too ∙ taken))) ∙ free)
+
 -- a past of one colouring
-pub only_kept : (colourings : PastColourings) (table : Table) (emptied : List ℕ) (grid : Grid) → colourings ≡ only grid → IsTable (all_of colourings) table → IsPrintPast colourings table emptied
+pub only_kept : (colourings : PastColourings) (table : Table) (emptied : List ℕ) (grid : Grid) → colourings ≡ only grid → IsTable (all_of colourings) table → IsPrintPast colourings table emptied None
 only_kept colourings table emptied grid is tabled = record {
   tabled = tabled;
   emptied_in = subst (λ (past : PastColourings). HasAllEmptied (is_set emptied) (all_of past)) (sym is) tt;
+  last = tt;
 }

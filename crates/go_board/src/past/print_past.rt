@@ -1,6 +1,6 @@
 //! A past that looks colourings up by their prints.
 
-ghost use Rattle.std.specs.Prelude.{◌≡◌, ◌≢◌, ◌<◌, IsTrue, length};
+ghost use Rattle.std.specs.Prelude.{◌≡◌, ◌≢◌, ◌<◌, if◌then◌else◌, None, Some, IsTrue, length};
 ghost use Rattle.go_board.specs.declared.stones.Cell.TheVariants.{Empty};
 ghost use Rattle.go_board.specs.declared.points.Point.{Point};
 ghost use Rattle.go_board.specs.Point.{IsOn};
@@ -36,6 +36,9 @@ pub struct PrintPast {
     /// column of a row. A stone that stays can bring a colouring back only on one of these points.
     /// Taking a colouring back leaves this set as it is, because that may go back over a setup.
     emptied: [u64; MAX_ROWS],
+    /// A point on which the newest colouring has a stone, and no older one of the present stretch has; None if none is known. While
+    /// that stone stays, a stone that stays can't bring a colouring back.
+    last_stone: Option<Point>,
 }
 
 impl Model for PrintPast {
@@ -46,7 +49,7 @@ impl Model for PrintPast {
 
     ghost view = { λ p. p.colourings };
 
-    ghost invariant = { λ p. IsPrintPast p.colourings p.table p.emptied };
+    ghost invariant = { λ p. IsPrintPast p.colourings p.table p.emptied p.last_stone };
 }
 
 impl Past for PrintPast {
@@ -57,6 +60,7 @@ impl Past for PrintPast {
             colourings: Colourings::new(alloc, board)?,
             table: Table::new(alloc, print_of(board))?,
             emptied: no_rows(),
+            last_stone: None,
         })
     }
 
@@ -91,12 +95,14 @@ impl Past for PrintPast {
     fn pop(&mut self) {
         self.table.pop();
         self.colourings.pop();
+        self.last_stone = None;
     }
 
     fn reset(&mut self, _alloc: Global, board: &Board) -> Result<(), MemoryFault> {
         self.colourings.reset(board);
         self.table.reset(print_of(board));
         self.emptied = no_rows();
+        self.last_stone = None;
         Ok(())
     }
 }
@@ -110,7 +116,10 @@ impl PrintPast {
     ghost use Rattle.go_board.specs.Past.{newest_grid, with_next, present_stretch, HaveSide, IsPlayed};
     ghost use Rattle.go_board.specs.declared.stones.Colour.{Colour};
     ghost use Rattle.go_board.specs.inner.Groups.{TakesOff};
+    ghost use Rattle.go_board.specs.inner.Emptied.{IsLastStone};
     ghost use Rattle.go_board.specs.inner.Print.{print_of};
+    ghost use Rattle.go_board.specs.declared.points.Point.{Point};
+    ghost use Rattle.go_board.specs.inner.Rows.{is_set};
 
     /// Puts the colourings of the present stretch into the trie, if there are several. After a setup this would cost more: to work out
     /// a colouring, one goes back over later ones, and a setup may have changed all rows.
@@ -135,6 +144,7 @@ impl PrintPast {
             self.table.pop();
             return Err(MemoryFault);
         }
+        self.last_stone = None;
         Ok(())
     }
 
@@ -172,7 +182,8 @@ impl PrintPast {
     {
         self.colourings.newest().has_all_cells();
         let print = self.print_once_put(colour, point, taken);
-        if self.may_have(point, taken, print) {
+        let asked = self.may_repeat(point, taken);
+        if self.may_have(asked, point, taken, print) {
             return self.play_on_copy(colour, point);
         }
         self.table.push(print)?;
@@ -181,14 +192,46 @@ impl PrintPast {
             return Err(MemoryFault);
         }
         add_points(taken, &mut self.emptied);
+        self.last_stone = unless(asked, point);
         Ok(true)
     }
 
-    /// Whether the present stretch may have the colouring that a stone makes, whose print is `print`. Most stones stay on a
-    /// point that was never emptied. Then the stretch can't have that colouring, and no print is looked up.
+    /// Whether a stone may bring a colouring of the present stretch back: it is put on a point that was emptied, or doesn't stay.
     #[inline(always)]
-    fn may_have(&mut self, point: Point, taken: &[u64], print: u64) -> bool
-        requires one_side { HaveSide (newest_grid self.old).side self.old }
+    fn may_repeat(&self, point: Point, taken: &[u64]) -> bool
+        requires one_side { HaveSide (newest_grid self.now).side self.now }
+        requires on_board { IsOn (newest_grid self.now).side point }
+        requires empty { cell_at (newest_grid self.now) point ≡ Empty }
+        ensures never { (colour : Colour) → TakesOff (newest_grid self.now) colour point taken.now
+            → IsFalse result → ¬ Contains (present_stretch self.now) (play (newest_grid self.now) colour point) }
+        ensures last { (colour : Colour) → TakesOff (newest_grid self.now) colour point taken.now
+            → IsFalse result → IsLastStone (with_next self.now (play (newest_grid self.now) colour point) false) point }
+    {
+        self.colourings.newest().has_all_cells();
+        has_point(&self.emptied, point) | has_point(taken, point)
+    }
+
+    /// Whether the present stretch may have the colouring that a stone makes, whose print is `print`. If `asked` is false, it can't.
+    #[inline(always)]
+    fn may_have(&mut self, asked: bool, point: Point, taken: &[u64], print: u64) -> bool
+        requires on_board { IsOn (newest_grid self.old).side point }
+        requires empty { cell_at (newest_grid self.old) point ≡ Empty }
+        requires never { (colour : Colour) → TakesOff (newest_grid self.old) colour point taken.now
+            → IsFalse asked → ¬ Contains (present_stretch self.old) (play (newest_grid self.old) colour point) }
+        ensures kept { self.new ≡ self.old }
+        ensures may { (colour : Colour) → TakesOff (newest_grid self.old) colour point taken.now
+            → print ≡ print_of (play (newest_grid self.old) colour point)
+            → IsFalse result → ¬ Contains (present_stretch self.old) (play (newest_grid self.old) colour point) }
+    {
+        if !asked {
+            return false;
+        }
+        self.look_up(point, taken, print)
+    }
+
+    /// The same, if it isn't known yet.
+    #[inline(never)]
+    fn look_up(&mut self, point: Point, taken: &[u64], print: u64) -> bool
         requires on_board { IsOn (newest_grid self.old).side point }
         requires empty { cell_at (newest_grid self.old) point ≡ Empty }
         ensures kept { self.new ≡ self.old }
@@ -197,12 +240,22 @@ impl PrintPast {
             → IsFalse result → ¬ Contains (present_stretch self.old) (play (newest_grid self.old) colour point) }
     {
         self.colourings.newest().has_all_cells();
-        let asked = has_point(&self.emptied, point) | has_point(taken, point);
-        if !asked {
+        if !has_point(taken, point) && self.last_stone_stays(taken) {
             return false;
         }
         self.table.link(&self.colourings);
         self.table.may_have(&self.colourings, print)
+    }
+
+    /// Whether the newest colouring has a stone that isn't in `taken`, and that no older colouring of the present stretch has.
+    fn last_stone_stays(&self, taken: &[u64]) -> bool
+        ensures { IsTrue result → (stone : Point) × IsLastStone self.now stone × IsFalse (is_set taken.now stone) }
+    {
+        self.colourings.newest().has_all_cells();
+        match self.last_stone {
+            Some(stone) => !has_point(taken, stone),
+            None => false,
+        }
     }
 
     /// The print of the colouring that a stone makes; `taken` is what the stone takes off.
@@ -239,6 +292,13 @@ impl PrintPast {
         self.add(&made, print, false)?;
         Ok(true)
     }
+}
+
+/// The point, unless `asked` is true.
+fn unless(asked: bool, point: Point) -> Option<Point>
+    ensures { result ≡ (if asked then None else Some point) }
+{
+    if asked { None } else { Some(point) }
 }
 
 /// Adds the points of a board's stones to a set.

@@ -1,10 +1,10 @@
-use Rattle.std.proofs.Common.{◌≡◌, ◌≢◌, true, subst, sym, rules}
+use Rattle.std.proofs.Common.{◌≡◌, ◌≢◌, IfSome, true, subst, sym, rules}
 use Rattle.go_board.specs.declared.stones.Cell.TheVariants.{Empty}
 use Rattle.go_board.specs.declared.points.Point.{Point}
 use Rattle.go_board.specs.Point.{IsOn}
 use Rattle.go_board.specs.Grid.{Grid, cell_at}
 use Rattle.go_board.specs.Past.{Held, PastColourings, all_of, with_next}
-use Rattle.go_board.specs.inner.Emptied.{HasAllEmptied}
+use Rattle.go_board.specs.inner.Emptied.{HasAllEmptied, IsLastStone}
 use Rattle.go_board.specs.inner.Rows.{is_set}
 use Rattle.go_board.specs.inner.Table.{IsTable}
 use Rattle.go_board.proofs.RepeatLemmas.{HasAllEmptied-more}
@@ -16,6 +16,7 @@ invariant_of-self c =
     record {
       tabled = c.in_err-push.ensures.err (all_of was.colourings) c.self.invariant.tabled;
       emptied_in = HasAllEmptied-more (is_set was.emptied) (is_set c.add_stones.new.all) (all_of was.colourings) c.add_stones.ensures.kept c.self.invariant.emptied_in;
+      last = c.self.invariant.last;
     }
 
 pub invariant_of-self-then-is_err : goal.invariant_of-self-then-is_err
@@ -28,10 +29,11 @@ invariant_of-self-then-is_err c =
           (c.pop.ensures next (all_of was.colourings) (c.in_ok-push.ensures.ok (all_of was.colourings) next c.self.invariant.tabled c.requires.print));
       emptied_in = subst (λ (past : PastColourings). HasAllEmptied (is_set c.add_stones.new.all) (all_of past)) (sym same)
           (HasAllEmptied-more (is_set was.emptied) (is_set c.add_stones.new.all) (all_of was.colourings) c.add_stones.ensures.kept c.self.invariant.emptied_in);
+      last = subst (λ (past : PastColourings). IfSome was.last_stone (IsLastStone past)) (sym same) c.self.invariant.last;
     }
 
-pub invariant_of-self-else-is_err : goal.invariant_of-self-else-is_err
-invariant_of-self-else-is_err c =
+pub invariant_of-self-2 : goal.invariant_of-self-2
+invariant_of-self-2 c =
     let was = c.self.inside in
     let next : Held = record { colouring = c.args.board.now; begins = c.args.begins } in
     let made : c.add.new.self ≡ with_next was.colourings c.args.board.now c.args.begins = search rules in
@@ -43,6 +45,7 @@ invariant_of-self-else-is_err c =
         λ goes_on q on some free. stones q on some,
         HasAllEmptied-more (is_set was.emptied) (is_set c.add_stones.new.all) (all_of was.colourings) c.add_stones.ensures.kept c.self.invariant.emptied_in,
       );
+      last = tt;
     }
 
 pub push-requires : goal.push-requires

@@ -1,16 +1,17 @@
-use Rattle.std.proofs.Common.{◌≡◌, ◌≤◌, length, false, ap, subst, sym, ◌∙◌, arith, rules}
+use Rattle.std.proofs.Common.{◌≡◌, ◌≤◌, IfSome, Option, length, false, ap, subst, sym, ◌∙◌, arith, rules}
 use Rattle.std.proofs.lemmas.Bool.{or_left, or_right}
 use Rattle.go_board.specs.declared.stones.Cell.TheVariants.{Empty}
+use Rattle.go_board.specs.declared.points.Point.{Point}
 use Rattle.go_board.specs.Point.{IsOn}
 use Rattle.go_board.specs.Grid.{Grid, cell_at}
 use Rattle.go_board.specs.Clearing.{play}
 use Rattle.go_board.specs.Past.{Held, PastColourings, all_of, newest_grid, with_next, IsPlayed}
-use Rattle.go_board.specs.inner.Emptied.{HasAllEmptied}
+use Rattle.go_board.specs.inner.Emptied.{HasAllEmptied, IsLastStone}
 use Rattle.go_board.specs.inner.Groups.{TakesOff}
 use Rattle.go_board.specs.inner.Print.{print_of}
 use Rattle.go_board.specs.inner.Rows.{is_set}
 use Rattle.go_board.specs.inner.Table.{IsTable}
-use Rattle.go_board.proofs.RepeatLemmas.{HasAllEmptied-more, emptied_by_play}
+use Rattle.go_board.proofs.RepeatLemmas.{HasAllEmptied-more, emptied_by_play, last_unless}
 use Rattle.go_board.proofs.past.print_past.PrintPast.play_taking.Goals as goal
 
 pub add_points-requires : goal.add_points-requires
@@ -32,6 +33,7 @@ invariant_of-self-2 c =
     let on : IsOn g.side p = subst (λ (past : PastColourings). IsOn (newest_grid past).side p) (sym kept) c.requires.on_board in
     let empty : cell_at g p ≡ Empty = ap (λ (past : PastColourings). cell_at (newest_grid past) p) kept ∙ c.requires.empty in
     let takes : TakesOff g k p rows = subst (λ (past : PastColourings). TakesOff (newest_grid past) k p rows) (sym kept) c.requires.taken in
+    let whole : c.add_stone.new.self ≡ with_next c.args.self.now (play (newest_grid c.args.self.now) k p) false = made ∙ ap (λ (past : PastColourings). with_next past (play (newest_grid past) k p) false) kept in
     record {
       tabled = subst (λ (past : PastColourings). IsTable (all_of past) c.push.new.self) (sym made)
           (c.in_ok-push.ensures.ok (all_of was.colourings) (record { colouring = play g k p; begins = false }) c.self-2.invariant.tabled print);
@@ -39,6 +41,8 @@ invariant_of-self-2 c =
         λ goes_on q at some free. c.add_points.ensures.both q ∙ or_right _ _ (emptied_by_play g k p rows on empty takes q at some free),
         HasAllEmptied-more (is_set was.emptied) (is_set c.add_points.new.all) (all_of was.colourings) (λ q is. c.add_points.ensures.both q ∙ or_left _ _ is) c.self-2.invariant.emptied_in,
       );
+      last = subst (λ (o : Option Point). IfSome o (IsLastStone c.add_stone.new.self)) (sym c.unless-self-inside.ensures)
+          (last_unless c.may_repeat-asked.result c.add_stone.new.self p (λ e. subst (λ (past : PastColourings). IsLastStone past p) (sym whole) (c.may_repeat-asked.ensures.last k c.requires.taken e)));
     }
 
 pub returns-then-may_have : goal.returns-then-may_have
@@ -48,7 +52,7 @@ returns-then-may_have c =
 pub invariant_of-self : goal.invariant_of-self
 invariant_of-self c =
     let was = c.self-2.inside in
-    record { tabled = c.in_err-push.ensures.err (all_of was.colourings) c.self-2.invariant.tabled; emptied_in = c.self-2.invariant.emptied_in }
+    record { tabled = c.in_err-push.ensures.err (all_of was.colourings) c.self-2.invariant.tabled; emptied_in = c.self-2.invariant.emptied_in; last = c.self-2.invariant.last }
 
 pub pop-requires : goal.pop-requires
 pop-requires c =
@@ -71,4 +75,5 @@ invariant_of-self-then-is_err c =
       tabled = subst (λ (past : PastColourings). IsTable (all_of past) c.pop.new.self) (sym same)
           (c.pop.ensures next (all_of was.colourings) (c.in_ok-push.ensures.ok (all_of was.colourings) next c.self-2.invariant.tabled print));
       emptied_in = subst (λ (past : PastColourings). HasAllEmptied (is_set was.emptied) (all_of past)) (sym same) c.self-2.invariant.emptied_in;
+      last = subst (λ (past : PastColourings). IfSome was.last_stone (IsLastStone past)) (sym same) c.self-2.invariant.last;
     }
