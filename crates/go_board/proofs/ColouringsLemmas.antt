@@ -234,8 +234,7 @@ module _ (g : Grid) (older_in_stretch : ℕ) (older : List Older) (changes : Lis
       let turned : length os ≡ length older = length-reverse older in
       let all : length held ≡ length older + 1 = sym (ap (λ (hs : List Held). length hs) same) ∙ omega (arith, length-held g os changes, turned) in
       let back : length held - 1 - number ≡ j = omega (arith, all, at) in
-      let is : length os - j - count_back older_in_stretch os j ≡ number - count_back older_in_stretch os j = omega (arith, turned, at) in
-      (
+      let is : length os - j - count_back older_in_stretch os j ≡ number - count_back older_in_stretch os j = omega (arith, turned, at) in (
         omega (arith, count_back-le older_in_stretch os j counted (omega (arith, turned, at)), turned, at),
         ap (λ k. start_of (drop k held)) back ∙ ap (λ (hs : List Held). start_of (drop j hs)) (sym same) ∙ start-back g older_in_stretch os changes j counted (omega (arith, turned, at)) ∙ is,
       )
@@ -249,8 +248,8 @@ module _ (g : Grid) (older_in_stretch : ℕ) (older : List Older) (changes : Lis
       let turned : length (reverse older) ≡ length older = length-reverse older in
       let back : length older - 1 - j ≡ number = omega (arith, low) in
       let count : count_back older_in_stretch (reverse older) (suc j) ≡ (get_or older number d).older_in_stretch =
-          count_back-get older_in_stretch (reverse older) j d (omega (arith, low, turned))
-          ∙ ap (λ (o : Older). o.older_in_stretch) (get_or-reverse older j d (omega (arith, low)))
-          ∙ ap (λ k. (get_or older k d).older_in_stretch) back in
+      count_back-get older_in_stretch (reverse older) j d (omega (arith, low, turned))
+      ∙ ap (λ (o : Older). o.older_in_stretch) (get_or-reverse older j d (omega (arith, low)))
+      ∙ ap (λ k. (get_or older k d).older_in_stretch) back in
       let found = start_back (suc j) (omega (arith, low)) in
       (subst (λ k. k ≤ number) count found.0, found.1 ∙ ap (λ k. number - k) count)

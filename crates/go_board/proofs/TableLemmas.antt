@@ -1,21 +1,21 @@
 -- The table by which colourings are looked up.
-use Rattle.std.proofs.Common.{◌≡◌, ◌≢◌, ◌==◌, ℕ, zero, suc, ◌+◌, ◌-◌, ◌*◌, ◌<◌, ◌≤◌, ◌^◌, Bool, true, false, if◌then◌else◌, List, [], ◌∷◌, ◌++◌, Some, length, length-take, get_or, map, take, drop, reverse, Contains, inl, inr, refl, sym, ap, subst, ◌∙◌, arith}
+use Rattle.std.proofs.Common.{◌≡◌, ◌≢◌, ℕ, zero, suc, ◌+◌, ◌-◌, ◌*◌, ◌<◌, ◌≤◌, ◌^◌, Bool, if◌then◌else◌, List, [], ◌∷◌, ◌++◌, Some, length, length-take, get_or, map, take, drop, reverse, Contains, inl, inr, refl, sym, ap, subst, ◌∙◌, arith}
 use Rattle.std.specs.Vec.{vec_capacity}
-use Rattle.std.proofs.lemmas.Bool.{cases_lt, cases_eq, cases_Bool, ne_eqb, eq-eqb}
+use Rattle.std.proofs.lemmas.Bool.{cases_lt, cases_Bool}
 use Rattle.std.proofs.lemmas.List.{drop-drop, length-drop, reverse-append, length-map}
 use Rattle.go_board.specs.declared.past.key.TheConstants.{WIDTH}
 use Rattle.go_board.specs.declared.past.table.Table.{Table}
 use Rattle.go_board.specs.declared.past.trie.Node.{Node}
 use Rattle.go_board.specs.Grid.{Grid}
-use Rattle.go_board.specs.Past.{Held, PastColourings, all_of, stretch_of, AllHaveSide}
+use Rattle.go_board.specs.Past.{Held, stretch_of, AllHaveSide}
 use Rattle.go_board.specs.inner.Changes.{first_grid, IsNumber, HasNumber}
 use Rattle.go_board.specs.inner.Key.{key_row, start_of, since, oldest, keys_of}
 use Rattle.go_board.specs.inner.Print.{print_of, prints_of}
 use Rattle.go_board.specs.inner.Table.{IsTable}
-use Rattle.go_board.specs.inner.Trie.{Agree, IsTrie, IsTree, IsOnWay, IsNearest, IsParting, row_of, depth_of, kid_of, without_newest}
+use Rattle.go_board.specs.inner.Trie.{Agree, IsTrie, IsTree, IsNearest, IsParting, row_of, depth_of, kid_of, without_newest}
 use Rattle.go_board.proofs.KeyLemmas.{front_same, front_agrees, whole_same}
 use Rattle.go_board.proofs.PrintLemmas.{print_small}
-use Rattle.go_board.proofs.PrintPastLemmas.{IsAt, index-of, of-index, same_length, print-number}
+use Rattle.go_board.proofs.PrintPastLemmas.{some_same, index-of, of-index, same_length, print-number}
 use Rattle.go_board.proofs.TrieLemmas.{agree_self, agree_on, agree_back, agree_less, trie_tree, trie_length, row_first, row_before, way_equal, way_parts}
 
 -- Starts of stretches.
@@ -73,9 +73,6 @@ length-keys : (held : List Held) → length (keys_of held) ≡ length held
 length-keys [] = refl
 length-keys (x ∷ xs) = ap suc (length-keys xs)
 
-some_grid : (a b : Grid) → Some a ≡ Some b → a ≡ b
-some_grid a b e = cc
-
 -- each number has a colouring
 pub number_there : (held : List Held) (number : ℕ) → number < length held → (g : Grid) × IsNumber held number g
 number_there [] number low = absurd (omega (arith, low))
@@ -89,7 +86,7 @@ key_of [] number g low is = absurd (omega (arith, low))
 key_of (x ∷ xs) number g low is = elim (cases_lt number (length xs)) [
   | inr newest ↦
       let at : number ≡ length xs = omega (arith, low, newest) in
-      let one : x.colouring ≡ g = some_grid x.colouring g (sym (ap (λ n. first_grid (since n (x ∷ xs))) at ∙ ap first_grid (since-newest x xs)) ∙ is) in
+      let one : x.colouring ≡ g = some_same x.colouring g (sym (ap (λ n. first_grid (since n (x ∷ xs))) at ∙ ap first_grid (since-newest x xs)) ∙ is) in
       row_first (key_row (start_of (x ∷ xs)) (print_of x.colouring) x.colouring) (keys_of xs) number (omega (arith, at, length-keys xs))
       ∙ ap (λ (y : Grid). key_row (start_of (x ∷ xs)) (print_of y) y) one
       ∙ ap (λ n. key_row n (print_of g) g) (sym (ap (λ n. start_of (since n (x ∷ xs))) at ∙ ap start_of (since-newest x xs)))
@@ -136,7 +133,7 @@ oldest-next count held g low is =
     parts : (hs : List Held) → drop (length held - 1 - count) held ≡ hs → first_grid hs ≡ Some g → keys_of hs ≡ key_row (start_of hs) (print_of g) g ∷ keys_of (drop (suc (length held - 1 - count)) held)
     parts [] at one = cc
     parts (x ∷ xs) at one =
-        let same : x.colouring ≡ g = some_grid x.colouring g one in
+        let same : x.colouring ≡ g = some_same x.colouring g one in
         ap (λ (y : Grid). key_row (start_of (x ∷ xs)) (print_of y) y ∷ keys_of xs) same
         ∙ ap (λ (hs : List Held). key_row (start_of (x ∷ xs)) (print_of g) g ∷ keys_of hs) (sym (drop-one (length held - 1 - count) held x xs at))
 
@@ -159,153 +156,115 @@ module _ (held : List Held) (table : Table) (is : IsTable held table) where
   abbrev pub linked_rows : List (ℕ → Bool)
   linked_rows = keys_of (oldest (length table.nodes.items) held)
 
-  abbrev pub WayTo : (ℕ → Bool) → ℕ → ℕ → Bool → Type 0
-  WayTo key end node side = IsOnWay (length table.nodes.items) (row_of linked_rows) (depth_of table.nodes.items) key end node side
+  -- the key of a colouring in the trie
+  key_there : (number start print : ℕ) (grid : Grid) → number < length table.nodes.items → IsNumber held number grid → start_of (since number held) ≡ start → print_of grid ≡ print
+      → row_of linked_rows number ≡ key_row start print grid
+  key_there number start print grid low at same_start same_print =
+      linked_key (length table.nodes.items) held number grid linked_few low at ∙ ap (λ n. key_row n (print_of grid) grid) same_start ∙ ap (λ n. key_row start n grid) same_print
 
-  abbrev pub Stops : ℕ → ℕ → Bool → Type 0
-  Stops end node side = depth_of table.nodes.items node < depth_of table.nodes.items (kid_of table.nodes.items node side) → end < depth_of table.nodes.items (kid_of table.nodes.items node side)
+  -- What the item tells that a look-up for a key finds, by the bits before `end`.
+  module _ (some : 0 < length table.nodes.items) (key : ℕ → Bool) (near : ℕ) where
+    abbrev pub Nearest : ℕ → Type 0
+    Nearest end = IsNearest linked_rows table.nodes.items key end near
 
-  module _ (some : 0 < length table.nodes.items) where
     tree : IsTree WIDTH (length table.nodes.items) (row_of linked_rows) (depth_of table.nodes.items) (kid_of table.nodes.items)
     tree = trie_tree linked_rows table.nodes.items is.linked some
 
-    pub near_low : {key : ℕ → Bool} {end node : ℕ} {side : Bool} → WayTo key end node side → kid_of table.nodes.items node side < length table.nodes.items
-    near_low {key} {end} {node} {side} way = (tree.kids node side way.slot).there
+    near_in : {end : ℕ} → Nearest end → near < length table.nodes.items
+    near_in {end} n = subst (λ x. x < length table.nodes.items) (sym n.names) (tree.kids n.node n.side n.way.slot).there
 
-    -- If a colouring in the trie has that start and print, so has the one where the walk by these bits ends.
-    pub front_near : (start print node number : ℕ) (side : Bool) (key : ℕ → Bool) (any grid : Grid) → key ≡ key_row start print any → start < 2 ^ 64 → print < 2 ^ 64
-        → WayTo key 128 node side → Stops 128 node side
-        → number < length table.nodes.items → IsNumber held number grid → start_of (since number held) ≡ start → print_of grid ≡ print
-        → (start ≤ kid_of table.nodes.items node side) × (get_or table.prints.items (kid_of table.nodes.items node side) 0 ≡ print)
-    front_near start print node number side key any grid is_key start_small print_fits way stop low at same_start same_print =
-        let near = kid_of table.nodes.items node side in
-        let near_in : near < length table.nodes.items = near_low way in
-        let there = number_there held near (omega (arith, near_in, linked_few)) in
-        let grid' = there.0 in
-        let start' = start_of (since near held) in
-        let number_key = linked_key (length table.nodes.items) held number grid linked_few low at in
-        let near_key = linked_key (length table.nodes.items) held near grid' linked_few near_in there.1 in
-        let agrees : Agree (row_of linked_rows number) key 128 = subst (λ x. Agree x key 128) (sym number_key) (subst (λ x. Agree (key_row (start_of (since number held)) (print_of grid) grid) x 128) (sym is_key)
-            (front_agrees (start_of (since number held)) start (print_of grid) print grid any same_start same_print)) in
-        let found : Agree (row_of linked_rows near) key 128 = way_equal tree way stop (omega arith) number low agrees in
-        let front : Agree (key_row start' (print_of grid') grid') (key_row start print any) 128 = subst (λ x. Agree x (key_row start print any) 128) near_key (subst (λ x. Agree (row_of linked_rows near) x 128) is_key found) in
-        let before : start' ≤ near = start-before held near (omega (arith, near_in, linked_few)) in
-        let same = front_same start' start (print_of grid') print grid' any (omega (arith, before, near_in, few_nodes)) start_small (print_small grid') print_fits front in
-        (omega (arith, before, same.0), print_there near grid' (omega (arith, near_in, linked_few)) there.1 ∙ same.1)
+    -- if any item is as the key, this one is
+    found_equal : {end : ℕ} → Nearest end → end ≤ WIDTH → (number : ℕ) → number < length table.nodes.items → Agree (row_of linked_rows number) key end → Agree (row_of linked_rows near) key end
+    found_equal {end} n within number low a = subst (λ x. Agree (row_of linked_rows x) key end) (sym n.names) (way_equal tree n.way n.stop within number low a)
 
-    -- If a colouring in the trie has these bits, so has the one where the walk by all of them ends.
-    pub whole_near : (start print node number : ℕ) (side : Bool) (key : ℕ → Bool) (grid grid' : Grid) → key ≡ key_row start print grid → start < 2 ^ 64 → print < 2 ^ 64
-        → WayTo key WIDTH node side → Stops WIDTH node side
+    -- and if it parts from the key, no other is as the key any farther
+    found_parts : {end : ℕ} → Nearest end → end ≤ WIDTH → (place : ℕ) (other : ℕ → Bool) → row_of linked_rows near ≡ other → place < end → Agree key other place → key place ≢ other place
+        → IsParting (length table.nodes.items) (row_of linked_rows) key near place
+    found_parts {end} n within place other is_other low same differ =
+        let one : row_of linked_rows (kid_of table.nodes.items n.node n.side) ≡ other = ap (row_of linked_rows) (sym n.names) ∙ is_other in
+        subst (λ x. IsParting (length table.nodes.items) (row_of linked_rows) key x place) (sym n.names)
+        (way_parts tree place n.way n.stop within low (subst (λ x. Agree x key place) (sym one) (agree_back same)) (subst (λ (x : ℕ → Bool). x place ≢ key place) (sym one) (λ e. differ (sym e))))
+
+    -- its start and its print, if it has the front of the key
+    found_front : {end : ℕ} → Nearest end → (start print : ℕ) (any : Grid) → key ≡ key_row start print any → start < 2 ^ 64 → print < 2 ^ 64 → Agree (row_of linked_rows near) key 128
+        → (start ≤ near) × (get_or table.prints.items near 0 ≡ print)
+    found_front {end} n start print any is_key small fits a =
+        let low : near < length table.nodes.items = near_in n in
+        let high : near < length held = omega (arith, low, linked_few) in
+        let there = number_there held near high in
+        let grid = there.0 in
+        let front : Agree (key_row (start_of (since near held)) (print_of grid) grid) (key_row start print any) 128 =
+        subst (λ x. Agree x (key_row start print any) 128) (key_there near (start_of (since near held)) (print_of grid) grid low there.1 refl refl) (subst (λ x. Agree (row_of linked_rows near) x 128) is_key a) in
+        let before = start-before held near high in
+        let same = front_same (start_of (since near held)) start (print_of grid) print grid any (omega (arith, before, low, few_nodes)) small (print_small grid) fits front in
+        (omega (arith, before, same.0), print_there near grid high there.1 ∙ same.1)
+
+    -- If a colouring in the trie has that start and print, so has this one.
+    pub nearest_front : Nearest 128 → (start print number : ℕ) (any grid : Grid) → key ≡ key_row start print any → start < 2 ^ 64 → print < 2 ^ 64
         → number < length table.nodes.items → IsNumber held number grid → start_of (since number held) ≡ start → print_of grid ≡ print
-        → IsNumber held (kid_of table.nodes.items node side) grid'
-        → grid.side ≡ grid'.side → grid.side ≤ 52 → length grid.cells ≡ grid.side * grid.side → length grid'.cells ≡ grid'.side * grid'.side
-        → grid ≡ grid'
-    whole_near start print node number side key grid grid' is_key start_small print_fits way stop low at same_start same_print near_at one_side few all all' =
-        let near = kid_of table.nodes.items node side in
-        let near_in : near < length table.nodes.items = near_low way in
-        let number_key = linked_key (length table.nodes.items) held number grid linked_few low at in
-        let near_key = linked_key (length table.nodes.items) held near grid' linked_few near_in near_at in
-        let same_key : row_of linked_rows number ≡ key = number_key ∙ ap (λ n. key_row n (print_of grid) grid) same_start ∙ ap (λ n. key_row start n grid) same_print ∙ sym is_key in
-        let found : Agree (row_of linked_rows near) key WIDTH = way_equal tree way stop (omega arith) number low (subst (λ x. Agree (row_of linked_rows number) x WIDTH) same_key (agree_self (row_of linked_rows number) WIDTH)) in
+        → (start ≤ near) × (get_or table.prints.items near 0 ≡ print)
+    nearest_front n start print number any grid is_key small fits low at same_start same_print =
+        let agrees : Agree (row_of linked_rows number) key 128 = subst (λ x. Agree x key 128) (sym (key_there number start print grid low at same_start same_print)) (subst (λ x. Agree (key_row start print grid) x 128) (sym is_key)
+        (front_agrees start start print print grid any refl refl)) in
+        found_front n start print any is_key small fits (found_equal n (omega arith) number low agrees)
+
+    -- If a colouring in the trie has these bits, so has this one.
+    nearest_equal : Nearest WIDTH → (start print number : ℕ) (grid : Grid) → key ≡ key_row start print grid
+        → number < length table.nodes.items → IsNumber held number grid → start_of (since number held) ≡ start → print_of grid ≡ print → Agree (row_of linked_rows near) key WIDTH
+    nearest_equal n start print number grid is_key low at same_start same_print =
+        let same_key : row_of linked_rows number ≡ key = key_there number start print grid low at same_start same_print ∙ sym is_key in
+        found_equal n (omega arith) number low (subst (λ x. Agree (row_of linked_rows number) x WIDTH) same_key (agree_self (row_of linked_rows number) WIDTH))
+
+    pub nearest_start : Nearest WIDTH → (start print number : ℕ) (grid : Grid) → key ≡ key_row start print grid → start < 2 ^ 64 → print < 2 ^ 64
+        → number < length table.nodes.items → IsNumber held number grid → start_of (since number held) ≡ start → print_of grid ≡ print → start ≤ near
+    nearest_start n start print number grid is_key small fits low at same_start same_print =
+        (found_front n start print grid is_key small fits (agree_less 128 (omega arith) (nearest_equal n start print number grid is_key low at same_start same_print))).0
+
+    pub nearest_whole : Nearest WIDTH → (start print number : ℕ) (grid grid' : Grid) → key ≡ key_row start print grid
+        → number < length table.nodes.items → IsNumber held number grid → start_of (since number held) ≡ start → print_of grid ≡ print → IsNumber held near grid'
+        → grid.side ≡ grid'.side → grid.side ≤ 52 → length grid.cells ≡ grid.side * grid.side → length grid'.cells ≡ grid'.side * grid'.side → grid ≡ grid'
+    nearest_whole n start print number grid grid' is_key low at same_start same_print near_at one_side few all all' =
+        let near_key = key_there near (start_of (since near held)) (print_of grid') grid' (near_in n) near_at refl refl in
+        let found = nearest_equal n start print number grid is_key low at same_start same_print in
         whole_same start (start_of (since near held)) print (print_of grid') grid grid' one_side few all all'
         (agree_back (subst (λ x. Agree x (key_row start print grid) WIDTH) near_key (subst (λ x. Agree (row_of linked_rows near) x WIDTH) is_key found)))
 
-    -- Where the next colouring parts, if its start or its print parts it from the one where the walk by these ends.
-    pub front_parts : (start print node place start' print' : ℕ) (side : Bool) (key other : ℕ → Bool) (any any' grid : Grid) → key ≡ key_row start print any → other ≡ key_row start' print' any'
-        → WayTo key 128 node side → Stops 128 node side
-        → start' ≡ start_of (since (kid_of table.nodes.items node side) held) → print' ≡ get_or table.prints.items (kid_of table.nodes.items node side) 0
-        → place < 128 → Agree key other place → key place ≢ other place
-        → Agree key (key_row start print grid) (place + 1) × IsParting (length table.nodes.items) (row_of linked_rows) (key_row start print grid) (kid_of table.nodes.items node side) place
-    front_parts start print node place start' print' side key other any any' grid is_key is_other way stop same_start same_print low same differ =
-        let near = kid_of table.nodes.items node side in
-        let near_in : near < length table.nodes.items = near_low way in
-        let there = number_there held near (omega (arith, near_in, linked_few)) in
-        let near_key = linked_key (length table.nodes.items) held near there.0 linked_few near_in there.1 in
-        let printed = print_there near there.0 (omega (arith, near_in, linked_few)) there.1 in
+    -- Where the next colouring parts, if its start or its print parts it from this one.
+    pub nearest_parts : Nearest 128 → (start print place start' print' : ℕ) (other : ℕ → Bool) (any any' grid : Grid) → key ≡ key_row start print any → other ≡ key_row start' print' any'
+        → start' ≡ start_of (since near held) → print' ≡ get_or table.prints.items near 0 → place < 128 → Agree key other place → key place ≢ other place
+        → Agree key (key_row start print grid) (place + 1) × IsParting (length table.nodes.items) (row_of linked_rows) (key_row start print grid) near place
+    nearest_parts n start print place start' print' other any any' grid is_key is_other same_start same_print low same differ =
+        let high : near < length held = omega (arith, near_in n, linked_few) in
+        let there = number_there held near high in
+        let printed = print_there near there.0 high there.1 in
         let row = key_row start print grid in
         let as_row : Agree key row 128 = subst (λ x. Agree x row 128) (sym is_key) (front_agrees start start print print any grid refl refl) in
+        let near_key = key_there near start' print' there.0 (near_in n) there.1 (sym same_start) (sym (same_print ∙ printed)) in
         let as_near : Agree other (row_of linked_rows near) 128 = subst (λ x. Agree x (row_of linked_rows near) 128) (sym is_other) (subst (λ x. Agree (key_row start' print' any') x 128) (sym near_key)
-            (front_agrees start' (start_of (since near held)) print' (print_of there.0) any' there.0 same_start (same_print ∙ printed))) in
-        let parting = way_parts tree place way stop (omega arith) low (agree_back (agree_on same (agree_less place (omega (arith, low)) as_near))) (λ e. differ (sym e ∙ sym (as_near.each place low))) in
-        (agree_less (place + 1) (omega (arith, low)) as_row, record {
-          there = parting.there;
-          same = agree_on parting.same (agree_less place (omega (arith, low)) as_row);
-          differ = λ e. parting.differ (e ∙ sym (as_row.each place low));
-          best = λ j h a. parting.best j h (agree_on a (agree_back (agree_less (place + 1) (omega (arith, low)) as_row)));
-        })
+        (front_agrees start' start' print' print' any' there.0 refl refl)) in
+        let parting = found_parts n (omega arith) place (row_of linked_rows near) refl low (agree_on same (agree_less place (omega (arith, low)) as_near)) (λ e. differ (e ∙ sym (as_near.each place low))) in (
+          agree_less (place + 1) (omega (arith, low)) as_row,
+          record {
+            there = parting.there;
+            same = agree_on parting.same (agree_less place (omega (arith, low)) as_row);
+            differ = λ e. parting.differ (e ∙ sym (as_row.each place low));
+            best = λ j h a. parting.best j h (agree_on a (agree_back (agree_less (place + 1) (omega (arith, low)) as_row)));
+          },
+        )
 
--- the same by what a walk found
-module _ (held : List Held) (table : Table) (is : IsTable held table) (some : 0 < length table.nodes.items) (key : ℕ → Bool) (near : ℕ) where
-  abbrev pub Nearest : ℕ → Type 0
-  Nearest end = IsNearest (linked_rows held table is) table.nodes.items key end near
+    -- The same by all bits.
+    module _ (n : Nearest WIDTH) (start' print' : ℕ) (other : ℕ → Bool) (grid' : Grid) (is_other : other ≡ key_row start' print' grid') (at : IsNumber held near grid') (same_start : start' ≡ start_of (since near held)) (same_print : print' ≡ get_or table.prints.items near 0) where
+      near_key : row_of linked_rows near ≡ other
+      near_key =
+          let high : near < length held = omega (arith, near_in n, linked_few) in
+          key_there near start' print' grid' (near_in n) at (sym same_start) (sym (same_print ∙ print_there near grid' high at)) ∙ sym is_other
 
-  pub nearest_front : Nearest 128 → (start print number : ℕ) (any grid : Grid) → key ≡ key_row start print any → start < 2 ^ 64 → print < 2 ^ 64
-      → number < length table.nodes.items → IsNumber held number grid → start_of (since number held) ≡ start → print_of grid ≡ print
-      → (start ≤ near) × (get_or table.prints.items near 0 ≡ print)
-  nearest_front n start print number any grid is_key small fits low at same_start same_print =
-      subst (λ x. (start ≤ x) × (get_or table.prints.items x 0 ≡ print)) (sym n.names)
-      (front_near held table is some start print n.node number n.side key any grid is_key small fits n.way n.stop low at same_start same_print)
+      pub nearest_parts_whole : (place : ℕ) → place < WIDTH → Agree key other place → key place ≢ other place → IsParting (length table.nodes.items) (row_of linked_rows) key near place
+      nearest_parts_whole place low same differ = found_parts n (omega arith) place other near_key low same differ
 
-  pub nearest_whole : Nearest WIDTH → (start print number : ℕ) (grid grid' : Grid) → key ≡ key_row start print grid → start < 2 ^ 64 → print < 2 ^ 64
-      → number < length table.nodes.items → IsNumber held number grid → start_of (since number held) ≡ start → print_of grid ≡ print → IsNumber held near grid'
-      → grid.side ≡ grid'.side → grid.side ≤ 52 → length grid.cells ≡ grid.side * grid.side → length grid'.cells ≡ grid'.side * grid'.side → grid ≡ grid'
-  nearest_whole n start print number grid grid' is_key small fits low at same_start same_print near_at one_side few all all' =
-      whole_near held table is some start print n.node number n.side key grid grid' is_key small fits n.way n.stop low at same_start same_print (subst (λ x. IsNumber held x grid') n.names near_at) one_side few all all'
-
-  -- its start is that of the one that has these bits, if any has them
-  pub nearest_start : Nearest WIDTH → (start print number : ℕ) (grid : Grid) → key ≡ key_row start print grid → start < 2 ^ 64 → print < 2 ^ 64
-      → number < length table.nodes.items → IsNumber held number grid → start_of (since number held) ≡ start → print_of grid ≡ print → start ≤ near
-  nearest_start n start print number grid is_key small fits low at same_start same_print =
-      let near_in : near < length table.nodes.items = subst (λ x. x < length table.nodes.items) (sym n.names) (near_low held table is some n.way) in
-      let there = number_there held near (omega (arith, near_in, linked_few held table is)) in
-      let number_key = linked_key (length table.nodes.items) held number grid (linked_few held table is) low at in
-      let near_key = linked_key (length table.nodes.items) held near there.0 (linked_few held table is) near_in there.1 in
-      let same_key : row_of (linked_rows held table is) number ≡ key = number_key ∙ ap (λ m. key_row m (print_of grid) grid) same_start ∙ ap (λ m. key_row start m grid) same_print ∙ sym is_key in
-      let found : Agree (row_of (linked_rows held table is) near) key WIDTH = subst (λ x. Agree (row_of (linked_rows held table is) x) key WIDTH) (sym n.names)
-          (way_equal (tree held table is some) n.way n.stop (omega arith) number low (subst (λ x. Agree (row_of (linked_rows held table is) number) x WIDTH) same_key (agree_self (row_of (linked_rows held table is) number) WIDTH))) in
-      let front : Agree (key_row (start_of (since near held)) (print_of there.0) there.0) (key_row start print grid) 128 =
-          agree_less 128 (omega arith) (subst (λ x. Agree x (key_row start print grid) WIDTH) near_key (subst (λ x. Agree (row_of (linked_rows held table is) near) x WIDTH) is_key found)) in
-      let before = start-before held near (omega (arith, near_in, linked_few held table is)) in
-      let same = front_same (start_of (since near held)) start (print_of there.0) print there.0 grid (omega (arith, before, near_in, few_nodes held table is)) small (print_small there.0) fits front in
-      omega (arith, before, same.0)
-
-  pub nearest_parts : Nearest 128 → (start print place start' print' : ℕ) (other : ℕ → Bool) (any any' grid : Grid) → key ≡ key_row start print any → other ≡ key_row start' print' any'
-      → start' ≡ start_of (since near held) → print' ≡ get_or table.prints.items near 0 → place < 128 → Agree key other place → key place ≢ other place
-      → Agree key (key_row start print grid) (place + 1) × IsParting (length table.nodes.items) (row_of (linked_rows held table is)) (key_row start print grid) near place
-  nearest_parts n start print place start' print' other any any' grid is_key is_other same_start same_print low same differ =
-      subst (λ x. Agree key (key_row start print grid) (place + 1) × IsParting (length table.nodes.items) (row_of (linked_rows held table is)) (key_row start print grid) x place) (sym n.names)
-      (front_parts held table is some start print n.node place start' print' n.side key other any any' grid is_key is_other n.way n.stop
-      (subst (λ x. start' ≡ start_of (since x held)) n.names same_start) (subst (λ x. print' ≡ get_or table.prints.items x 0) n.names same_print) low same differ)
-
-  -- where it parts by all bits
-  pub nearest_parts_whole : Nearest WIDTH → (start' print' place : ℕ) (other : ℕ → Bool) (grid' : Grid) → other ≡ key_row start' print' grid' → IsNumber held near grid'
-      → start' ≡ start_of (since near held) → print' ≡ get_or table.prints.items near 0 → place < WIDTH → Agree key other place → key place ≢ other place
-      → IsParting (length table.nodes.items) (row_of (linked_rows held table is)) key near place
-  nearest_parts_whole n start' print' place other grid' is_other at same_start same_print low same differ =
-      let near_key : row_of (linked_rows held table is) near ≡ other = nearest_key start' print' other grid' is_other at same_start same_print (subst (λ x. x < length table.nodes.items) (sym n.names) (near_low held table is some n.way)) in
-      let as_near = ap (row_of (linked_rows held table is)) n.names in
-      let one : row_of (linked_rows held table is) (kid_of table.nodes.items n.node n.side) ≡ other = sym as_near ∙ near_key in
-      subst (λ x. IsParting (length table.nodes.items) (row_of (linked_rows held table is)) key x place) (sym n.names)
-      (way_parts (tree held table is some) place n.way n.stop (omega arith) low (subst (λ x. Agree x key place) (sym one) (agree_back same)) (subst (λ (x : ℕ → Bool). x place ≢ key place) (sym one) (λ e. differ (sym e))))
-    where
-      nearest_key : (start' print' : ℕ) (other : ℕ → Bool) (grid' : Grid) → other ≡ key_row start' print' grid' → IsNumber held near grid'
-          → start' ≡ start_of (since near held) → print' ≡ get_or table.prints.items near 0 → near < length table.nodes.items → row_of (linked_rows held table is) near ≡ other
-      nearest_key start' print' other grid' is_other at same_start same_print low =
-          linked_key (length table.nodes.items) held near grid' (linked_few held table is) low at
-          ∙ ap (λ n. key_row n (print_of grid') grid') (sym same_start)
-          ∙ ap (λ n. key_row start' n grid') (sym (same_print ∙ print_there held table is near grid' (omega (arith, low, linked_few held table is)) at))
-          ∙ sym is_other
-
-  -- and if it parts nowhere, it is the same
-  pub nearest_same : Nearest WIDTH → (start' print' : ℕ) (other : ℕ → Bool) (grid' : Grid) → other ≡ key_row start' print' grid' → IsNumber held near grid'
-      → start' ≡ start_of (since near held) → print' ≡ get_or table.prints.items near 0 → near < length table.nodes.items → Agree key other WIDTH → Agree (row_of (linked_rows held table is) near) key WIDTH
-  nearest_same n start' print' other grid' is_other at same_start same_print low same =
-      let near_key : row_of (linked_rows held table is) near ≡ other =
-          linked_key (length table.nodes.items) held near grid' (linked_few held table is) low at
-          ∙ ap (λ n. key_row n (print_of grid') grid') (sym same_start)
-          ∙ ap (λ n. key_row start' n grid') (sym (same_print ∙ print_there held table is near grid' (omega (arith, low, linked_few held table is)) at))
-          ∙ sym is_other in
-      subst (λ x. Agree x key WIDTH) (sym near_key) (agree_back same)
+      -- and if it parts nowhere, it is the same
+      pub nearest_same : Agree key other WIDTH → Agree (row_of linked_rows near) key WIDTH
+      nearest_same same = subst (λ x. Agree x key WIDTH) (sym near_key) (agree_back same)
 
 -- one colouring more in the trie
 pub linked_next : (held : List Held) (count : ℕ) (g : Grid) (start print : ℕ) (nodes : List Node) → count < length held → IsNumber held count g → start ≡ start_of (since count held) → print ≡ print_of g
@@ -313,16 +272,35 @@ pub linked_next : (held : List Held) (count : ℕ) (g : Grid) (start print : ℕ
 linked_next held count g start print nodes low at is_start is_print trie =
     let all : length nodes ≡ count + 1 = trie.0 ∙ omega (arith, length-keys (oldest count held), length-oldest count held (omega (arith, low))) in
     let rows : key_row start print g ∷ keys_of (oldest count held) ≡ keys_of (oldest (length nodes) held) =
-        ap (λ n. key_row n print g ∷ keys_of (oldest count held)) is_start ∙ ap (λ n. key_row (start_of (since count held)) n g ∷ keys_of (oldest count held)) is_print
-        ∙ sym (oldest-next count held g low at) ∙ ap (λ n. keys_of (oldest n held)) (sym all) in
+    ap (λ n. key_row n print g ∷ keys_of (oldest count held)) is_start ∙ ap (λ n. key_row (start_of (since count held)) n g ∷ keys_of (oldest count held)) is_print
+    ∙ sym (oldest-next count held g low at) ∙ ap (λ n. keys_of (oldest n held)) (sym all) in
     (all, subst (λ (xs : List (ℕ → Bool)). IsTrie WIDTH xs nodes) rows trie)
+
+pub tabled_next : (held : List Held) (table next : Table) (g : Grid) (start print : ℕ) → IsTable held table → length table.nodes.items < length table.prints.items
+    → next.prints ≡ table.prints → vec_capacity next.nodes ≡ vec_capacity table.nodes
+    → IsNumber held (length table.nodes.items) g → start ≡ start_of (since (length table.nodes.items) held) → print ≡ print_of g
+    → IsTrie WIDTH (key_row start print g ∷ keys_of (oldest (length table.nodes.items) held)) next.nodes.items
+    → IsTable held next × (length next.nodes.items ≡ length table.nodes.items + 1)
+tabled_next held table next g start print is more prints room at is_start is_print trie =
+    let low : length table.nodes.items < length held = omega (arith, more, tabled held table is) in
+    let count : length next.prints.items ≡ length table.prints.items = cc in
+    let linked = linked_next held (length table.nodes.items) g start print next.nodes.items low at is_start is_print trie in (
+      record {
+        printed = rw prints is.printed;
+        few = omega (arith, linked.0, more, count);
+        linked = linked.1;
+        room = omega (arith, is.room, room, count);
+        most = omega (arith, is.most, room);
+      },
+      linked.0,
+    )
 
 pub linked_first : (held : List Held) (g : Grid) (nodes : List Node) → 0 < length held → IsNumber held 0 g
     → IsTrie WIDTH (key_row (start_of (since 0 held)) (print_of g) g ∷ []) nodes → (length nodes ≡ 1) × IsTrie WIDTH (keys_of (oldest (length nodes) held)) nodes
 linked_first held g nodes low at trie =
     let none : oldest 0 held ≡ [] = empty (oldest 0 held) (length-oldest 0 held (omega arith)) in
     let next = linked_next held 0 g (start_of (since 0 held)) (print_of g) nodes low at refl refl
-        (subst (λ (hs : List Held). IsTrie WIDTH (key_row (start_of (since 0 held)) (print_of g) g ∷ keys_of hs) nodes) (sym none) trie) in
+    (subst (λ (hs : List Held). IsTrie WIDTH (key_row (start_of (since 0 held)) (print_of g) g ∷ keys_of hs) nodes) (sym none) trie) in
     (omega (arith, next.0), next.1)
   where
     empty : (hs : List Held) → length hs ≡ 0 → hs ≡ []
@@ -336,13 +314,6 @@ oldest-same count x xs le = let next : suc (length xs) - count ≡ suc (length x
 
 oldest-all : (held : List Held) (count : ℕ) → count ≡ length held → oldest count held ≡ held
 oldest-all held count e = let none : length held - count ≡ 0 = omega (arith, e) in ap (λ n. drop n held) none
-
-pub linked_none : (held : List Held) → IsTrie WIDTH (keys_of (oldest 0 held)) []
-linked_none held = none (oldest 0 held) (length-oldest 0 held (omega arith))
-  where
-    none : (hs : List Held) → length hs ≡ 0 → IsTrie WIDTH (keys_of hs) []
-    none [] e = refl
-    none (x ∷ xs) e = absurd (omega (arith, e))
 
 pub linked_back : (x : Held) (xs : List Held) (nodes : List Node) → length nodes ≡ length xs + 1 → IsTrie WIDTH (keys_of (oldest (length nodes) (x ∷ xs))) nodes
     → (length (without_newest nodes) ≡ length xs) × IsTrie WIDTH (keys_of (oldest (length (without_newest nodes)) xs)) (without_newest nodes)
@@ -358,7 +329,7 @@ side-number side [] all number g low at = absurd (omega (arith, low))
 side-number side (x ∷ xs) all number g low at = elim (cases_lt number (length xs)) [
   | inr newest ↦
       let e : number ≡ length xs = omega (arith, low, newest) in
-      let one : x.colouring ≡ g = some_grid x.colouring g (sym (ap (λ n. first_grid (since n (x ∷ xs))) e ∙ ap first_grid (since-newest x xs)) ∙ at) in
+      let one : x.colouring ≡ g = some_same x.colouring g (sym (ap (λ n. first_grid (since n (x ∷ xs))) e ∙ ap first_grid (since-newest x xs)) ∙ at) in
       ap (λ (y : Grid). y.side) (sym one) ∙ all.0
   | inl older ↦ side-number side xs all.1 number g older (sym (ap first_grid (since-older number x xs older)) ∙ at)
 ]

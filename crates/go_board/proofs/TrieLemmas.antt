@@ -47,9 +47,6 @@ cases_same false false = inl refl
 inner_reach : {w above below reach : ℕ} → IsReach w above below reach → above < below → reach ≡ below - 1
 inner_reach {w} {above} {below} {reach} far inner = elim far [ inl is ↦ is.1 | inr other ↦ absurd (omega (arith, other.0, inner)) ]
 
-leaf_reach : {w above below reach : ℕ} → IsReach w above below reach → below ≤ above → reach ≡ w
-leaf_reach {w} {above} {below} {reach} far leaf = elim far [ inl other ↦ absurd (omega (arith, other.0, leaf)) | inr is ↦ is.1 ]
-
 -- a walk that stops before a place ends where all items under the slot are alike up to it
 stop_reach : {w above below reach : ℕ} (end : ℕ) → IsReach w above below reach → (above < below → end < below) → end ≤ w → end ≤ reach
 stop_reach {w} {above} {below} {reach} end far stop within = elim far [
@@ -165,11 +162,11 @@ module _ {w n : ℕ} {b : ℕ → ℕ → Bool} {d : ℕ → ℕ} {k : ℕ → B
       let near : kid.reach ≤ place = elim (cases_lt place kid.reach) [
         | inr near ↦ near
         | inl far ↦ absurd (true≢false (
-          sym (on.under.turn (omega (arith, less)))
-          ∙ (kid.alike (k o true) on.there (under (k o true) on.under.path)).each place far
-          ∙ sym ((kid.alike (k o false) off.there (under (k o false) off.under.path)).each place far)
-          ∙ off.under.turn (omega (arith, less))
-        ))
+            sym (on.under.turn (omega (arith, less)))
+            ∙ (kid.alike (k o true) on.there (under (k o true) on.under.path)).each place far
+            ∙ sym ((kid.alike (k o false) off.there (under (k o false) off.under.path)).each place far)
+            ∙ off.under.turn (omega (arith, less))
+            ))
       ] in
       elim kid.far [
         | inl inner ↦ (inner.0, omega (arith, inner.1, inner.0, near, less))
@@ -572,18 +569,20 @@ module _ {w : ℕ} (rows : List (ℕ → Bool)) (nodes : List Node) (key : ℕ �
         best = λ j h a. part.best j h (subst (λ x. Agree x key (p + 1)) (sym (before j h)) a);
       }) in
       let grown_tree : IsTree w (n + 1) b d (kid_of new) = parted_tree tree_new slot (omega (arith, low, here_depth)) (λ inner. omega (arith, stop (omega (arith, inner, here_depth, kid_depth)), kid_depth)) under part_new within depth_new
-          (kid_of new) to_new to_own to_rest others in
+      (kid_of new) to_new to_own to_rest others in
       let undo : without_newest new ≡ nodes =
-          without_last front node n all
-          ∙ ap (λ (t : Bool). if t then front else with_named front node.up node.up_side (displaced n node)) (ne_eqb node.up n (λ e. omega (arith, e, parted.up, old.there)))
-          ∙ ap (λ m. with_named front m node.up_side (displaced n node)) parted.up
-          ∙ ap (λ (t : Bool). with_named front i t (displaced n node)) parted.up_side
-          ∙ ap (λ m. with_named front i s m) (displaced-parted node (key p) n (kid_of nodes i s) parted.own parted.rest kid.there)
-          ∙ named-back nodes i s n old.there in
-      let total : length new ≡ length rows + 1 = omega (arith, length-append front (node ∷ []), all, count) in
-      (omega (arith, total), subst (λ m. IsTree w m b d (kid_of new)) (omega (arith, count)) grown_tree,
-      subst (λ m. (node_at new m).up ≤ m) count (subst (λ (x : Node). x.up ≤ n) (sym last) (omega (arith, parted.up, old.there))),
-      subst (λ (xs : List Node). IsTrie w rows xs) (sym undo) trie)
+      without_last front node n all
+      ∙ ap (λ (t : Bool). if t then front else with_named front node.up node.up_side (displaced n node)) (ne_eqb node.up n (λ e. omega (arith, e, parted.up, old.there)))
+      ∙ ap (λ m. with_named front m node.up_side (displaced n node)) parted.up
+      ∙ ap (λ (t : Bool). with_named front i t (displaced n node)) parted.up_side
+      ∙ ap (λ m. with_named front i s m) (displaced-parted node (key p) n (kid_of nodes i s) parted.own parted.rest kid.there)
+      ∙ named-back nodes i s n old.there in
+      let total : length new ≡ length rows + 1 = omega (arith, length-append front (node ∷ []), all, count) in (
+        omega (arith, total),
+        subst (λ m. IsTree w m b d (kid_of new)) (omega (arith, count)) grown_tree,
+        subst (λ m. (node_at new m).up ≤ m) count (subst (λ (x : Node). x.up ≤ n) (sym last) (omega (arith, parted.up, old.there))),
+        subst (λ (xs : List Node). IsTrie w rows xs) (sym undo) trie,
+      )
 
   -- an item that equals an earlier one
   pub trie_repeated : {l : ℕ} (node : Node) → l < length nodes → Agree (row_of rows l) key w → node.depth ≡ 0 → node.up ≡ length nodes → IsTrie w (key ∷ rows) (nodes ++ node ∷ [])
@@ -599,14 +598,16 @@ module _ {w : ℕ} (rows : List (ℕ → Bool)) (nodes : List Node) (key : ℕ �
       let last : node_at new n ≡ node = get_or-append_seam nodes node [] no_node in
       let tree_new = same_tree {b' = b} {d' = d} (trie_tree rows nodes trie some) before (λ o h. sym (ap (λ (x : Node). x.depth) (at o h))) in
       let grown_tree = repeated_tree tree_new there (subst (λ x. Agree (b l) x w) (sym first) (subst (λ x. Agree x key w) (before l there) same)) (ap (λ (x : Node). x.depth) last ∙ depth)
-          (kid_of new) (λ o t h. ap (λ (x : Node). named x t) (at o h)) in
+      (kid_of new) (λ o t h. ap (λ (x : Node). named x t) (at o h)) in
       let undo : without_newest new ≡ nodes =
-          without_last nodes node n refl
-          ∙ ap (λ (t : Bool). if t then nodes else with_named nodes node.up node.up_side (displaced n node)) (eq-eqb node.up n up) in
-      let total : length new ≡ length rows + 1 = omega (arith, length-append nodes (node ∷ []), count) in
-      (omega (arith, total), subst (λ m. IsTree w m b d (kid_of new)) (omega (arith, count)) grown_tree,
-      subst (λ m. (node_at new m).up ≤ m) count (subst (λ (x : Node). x.up ≤ n) (sym last) (omega (arith, up))),
-      subst (λ (xs : List Node). IsTrie w rows xs) (sym undo) trie)
+      without_last nodes node n refl
+      ∙ ap (λ (t : Bool). if t then nodes else with_named nodes node.up node.up_side (displaced n node)) (eq-eqb node.up n up) in
+      let total : length new ≡ length rows + 1 = omega (arith, length-append nodes (node ∷ []), count) in (
+        omega (arith, total),
+        subst (λ m. IsTree w m b d (kid_of new)) (omega (arith, count)) grown_tree,
+        subst (λ m. (node_at new m).up ≤ m) count (subst (λ (x : Node). x.up ≤ n) (sym last) (omega (arith, up))),
+        subst (λ (xs : List Node). IsTrie w rows xs) (sym undo) trie,
+      )
 
 pub trie_first : (w : ℕ) (key : ℕ → Bool) (node : Node) → node.depth ≡ 0 → node.up ≡ 0 → node.off ≡ 0 → IsTrie w (key ∷ []) (node ∷ [])
 trie_first w key node depth up off =

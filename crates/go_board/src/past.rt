@@ -2,11 +2,11 @@
 
 mod changes;
 mod colourings;
+mod key;
 mod list_past;
 mod powers;
 pub(crate) mod print;
 mod print_past;
-mod key;
 mod table;
 mod trie;
 

@@ -1,5 +1,5 @@
 -- The table by which past colourings are looked up: their prints, and a trie of the keys of the oldest ones.
-use Rattle.std.specs.Prelude.{◌≡◌, ℕ, ◌<◌, ◌≤◌, ◌^◌, List, length, reverse}
+use Rattle.std.specs.Prelude.{◌≡◌, ◌<◌, ◌≤◌, ◌^◌, List, length, reverse}
 use Rattle.std.specs.Vec.{vec_capacity}
 use Rattle.go_board.specs.declared.past.key.TheConstants.{WIDTH}
 use Rattle.go_board.specs.declared.past.table.Table.{Table}

@@ -2,9 +2,8 @@
 -- Item number `item`, counted from 0 at the oldest, has the node with its number. The node's depth is 1 more than the place where
 -- the item parted from all earlier items; it is 0 if the item parted nowhere: the first item, and one that equals an earlier one.
 -- A slot is a side of a node. It names a node below if that is deeper than its own, and otherwise an item.
-use Rattle.std.specs.Prelude.{◌≡◌, ◌≢◌, ◌⊎◌, ℕ, ◌+◌, ◌-◌, ◌<◌, ◌≤◌, ◌==◌, Bool, false, not, if◌then◌else◌, Option, Some, None, List, [], ◌∷◌, ◌++◌, length, take, slice_index_or, slice_set}
+use Rattle.std.specs.Prelude.{◌≡◌, ◌≢◌, ◌⊎◌, ℕ, ◌+◌, ◌-◌, ◌<◌, ◌≤◌, ◌==◌, Bool, false, if◌then◌else◌, List, [], ◌∷◌, length, take, slice_index_or, slice_set}
 use Rattle.go_board.specs.declared.past.trie.Node.{Node}
-use Rattle.go_board.specs.declared.past.trie.Slot.{Slot}
 
 -- two rows of bits are the same before that place
 pub record Agree (one other : ℕ → Bool) (end : ℕ) : Type 0 where

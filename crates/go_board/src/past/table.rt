@@ -13,9 +13,10 @@ ghost use Rattle.go_board.specs.declared.past.trie.Node.{Node};
 ghost use Rattle.go_board.specs.Grid.{Grid};
 ghost use Rattle.go_board.specs.Past.{Held, all_of, present_stretch, HaveSide};
 ghost use Rattle.go_board.specs.inner.Changes.{IsNumber, HasNumber};
-ghost use Rattle.go_board.specs.inner.Key.{start_of, since};
+ghost use Rattle.go_board.specs.inner.Key.{bits_of, keys_of, oldest, start_of, since};
 ghost use Rattle.go_board.specs.inner.Print.{print_of, prints_of};
 ghost use Rattle.go_board.specs.inner.Table.{IsTable};
+ghost use Rattle.go_board.specs.inner.Trie.{IsNearest};
 
 use crate::board::Board;
 use crate::fault::MemoryFault;
@@ -127,7 +128,7 @@ impl Table {
             return false;
         }
         let key = Key::new(start, print, colourings.newest());
-        let near = nearest(&self.nodes, &key, FRONT);
+        let near = self.nearest(&key, FRONT);
         near >= start && self.prints[near] == print
     }
 
@@ -139,7 +140,8 @@ impl Table {
         ensures { IsTrue result ↔ Contains (present_stretch colourings.now) board.now }
     {
         let start = colourings.stretch_start();
-        self.has_unlinked(colourings, start, board, print) || self.has_linked(colourings, start, board, print)
+        self.has_unlinked(colourings, start, board, print)
+            || self.has_linked(colourings, start, board, print)
     }
 
     /// Whether a colouring from `start` on that isn't in the trie yet is this one.
@@ -170,7 +172,7 @@ impl Table {
             return false;
         }
         let key = Key::new(start, print, board);
-        let near = nearest(&self.nodes, &key, WIDTH);
+        let near = self.nearest(&key, WIDTH);
         if near < start {
             return false;
         }
@@ -178,6 +180,18 @@ impl Table {
         past.has_all_cells();
         board.has_all_cells();
         board.same(&past)
+    }
+
+    /// The colouring in the trie whose key is as `key` at least as far as any other key is, as far as `end` (`trie::nearest`).
+    fn nearest(&self, key: &Key<'_>, end: u32) -> usize
+        requires table { (held : List Held) × IsTable held self.now }
+        requires some { 0 < length self.now.nodes.items }
+        requires within { end ≤ WIDTH }
+        ensures there { result < length self.now.nodes.items }
+        ensures nearest { (held : List Held) → IsTable held self.now
+            → IsNearest (keys_of (oldest (length self.now.nodes.items) held)) self.now.nodes.items (bits_of key.now) end result }
+    {
+        nearest(&self.nodes, key, end)
     }
 
     /// Puts all colourings into the trie.
@@ -206,8 +220,12 @@ impl Table {
         }
         let start = colourings.start_at(number);
         let key = Key::new(start, self.prints[number], colourings.newest());
-        let near = nearest(&self.nodes, &key, FRONT);
-        let other = Key::new(colourings.start_at(near), self.prints[near], colourings.newest());
+        let near = self.nearest(&key, FRONT);
+        let other = Key::new(
+            colourings.start_at(near),
+            self.prints[near],
+            colourings.newest(),
+        );
         match first_difference(&key, &other, FRONT / WORD) {
             Some(place) => part(&mut self.nodes, &key, place),
             None => self.link_by_board(colourings, number, start),
@@ -227,7 +245,7 @@ impl Table {
     {
         let board = colourings.board_at(number);
         let key = Key::new(start, self.prints[number], &board);
-        let near = nearest(&self.nodes, &key, WIDTH);
+        let near = self.nearest(&key, WIDTH);
         let past = colourings.board_at(near);
         let other = Key::new(colourings.start_at(near), self.prints[near], &past);
         match first_difference(&key, &other, WIDTH / WORD) {

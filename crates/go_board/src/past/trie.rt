@@ -149,7 +149,11 @@ fn parted_node(place: u32, slot: Slot, bit: bool, number: u32, below: u32) -> No
     ensures own { named result bit ≡ number }
     ensures rest { named result (not bit) ≡ below }
 {
-    let (off, on) = if bit { (below, number) } else { (number, below) };
+    let (off, on) = if bit {
+        (below, number)
+    } else {
+        (number, below)
+    };
     Node {
         depth: place as u16 + 1,
         up_side: slot.side,
@@ -190,6 +194,10 @@ pub(crate) fn take_back(nodes: &mut Vec<Node>)
         node: newest.up,
         side: newest.up_side,
     };
-    let below = if newest.off == number { newest.on } else { newest.off };
+    let below = if newest.off == number {
+        newest.on
+    } else {
+        newest.off
+    };
     name(nodes, slot, below);
 }

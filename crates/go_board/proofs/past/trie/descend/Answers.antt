@@ -1,7 +1,7 @@
 use Rattle.std.proofs.Common.{◌-◌, ◌<◌, ◌∙◌, ℕ, Bool, List, length, arith, rules, sym, ap, subst}
 use Rattle.go_board.specs.declared.past.key.TheConstants.{WIDTH}
 use Rattle.go_board.specs.inner.Key.{bits_of}
-use Rattle.go_board.specs.inner.Trie.{IsTrie, IsOnWay, row_of, depth_of, kid_of}
+use Rattle.go_board.specs.inner.Trie.{IsTrie, IsOnWay, row_of, depth_of}
 use Rattle.go_board.proofs.TrieLemmas.{trie_tree, way_begins, way_goes_on, way_names}
 use Rattle.go_board.proofs.past.trie.descend.Goals as goal
 
@@ -27,7 +27,7 @@ bounds-nodes-below-in-down c =
     let rows = c.requires.trie.0 in
     let tree = trie_tree rows _ c.requires.trie.1 c.requires.some in
     let way = way_goes_on tree c.down.below c.bit.result (old.way rows c.requires.trie.1) old.below (omega (arith, c.down-test.true, old.depth, old.deeper)) (omega (arith, c.if-deeper-end.true, old.deeper))
-        (c.bit.ensures ∙ ap (λ n. bits_of c.args.key.now (n - 1)) old.deeper) in
+    (c.bit.ensures ∙ ap (λ n. bits_of c.args.key.now (n - 1)) old.deeper) in
     subst (λ x. x < length c.args.nodes.now) (sym c.kid-below-in-down.ensures) (way_names tree way)
 
 pub down-preserved : goal.down-preserved
@@ -35,7 +35,7 @@ down-preserved c =
     let old = c.down.invariant in
     let tree = trie_tree c.requires.trie.0 _ c.requires.trie.1 c.requires.some in
     let next : (rows : List (ℕ → Bool)) → IsTrie WIDTH rows c.args.nodes.now
-        → IsOnWay (length c.args.nodes.now) (row_of rows) (depth_of c.args.nodes.now) (bits_of c.args.key.now) c.args.end c.down.below c.bit.result = λ rows trie.
+    → IsOnWay (length c.args.nodes.now) (row_of rows) (depth_of c.args.nodes.now) (bits_of c.args.key.now) c.args.end c.down.below c.bit.result = λ rows trie.
     way_goes_on (trie_tree rows _ trie c.requires.some) c.down.below c.bit.result (old.way rows trie) old.below (omega (arith, c.down-test.true, old.depth, old.deeper)) (omega (arith, c.if-deeper-end.true, old.deeper))
     (c.bit.ensures ∙ ap (λ n. bits_of c.args.key.now (n - 1)) old.deeper)
     in

@@ -17,14 +17,14 @@ returns-clause-trie c = λ rows row item trie same parting.
     let bit : c.bit.result ≡ row c.args.place = c.bit.ensures ∙ same.each c.args.place (omega arith) in
     let below : c.kid.result ≡ kid_of nodes slot.result.node slot.result.side = search rules in
     let named_so : c.name.new.nodes.items ≡ with_named nodes slot.result.node slot.result.side (length nodes) =
-        c.name.ensures.named ∙ ap (λ n. with_named nodes slot.result.node slot.result.side n) number in
+    c.name.ensures.named ∙ ap (λ n. with_named nodes slot.result.node slot.result.side n) number in
     let made : c.push_reserved.new.self.items ≡ with_named nodes slot.result.node slot.result.side (length nodes) ++ node.result ∷ [] =
-        c.push_reserved.ensures.items ∙ ap (λ (xs : List Node). xs ++ node.result ∷ []) named_so in
+    c.push_reserved.ensures.items ∙ ap (λ (xs : List Node). xs ++ node.result ∷ []) named_so in
     let way : IsOnWay (length nodes) (row_of rows) (depth_of nodes) key c.args.place slot.result.node slot.result.side =
-        subst (λ (xs : List Node). IsOnWay (length xs) (row_of rows) (depth_of xs) key c.args.place slot.result.node slot.result.side) seen
-        (slot.ensures.way rows (subst (λ (xs : List Node). IsTrie WIDTH rows xs) (sym seen) trie)) in
+    subst (λ (xs : List Node). IsOnWay (length xs) (row_of rows) (depth_of xs) key c.args.place slot.result.node slot.result.side) seen
+    (slot.ensures.way rows (subst (λ (xs : List Node). IsTrie WIDTH rows xs) (sym seen) trie)) in
     let stop : depth_of nodes slot.result.node < depth_of nodes (kid_of nodes slot.result.node slot.result.side) → c.args.place < depth_of nodes (kid_of nodes slot.result.node slot.result.side) =
-        subst (λ (xs : List Node). depth_of xs slot.result.node < depth_of xs (kid_of xs slot.result.node slot.result.side) → c.args.place < depth_of xs (kid_of xs slot.result.node slot.result.side)) seen slot.ensures.stop in
+    subst (λ (xs : List Node). depth_of xs slot.result.node < depth_of xs (kid_of xs slot.result.node slot.result.side) → c.args.place < depth_of xs (kid_of xs slot.result.node slot.result.side)) seen slot.ensures.stop in
     subst (λ (xs : List Node). IsTrie WIDTH (row ∷ rows) xs) (sym made)
     (trie_parted rows nodes row trie c.requires.some node.result way.slot way.low
     (way.all item parting.there (agree_on parting.same (agree_back (agree_less c.args.place (omega arith) same)))) stop c.requires.within parting

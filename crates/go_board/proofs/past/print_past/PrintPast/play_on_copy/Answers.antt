@@ -13,5 +13,5 @@ returns-in_err-add c =
     let same : c.newest.result.now ≡ newest_grid old = c.newest.ensures in
     let made : c.place.new.self ≡ play (newest_grid old) k p = c.place.ensures.value ∙ ap (λ (g : Grid). play g k p) (c.copy-made.ensures ∙ same) in
     let never : Contains (present_stretch old) (play (newest_grid old) k p) → ⊥ = λ has. false≢true (sym c.if-has.false
-        ∙ c.has.ensures.1 (subst (λ (g : Grid). Contains (present_stretch c.self.inside.colourings) g) (sym made) (subst (λ (past : PastColourings). Contains (present_stretch past) (play (newest_grid old) k p)) (sym c.self.view_is) has))) in
+    ∙ c.has.ensures.1 (subst (λ (g : Grid). Contains (present_stretch c.self.inside.colourings) g) (sym made) (subst (λ (past : PastColourings). Contains (present_stretch past) (play (newest_grid old) k p)) (sym c.self.view_is) has))) in
     record { known = search rules; ok = search rules; refused = search (rules, never); err = search rules }

@@ -1,4 +1,4 @@
-use Rattle.std.proofs.Common.{◌≡◌, ◌<◌, ◌≤◌, inl, inr, false, length, sym, ◌∙◌, arith, rules}
+use Rattle.std.proofs.Common.{inl, inr, length, sym, ◌∙◌, rules}
 use Rattle.std.proofs.lemmas.Bool.{cases_lt, false≢true}
 use Rattle.go_board.specs.Past.{all_of}
 use Rattle.go_board.proofs.TableLemmas.{start-is, has_number, has_colouring}
@@ -10,8 +10,7 @@ has_linked-requires-clause-start c = start-is (all_of c.args.colourings.now) c.s
 pub returns-then-has_unlinked : goal.returns-then-has_unlinked
 returns-then-has_unlinked c =
     let held = all_of c.args.colourings.now in
-    let stretch = c.stretch_start-start.ensures.stretch in
-    (
+    let stretch = c.stretch_start-start.ensures.stretch in (
       λ is. let h = c.has_unlinked.ensures.0 is in has_colouring held c.stretch_start-start.result c.args.board.now stretch (h.0, h.1, h.2.0, h.3),
       λ has. search rules,
     )
@@ -19,8 +18,7 @@ returns-then-has_unlinked c =
 pub returns-else-has_unlinked : goal.returns-else-has_unlinked
 returns-else-has_unlinked c =
     let held = all_of c.args.colourings.now in
-    let stretch = c.stretch_start-start.ensures.stretch in
-    (
+    let stretch = c.stretch_start-start.ensures.stretch in (
       λ is. let h = c.has_linked.ensures.0 is in has_colouring held c.stretch_start-start.result c.args.board.now stretch (h.0, h.1, h.2.0, h.3),
       λ has.
           let h = has_number held c.stretch_start-start.result c.args.board.now stretch has in

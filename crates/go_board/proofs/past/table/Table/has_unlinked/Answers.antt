@@ -1,4 +1,4 @@
-use Rattle.std.proofs.Common.{◌≡◌, ◌-◌, ◌<◌, ◌≤◌, inl, inr, length, ap, sym, subst, ◌∙◌, arith, rules}
+use Rattle.std.proofs.Common.{◌-◌, ◌<◌, inl, inr, length, sym, subst, ◌∙◌, arith}
 use Rattle.std.proofs.lemmas.Bool.{cases_eq, false≢true}
 use Rattle.std.proofs.lemmas.Grind.{get_or_default_zero}
 use Rattle.go_board.specs.Past.{all_of}
@@ -17,7 +17,7 @@ each-preserved c =
     let not_here : IsNumber held here c.args.board.now → ⊥ = λ at. elim c.else-index-print.branch [
       | else-index-print-via-then-index-print+else-is_at w ↦ false≢true (sym w.if-is_at.false ∙ w.is_at.ensures.1 at)
       | else-index-print-via-else-index-print w ↦ w.if-index-print.false
-        (c.index.ensures ∙ get_or_default_zero t.prints.items here c.index.result.now within ∙ print_there held t c.requires.table here c.args.board.now (omega (arith, within, all)) at ∙ sym c.requires.print)
+          (c.index.ensures ∙ get_or_default_zero t.prints.items here c.index.result.now within ∙ print_there held t c.requires.table here c.args.board.now (omega (arith, within, all)) at ∙ sym c.requires.print)
     ] in
     record {
       within = omega (arith, c.each.invariant.within);

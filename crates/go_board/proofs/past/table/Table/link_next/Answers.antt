@@ -1,26 +1,20 @@
-use Rattle.std.proofs.Common.{◌≡◌, ◌+◌, ◌<◌, ◌≤◌, List, ℕ, length, get_or, refl, ap, subst, sym, ◌∙◌, arith, rules}
-use Rattle.std.specs.Vec.{vec_capacity}
+use Rattle.std.proofs.Common.{◌≡◌, ◌<◌, length, get_or, refl, ap, sym, ◌∙◌, arith}
 use Rattle.std.proofs.lemmas.Grind.{get_or_default_zero}
-use Rattle.go_board.specs.declared.past.trie.Node.{Node}
-use Rattle.go_board.specs.declared.past.key.TheConstants.{WIDTH}
 use Rattle.go_board.specs.Past.{all_of}
 use Rattle.go_board.specs.inner.Key.{bits_of, key_row, start_of, since}
 use Rattle.go_board.specs.inner.Print.{print_of}
-use Rattle.go_board.specs.inner.Trie.{IsTrie, IsNearest}
-use Rattle.go_board.proofs.TableLemmas.{tabled, linked_few, linked_rows, print_there, number_there, nearest_parts, linked_next, linked_first}
+use Rattle.go_board.proofs.TableLemmas.{tabled, linked_few, linked_rows, print_there, number_there, nearest_parts, tabled_next, linked_first}
 use Rattle.go_board.proofs.past.table.Table.link_next.Goals as goal
 
 pub start_at-requires : goal.start_at-requires
 start_at-requires c =
     let t = c.args.self.now in
-    let near_in : c.nearest-near.result < length t.nodes.items = subst (λ (xs : List Node). c.nearest-near.result < length xs) c.deref.ensures.value c.nearest-near.ensures.there in
-    omega (arith, near_in, linked_few (all_of c.args.colourings.now) t c.requires.table)
+    omega (arith, c.nearest-near.ensures.there, linked_few (all_of c.args.colourings.now) t c.requires.table)
 
 pub index-requires-2 : goal.index-requires-2
 index-requires-2 c =
     let t = c.args.self.now in
-    let near_in : c.nearest-near.result < length t.nodes.items = subst (λ (xs : List Node). c.nearest-near.result < length xs) c.deref.ensures.value c.nearest-near.ensures.there in
-    omega (arith, near_in, c.requires.table.few, t.prints.ok.0)
+    omega (arith, c.nearest-near.ensures.there, c.requires.table.few, t.prints.ok.0)
 
 pub returns-in-Some : goal.returns-in-Some
 returns-in-Some c =
@@ -36,30 +30,18 @@ returns-in-Some c =
     let there = number_there held m low in
     let start : c.start_at-start.result ≡ start_of (since m held) = c.start_at-start.ensures ∙ ap (λ n. start_of (since n held)) count in
     let print : c.index.result.now ≡ print_of there.0 =
-        c.index.ensures ∙ get_or_default_zero t.prints.items number c.index.result.now (omega (arith, count, c.requires.more)) ∙ ap (λ n. get_or t.prints.items n 0) count ∙ print_there held t is m there.0 low there.1 in
+    c.index.ensures ∙ get_or_default_zero t.prints.items number c.index.result.now (omega (arith, count, c.requires.more)) ∙ ap (λ n. get_or t.prints.items n 0) count ∙ print_there held t is m there.0 low there.1 in
     let rows = linked_rows held t is in
     let key = bits_of c.new-key.result in
     let near = c.nearest-near.result in
-    let near_in : near < m = subst (λ (xs : List Node). near < length xs) c.deref.ensures.value c.nearest-near.ensures.there in
-    let found : IsNearest rows t.nodes.items key 128 near = subst (λ (xs : List Node). IsNearest rows xs key 128 near) c.deref.ensures.value
-        (c.nearest-near.ensures.nearest rows (subst (λ (xs : List Node). IsTrie WIDTH rows xs) (sym c.deref.ensures.value) is.linked)) in
-    let print' : c.index-2.result.now ≡ get_or t.prints.items near 0 = c.index-2.ensures ∙ get_or_default_zero t.prints.items near c.index-2.result.now (omega (arith, near_in, is.few)) in
+    let found = c.nearest-near.ensures.nearest held is in
+    let print' : c.index-2.result.now ≡ get_or t.prints.items near 0 = c.index-2.ensures ∙ get_or_default_zero t.prints.items near c.index-2.result.now (omega (arith, c.nearest-near.ensures.there, is.few)) in
     let apart = c.in-Some.ensures in
     let parts = nearest_parts held t is some key near found c.start_at-start.result c.index.result.now c.in-Some.place c.start_at.result c.index-2.result.now (bits_of c.new-other.result) c.newest.result.now c.newest-2.result.now there.0
-        c.new-key.ensures c.new-other.ensures c.start_at.ensures print' apart.0 apart.1 apart.2 in
-    let next = linked_next held m there.0 c.start_at-start.result c.index.result.now c.part.new.nodes.items low there.1 start print
-        (c.part.ensures.trie rows (key_row c.start_at-start.result c.index.result.now there.0) near is.linked parts.0 parts.1) in
-    record {
-      table = record {
-        printed = is.printed;
-        few = omega (arith, next.0, c.requires.more);
-        linked = next.1;
-        room = omega (arith, is.room, c.part.ensures.room);
-        most = omega (arith, is.most, c.part.ensures.room);
-      };
-      next = next.0;
-      prints = refl;
-    }
+    c.new-key.ensures c.new-other.ensures c.start_at.ensures print' apart.0 apart.1 apart.2 in
+    let next = tabled_next held t (record t { nodes = c.part.new.nodes }) there.0 c.start_at-start.result c.index.result.now is c.requires.more refl c.part.ensures.room there.1 start print
+    (c.part.ensures.trie rows (key_row c.start_at-start.result c.index.result.now there.0) near is.linked parts.0 parts.1) in
+    record { table = next.0; next = next.1; prints = refl }
 
 pub returns-then-number-eq0 : goal.returns-then-number-eq0
 returns-then-number-eq0 c =

@@ -1,4 +1,4 @@
-use Rattle.std.proofs.Common.{◌≡◌, ◌≤◌, ◌<◌, ◌+◌, ◌-◌, ◌^◌, ◌++◌, ◌∷◌, [], List, ℕ, Option, Some, length, length-append, reverse, get_or, refl, ap, sym, subst, ◌∙◌, arith, rules}
+use Rattle.std.proofs.Common.{◌≡◌, ◌≤◌, ◌+◌, ◌-◌, ◌++◌, ◌∷◌, [], List, ℕ, Option, Some, length, length-append, reverse, get_or, ap, sym, subst, ◌∙◌, arith, rules}
 use Rattle.std.specs.Option.{option_to_list}
 use Rattle.std.specs.Vec.{vec_capacity}
 use Rattle.go_board.specs.declared.past.key.TheConstants.{WIDTH}
@@ -22,7 +22,7 @@ returns c = λ newest older is.
     let last = get_or t.prints.items (length t.prints.items - 1) 0 in
     let some : c.pop.result ≡ Some (get_or after.prints.items (length after.prints.items - 1) 0) = search (rules, c.pop.ensures.value) in
     let parts : t.prints.items ≡ left ++ get_or after.prints.items (length after.prints.items - 1) 0 ∷ [] =
-        sym same ∙ c.pop.ensures.items ∙ ap (λ (o : Option ℕ). left ++ option_to_list o) some in
+    sym same ∙ c.pop.ensures.items ∙ ap (λ (o : Option ℕ). left ++ option_to_list o) some in
     let count : length t.prints.items ≡ length left + 1 = ap (λ (xs : List ℕ). length xs) parts ∙ length-append left (get_or after.prints.items (length after.prints.items - 1) 0 ∷ []) in
     (printed_back t.prints.items left (get_or after.prints.items (length after.prints.items - 1) 0) newest older parts is.printed, omega (arith, count, all))
     in

@@ -1,4 +1,4 @@
-use Rattle.std.proofs.Common.{◌≡◌, ◌≤◌, ◌<◌, ◌+◌, ◌^◌, ◌++◌, ◌∷◌, [], List, ℕ, length, length-append, reverse, refl, ap, sym, subst, ◌∙◌, arith, rules}
+use Rattle.std.proofs.Common.{◌≡◌, ◌<◌, ◌+◌, ◌^◌, ◌++◌, ◌∷◌, [], List, ℕ, length, length-append, reverse, refl, ap, sym, subst, ◌∙◌, arith}
 use Rattle.std.specs.Vec.{vec_capacity}
 use Rattle.std.proofs.lemmas.List.{reverse-append}
 use Rattle.go_board.specs.declared.past.table.Table.{Table}
@@ -6,7 +6,7 @@ use Rattle.go_board.specs.declared.past.trie.Node.{Node}
 use Rattle.go_board.specs.declared.past.key.TheConstants.{WIDTH}
 use Rattle.go_board.specs.Past.{Held}
 use Rattle.go_board.specs.inner.Key.{keys_of, oldest}
-use Rattle.go_board.specs.inner.Print.{print_of, prints_of}
+use Rattle.go_board.specs.inner.Print.{print_of}
 use Rattle.go_board.specs.inner.Trie.{IsTrie}
 use Rattle.go_board.proofs.TableLemmas.{linked_few, oldest-same}
 use Rattle.go_board.proofs.past.table.Table.push.Goals as goal
