@@ -11,9 +11,8 @@ ghost use Rattle.go_board.specs.inner.Groups.{AreShutGroups, IsTakenOrReaches, A
 ghost use Rattle.go_board.specs.inner.Rows.{is_set, IsAmong};
 
 use crate::board::Board;
-use crate::board::both_areas::FEW_ROWS;
 use crate::board::group::{has_liberty, lives_by_row};
-use crate::board::regions::no_rows;
+use crate::board::regions::{FEW_ROWS, no_rows};
 use crate::points::Point;
 use crate::stones::{Cell, Colour};
 
