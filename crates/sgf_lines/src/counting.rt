@@ -33,6 +33,8 @@ pub struct Counts {
 /// 2. `NotSgf`.
 ///
 /// If memory was refused, `Memory { lines: 0 }` is returned in place of `Ok`, or of a fault that would have come later.
+///
+/// Once the source has answered that it is at its end, it is asked nothing more.
 pub fn count<S: Source>(alloc: Global, source: &mut S) -> Result<Counts, RunFault>
     requires { (S.state source.old).failures < u64.MAX }
     ensures counts { IsCount (S.state source.old) (S.state source.new) result }

@@ -55,6 +55,8 @@ const CHUNK: usize = 65_536;
 /// 4. `Write` if the sink failed.
 ///
 /// If memory was refused, `Memory` is returned in place of `Ok`, or of a fault that would have come later.
+///
+/// Once the source has answered that it is at its end, it is asked nothing more.
 pub fn split<S: Source, T: Sink>(
     alloc: Global,
     source: &mut S,
