@@ -226,6 +226,7 @@ fn moves_at_once(text: &[u8], at: usize) -> Option<OwnNodes>
 
 /// Which of the bytes at `at` are as in `;B[pd];W[dd];`, all compared at once. The last of these may be any byte that ends a node.
 /// The bits 13 to 15 are set too.
+// It isn't `bytes_in_place` at the next byte, since that takes other bytes for the second `;`. A test of this `;` by itself costs time.
 #[inline(always)]
 fn two_moves_in_place(text: &[u8], at: usize) -> u64
     requires { at + NEAR ≤ length text.now }
