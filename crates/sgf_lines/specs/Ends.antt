@@ -1,5 +1,5 @@
 -- What the source and the sink of a run show to contracts, and what their calls do.
-use Rattle.std.specs.Prelude.{◌≡◌, ℕ, ◌+◌, ◌<◌, ◌≤◌, List, [], length, take, Option, Some, None, Result, Ok, Err}
+use Rattle.std.specs.Prelude.{◌≡◌, ℕ, ◌+◌, ◌-◌, ◌<◌, ◌≤◌, List, [], length, take, Option, Some, None, Result, Ok, Err}
 use Rattle.std.specs.Io.KnownBytes.{Keeps, Appends, Consumes, IsAtEnd}
 use denote.Ref.{Bor}
 
@@ -29,6 +29,11 @@ abbrev pub IsGet : {E : Type 0} → SourceState → SourceState → List ℕ →
 IsGet old new buffer (Ok n) = (n ≤ length buffer) × Gives old new (take n buffer)
 IsGet old new buffer (Err _) = GivesNothing old new
 
+-- how often such a result says that the source is at its end: once if it gave no bytes
+abbrev pub ends_told : {E : Type 0} → Result ℕ E → ℕ
+ends_told (Ok n) = 1 - n
+ends_told (Err _) = 0
+
 -- a source that had never failed gave these bytes at once, and no more are to come
 pub record GivesAll (old new : SourceState) (bytes : List ℕ) : Type 0 where
   pub never_failed : old.failures ≡ 0
@@ -41,6 +46,11 @@ pub record GivesAll (old new : SourceState) (bytes : List ℕ) : Type 0 where
 abbrev pub GivesRest : ℕ → SourceState → SourceState → Option (Bor (List ℕ)) → Type 0
 GivesRest most old new None = new ≡ old
 GivesRest most old new (Some bytes) = (length bytes.now ≤ most) × GivesAll old new bytes.now
+
+-- how often such a result says that the source is at its end
+abbrev pub rests_told : Option (Bor (List ℕ)) → ℕ
+rests_told None = 0
+rests_told (Some _) = 1
 
 -- A sink: how often it has failed, the bytes that it has taken so far, and the prefix of these
 -- that it has delivered. Delivered bytes were passed on, and are no longer held back. A list is

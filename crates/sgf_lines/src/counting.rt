@@ -1,6 +1,6 @@
 //! Counting what a collection holds. No collection is made for that.
 
-ghost use Rattle.std.specs.Prelude.{◌≡◌, ◌<◌, ◌++◌, ℕ, List, decimal};
+ghost use Rattle.std.specs.Prelude.{◌≡◌, ◌<◌, ◌≤◌, ◌+◌, ◌++◌, ℕ, List, decimal};
 ghost use Rattle.sgf_tree.specs.Extent.{HasExtent};
 ghost use Rattle.sgf_lines.specs.Counts.{IsCount, IsWriting, counts_of, counts_row};
 ghost use Rattle.sgf_lines.specs.Ends.{SourceState};
@@ -33,9 +33,12 @@ pub struct Counts {
 /// 2. `NotSgf`.
 ///
 /// If memory was refused, `Memory { lines: 0 }` is returned in place of `Ok`, or of a fault that would have come later.
+///
+/// Once the source has answered that it is at its end, it is asked nothing more.
 pub fn count<S: Source>(alloc: Global, source: &mut S) -> Result<Counts, RunFault>
     requires { (S.state source.old).failures < u64.MAX }
-    ensures { IsCount (S.state source.old) (S.state source.new) result }
+    ensures counts { IsCount (S.state source.old) (S.state source.new) result }
+    ensures one_end { S.ends source.new ≤ S.ends source.old + 1 }
 {
     if let Some(text) = source.give_rest(MAX_LENGTH) {
         return count_text(alloc, text);

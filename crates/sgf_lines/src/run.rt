@@ -55,6 +55,8 @@ const CHUNK: usize = 65_536;
 /// 4. `Write` if the sink failed.
 ///
 /// If memory was refused, `Memory` is returned in place of `Ok`, or of a fault that would have come later.
+///
+/// Once the source has answered that it is at its end, it is asked nothing more.
 pub fn split<S: Source, T: Sink>(
     alloc: Global,
     source: &mut S,
@@ -63,8 +65,9 @@ pub fn split<S: Source, T: Sink>(
 ) -> Result<u64, RunFault>
     requires source_countable { (S.state source.old).failures < u64.MAX }
     requires sink_countable { (T.state sink.old).failures < u64.MAX }
-    ensures { IsRun options.now (S.state source.old) (S.state source.new)
+    ensures runs { IsRun options.now (S.state source.old) (S.state source.new)
         (T.state sink.old) (T.state sink.new) result }
+    ensures one_end { S.ends source.new ≤ S.ends source.old + 1 }
 {
     let mut plays = Plays::new();
     split_counted(alloc, source, sink, options, &mut plays)
@@ -88,8 +91,9 @@ pub fn split_counted<S: Source, T: Sink>(
     requires source_countable { (S.state source.old).failures < u64.MAX }
     requires sink_countable { (T.state sink.old).failures < u64.MAX }
     requires plays_countable { plays.old + MAX_LENGTH ≤ u64.MAX }
-    ensures { IsRunWithPlays options.now (S.state source.old) (S.state source.new)
+    ensures runs { IsRunWithPlays options.now (S.state source.old) (S.state source.new)
         (T.state sink.old) (T.state sink.new) plays.old plays.new result }
+    ensures one_end { S.ends source.new ≤ S.ends source.old + 1 }
 {
     if let Some(text) = source.give_rest(MAX_LENGTH) {
         return split_text(alloc, text, sink, options, plays);
@@ -141,6 +145,7 @@ pub(crate) fn read_all<S: Source>(source: &mut S, text: &mut Vec<u8>) -> Result<
     ensures answer { IsReading (S.state source.old) (S.state source.new) text.new.items result }
     ensures failures { (S.state source.new).failures
         ≡ (S.state source.old).failures + read_failures result }
+    ensures one_end { S.ends source.new ≤ S.ends source.old + 1 }
 {
     let mut chunk = [0u8; SMALL_CHUNK];
     'read: loop {
@@ -162,6 +167,7 @@ fn read_rest<S: Source>(source: &mut S, text: &mut Vec<u8>) -> Result<(), RunFau
         → IsReading start (S.state source.new) text.new.items result }
     ensures failures { (S.state source.new).failures
         ≡ (S.state source.old).failures + read_failures result }
+    ensures one_end { S.ends source.new ≤ S.ends source.old + 1 }
 {
     let mut chunk = [0u8; CHUNK];
     'read: loop {
@@ -187,8 +193,10 @@ fn read_some<S: Source>(
         → AnswersSome start (S.state source.new) text.new.items result }
     ensures grows { IfOk result (λ count. length text.new.items ≡ length text.old.items + count) }
     ensures short { IfOk result (λ count. length text.new.items ≤ MAX_LENGTH) }
+    ensures goes_on { IfOk result (λ count. 0 < count → S.ends source.new ≤ S.ends source.old) }
     ensures failures { (S.state source.new).failures
         ≡ (S.state source.old).failures + read_failures result }
+    ensures one_end { S.ends source.new ≤ S.ends source.old + 1 }
 {
     let Ok(count) = source.get(chunk) else {
         return Err(RunFault::Read);

@@ -17,9 +17,19 @@ use crate::layout::Link;
 use std::alloc::Global;
 use std::marker::Model;
 
-/// The number of first nodes that there is room for at once. Most texts have one game and few variations, so the vector seldom
+/// The most nodes that there is room for at once. Most games have fewer, and otherwise the nodes would be moved again and again
+/// while their vector grows.
+const ROOM_FOR_NODES: usize = 128;
+
+/// The bytes of a short node, such as `;B[pd]`. Few nodes have fewer.
+const NODE_BYTES: usize = 6;
+
+/// The most first nodes that there is room for at once. Most texts have one game and few variations, so the vector seldom
 /// grows.
 const ROOM_FOR_FIRSTS: usize = 16;
+
+/// The bytes of a short game or variation, such as `(;B[pd])`. Few have fewer.
+const FIRST_BYTES: usize = 8;
 
 /// Places are less than this. A word holds a place plus the node's kind times this.
 const PLACES: u32 = 1 << 30;
@@ -73,13 +83,15 @@ impl Model for Nodes {
 }
 
 impl Nodes {
-    /// No nodes, with room for `count` nodes.
-    pub(crate) fn with_capacity(alloc: Global, count: usize) -> Result<Nodes, MemoryFault>
+    /// No nodes, with room for those of a usual game in a text of so many bytes. So the nodes of a short text take little memory.
+    pub(crate) fn with_room(alloc: Global, bytes: usize) -> Result<Nodes, MemoryFault>
         ensures { IfOk result (λ nodes. nodes ≡ []) }
     {
+        let nodes = ROOM_FOR_NODES.min(bytes / NODE_BYTES + 1);
+        let firsts = ROOM_FOR_FIRSTS.min(bytes / FIRST_BYTES + 1);
         Ok(Nodes {
-            entries: Vec::with_capacity(alloc, count)?,
-            firsts: Vec::with_capacity(alloc, ROOM_FOR_FIRSTS)?,
+            entries: Vec::with_capacity(alloc, nodes)?,
+            firsts: Vec::with_capacity(alloc, firsts)?,
         })
     }
 

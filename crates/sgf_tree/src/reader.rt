@@ -30,10 +30,6 @@ use crate::reader::scan::skip_white_space;
 pub use counting::measure;
 use std::alloc::Global;
 
-/// The number of nodes that there is room for at once. Most games have fewer, and otherwise the nodes would be moved again and again
-/// while their vector grows.
-const FIRST_NODES: usize = 128;
-
 /// Reads the collection that a text spells (SGF FF[4], EBNF). The collection refers to the text.
 ///
 /// - `TooLong`: the text is longer than `MAX_LENGTH` bytes. No memory is taken for it.
@@ -47,7 +43,7 @@ pub fn read<'a>(alloc: Global, text: &'a [u8]) -> Result<Collection<'a>, ReadFau
     if text.len() > MAX_LENGTH {
         return Err(ReadFault::TooLong);
     }
-    let Ok(mut nodes) = Nodes::with_capacity(alloc, FIRST_NODES) else {
+    let Ok(mut nodes) = Nodes::with_room(alloc, text.len()) else {
         return Err(ReadFault::Memory);
     };
     let mut long = Vec::new(alloc);

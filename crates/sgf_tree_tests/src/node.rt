@@ -1,4 +1,4 @@
-//! For which nodes `front`, `lone` and `lead` return a property (no clause says that), and how the sgf form writes a node.
+//! For which nodes `front` and `lead` return a property (no clause says that), and how the sgf form writes a node.
 
 use sgf_tree::{Collection, NodeRef, Properties, read};
 use std::alloc::Global;
@@ -102,45 +102,6 @@ fn properties_one_after_another(rt: HostRuntime) {
     );
 }
 
-/// Whether `lone` returns a property for the text's first node just if it should, and the same as `front`.
-fn alone(alloc: Global, text: &str, want: bool) -> bool {
-    match read(alloc, text.as_bytes()) {
-        Ok(collection) => {
-            if collection.nodes() == 0 {
-                return false;
-            }
-            let node = collection.node(0);
-            let told = node.lone();
-            told.is_some() == want && (told.is_none() || told == node.front().0)
-        }
-        Err(_) => false,
-    }
-}
-
-#[test]
-fn nodes_alone(rt: HostRuntime) {
-    const NODES: [(&str, bool); 15] = [
-        ("(;B[pd];C[0123456789])", true),
-        ("(;W[[:](;C[0123456789]))", true),
-        ("(;C[ab])(;C[0123456789])", true),
-        ("(;Z[  ];C[01234])", false),
-        ("(;Z[  ];C[012345])", true),
-        ("(;B[pd] ;C[0123456789])", false),
-        ("(;B[pd]BL[60];C[0123456789])", false),
-        ("(;B[pd][dp];C[0123456789])", false),
-        ("(;B[];C[0123456789])", false),
-        ("(;B[p];C[0123456789])", false),
-        ("(;B[\\d];C[0123456789])", false),
-        ("(;B[p\\]];C[0123456789])", false),
-        ("(; B[pd];C[0123456789])", false),
-        ("(;AB[pd];C[0123456789])", false),
-        ("(;B[pd])", false),
-    ];
-    for &(text, want) in &NODES {
-        assert!(rt; alone(rt.alloc(), text, want), "of {text:?}");
-    }
-}
-
 /// Whether `lead` returns a property for the text's first node just if it should, and the same as `front`. The names of the other
 /// properties must then be `others`.
 fn leads(alloc: Global, text: &str, names: &[[u8; 2]], want: Option<&str>) -> bool {
@@ -181,13 +142,17 @@ fn are_named(node: &NodeRef<'_, '_>, names: &[u8]) -> bool {
 #[test]
 fn nodes_led(rt: HostRuntime) {
     const SETUP: [[u8; 2]; 4] = [*b"AB", *b"AW", *b"AE", *b"PL"];
-    const NODES: [(&str, Option<&str>); 46] = [
-        // as for `lone`
+    const NODES: [(&str, Option<&str>); 50] = [
+        // a move alone, and what isn't a move of two bytes
         ("(;B[pd];C[0123456789])", Some("")),
+        ("(;W[[:](;C[0123456789]))", Some("")),
+        ("(;C[ab])(;C[0123456789])", Some("")),
         ("(;Z[  ];C[01234])", None),
         ("(;Z[  ];C[012345])", Some("")),
         ("(;B[pd][dp];C[012345678901234567])", None),
+        ("(;B[];C[012345678901234567])", None),
         ("(;B[p];C[012345678901234567])", None),
+        ("(;B[p\\]];C[012345678901234567])", None),
         ("(;B[\\d];C[012345678901234567])", None),
         ("(; B[pd];C[012345678901234567])", None),
         ("(;AB[pd];C[012345678901234567])", None),

@@ -1,5 +1,5 @@
 -- Groups without liberties, grids after points were taken off, and grids on which every stone reaches empty.
-use Rattle.std.specs.Prelude.{◌≡◌, ◌≢◌, ◌⊎◌, ◌≤◌, ℕ, Bool, ◌&&◌, not, IsTrue, List, length}
+use Rattle.std.specs.Prelude.{◌≡◌, ◌≢◌, ◌⊎◌, ◌≤◌, ℕ, Bool, ◌&&◌, not, IsTrue, IsFalse, List, length}
 use Rattle.go_board.specs.declared.stones.Cell.TheVariants.{Empty}
 use Rattle.go_board.specs.declared.stones.Colour.{Colour}
 use Rattle.go_board.specs.declared.points.Point.{Point}
@@ -8,7 +8,7 @@ use Rattle.go_board.specs.Point.{IsOn, AreAdjacent}
 use Rattle.go_board.specs.Grid.{Grid, cell_at, with_cell}
 use Rattle.go_board.specs.Reaching.{Reaches, reaches}
 use Rattle.go_board.specs.Clearing.{play}
-use Rattle.go_board.specs.inner.Rows.{is_set}
+use Rattle.go_board.specs.inner.Rows.{is_set, IsAmong}
 
 -- The points that pass the test are stones of one colour. Each stone of that
 -- colour beside such a point passes, too. No point beside these stones is empty.
@@ -24,6 +24,13 @@ pub record AreShutGroups (grid : Grid) (colour : Colour) (rows : List ℕ) : Typ
   pub all : length rows ≡ grid.side
   pub on_grid : (point : Point) → IsTrue (is_set rows point) → IsOn grid.side point
   pub shut : IsWithoutLiberty grid colour (is_set rows)
+
+-- Groups of a colour, each without a liberty, were added to rows that had such groups already. `added` tells whether there were any.
+pub record AddsShut (grid : Grid) (colour : Colour) (old new : List ℕ) (added : Bool) : Type 0 where
+  pub shut : AreShutGroups grid colour new
+  pub kept : IsAmong (is_set old) (is_set new)
+  pub none : IsFalse added → new ≡ old
+  pub some : IsTrue added → (point : Point) × IsTrue (is_set new point)
 
 -- all stones of a colour reach empty
 abbrev pub AllReach : Grid → Colour → Type 0

@@ -7,13 +7,12 @@ ghost use Rattle.go_board.specs.Point.{IsOn};
 ghost use Rattle.go_board.specs.Colour.{stone_of};
 ghost use Rattle.go_board.specs.Grid.{cell_at};
 ghost use Rattle.go_board.specs.Clearing.{play, has_unreaching};
-ghost use Rattle.go_board.specs.inner.Groups.{AreShutGroups, IsTakenOrReaches, AreTakenOrReachBeside, TakesOff};
-ghost use Rattle.go_board.specs.inner.Rows.{is_set, IsAmong};
+ghost use Rattle.go_board.specs.inner.Groups.{AreShutGroups, AddsShut, IsTakenOrReaches, AreTakenOrReachBeside, TakesOff};
+ghost use Rattle.go_board.specs.inner.Rows.{is_set};
 
 use crate::board::Board;
-use crate::board::both_areas::FEW_ROWS;
 use crate::board::group::{has_liberty, lives_by_row};
-use crate::board::regions::no_rows;
+use crate::board::regions::{FEW_ROWS, no_rows};
 use crate::points::Point;
 use crate::stones::{Cell, Colour};
 
@@ -46,10 +45,8 @@ impl Board {
     fn find_shut_beside(&self, colour: Colour, point: Point, shut: &mut [u64]) -> bool
         requires on_board { IsOn self.now.side point }
         requires shut { AreShutGroups self.now colour shut.old }
-        ensures shut { AreShutGroups self.now colour shut.new }
+        ensures adds { AddsShut self.now colour shut.old shut.new result }
         ensures beside { AreTakenOrReachBeside self.now colour point shut.new }
-        ensures none { IsFalse result → shut.new ≡ shut.old }
-        ensures some { IsTrue result → (p : Point) × IsTrue (is_set shut.new p) }
     {
         self.has_all_cells();
         let mut some = false;
@@ -68,11 +65,8 @@ impl Board {
         requires on_board { IsOn self.now.side point }
         requires stone { cell_at self.now point ≡ stone_of colour }
         requires shut { AreShutGroups self.now colour shut.old }
-        ensures shut { AreShutGroups self.now colour shut.new }
-        ensures kept { IsAmong (is_set shut.old) (is_set shut.new) }
+        ensures adds { AddsShut self.now colour shut.old shut.new result }
         ensures here { IsTakenOrReaches self.now colour shut.new point }
-        ensures none { IsFalse result → shut.new ≡ shut.old }
-        ensures some { IsTrue result → IsTrue (is_set shut.new point) }
     {
         self.has_all_cells();
         // most groups live by a stone in the same row, and this needs no rows to be cleared
@@ -89,11 +83,8 @@ impl Board {
         requires on_board { IsOn self.now.side point }
         requires stone { cell_at self.now point ≡ stone_of colour }
         requires shut { AreShutGroups self.now colour shut.old }
-        ensures shut { AreShutGroups self.now colour shut.new }
-        ensures kept { IsAmong (is_set shut.old) (is_set shut.new) }
+        ensures adds { AddsShut self.now colour shut.old shut.new result }
         ensures here { IsTakenOrReaches self.now colour shut.new point }
-        ensures none { IsFalse result → shut.new ≡ shut.old }
-        ensures some { IsTrue result → IsTrue (is_set shut.new point) }
     {
         self.has_all_cells();
         let side = usize::from(self.size.side());
@@ -118,11 +109,8 @@ impl Board {
         requires rows { length group.old ≡ self.now.side }
         requires empty { (p : Point) → is_set group.old p ≡ false }
         requires shut { AreShutGroups self.now colour shut.old }
-        ensures shut { AreShutGroups self.now colour shut.new }
-        ensures kept { IsAmong (is_set shut.old) (is_set shut.new) }
+        ensures adds { AddsShut self.now colour shut.old shut.new result }
         ensures here { IsTakenOrReaches self.now colour shut.new point }
-        ensures none { IsFalse result → shut.new ≡ shut.old }
-        ensures some { IsTrue result → IsTrue (is_set shut.new point) }
     {
         self.has_all_cells();
         let own = self.rows_of(colour);

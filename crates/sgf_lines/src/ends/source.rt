@@ -2,8 +2,8 @@
 
 ghost use Rattle.std.specs.Borrow.{sem};
 ghost use Rattle.std.specs.Io.BufRead.{Rests};
-ghost use Rattle.std.specs.Prelude.{◌≡◌, ◌<◌, ◌≤◌, List, ℕ, [], length, take, drop, Some, None};
-ghost use Rattle.sgf_lines.specs.Ends.{SourceState, IsGet, GivesRest};
+ghost use Rattle.std.specs.Prelude.{◌≡◌, ◌<◌, ◌≤◌, ◌+◌, List, ℕ, [], length, take, drop, Some, None};
+ghost use Rattle.sgf_lines.specs.Ends.{SourceState, IsGet, GivesRest, ends_told, rests_told};
 
 use std::io::Read;
 use thiserror::Error;
@@ -20,6 +20,10 @@ pub trait Source {
     /// How often it has failed, the bytes that it has given, and those still to come.
     ghost state: { Self → SourceState };
 
+    /// How often it has answered that it is at its end, if it counts that. A source that doesn't count leaves this out. What is proved of
+    /// every source is proved of those that count.
+    ghost ends: { Self → ℕ } = { λ _. 0 };
+
     /// Writes the next bytes to the front of `buffer`, which must not be empty.
     /// Returns the number of these bytes. It is 0 at the end of the source, and only there.
     ///
@@ -27,7 +31,8 @@ pub trait Source {
     fn get(&mut self, buffer: &mut [u8]) -> Result<usize, SourceFault>
         requires room { 0 < length buffer.old }
         requires countable { (state self.old).failures < u64.MAX }
-        ensures { IsGet (state self.old) (state self.new) buffer.new result };
+        ensures gets { IsGet (state self.old) (state self.new) buffer.new result }
+        ensures ends { ends self.new ≤ ends self.old + ends_told result };
 
     /// How often it has failed.
     fn failures(&self) -> u64
@@ -37,7 +42,8 @@ pub trait Source {
     /// the source is at its end. Otherwise it returns None, and is unchanged: `get` gives the bytes then. None is always a right
     /// answer, and the only one of a source that has failed.
     fn give_rest(&mut self, most: usize) -> Option<&[u8]>
-        ensures* rest { sem 𝓛 (Rests Self.row self.entry (λ new. GivesRest most (state self.old) (state new) result)) }
+        ensures* rest { sem 𝓛 (Rests Self.row self.entry (λ new. GivesRest most (state self.old) (state new) result
+            × (ends new ≤ ends self.old + rests_told result))) }
     {
         let _most = most;
         None

@@ -33,9 +33,8 @@ pub(crate) struct TakenStep<'a> {
     pub(crate) comment: Option<&'a [u8]>,
 }
 
-/// The names of the properties that set up stones and players (SGF FF[4], setup properties). Of the names with two letters a step needs
-/// no others.
-const SETUP_NAMES: [[u8; 2]; 4] = [*b"AB", *b"AW", *b"AE", *b"PL"];
+/// The names of two letters whose properties a step needs: those that set up stones and players (SGF FF[4], setup properties).
+const NEEDED_NAMES: [[u8; 2]; 4] = [*b"AB", *b"AW", *b"AE", *b"PL"];
 
 /// Takes a node's step, which adds one state. It plays the node's move, sets up
 /// its stones and its player, or stays. `operations` is a buffer.
@@ -51,17 +50,17 @@ pub(crate) fn take_step<'a, P: Past>(
     ensures stepped { IsStepped (step referee.old.present node.now) referee.old referee.new result }
     ensures told { IfOk result (IsStepOf referee.old.present.colouring.side node.now) }
 {
-    match node.lead(&SETUP_NAMES) {
-        Some((letter, raw)) => take_lone_step(referee, letter, raw),
+    match node.lead(&NEEDED_NAMES) {
+        Some((letter, raw)) => take_led_step(referee, letter, raw),
         None => take_any_step(referee, node, operations),
     }
 }
 
-/// Takes the step of a node whose first property has this letter as its name and `raw` as its only value, and whose other properties
-/// hold nothing that a step needs. Most nodes are like that, as `;B[pd]` or `;B[pd]BL[921.325]`.
+/// Takes the step of a node that `NodeRef::lead` recognizes: its first property has this letter as its name and `raw` as its only value,
+/// and its other properties hold nothing that a step needs. Most nodes are like that, as `;B[pd]` or `;B[pd]BL[921.325]`.
 // Inlined: what such a node doesn't need drops out.
 #[inline(always)]
-fn take_lone_step<'a, P: Past>(
+fn take_led_step<'a, P: Past>(
     referee: &mut Referee<P>,
     letter: u8,
     raw: &'a [u8],
@@ -106,7 +105,7 @@ fn take_any_step<'a, P: Past>(
 }
 
 /// Takes the step of a node with these contents. `operations` has the operations of the node's stones.
-// Inlined, as `take_lone_step`.
+// Inlined, as `take_led_step`.
 #[inline(always)]
 fn take_contents<P: Past>(
     referee: &mut Referee<P>,
@@ -158,7 +157,7 @@ fn set_up<P: Past>(
 }
 
 /// Takes the turn of a move.
-// Inlined, as `take_lone_step`.
+// Inlined, as `take_led_step`.
 #[inline(always)]
 fn take_move<P: Past>(
     referee: &mut Referee<P>,

@@ -4,11 +4,10 @@
 
 ghost use Rattle.std.specs.Prelude.{◌≡◌, ◌<◌, ◌≤◌, ◌+◌, ◌%◌, ◌↔◌, Some, Err, [], length, IfSome, IfOk, IfErr, OnOk};
 ghost use Rattle.sgf_tree.specs.Tree.{no_games};
-ghost use Rattle.sgf_tree.specs.Spelling.{is_white_space};
 ghost use Rattle.sgf_tree.specs.Refusal.{IsFaultyWhereNotSgf};
 ghost use Rattle.sgf_tree.specs.Extent.{HasExtent};
 ghost use Rattle.sgf_tree.specs.inner.Machine.{Stack, after_game, close};
-ghost use Rattle.sgf_tree.specs.inner.Progress.{IsTrueFault, IsSpan, EndsNode};
+ghost use Rattle.sgf_tree.specs.inner.Progress.{IsTrueFault, EndsNode};
 ghost use Rattle.sgf_tree.specs.inner.KeptEnds.{AreKeptEnds};
 ghost use Rattle.sgf_tree.specs.inner.PropertiesRead.{ArePropertiesRead, IsFaultInNode};
 ghost use Rattle.sgf_tree.specs.inner.GamesRead.{StandsBetween};
@@ -20,7 +19,7 @@ use crate::layout::LongValue;
 use crate::reader::fault::PartFault;
 use crate::reader::mark::mark_end;
 use crate::reader::properties::{glance, read_properties};
-use crate::reader::scan::skip_white_space;
+use crate::reader::scan::{skip_line_end, skip_white_space};
 use crate::reader::value::NEAR;
 use std::alloc::Global;
 use std::simd::prelude::*;
@@ -227,6 +226,7 @@ fn moves_at_once(text: &[u8], at: usize) -> Option<OwnNodes>
 
 /// Which of the bytes at `at` are as in `;B[pd];W[dd];`, all compared at once. The last of these may be any byte that ends a node.
 /// The bits 13 to 15 are set too.
+// It isn't `bytes_in_place` at the next byte, since that takes other bytes for the second `;`. A test of this `;` by itself costs time.
 #[inline(always)]
 fn two_moves_in_place(text: &[u8], at: usize) -> u64
     requires { at + NEAR ≤ length text.now }
@@ -244,16 +244,4 @@ fn two_moves_in_place(text: &[u8], at: usize) -> u64
     (u8x16::from_slice(&text[at..]) - least)
         .simd_le(above)
         .to_bitmask()
-}
-
-/// The end of the white space at `at`. Usually there is none, or only a line feed, as in texts with a move on each line.
-#[inline(always)]
-fn skip_line_end(text: &[u8], at: usize) -> usize
-    requires { at ≤ length text.now }
-    ensures { IsSpan is_white_space text.now at result }
-{
-    if at + 1 < text.len() && text[at] == b'\n' && b' ' < text[at + 1] {
-        return at + 1;
-    }
-    skip_white_space(text, at)
 }

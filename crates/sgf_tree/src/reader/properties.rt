@@ -4,7 +4,7 @@ ghost use Rattle.std.specs.Prelude.{◌≡◌, ◌≢◌, false, ◌<◌, ◌≤
 ghost use Rattle.std.specs.Int.Count.{count_trailing_zeros};
 ghost use Rattle.sgf_tree.specs.Bytes.{close_bracket};
 ghost use Rattle.sgf_tree.specs.Spelling.{is_upper};
-ghost use Rattle.sgf_tree.specs.inner.Progress.{IsSpan, IsMove, IsLoneNode, EndsNode};
+ghost use Rattle.sgf_tree.specs.inner.Progress.{IsSpan, IsMove, EndsNode};
 ghost use Rattle.sgf_tree.specs.inner.NodeText.{AreWritten};
 ghost use Rattle.sgf_tree.specs.inner.PropertiesRead.{AreValuesEnded, IsNameRead, IsShortProperty, IsWholePropertyRead, ArePropertiesRead, IsFaultInProperty, IsFaultInNode};
 ghost use Rattle.sgf_tree.specs.inner.KeptEnds.{AreKeptEnds};
@@ -97,14 +97,6 @@ pub(crate) fn near_bytes_in_place(text: &[u8], at: usize) -> u64
     } else {
         bytes_in_place(text, at)
     }
-}
-
-/// Whether the text begins with a node that is written like `;B[pd]`, and goes on for 11 bytes at least. If it is false, nothing is known.
-#[inline(always)]
-pub(crate) fn is_lone_at_once(text: &[u8]) -> bool
-    ensures { IsTrue result → IsLoneNode text.now }
-{
-    text.len() > NEAR && bytes_in_place(text, 1) % 64 == 63
 }
 
 /// Reads the properties of a node that begin with a move at `at`, if those after it are short. None says nothing.

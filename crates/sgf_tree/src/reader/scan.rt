@@ -49,6 +49,18 @@ pub(crate) fn white_space_end(text: &[u8], at: usize) -> usize
     end
 }
 
+/// The end of the white space at `at`. Usually there is none, or only a line feed, as in texts with a move on each line.
+#[inline(always)]
+pub(crate) fn skip_line_end(text: &[u8], at: usize) -> usize
+    requires { at ≤ length text.now }
+    ensures { IsSpan is_white_space text.now at result }
+{
+    if at + 1 < text.len() && text[at] == b'\n' && b' ' < text[at + 1] {
+        return at + 1;
+    }
+    skip_white_space(text, at)
+}
+
 /// Whether a byte is a space, tab, line feed, carriage return, vertical tab or form feed.
 fn is_white_space(byte: u8) -> bool
     ensures { result ≡ is_white_space byte }

@@ -11,6 +11,7 @@ invariant-read g l = record {
   room : length l.chunk ≡ 65536;
   has_read : (start : SourceState) → HasRead start (g.S.Source.state l.initial.source) l.initial.text.items → HasRead start (g.S.Source.state l.source) l.text.items;
   failures : (g.S.Source.state l.source).failures ≡ (g.S.Source.state l.initial.source).failures;
+  ends : g.S.Source.ends l.source ≤ g.S.Source.ends l.initial.source;
 }
 
 abbrev pub decreases-read : goal.decreases-read

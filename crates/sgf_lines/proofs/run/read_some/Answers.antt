@@ -10,7 +10,7 @@ returns-then-len-count-clause-answer g c = λ start read.
     let now = g.S.Source.state c.args.source.now in
     let new = g.S.Source.state c.get.new.self in
     let text = c.args.text.now.items in
-    let gave = c.in-Ok.ensures in
+    let gave = c.in-Ok.ensures.gets in
     let more = take c.in-Ok.count c.get.new.buffer in
     record {
       given = text ++ more;
@@ -27,7 +27,7 @@ returns-in_err-extend_from_slice-clause-answer g c = λ start read.
     let now = g.S.Source.state c.args.source.now in
     let new = g.S.Source.state c.get.new.self in
     let text = c.args.text.now.items in
-    let gave = c.in-Ok.ensures in
+    let gave = c.in-Ok.ensures.gets in
     let more = take c.in-Ok.count c.get.new.buffer in
     let p = err_from_is_err_and c.from_residual.result c.from_residual.ensures.1 in
     rw (p.1, p.2)

@@ -23,37 +23,45 @@ pub loop-at-preserved : goal.loop-at-preserved
 loop-at-preserved c =
     let g = c.args.self.now in
     let k = c.args.colour in
+    let before = c.loop-at.invariant in
     let turn = λ (q : Point). Contains-take_more c.neighbours-beside.result c.loop-at.at-index q (omega arith) in
     elim c.if-has_stone.branch [
       | then-has_stone w ↦
+          let now = w.find_shut-some.ensures in
           rw w.shut-is
           (record {
-            shut = w.find_shut-some.ensures.shut;
+            adds = record {
+              shut = now.adds.shut;
+              kept = λ q is. now.adds.kept q (before.adds.kept q is);
+              none = λ fails.
+                  let neither = or_neither _ _ (sym w.some-is ∙ fails) in
+                  now.adds.none neither.1 ∙ before.adds.none neither.0;
+              some = λ holds.
+                  elim (or_cases _ _ (sym w.some-is ∙ holds)) [
+                    | inl some ↦ (let p = before.adds.some some in (p.0, now.adds.kept p.0 p.1))
+                    | inr some ↦ now.adds.some some
+                  ];
+            };
             beside = λ q among on.
                 elim ((turn q).0 among) [
-                  | inl before ↦ taken_still g k _ _ q w.find_shut-some.ensures.kept (c.loop-at.invariant.beside q before on)
-                  | inr is ↦ subst (IsTakenOrReaches g k w.find_shut-some.new.shut) (sym is) w.find_shut-some.ensures.here
-                ];
-            none = λ fails.
-                let neither = or_neither _ _ (sym w.some-is ∙ fails) in
-                w.find_shut-some.ensures.none neither.1 ∙ c.loop-at.invariant.none neither.0;
-            some = λ holds.
-                elim (or_cases _ _ (sym w.some-is ∙ holds)) [
-                  | inl before ↦ (let p = c.loop-at.invariant.some before in (p.0, w.find_shut-some.ensures.kept p.0 p.1))
-                  | inr now ↦ (_, w.find_shut-some.ensures.some now)
+                  | inl earlier ↦ taken_still g k _ _ q now.adds.kept (before.beside q earlier on)
+                  | inr is ↦ subst (IsTakenOrReaches g k w.find_shut-some.new.shut) (sym is) now.here
                 ];
           })
       | else-has_stone w ↦
           rw w.shut-is
           (record {
-            shut = c.loop-at.invariant.shut;
+            adds = record {
+              shut = before.adds.shut;
+              kept = before.adds.kept;
+              none = λ fails. before.adds.none (sym w.some-is ∙ fails);
+              some = λ holds. before.adds.some (sym w.some-is ∙ holds);
+            };
             beside = λ q among on stone.
                 elim ((turn q).0 among) [
-                  | inl before ↦ c.loop-at.invariant.beside q before on stone
+                  | inl earlier ↦ before.beside q earlier on stone
                   | inr is ↦ absurd (false≢true (sym w.if-has_stone.false ∙ c.has_stone.ensures.1 (subst (λ p. IsOn g.side p × (cell_at g p ≡ stone_of k)) is (on, stone))))
                 ];
-            none = λ fails. c.loop-at.invariant.none (sym w.some-is ∙ fails);
-            some = λ holds. c.loop-at.invariant.some (sym w.some-is ∙ holds);
           })
     ]
 

@@ -1,5 +1,5 @@
-use Rattle.std.proofs.Common.{◌≡◌, inl, inr, length, ◌∙◌, rules}
-use Rattle.std.proofs.lemmas.Bool.{or_right}
+use Rattle.std.proofs.Common.{◌≡◌, inl, inr, length, ◌∙◌, sym, rules}
+use Rattle.std.proofs.lemmas.Bool.{or_left, or_right, false≢true}
 use Rattle.go_board.proofs.GridLemmas.{Decides-same_cell}
 use Rattle.go_board.proofs.StoneGroupLemmas.{rows_of_opponent, Reaches-liberty, IsWithoutLiberty-shut}
 use Rattle.go_board.proofs.TakenLemmas.{AreShutGroups-both}
@@ -27,24 +27,26 @@ pub returns-clause-here : goal.returns-clause-here
 returns-clause-here c = λ stone.
     inl (c.add_points.ensures.both c.args.point ∙ or_right _ _ (c.has_liberty.ensures.shut c.if-has_liberty.false).start)
 
-pub returns-clause-some : goal.returns-clause-some
-returns-clause-some c = λ _.
-    c.add_points.ensures.both c.args.point ∙ or_right _ _ (c.has_liberty.ensures.shut c.if-has_liberty.false).start
-
-pub returns-clause-shut : goal.returns-clause-shut
-returns-clause-shut c =
+pub returns-clause-adds : goal.returns-clause-adds
+returns-clause-adds c =
     let g = c.args.self.now in
     let k = c.args.colour in
     let own = c.rows_of-own in
     let other = c.rows_of-others in
     let shut = c.has_liberty.ensures.shut c.if-has_liberty.false in
+    let both = c.add_points.ensures.both in
     let long : length c.has_liberty.new.group ≡ g.side = search rules in
-    AreShutGroups-both g k c.args.shut.now c.has_liberty.new.group c.add_points.new.all c.requires.shut
-    (record {
-      all = long;
-      on_grid = λ p is. own.ensures.are.off p (shut.within p is);
-      shut = IsWithoutLiberty-shut g k own.result.now other.result.now c.args.point own.ensures.rows own.ensures.are
-          (rows_of_opponent g k c.opponent.result other.result.now c.opponent.ensures other.ensures.are)
-          _ shut;
-    })
-    c.add_points.ensures.rows c.add_points.ensures.both
+    record {
+      shut = AreShutGroups-both g k c.args.shut.now c.has_liberty.new.group c.add_points.new.all c.requires.shut
+          (record {
+            all = long;
+            on_grid = λ p is. own.ensures.are.off p (shut.within p is);
+            shut = IsWithoutLiberty-shut g k own.result.now other.result.now c.args.point own.ensures.rows own.ensures.are
+                (rows_of_opponent g k c.opponent.result other.result.now c.opponent.ensures other.ensures.are)
+                _ shut;
+          })
+          c.add_points.ensures.rows both;
+      kept = λ p is. both p ∙ or_left _ _ is;
+      none = λ fails. absurd (false≢true (sym fails));
+      some = λ _. (c.args.point, both c.args.point ∙ or_right _ _ shut.start);
+    }

@@ -19,7 +19,7 @@ find_shut_beside-some-requires-clause-shut c =
 
 -- no group beside the stone is shut
 none_beside : (c : goal.After-restore) → c.find_shut_beside-some.result ≡ false → (p : Point) → is_set c.find_shut_beside-some.new.shut p ≡ false
-none_beside c fails p = ap (λ rows. is_set rows p) (c.find_shut_beside-some.ensures.none fails) ∙ c.requires.none p
+none_beside c fails p = ap (λ rows. is_set rows p) (c.find_shut_beside-some.ensures.adds.none fails) ∙ c.requires.none p
 
 as_before : (c : goal.After-restore-arg-1) → c.set-2.new.self ≡ c.args.self.now
 as_before c =
@@ -48,7 +48,7 @@ returns-clause-taken c =
       | then-not-some w ↦
           let none = none_beside c w.if-not-some.true in
           subst (λ rows. TakesOff g k p rows) (sym w.taken-is)
-          (let own = subst (λ h. AreShutGroups h k w.find_shut-some.new.shut) here w.find_shut-some.ensures.shut in
+          (let own = subst (λ h. AreShutGroups h k w.find_shut-some.new.shut) here w.find_shut-some.ensures.adds.shut in
           takes_off_own g p k c.requires.on_board c.has_all_cells.ensures.all c.requires.settled w.find_shut-some.new.shut (omega (arith, own.all)) own.on_grid own.shut
           (λ q at next stone.
           elim (beside q at next stone) [
@@ -59,9 +59,9 @@ returns-clause-taken c =
       | else-not-some w ↦
           subst (λ rows. TakesOff g k p rows) (sym w.taken-is)
           (takes_off_beside g p k c.requires.on_board c.has_all_cells.ensures.all c.requires.settled first.new.shut
-          (subst (λ o. AreShutGroups placed o first.new.shut) c.opponent.ensures (subst (λ h. AreShutGroups h c.opponent.result first.new.shut) here first.ensures.shut))
+          (subst (λ o. AreShutGroups placed o first.new.shut) c.opponent.ensures (subst (λ h. AreShutGroups h c.opponent.result first.new.shut) here first.ensures.adds.shut))
           beside
-          (λ none. (let some = first.ensures.some w.if-not-some.false in false≢true (sym (none some.0) ∙ some.1))))
+          (λ none. (let some = first.ensures.adds.some w.if-not-some.false in false≢true (sym (none some.0) ∙ some.1))))
     ]
 
 pub find_shut-some-requires-clause-stone : goal.find_shut-some-requires-clause-stone
@@ -74,7 +74,7 @@ pub returns-clause-none : goal.returns-clause-none
 returns-clause-none c = λ fails p.
     elim c.if-not-some.branch [
       | then-not-some w ↦
-          ap (λ rows. is_set rows p) (w.taken-is ∙ w.find_shut-some.ensures.none (sym w.some-is ∙ fails))
+          ap (λ rows. is_set rows p) (w.taken-is ∙ w.find_shut-some.ensures.adds.none (sym w.some-is ∙ fails))
           ∙ none_beside c w.if-not-some.true p
       | else-not-some w ↦ absurd (false≢true (sym fails ∙ w.some-is ∙ w.if-not-some.false))
     ]

@@ -3,8 +3,8 @@ use Rattle.std.proofs.Common.{◌+◌, ◌-◌, drop, length, arith}
 use Rattle.sgf_lines.proofs.SliceEnds.{slice_gives}
 use Rattle.sgf_lines.proofs.ends.source.SliceSourceSource.get.Goals as goal
 
-pub returns : goal.returns
-returns c =
+pub returns-clause-gets : goal.returns-clause-gets
+returns-clause-gets c =
     let s = c.args.self.now in
     let n = c.min-count.result in
     slice_gives s.bytes.now c.copy_from_slice.new.self (drop n c.args.buffer.now) s.given n (s.given + n - s.given) (length c.args.buffer.now) (omega arith)

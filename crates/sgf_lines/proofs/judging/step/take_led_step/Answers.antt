@@ -2,8 +2,8 @@ use Rattle.std.proofs.Common.{◌∷◌, []}
 use Rattle.sgf_tree.specs.Tree.{Node, lone_property}
 use Rattle.sgf_lines.specs.inner.Gathered.{HoldsAlone, IsGathered}
 use Rattle.sgf_lines.proofs.Gathered.{gathered_alone}
-use Rattle.sgf_lines.proofs.judging.step.take_lone_step.Goals as goal
-use Rattle.sgf_lines.proofs.judging.step.take_lone_step.Goals.{After-of_lone-contents}
+use Rattle.sgf_lines.proofs.judging.step.take_led_step.Goals as goal
+use Rattle.sgf_lines.proofs.judging.step.take_led_step.Goals.{After-of_lone-contents}
 
 -- the node holds what its first property holds
 held : (g : _) (c : After-of_lone-contents g) (node : Node) → HoldsAlone (lone_property c.args.letter c.args.raw.now) node.properties
