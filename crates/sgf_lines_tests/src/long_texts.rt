@@ -8,40 +8,39 @@ use crate::seen::Seen;
 use sgf_lines::{Counts, Form, Options, RunFault, Source, SourceFault, count, split};
 use std::alloc::Global;
 
-/// The number of bytes of a text, the most bytes that its source gives at once, and how often it must be asked. The source is asked for
-/// 4,096 bytes until it gives as many, and then for 65,536.
-type Read = (usize, usize, u32);
+/// The number of bytes of a text, the most bytes that its source gives at once, how often it must be asked, and the text's row. The
+/// source is asked for 4,096 bytes until it gives as many, and then for 65,536.
+type Read = (usize, usize, u32, &'static [u8]);
 
 const READS: [Read; 12] = [
-    (4_095, 70_000, 2),
-    (4_096, 70_000, 2),
-    (4_097, 70_000, 3),
-    (6_000, 70_000, 3),
-    (6_000, 4_095, 3),
-    (6_000, 1_000, 7),
-    (69_631, 70_000, 3),
-    (69_632, 70_000, 3),
-    (69_633, 70_000, 4),
-    (69_633, 65_535, 4),
-    (135_169, 70_000, 5),
-    (200_000, 30_000, 9),
+    (4_095, 70_000, 2, b"4093 1 1 score 0 0 open\n"),
+    (4_096, 70_000, 2, b"4094 1 1 score 0 0 open\n"),
+    (4_097, 70_000, 3, b"4095 1 1 score 0 0 open\n"),
+    (6_000, 70_000, 3, b"5998 1 1 score 0 0 open\n"),
+    (6_000, 4_095, 3, b"5998 1 1 score 0 0 open\n"),
+    (6_000, 1_000, 7, b"5998 1 1 score 0 0 open\n"),
+    (69_631, 70_000, 3, b"69629 1 1 score 0 0 open\n"),
+    (69_632, 70_000, 3, b"69630 1 1 score 0 0 open\n"),
+    (69_633, 70_000, 4, b"69631 1 1 score 0 0 open\n"),
+    (69_633, 65_535, 4, b"69631 1 1 score 0 0 open\n"),
+    (135_169, 70_000, 5, b"135167 1 1 score 0 0 open\n"),
+    (200_000, 30_000, 9, b"199998 1 1 score 0 0 open\n"),
 ];
 
 /// Counts each text from two sources, and splits it.
 pub fn calls(alloc: Global, seen: &mut Seen) {
     for &read in &READS {
-        seen.growth("counts of long texts");
+        seen.growth("counting long texts");
         counted(alloc, read, true, seen);
         counted(alloc, read, false, seen);
-        seen.growth("runs over long texts");
+        seen.no_growth();
         splits(alloc, read, seen);
     }
-    seen.no_growth();
 }
 
-/// A source that gives a game of empty nodes, at most `step` bytes at a time.
+/// A source that gives a game of one empty node, at most `step` bytes at a time. There are line feeds before the node.
 #[derive(Drop)]
-struct Semicolons {
+struct LineFeeds {
     length: usize,
     step: usize,
     /// Whether it fails when it is asked again after it was at its end. If not, it gives more then.
@@ -56,11 +55,11 @@ struct Semicolons {
 }
 
 /// A source of a text that is read so.
-fn source_of(read: Read, fails_late: bool) -> Semicolons
+fn source_of(read: Read, fails_late: bool) -> LineFeeds
     ensures { result.failures ≡ 0 }
 {
-    let (length, step, _) = read;
-    Semicolons {
+    let (length, step, _, _) = read;
+    LineFeeds {
         length,
         step,
         fails_late,
@@ -71,7 +70,7 @@ fn source_of(read: Read, fails_late: bool) -> Semicolons
     }
 }
 
-impl Source for Semicolons {
+impl Source for LineFeeds {
     ghost state = { λ s. record { failures = s.failures; given = None; to_come = None } };
 
     fn get(&mut self, buffer: &mut [u8]) -> Result<usize, SourceFault> {
@@ -81,7 +80,7 @@ impl Source for Semicolons {
             return Err(SourceFault);
         }
         if self.has_ended {
-            buffer[0] = b' ';
+            buffer[0] = b'(';
             return Ok(1);
         }
         let left = self.length.saturating_sub(self.given);
@@ -90,12 +89,15 @@ impl Source for Semicolons {
             self.has_ended = true;
             return Ok(0);
         }
-        buffer[..count].fill(b';');
+        buffer[..count].fill(b'\n');
         if self.given == 0 {
             buffer[0] = b'(';
         }
         if count == left {
             buffer[count - 1] = b')';
+        }
+        if left > 1 && count + 1 >= left {
+            buffer[left - 2] = b';';
         }
         self.given = self.given.saturating_add(count);
         Ok(count)
@@ -119,12 +121,12 @@ fn counted(alloc: Global, read: Read, fails_late: bool, seen: &mut Seen) {
     is_counted(answer, read, &source, seen);
 }
 
-/// The game must have all its nodes and one line, and the source must have been asked as often as needed.
-fn is_counted(answer: Result<Counts, RunFault>, read: Read, source: &Semicolons, seen: &mut Seen) {
-    let (length, _, asked) = read;
+/// There must be one game of one node, and the source must have been asked as often as needed.
+fn is_counted(answer: Result<Counts, RunFault>, read: Read, source: &LineFeeds, seen: &mut Seen) {
+    let (_, _, asked, _) = read;
     let counts = Counts {
         games: 1,
-        nodes: length.saturating_sub(2) as u64,
+        nodes: 1,
         lines: 1,
     };
     seen.right(answer == Ok(counts), "the counts of a long text");
@@ -151,13 +153,13 @@ fn splits(alloc: Global, read: Read, seen: &mut Seen) {
 fn is_split(
     answer: Result<u64, RunFault>,
     read: Read,
-    source: &Semicolons,
+    source: &LineFeeds,
     page: &Page,
     seen: &mut Seen,
 ) {
-    let (_, _, asked) = read;
+    let (_, _, asked, row) = read;
     seen.right(answer == Ok(1), "the line of a long text");
-    let is_whole = page.flushes() == 1 && page.as_slice().ends_with(b" score 0 0 open\n");
+    let is_whole = page.flushes() == 1 && page.as_slice() == row;
     seen.right(is_whole, "the row of a long text");
     seen.right(source.asked == asked, "how often a run asks");
 }
