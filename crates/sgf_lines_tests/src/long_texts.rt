@@ -43,13 +43,13 @@ pub fn calls(alloc: Global, seen: &mut Seen) {
 struct LineFeeds {
     length: usize,
     step: usize,
-    /// Whether it fails when it is asked again after it was at its end. If not, it gives more then.
+    /// Whether it fails when it is asked again after it was at its end. If not, it gives a byte more then.
     fails_late: bool,
     /// How many bytes it has given.
     given: usize,
     /// How often it was asked.
     asked: u32,
-    /// Whether it has said that it is at its end.
+    /// Whether the last call found it at its end.
     has_ended: bool,
     failures: u64,
 }
@@ -80,6 +80,7 @@ impl Source for LineFeeds {
             return Err(SourceFault);
         }
         if self.has_ended {
+            self.has_ended = false;
             buffer[0] = b'(';
             return Ok(1);
         }
