@@ -149,7 +149,7 @@ fn joseki(
     Ok(())
 }
 
-/// Many small games, each in calls of its own: verdicts, single games or scripts in turn.
+/// Many small games, each in a call of its own: verdicts, single games or scripts in turn. No two calls get the same text.
 fn small(
     alloc: Global,
     size: usize,
@@ -162,11 +162,11 @@ fn small(
     let sgf = Asked::new(alloc, &["split", "--form", "sgf"])?;
     let gtp = Asked::new(alloc, &["split", "--form", "gtp"])?;
     let words = Words::new(alloc, 4096, chance)?;
-    let games = Games::new(alloc, 4 * size, 130, &words, chance)?;
+    let games = Games::new(alloc, 4 * size, 170, &words, chance)?;
     let mut text = Text::new(alloc);
     for i in 0..size * 400 {
         text.clear();
-        games.add_one(&mut text, i % 4 == 0, chance)?;
+        games.add_part(&mut text, i, i % 4 == 0, chance)?;
         match i % 3 {
             0 => list.run(alloc, text.bytes(), digest)?,
             1 => sgf.run(alloc, text.bytes(), digest)?,
