@@ -87,18 +87,120 @@ each faulty REFUSE_MEMORY 4 "$memory" '' split
 each faulty REFUSE_READ 3 'read failed' '' split
 cp good.sgf input.sgf
 
-# A past with more entries than it has room for at first: a setup of 70 points, and then 70 moves. Nothing is captured, and the empty points reach
-# both colours.
-letters=$(printf '%s' {a..z} {A..Z})
-{
-    printf '(;SZ[52](;AB'
-    for at in {0..69}; do printf '[%s%s]' "${letters:at % 35:1}" "${letters:at / 35:1}"; done
-    printf ';W[ss])('
-    for at in {0..34}; do printf ';B[%sa];W[%sc]' "${letters:at:1}" "${letters:at:1}"; done
-    printf '))'
-} > input.sgf
-each growth REFUSE_MEMORY 4 "$memory" "$nl" split
-check 'growth: rows' "score 70 1 open${nl}score 35 35 open" "$(cut -d ' ' -f 4- growth.out)"
+# grown LARGE SMALL LEAST: the runs LARGE asked for memory at least LEAST times more than the runs SMALL. Their inputs differ only in what
+# outgrows the room that is taken for it at first. If this fails because that room became larger, make the input of LARGE larger too.
+grown() {
+    local more=$(($(cat "$1.runs") - $(cat "$2.runs")))
+    check "$1: $3 requests more than $2" yes "$([ "$more" -ge "$3" ] && echo yes || echo "$more")"
+}
+
+# grown_by_form LARGE SMALL FORM LEAST: the same of the runs `LARGE, FORM` and `SMALL, FORM`. What the form list asks for more isn't
+# counted.
+grown_by_form() {
+    local more=$(($(cat "$1, $3.runs") - $(cat "$2, $3.runs") - $(cat "$1, list.runs") + $(cat "$2, list.runs")))
+    check "$1, $3: $4 requests more than $2, $3" yes "$([ "$more" -ge "$4" ] && echo yes || echo "$more")"
+}
+
+times() { printf "%.0s$2" $(seq "$1"); }  # TEXT, N times
+
+# Games without a referee, in list form: more nodes than there is room for at first, and more first nodes of variations. With the 129th node
+# both vectors must grow, and the second of these requests is refused too.
+for count in 5 10; do
+    printf '(;GM[2]%s)' "$(times "$count" "($(times 20 ';'))")" > input.sgf
+    each "$count times 20 nodes" REFUSE_MEMORY 4 "$memory" "$nl" split
+done
+grown '10 times 20 nodes' '5 times 20 nodes' 1
+for count in 10 140; do
+    printf '(;GM[2]%s)' "$(times "$count" '(;)')" > input.sgf
+    each "$count variations" REFUSE_MEMORY 4 "$memory" "$nl" split
+done
+grown '140 variations' '10 variations' 5
+
+# turns N: Black fills the points with odd numbers one after another, and White those with even numbers. From the second row on, each black
+# stone takes off the stone above it.
+letters=$(printf '%s' {a..s})
+turns() {
+    local at number player
+    for ((at = 0; at < $1; at++)); do
+        if ((at % 2)); then number=$((at - 1)) player=W; else number=$((at + 1)) player=B; fi
+        printf ';%s[%s%s]' "$player" "${letters:number % 19:1}" "${letters:number / 19:1}"
+    done
+}
+
+# More turns than there is room for at first: in the referee, in the past, and in scripts. In the second game only the first 100 of 304 nodes
+# have a move. A comment makes the longer script as long as needed.
+remark=$(times 1200 x)
+printf '(;SZ[19]C[%s]%s)' "$remark" "$(turns 304)" > input.sgf
+for form in list gtp; do
+    each "304 turns, $form" REFUSE_MEMORY 4 "$memory" "$nl" split --form "$form"
+done
+check '304 turns' 'score 295 9 open' "$(cut -d ' ' -f 4- '304 turns, list.out')"
+printf '(;SZ[19]C[%s]%s%s)' "$remark" "$(turns 100)" "$(times 204 ';')" > input.sgf
+for form in list gtp; do
+    each "100 turns, $form" REFUSE_MEMORY 4 "$memory" "$nl" split --form "$form"
+done
+grown '304 turns, list' '100 turns, list' 3
+grown_by_form '304 turns' '100 turns' gtp 1
+
+# After these turns a ko is taken in the last rows, and White retakes it in turn 312.
+ko=';B[cs];W[ds];B[dr];W[er];B[];W[fs];B[es]'
+printf '(;SZ[19]%s%s;W[ds])' "$(turns 304)" "$ko" > input.sgf
+each 'ko after 304 turns' REFUSE_MEMORY 4 "$memory" "$nl" split
+place=$((8 + 304 * 6 + ${#ko}))
+check 'ko after 304 turns' "$place 1 313 illegal 312 $place repeat" "$(cat 'ko after 304 turns.out')"
+
+# More setups than there is room for at first: white stones on each point of every other row, and then black ones in place of the first of
+# them. In the second game only the first 100 of 300 nodes are setups.
+setups() {
+    local at
+    for ((at = 0; at < $1; at++)); do
+        if ((at < 190)); then printf ';AW'; else printf ';AB'; fi
+        printf '[%s%s]' "${letters:at % 19:1}" "${letters:at % 190 / 19 * 2:1}"
+    done
+}
+for count in 100 300; do
+    printf '(;SZ[19]%s%s)' "$(setups "$count")" "$(times "$((301 - count))" ';')" > input.sgf
+    each "$count setups" REFUSE_MEMORY 4 "$memory" "$nl" split
+done
+check '300 setups' 'score 186 137 open' "$(cut -d ' ' -f 4- '300 setups.out')"
+grown '300 setups' '100 setups' 3
+
+# More pieces of a record than there is room for at first: 300 nodes on one line, and on two lines.
+for form in list sgf gtp; do
+    printf '(;%s)' "$(times 299 ';')" > input.sgf
+    each "300 nodes on a line, $form" REFUSE_MEMORY 4 "$memory" "$nl" split --form "$form"
+    printf '(;(%s)(%s))' "$(times 150 ';')" "$(times 149 ';')" > input.sgf
+    each "300 nodes on two lines, $form" REFUSE_MEMORY 4 "$memory" "$nl" split --form "$form"
+done
+grown '300 nodes on a line, sgf' '300 nodes on two lines, sgf' 1
+grown_by_form '300 nodes on a line' '300 nodes on two lines' gtp 1
+
+# More bytes of a record: 16 nodes on one line, and on two lines.
+comment=";C[$(times 400 x)]"
+printf '(;GM[2]%s)' "$(times 15 "$comment")" > input.sgf
+each 'one long line' REFUSE_MEMORY 4 "$memory" "$nl" split --form sgf
+printf '(;GM[2]%s(%s)(%s))' "$(times 1 "$comment")" "$(times 7 "$comment")" "$(times 7 "$comment")" > input.sgf
+each 'two lines' REFUSE_MEMORY 4 "$memory" "$nl" split --form sgf
+grown 'one long line' 'two lines' 1
+
+# Texts that are longer than the first buffer. Each read is refused, too: there must be no read after the one that gives nothing.
+for count in 3000 6000 140000; do
+    printf '(%s)' "$(times "$((count - 2))" ';')" > input.sgf
+    each "$count bytes" REFUSE_MEMORY 4 "$memory" '' count
+    each "$count bytes read" REFUSE_READ 3 'read failed' '' count
+done
+grown '6000 bytes' '3000 bytes' 1
+grown '140000 bytes' '6000 bytes' 1
+check 'reads of 3000 bytes, and one at the end' 2 "$(($(cat '3000 bytes read.runs') - 1))"
+check 'reads of 6000 bytes, and one at the end' 3 "$(($(cat '6000 bytes read.runs') - 1))"
+check 'reads of 140000 bytes, and one at the end' 5 "$(($(cat '140000 bytes read.runs') - 1))"
+
+# Values whose lengths are kept, and values just too short for that.
+for length in 4095 4096; do
+    printf '(;C%s)' "$(times 6 "[$(times "$length" x)]")" > input.sgf
+    each "6 values of $length bytes" REFUSE_MEMORY 4 "$memory" '' count
+done
+grown '6 values of 4096 bytes' '6 values of 4095 bytes' 2
 cp good.sgf input.sgf
 
 # Short reads and short writes change nothing. Each of many reads fails in turn, and each failure is reported.

@@ -1,7 +1,9 @@
-//! One job on one text, as the program does it.
+//! One job on one text.
+
+ghost use Rattle.std.specs.Prelude.{◌<◌};
 
 use crate::digest::Digest;
-use sgf_lines::{BufferedSink, SliceSource, WriteSink};
+use sgf_lines::{BufferedSink, ReadSource, SliceSource, Source, WriteSink};
 use sgfsplit_job::{Job, act, job};
 use std::alloc::{AllocError, Global};
 
@@ -25,21 +27,42 @@ impl Asked {
         }
     }
 
-    /// Does the job on a text, and adds to the digest what was written and the status.
+    /// Does the job on a text in memory, and adds to the digest what was written and the status.
     pub(crate) fn run(
         &self,
         alloc: Global,
         text: &[u8],
         digest: &mut Digest,
     ) -> Result<(), AllocError> {
+        self.run_on(alloc, &mut SliceSource::new(text), digest)
+    }
+
+    /// Does the same, but a reader gives the text piece by piece, as a file does.
+    pub(crate) fn run_read(
+        &self,
+        alloc: Global,
+        text: &[u8],
+        digest: &mut Digest,
+    ) -> Result<(), AllocError> {
+        self.run_on(alloc, &mut ReadSource::new(text), digest)
+    }
+
+    /// Does the job on what a source gives.
+    fn run_on<S: Source>(
+        &self,
+        alloc: Global,
+        source: &mut S,
+        digest: &mut Digest,
+    ) -> Result<(), AllocError>
+        requires { (S.state source.old).failures < u64.MAX }
+    {
         let Some(job) = &self.job else {
             digest.add(99);
             return Ok(());
         };
-        let mut source = SliceSource::new(text);
         let mut output = BufferedSink::new(alloc, Digest::new())?;
         let mut faults = WriteSink::new(Digest::new());
-        let status = act(alloc, job, &mut source, &mut output, &mut faults);
+        let status = act(alloc, job, source, &mut output, &mut faults);
         digest.add(u64::from(status));
         digest.add(output.into_inner().value());
         digest.add(faults.into_inner().value());

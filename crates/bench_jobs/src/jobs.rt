@@ -33,6 +33,7 @@ pub(crate) fn digest_of(
         "joseki" => joseki(alloc, size, &mut chance, &mut digest)?,
         "small" => small(alloc, size, &mut chance, &mut digest)?,
         "awkward" => awkward(alloc, size, &mut chance, &mut digest)?,
+        "reader" => reader(alloc, size, &mut chance, &mut digest)?,
         "all" => {
             verdicts(alloc, size, &mut chance, &mut digest)?;
             games(alloc, size, &mut chance, &mut digest)?;
@@ -40,6 +41,7 @@ pub(crate) fn digest_of(
             joseki(alloc, size, &mut chance, &mut digest)?;
             small(alloc, size, &mut chance, &mut digest)?;
             awkward(alloc, size, &mut chance, &mut digest)?;
+            reader(alloc, size, &mut chance, &mut digest)?;
         }
         _ => return Ok(0),
     }
@@ -147,7 +149,7 @@ fn joseki(
     Ok(())
 }
 
-/// Many small games, each in calls of its own: verdicts, single games or scripts in turn.
+/// Many small games, each in a call of its own: verdicts, single games or scripts in turn. No two calls get the same text.
 fn small(
     alloc: Global,
     size: usize,
@@ -160,11 +162,11 @@ fn small(
     let sgf = Asked::new(alloc, &["split", "--form", "sgf"])?;
     let gtp = Asked::new(alloc, &["split", "--form", "gtp"])?;
     let words = Words::new(alloc, 4096, chance)?;
-    let games = Games::new(alloc, 4 * size, 130, &words, chance)?;
+    let games = Games::new(alloc, 4 * size, 170, &words, chance)?;
     let mut text = Text::new(alloc);
     for i in 0..size * 400 {
         text.clear();
-        games.add_one(&mut text, i % 4 == 0, chance)?;
+        games.add_part(&mut text, i, i % 4 == 0, chance)?;
         match i % 3 {
             0 => list.run(alloc, text.bytes(), digest)?,
             1 => sgf.run(alloc, text.bytes(), digest)?,
@@ -204,6 +206,38 @@ fn awkward(
         add_lecture(&mut text, &words, &mut goban, 20, chance)?;
         list.run(alloc, text.bytes(), digest)?;
         sgf.run(alloc, text.bytes(), digest)?;
+    }
+    Ok(())
+}
+
+/// Libraries and single games that a reader gives, as files are read: counted, in list form and in sgf form.
+fn reader(
+    alloc: Global,
+    size: usize,
+    chance: &mut Chance,
+    digest: &mut Digest,
+) -> Result<(), AllocError>
+    requires { size ≤ 4096 }
+{
+    let count = Asked::new(alloc, &["count"])?;
+    let list = Asked::new(alloc, &["split"])?;
+    let sgf = Asked::new(alloc, &["split", "--form", "sgf"])?;
+    let words = Words::new(alloc, 4096, chance)?;
+    let games = Games::new(alloc, 4 * size, 260, &words, chance)?;
+    let mut text = Text::new(alloc);
+    for _ in 0..3 {
+        text.clear();
+        games.add_library(&mut text, size * 3 * UNIT, chance)?;
+        count.run_read(alloc, text.bytes(), digest)?;
+        list.run_read(alloc, text.bytes(), digest)?;
+        sgf.run_read(alloc, text.bytes(), digest)?;
+    }
+    for _ in 0..size * 30 {
+        text.clear();
+        games.add_one(&mut text, true, chance)?;
+        count.run_read(alloc, text.bytes(), digest)?;
+        list.run_read(alloc, text.bytes(), digest)?;
+        sgf.run_read(alloc, text.bytes(), digest)?;
     }
     Ok(())
 }

@@ -1,4 +1,5 @@
-//! Calls of a past that ask for memory: `new`, `push`, `restart`. The whole runs of `tests/refused.sh` cover `play` and `set_up`.
+//! Calls of a past that ask for memory: `new`, `push` and `restart`. There are few colourings, so only `new` asks with a
+//! `PrintPast`. The turns and setups of `long_games` cover `play` and `set_up`, and a past that needs more room.
 
 ghost use Rattle.std.specs.Prelude.{◌≡◌, true, false, IfOk, OnOk};
 ghost use Rattle.go_board.specs.Past.{only, with_next, HaveSide};

@@ -80,7 +80,7 @@ fn sets_up<P: Past>(game: &mut Referee<P>, start: &Referee<P>, seen: &mut Seen) 
 
 /// What can be seen of a referee.
 #[derive(Drop)]
-struct Shown {
+pub struct Shown {
     board: Board,
     turns: u64,
     over: bool,
@@ -89,7 +89,8 @@ struct Shown {
 }
 
 impl Shown {
-    fn of<P: Past>(game: &Referee<P>) -> Shown {
+    /// What this referee shows.
+    pub fn of<P: Past>(game: &Referee<P>) -> Shown {
         Shown {
             board: game.board().copy(),
             turns: game.turns(),
@@ -99,7 +100,8 @@ impl Shown {
         }
     }
 
-    fn is_of<P: Past>(&self, game: &Referee<P>) -> bool {
+    /// Whether this referee shows the same.
+    pub fn is_of<P: Past>(&self, game: &Referee<P>) -> bool {
         self.board.same(game.board())
             && self.turns == game.turns()
             && self.over == game.over()
@@ -109,7 +111,7 @@ impl Shown {
 }
 
 /// A new referee. If memory was refused, the referee is made once more.
-fn begin<P: Past>(alloc: Global, side: u8, seen: &mut Seen) -> Option<Referee<P>> {
+pub fn begin<P: Past>(alloc: Global, side: u8, seen: &mut Seen) -> Option<Referee<P>> {
     let Some(size) = Size::new(side) else {
         seen.wrong("no board of the side");
         return None;
@@ -126,7 +128,7 @@ fn begin<P: Past>(alloc: Global, side: u8, seen: &mut Seen) -> Option<Referee<P>
 
 /// Takes a turn. If memory was refused, the game must be unchanged, and the turn is taken once more. If a reason forbids the
 /// turn, the game must be unchanged too, and no memory may be asked for.
-fn turn<P: Past>(
+pub fn turn<P: Past>(
     game: &mut Referee<P>,
     colour: Colour,
     play: Play,
@@ -224,7 +226,7 @@ fn stay_from<P: Past>(before: &Shown, game: &mut Referee<P>, seen: &mut Seen) {
 }
 
 /// Takes back the newest turn, setup or stay.
-fn undo<P: Past>(game: &mut Referee<P>, seen: &mut Seen) {
+pub fn undo<P: Past>(game: &mut Referee<P>, seen: &mut Seen) {
     if game.depth() == 0 {
         return seen.wrong("nothing to take back");
     }

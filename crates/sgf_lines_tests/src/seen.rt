@@ -1,4 +1,7 @@
 //! Counts calls, and keeps what was wrong.
+//!
+//! Some calls are there because they need more room than is taken at first. They have a name, which is printed if memory was refused to one
+//! of them. So `tests/failing_calls.sh` can tell that they still ask for memory.
 
 use std::fmt;
 
@@ -7,6 +10,10 @@ use std::fmt;
 pub struct Seen {
     calls: u32,
     wants: u32,
+    /// The name of the calls that are made now.
+    growth: Option<&'static str>,
+    /// The name of the calls of which one was refused memory last.
+    wanted_in: Option<&'static str>,
     wrong: Option<&'static str>,
 }
 
@@ -16,8 +23,20 @@ impl Seen {
         Seen {
             calls: 0,
             wants: 0,
+            growth: None,
+            wanted_in: None,
             wrong: None,
         }
+    }
+
+    /// The calls that follow need more room than is taken at first. This is their name.
+    pub fn growth(&mut self, name: &'static str) {
+        self.growth = Some(name);
+    }
+
+    /// The calls that follow have no name.
+    pub fn no_growth(&mut self) {
+        self.growth = None;
     }
 
     /// Counts a call.
@@ -28,6 +47,7 @@ impl Seen {
     /// Counts a call to which memory was refused.
     pub fn want(&mut self) {
         self.wants = self.wants.saturating_add(1);
+        self.wanted_in = self.growth;
     }
 
     /// If `holds` is false, keeps `what` as wrong.
@@ -57,6 +77,10 @@ impl Seen {
 
 impl fmt::Display for Seen {
     fn fmt<W: fmt::Write>(&self, f: &mut fmt::Formatter<W>) -> fmt::Result {
-        write!(f, "{} calls, {} wants of memory", self.calls, self.wants)
+        write!(f, "{} calls, {} wants of memory", self.calls, self.wants)?;
+        match self.wanted_in {
+            Some(name) => write!(f, " by {name}"),
+            None => Ok(()),
+        }
     }
 }

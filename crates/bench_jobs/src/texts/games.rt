@@ -1,5 +1,7 @@
 //! Whole games, and libraries of them.
 
+ghost use Rattle.std.specs.Prelude.{◌≤◌, IfSome, length};
+
 use crate::chance::Chance;
 use crate::goban::{Goban, PASS, Player};
 use crate::texts::parts::{Lists, Manner, Part, add_parts};
@@ -15,6 +17,9 @@ pub(crate) struct Games {
     /// Where the last node of each body begins.
     lasts: Vec<usize>,
 }
+
+/// How often a body can be cut off.
+const CUTS: usize = 16;
 
 impl Games {
     /// Eight times so many games on 19 by 19 with up to `moves` moves, at least half of these.
@@ -96,6 +101,32 @@ impl Games {
         Ok(place)
     }
 
+    /// Adds one of the games to a text, without its last nodes: at most half of them. Up to 16 for each game, no two numbers give the
+    /// same text.
+    pub(crate) fn add_part(
+        &self,
+        text: &mut Text,
+        number: usize,
+        full: bool,
+        chance: &mut Chance,
+    ) -> Result<(), AllocError> {
+        let count = self.ends.len().max(1);
+        let (start, last, end) = self.span(number % count);
+        let cut = number / count % CUTS;
+        text.add(b"(;GM[1]FF[4]SZ[19]GN[Part ")?;
+        text.add_number(cut)?;
+        text.add(b"]")?;
+        if full {
+            add_header(text, chance)?;
+        }
+        let body = self.bodies.part(start, last);
+        let half = body.len() / 2;
+        match next_node(body, half.wrapping_add((half / CUTS).wrapping_mul(cut))) {
+            Some(length) => add_closed(text, &body[..length]),
+            None => text.add(self.bodies.part(start, end)),
+        }
+    }
+
     /// Adds a library of about `size` bytes. Returns the place of a line in its middle, if the line's last node is the last move.
     pub(crate) fn add_library(
         &self,
@@ -116,6 +147,27 @@ impl Games {
         }
         Ok(middle)
     }
+}
+
+/// The first offset from `least` on at which a node begins that isn't the first of a variation; None if there is none.
+fn next_node(body: &[u8], least: usize) -> Option<usize>
+    ensures { IfSome result (λ offset. offset ≤ length body.now) }
+{
+    for i in least.max(1)..body.len() {
+        if body[i] == b';' && body[i - 1] != b'(' {
+            return Some(i);
+        }
+    }
+    None
+}
+
+/// Adds the front of a body, and ends the variation, if one has begun, and the game. No comment has a parenthesis.
+fn add_closed(text: &mut Text, front: &[u8]) -> Result<(), AllocError> {
+    text.add(front)?;
+    if front.contains(&b'(') {
+        text.add(b")")?;
+    }
+    text.add(b")\n")
 }
 
 /// So many games on 19 by 19 with up to `moves` moves, at least half of these. Every tenth has a variation.
