@@ -5,6 +5,7 @@ needs python3 gnugo
 cp "$top/examples/ko.sgf" ko.sgf
 mkdir folder
 cp "$top"/examples/*.sgf folder
+echo 'this is no database' > want.txt
 declare -A first=([library]=out [go_on]=rows [files]=lines [openings]=2 [prose]=clean)
 
 # ends STATUS NAME COMMAND..: the command ends with this status, and writes at most one row to standard error, which isn't a traceback.
@@ -33,7 +34,7 @@ for path in "$top"/recipes/*.py; do
         openings) ends 2 'no number' "$path" ko.sgf folder; ends 2 'no move' "$path" 0 ko.sgf ;;
         files) ends 2 'a wrong form' "$path" --form=list,sgf lines ko.sgf; ends 2 'no form' "$path" --form ;;
         parts) ends 2 'a wrong number' "$path" --most 67108865 ko.sgf ;;
-        verdicts) ends 2 'two forms' "$path" --csv --json ko.sgf; ends 3 'no table' "$path" --sqlite ko.sgf ko.sgf ;;
+        verdicts) ends 2 'two forms' "$path" --csv --json ko.sgf; ends 3 'no table' "$path" --sqlite want.txt ko.sgf ;;
         go_on) ends 2 'rows of a folder' "$path" rows folder; rm -f rows ;;
     esac
     ends 1 "$tool without its file" "$path" "${words[@]}" nix.sgf
