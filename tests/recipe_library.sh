@@ -84,6 +84,15 @@ for folder in out there; do
     diff -r want.out "$folder" >&2 || failed "$folder isn't the folder that later calls made"
 done
 
+# A journal with rows of another kind is as good as none.
+printf '%s\n' '[1, "x"]' '[["x"], null]' '["x/ko.sgf", 5]' '{}' '"x"' "$(head -c 100000 /dev/zero | tr '\0' '[')" > odd
+printf '\xff\n[' >> odd
+cp out/.done.jsonl journal
+cat odd >> out/.done.jsonl
+call out games
+[ "$status" = 0 ] && [ -z "$(anew out)" ] || failed "with an odd journal: status $status, $(cat faults)"
+same journal out/.done.jsonl "an odd journal"
+
 # A machine that doesn't exist: each file is named, and the next call does them.
 cat > ssh <<'SSH'
 #!/bin/sh
