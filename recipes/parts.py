@@ -43,6 +43,8 @@ def games(file, name):
             depth += {b"(": 1, b")": -1}.get(token, 0)
             if token == b")" and depth <= 0:
                 yield bytes(text[:at]), True
+                if depth < 0:
+                    return  # the program refuses this `)`
                 del text[:at]
                 at = 0
         else:

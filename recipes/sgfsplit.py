@@ -95,15 +95,20 @@ class Places:
 
     def __init__(self, text):
         self.data, self.start = text.data, text.start
-        self.at, self.line = 0, self.start[0]
+        self.begin()
+
+    def begin(self):
+        self.at, self.line, self.feed = 0, self.start[0], -self.start[1]  # a place, its line, and the place of the line feed before it
 
     def __call__(self, place):
         if place < self.at:
-            self.at, self.line = 0, self.start[0]
-        self.line += self.data.count(b"\n", self.at, place)
+            self.begin()
+        feed = self.data.rfind(b"\n", self.at, place)
+        if feed >= 0:
+            self.line += self.data.count(b"\n", self.at, place)
+            self.feed = feed
         self.at = place
-        before = self.data.rfind(b"\n", 0, place)
-        return self.line, place - before if before >= 0 else place + self.start[1]
+        return self.line, place - self.feed
 
 
 @functools.lru_cache(maxsize=None)
@@ -193,7 +198,7 @@ def refusal(text, status, said):
 
 def feed(stream, data):
     """Writes the bytes to a program, and closes the stream. The program may end before it has read all."""
-    with contextlib.suppress(OSError), stream:
+    with contextlib.suppress(OSError, ValueError), stream:
         stream.write(data)
 
 
@@ -278,12 +283,19 @@ def locked(path):
     """Opens the file at the path for appending bytes, and locks it. Waits as long as another process has it locked."""
     while True:
         file = open(os.open(path, os.O_RDWR | os.O_CREAT | os.O_APPEND | os.O_NOFOLLOW, 0o666), "ab")
-        if not stat.S_ISREG(os.fstat(file.fileno()).st_mode):
-            raise OSError(errno.EINVAL, "not a file", path)
         fcntl.flock(file, fcntl.LOCK_EX)
         if is_same(path, file.fileno()):
-            return file
+            break
         file.close()
+    if not is_plain(file):
+        raise OSError(errno.EINVAL, "not a file with one name", path)
+    return file
+
+
+def is_plain(file):
+    """Whether an open file is one with a single name. A second name may be that of a game."""
+    status = os.fstat(file.fileno())
+    return stat.S_ISREG(status.st_mode) and status.st_nlink == 1
 
 
 @contextlib.contextmanager
@@ -297,16 +309,23 @@ def written(path):
             raise OSError(errno.EINVAL, "not a file")
         make_folders(folder)
         with locked(beside) as file:
-            try:
-                file.truncate(0)
-                yield file
-                file.flush()
-                os.replace(beside, path)
-            except BaseException:
-                os.unlink(beside)
-                raise
-    except OSError as error:
-        raise Failed(f"{shown(path)}: {error.strerror}") from error
+            file.truncate(0)
+            yield file
+            file.flush()
+            os.replace(beside, path)
+    except BaseException as error:
+        drop(beside)
+        if isinstance(error, OSError):
+            raise Failed(f"{shown(path)}: {error.strerror}") from error
+        raise
+
+
+def drop(path):
+    """Removes what `written` began, unless another process writes to it."""
+    with contextlib.suppress(OSError), open(os.open(path, os.O_RDONLY | os.O_NONBLOCK | os.O_NOFOLLOW), "rb") as file:
+        fcntl.flock(file, fcntl.LOCK_EX | fcntl.LOCK_NB)
+        if is_same(path, file.fileno()) and is_plain(file):
+            os.unlink(path)
 
 
 def make_folders(folder):
@@ -409,11 +428,12 @@ def is_same(path, other):
 
 
 def is_below(path, folder, endings):
-    """Whether a path stands below a folder, or leads to something there, and has one of these endings there."""
+    """Whether a path, or the file to which it leads, stands below a folder and has one of these endings."""
     folder = os.path.realpath(folder)
-    above, name = os.path.split(path)
-    places = os.path.join(os.path.realpath(above), name), os.path.realpath(path)
-    return any(place.lower().endswith(endings) and os.path.commonpath([place, folder]) == folder for place in places)
+    for place in (path, os.path.realpath(path)) if os.path.islink(path) else (path,):
+        if place.lower().endswith(endings) and os.path.commonpath([os.path.realpath(os.path.dirname(place)), folder]) == folder:
+            return True
+    return False
 
 
 def kept(out, name, ending):

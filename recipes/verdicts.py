@@ -29,7 +29,7 @@ import sgfsplit
 COLUMNS = ("file", *sgfsplit.Row._fields)
 WIDTHS = (9, 6, 6, 8, 5, 5, 5, 5, 9, 9)
 FORMS = ("--csv", "--json", "--sqlite")
-WAITS = 600  # how many seconds a locked database is waited for
+SECONDS, TIMES = 5, 120  # how long a locked database is waited for, and how often
 
 
 def table(job):
@@ -77,24 +77,24 @@ def as_sqlite(job):
     for name in job.names:
         if any(sgfsplit.is_same(name, path + ending) for ending in ("", "-journal", "-wal", "-shm")):
             raise sgfsplit.Words(f"{sgfsplit.shown(name)} is a file of the database")
-    with contextlib.closing(sqlite3.connect(path, timeout=1, isolation_level=None)) as base:
-        begin(base, path)
+    with contextlib.closing(sqlite3.connect(path, timeout=SECONDS, isolation_level=None)) as base:
+        patiently(base, path, "BEGIN IMMEDIATE")
         base.execute(f"CREATE TABLE IF NOT EXISTS lines ({', '.join(COLUMNS)}, PRIMARY KEY (file, place))")
         for name in job.names:
             with job.going_on():
                 replace(base, name)
-        base.execute("COMMIT")
+        patiently(base, path, "COMMIT")
 
 
-def begin(base, path):
-    """Begins the transaction. Waits for another process that has the database locked, and says so."""
-    for second in range(WAITS):
+def patiently(base, path, command):
+    """Executes a command. Waits for another process that has the database locked, and says so."""
+    for time in range(TIMES):
         try:
-            return base.execute("BEGIN IMMEDIATE")
+            return base.execute(command)
         except sqlite3.OperationalError as error:
-            if "locked" not in str(error) or second == WAITS - 1:
+            if "locked" not in str(error) or time == TIMES - 1:
                 raise
-        if second == 0:
+        if time == 0:
             print(f"{sgfsplit.shown(path)}: another process has it locked; waiting", file=sys.stderr, flush=True)
 
 

@@ -65,6 +65,16 @@ echo "rows: its last row isn't one of sgfsplit" > want
 same want fault "after status $status, what is said of a gigabyte of zeros"
 rm rows
 
+# Rows that were cut off since their length was read don't stop the tool for ever.
+PYTHONPATH=$top/recipes timeout 20 python3 -c '
+import io, go_on, sgfsplit
+try:
+    go_on.copy(io.BytesIO(b"1 1 1"), io.BytesIO(), 20, "rows")
+except sgfsplit.Failed as failed:
+    print(failed)' > fault || failed "the copy of rows ends with status $?"
+echo 'rows: it was cut off while it was read' > want
+same want fault
+
 # A folder of rows, as library.py writes it.
 mkdir games
 cp "$top"/examples/*.sgf games

@@ -62,6 +62,16 @@ cp bad.sgf a.sgf
 if "$recipes/library.py" out a.sgf 2> /dev/null || [ ! -s out/a.fault ]; then failed "no fault"; fi
 [ ! -e out/a.rows ] || failed "the tool doesn't remove its own rows"
 
+# A second name of a game, where the tool keeps its journal or writes what it renames later.
+mkdir linked
+ln a.sgf linked/.done.jsonl
+refuses 3 'library.py: linked/.done.jsonl: not a file with one name' library.py linked good
+beside=linked/.$(python3 -c 'import hashlib; print(hashlib.blake2b(b"good.rows", digest_size=8).hexdigest())').part
+rm linked/.done.jsonl
+ln a.sgf "$beside"
+refuses 1 'linked/good.rows: not a file with one name' go_on.py linked/ good
+rm -r linked
+
 # A pipe at the place of an output isn't a file.
 mkfifo pipe
 for words in 'go_on.py pipe good' 'library.py pipes good'; do

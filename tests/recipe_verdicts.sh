@@ -99,12 +99,16 @@ import sqlite3
 import subprocess
 import sys
 
-base = sqlite3.connect("games.db", isolation_level=None)
-base.execute("BEGIN IMMEDIATE")
-tool = subprocess.Popen(sys.argv[1:], stderr=subprocess.PIPE)
-said = tool.stderr.readline()
-base.execute("ROLLBACK")
-sys.exit(tool.wait() or said != b"games.db: another process has it locked; waiting\n")
+for command in "BEGIN IMMEDIATE", "SELECT * FROM lines":  # a lock that keeps the tool from its first row, and one that keeps it from its commit
+    base = sqlite3.connect("games.db", isolation_level=None)
+    reading = base.execute(command)
+    reading.fetchone()
+    tool = subprocess.Popen(sys.argv[1:], stderr=subprocess.PIPE)
+    said = tool.stderr.readline()
+    del reading
+    base.close()
+    if tool.wait() or said != b"games.db: another process has it locked; waiting\n":
+        sys.exit(f"{command}: status {tool.returncode}, {said}")
 PYTHON
 table > got
 same want got "the table after the lock"
