@@ -309,19 +309,24 @@ def written(path):
             raise OSError(errno.EINVAL, "not a file")
         make_folders(folder)
         with locked(beside) as file:
-            file.truncate(0)
-            yield file
-            file.flush()
-            os.replace(beside, path)
-    except BaseException as error:
+            try:
+                file.truncate(0)
+                yield file
+                file.flush()
+                os.replace(beside, path)
+            except BaseException:
+                with contextlib.suppress(OSError):
+                    os.unlink(beside)
+                raise
+    except OSError as error:
+        raise Failed(f"{shown(path)}: {error.strerror}") from error
+    except BaseException:
         drop(beside)
-        if isinstance(error, OSError):
-            raise Failed(f"{shown(path)}: {error.strerror}") from error
         raise
 
 
 def drop(path):
-    """Removes what `written` began, unless another process writes to it."""
+    """Removes a file that `locked` created when a signal came, unless another process has locked it."""
     with contextlib.suppress(OSError), open(os.open(path, os.O_RDONLY | os.O_NONBLOCK | os.O_NOFOLLOW), "rb") as file:
         fcntl.flock(file, fcntl.LOCK_EX | fcntl.LOCK_NB)
         if is_same(path, file.fileno()) and is_plain(file):
