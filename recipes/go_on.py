@@ -50,7 +50,7 @@ def copy(old, new, size, path):
 
 
 def go_on(path, name):
-    """Adds to the rows at `path` the rows of the later lines of the file `name`. If `path` is a link, the rows are those that it leads to."""
+    """Adds to the rows at `path`, which may be a link to them, the rows of the later lines of the file `name`."""
     path = os.path.realpath(path) if os.path.islink(path) else path
     text = sgfsplit.read(name)
     with sgfsplit.written(path) as new, open(path if os.path.exists(path) else os.devnull, "rb") as old:

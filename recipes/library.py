@@ -52,7 +52,7 @@ def split_one(name, path, known):
 
 
 def keep(text, path):
-    """Writes the rows of a text, or the row that says why it is refused. After that the other one, which an earlier call wrote, is removed."""
+    """Writes the rows of a text, or the row that says why it is refused. Then the other file, of an earlier call, is removed."""
     rows, fault = path + ".rows", path + ".fault"
     name = re.escape(os.fsencode(sgfsplit.shown(os.path.basename(path))))
     check(rows, sgfsplit.ROW)
@@ -115,7 +115,7 @@ def answers_of(line):
 
 
 class Workers:
-    """Processes that do batches, one for each thread that asks. A signal to the tool's group doesn't reach them, so that `end` ends them."""
+    """Processes that do batches, one for each thread that asks. Signals to the tool's group don't reach them: `end` ends them."""
 
     def __init__(self):
         self.all, self.own = [], threading.local()

@@ -90,8 +90,8 @@ class Text(NamedTuple):
 
 
 class Places:
-    """Converts a place in a Text, an offset in bytes from 0, to line and column, both from 1. Columns count bytes. If places rise, the bytes
-    are read once."""
+    """Converts a place in a Text, an offset in bytes from 0, to line and column, both from 1. Columns count bytes. If places rise, the
+    bytes are read once."""
 
     def __init__(self, text):
         self.data, self.start = text.data, text.start
@@ -400,8 +400,8 @@ class Job:
             waiting += [entry.path for entry in reversed(folders) if not entry.is_symlink() and not is_same(entry.path, self.left_out)]
 
     def outputs(self, out, ending, *endings):
-        """The name of each file, and the path of its output below the folder `out`: out/dir/name.ending. `endings` are those of the files that
-        the tool writes below `out`. A file there with such an ending could be overwritten, so the tool doesn't begin at all."""
+        """The name of each file, and the path of its output below the folder `out`: out/dir/name.ending. `endings` are those of the files
+        that the tool writes below `out`. A file there with such an ending could be overwritten, so the tool doesn't begin at all."""
         self.left_out = out
         names, taken = list(self.files()), {}
         for name in names:

@@ -1,6 +1,6 @@
 #!/usr/bin/env bash
-# Whatever fails or is killed while a tool works, what earlier calls wrote stays until its replacement is whole. A killed worker of library.py
-# costs its own batch. A tool that is asked to end leaves no file half written.
+# Whatever fails or is killed while a tool works, what earlier calls wrote stays until its replacement is whole. A killed worker of
+# library.py costs its own batch. A tool that is asked to end leaves no file half written.
 . "$(dirname "$0")/lib.sh"
 needs python3 sqlite3
 recipes=$top/recipes
@@ -38,7 +38,8 @@ diff -r rows out >&2 || failed "another call didn't mend it"
 sqlite3 games.db 'SELECT * FROM lines' > want
 printf 'games/%s.sgf: the program was ended by signal 9\n' corner ko > want.faults
 for way in killed cut_off; do
-    for words in "verdicts.py --sqlite games.db" verdicts.py openings.py\ 2 illegal_lines.py files.py\ lines parts.py "picture.py --out pictures"; do
+    for words in "verdicts.py --sqlite games.db" verdicts.py openings.py\ 2 illegal_lines.py files.py\ lines parts.py \
+        "picture.py --out pictures"; do
         status=0
         SGFSPLIT=$work/$way "$recipes"/$words games > got 2> faults || status=$?
         [ "$status" = 1 ] || failed "$words with a program that was $way: status $status"
@@ -84,7 +85,8 @@ PYTHON
 for signal in INT HUP TERM; do
     for words in library.py go_on.py; do
         rm -rf ended
-        SGFSPLIT=$work/waits timeout 50 python3 signals.py "$signal" "$recipes/$words" ended/ games/ko.sgf 2> faults || failed "$words, $signal: $(cat faults)"
+        SGFSPLIT=$work/waits timeout 50 python3 signals.py "$signal" "$recipes/$words" ended/ games/ko.sgf 2> faults ||
+            failed "$words, $signal: $(cat faults)"
         [ -d ended ] || failed "$words didn't begin"
         [ -z "$(find ended -name '.*.part')" ] || failed "$words, $signal: left $(find ended -name '.*.part')"
         if grep Traceback faults; then failed "$words, $signal: $(cat faults)"; fi

@@ -21,7 +21,8 @@ NAMES = [b"--sshlogin=touch x.sgf", b"--rpl={} touch pwned.sgf", b"--csv", b"--f
          b"\"$(touch pwned)\".sgf", b"{}.sgf", b"{= system('touch pwned') =}.sgf", b"{.} {#} {%}.sgf", b"*.sgf", b"?.sgf", b"[a].sgf",
          b"a b.sgf", b" .sgf", b"~.sgf", b"#.sgf", b"line\nfeed.sgf", b"\n.sgf", b"forged.sgf:1:1: not SGF\nx.sgf", b"\xff\xfe.sgf",
          b"caf\xc3\xa9.sgf", b"\x1b[31mred.sgf", b"%s%n.sgf", b"back\\slash.sgf", b"\\n.sgf", b".sgf", b"..sgf", b"...sgf", b"x.rows",
-         b"cr\rx.sgf", b"\xe2\x80\xae\xe2\x81\xa6bidi\xd8\x9c.sgf", b"\xc2\x9b1m\x9b1m.sgf", b"&.sgf", b"!!.sgf", b"a,b;c\td.sgf", b"=1+1.sgf", b"@list.sgf"]
+         b"cr\rx.sgf", b"\xe2\x80\xae\xe2\x81\xa6bidi\xd8\x9c.sgf", b"\xc2\x9b1m\x9b1m.sgf",
+         b"&.sgf", b"!!.sgf", b"a,b;c\td.sgf", b"=1+1.sgf", b"@list.sgf"]
 BAD = b"$(touch pwned)\nbad.sgf"
 GOOD_TEXT = open(EXAMPLE, "rb").read()
 LISTED = [name for name in NAMES if name.endswith(b".sgf")]

@@ -39,7 +39,8 @@ for base in e.sgf ./e.sgf; do
 done
 refuses 2 'verdicts.py: games/e.sgf is a file of the database (verdicts.py -h says what it takes)' verdicts.py --sqlite games/e.sgf games
 mv a.rows new-journal
-refuses 2 'verdicts.py: new-journal is a file of the database (verdicts.py -h says what it takes)' verdicts.py --sqlite new a.sgf new-journal
+refuses 2 'verdicts.py: new-journal is a file of the database (verdicts.py -h says what it takes)' \
+    verdicts.py --sqlite new a.sgf new-journal
 for base in '' :memory:; do
     refuses 2 'verdicts.py: --sqlite wants the path of a file (verdicts.py -h says what it takes)' verdicts.py --sqlite="$base" a.sgf
 done

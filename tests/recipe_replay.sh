@@ -81,7 +81,8 @@ gnugo --mode gtp | sed -u 's/^= B2\$/= $answer/'
 ENGINE
     status=0
     ENGINE=./engine "$tool" one.sgf > got 2> faults || status=$?
-    [ "$status" = 3 ] && grep -q "^replay.py: the engine lists stones at points that" faults || failed "$answer: status $status, $(cat faults)"
+    [ "$status" = 3 ] && grep -q "^replay.py: the engine lists stones at points that" faults ||
+        failed "$answer: status $status, $(cat faults)"
 done
 for engine in 'cat /dev/zero' 'yes ='; do
     status=0

@@ -99,7 +99,8 @@ import sqlite3
 import subprocess
 import sys
 
-for command in "BEGIN IMMEDIATE", "SELECT * FROM lines":  # a lock that keeps the tool from its first row, and one that keeps it from its commit
+# The first lock keeps the tool from its first row, and the second one from its commit.
+for command in "BEGIN IMMEDIATE", "SELECT * FROM lines":
     base = sqlite3.connect("games.db", isolation_level=None)
     reading = base.execute(command)
     reading.fetchone()

@@ -94,13 +94,16 @@ cat > want <<'WANT'
 /dev/zero: input is longer than 67108864 bytes
 /proc/self/mem: Input/output error
 WANT
-for words in 'verdicts.py --csv' illegal_lines.py parts.py 'openings.py 2' 'go_on.py rows/' 'files.py lines' 'picture.py --out pictures' 'prose.py clean'; do
+for words in 'verdicts.py --csv' illegal_lines.py parts.py 'openings.py 2' 'go_on.py rows/' 'files.py lines' 'picture.py --out pictures' \
+    'prose.py clean'; do
     [ "$words" != 'prose.py clean' ] || sed -i 's/: input.*/: it is longer than 268435456 bytes/' want
     if (ulimit -v 2000000; "$top"/recipes/$words /dev/zero /proc/self/mem ko.sgf > got 2> faults); then failed "$words: status 0"; fi
     same want faults "what $words says"
 done
 [ -s clean/ko.sgf ] && [ -s rows/ko.rows ] || failed "the file after these isn't there"
-if (ulimit -v 2000000; head -c 268435457 /dev/zero | "$top/recipes/prose.py" > got 2> faults); then failed "a mail without an end is accepted"; fi
+if (ulimit -v 2000000; head -c 268435457 /dev/zero | "$top/recipes/prose.py" > got 2> faults); then
+    failed "a mail without an end is accepted"
+fi
 echo 'standard input: it is longer than 268435456 bytes' > want
 same want faults
 ends 2 'names without an end' bash -c 'ulimit -v 2000000; "$0" -0 < /dev/zero' "$top/recipes/verdicts.py"
