@@ -29,9 +29,8 @@ def write_lines(name, folder, form):
 def holds(path, record):
     """Whether the file at the path has exactly these bytes."""
     try:
-        with open(path, "rb") as file:
-            return os.fstat(file.fileno()).st_size == len(record) and file.read() == record
-    except OSError:
+        return os.path.getsize(path) == len(record) and sgfsplit.read(path, len(record) + 1).data == record
+    except (OSError, sgfsplit.Refused):
         return False
 
 

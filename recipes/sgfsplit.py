@@ -402,15 +402,17 @@ class Job:
     def outputs(self, out, ending, *endings):
         """The name of each file, and the path of its output below the folder `out`: out/dir/name.ending. `endings` are those of the files
         that the tool writes below `out`. A file there with such an ending could be overwritten, so the tool doesn't begin at all."""
-        self.left_out = out
+        self.left_out, inside = out, os.path.realpath(out)
         names, taken = list(self.files()), {}
         for name in names:
-            if is_below(name, out, (*endings, ".part")):
+            if any(is_below(place, inside) and place.lower().endswith((*endings, ".part")) for place in places(name)):
                 raise Words(f"{shown(name)} stands below the folder {shown(out)}, in which files are written")
         for name in names:
             path = kept(out, name, ending)
             first = taken.setdefault(path, name)
-            if first is name:
+            if not all(is_below(place, inside) for place in places(path)):
+                self.refuse(f"{shown(name)}: left out, since links lead from {shown(path)} out of the folder {shown(out)}")
+            elif first is name:
                 yield name, path
             elif not is_same(first, name):
                 self.refuse(f"{shown(name)}: left out, since what {shown(first)} gives is kept at {shown(path)}")
@@ -432,13 +434,18 @@ def is_same(path, other):
         return False
 
 
-def is_below(path, folder, endings):
-    """Whether a path, or the file to which it leads, stands below a folder and has one of these endings."""
-    folder = os.path.realpath(folder)
-    for place in (path, os.path.realpath(path)) if os.path.islink(path) else (path,):
-        if place.lower().endswith(endings) and os.path.commonpath([os.path.realpath(os.path.dirname(place)), folder]) == folder:
-            return True
-    return False
+def places(path):
+    """Where a path stands, and where it leads if it is a link, both without links on the way."""
+    stands = os.path.join(real(os.path.dirname(path)), os.path.basename(path))
+    return (stands, os.path.realpath(path)) if os.path.islink(path) else (stands,)
+
+
+real = functools.lru_cache(maxsize=1024)(os.path.realpath)  # for folders, which many files share
+
+
+def is_below(place, folder):
+    """Whether a place is below a folder, or is that folder, both without links on the way."""
+    return os.path.commonpath([place, folder]) == folder
 
 
 def kept(out, name, ending):

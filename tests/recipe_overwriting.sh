@@ -73,6 +73,23 @@ ln a.sgf "$beside"
 refuses 1 'linked/good.rows: not a file with one name' go_on.py linked/ good
 rm -r linked
 
+# Links among the outputs that lead back to the games: a folder, and the file of an output.
+mkdir linked
+ln -s ../games linked/games
+cp good games/e.sgf
+"$recipes/library.py" linked good
+out_of() { echo "games/e.sgf: left out, since links lead from $1 out of the folder linked"; }
+refuses 1 "$(out_of linked/games/e.sgf)" prose.py linked games/e.sgf
+refuses 1 "$(out_of linked/games/e)" files.py linked games/e.sgf
+refuses 1 "$(out_of linked/games/e)" picture.py --out linked games/e.sgf
+refuses 1 "$(out_of linked/games/e)" library.py linked games/e.sgf
+rm linked/games
+mkdir linked/games
+: > empty
+ln -s ../../empty linked/games/e.rows
+refuses 1 "$(out_of linked/games/e.rows)" go_on.py linked games/e.sgf
+rm -r linked
+
 # A pipe at the place of an output isn't a file.
 mkfifo pipe
 for words in 'go_on.py pipe good' 'library.py pipes good'; do
