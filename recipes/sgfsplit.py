@@ -10,8 +10,8 @@ its rows as named tuples and its records one by one.
 
 A call that takes a name reads the file. If two calls have to see the same bytes, pass them what `read` returns.
 
-A file that can't be opened or is refused raises Refused. The text of Refused is the row that says why: FILE:LINE:COLUMN: not SGF. Names
-are str, as os.fsdecode returns them. The variable SGFSPLIT names the program, or else PROGRAM does. Boards and nodes are in goboard.py.
+A file that is refused raises Refused. If it can't be read or the program fails, that is Failed, which is a kind of Refused. The text of
+both is the row that says why: FILE:LINE:COLUMN: not SGF. Names are str, as os.fsdecode returns them. The variable SGFSPLIT names the program, or else PROGRAM does. Boards and nodes are in goboard.py.
 """
 import contextlib
 import errno

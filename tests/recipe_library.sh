@@ -109,8 +109,11 @@ mkdir many
 for number in $(seq 300); do cp "$top/examples/corner.sgf" "many/$number.sgf"; done
 "$library" all many
 mkdir killed
-for delay in 0.2 0.4 0.7; do
-    timeout -s KILL "$delay" "$library" killed many 2> /dev/null || true
+for count in 1 20 40; do
+    "$library" killed many 2> /dev/null &
+    until [ "$(find killed -name '*.rows' | wc -l)" -ge "$count" ]; do sleep 0.01; done
+    kill -KILL $!
+    wait $! 2> /dev/null || true
     find killed -name '*.rows' | while read -r file; do same "all/${file#killed/}" "$file" "a file of a killed run"; done
     [ ! -e killed/.done.jsonl ] || truncate -s -7 killed/.done.jsonl 2> /dev/null || true
 done
