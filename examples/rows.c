@@ -36,7 +36,10 @@ int main(int count, char **words) {
         status = sgf_lines_split(text, length, &asked, room, room_length, &answer);
     }
     switch (status) {
-    case SGF_LINES_DONE: fwrite(room, 1, answer.bytes, stdout); break;
+    case SGF_LINES_DONE:
+        if (fwrite(room, 1, answer.bytes, stdout) == answer.bytes && fflush(stdout) == 0) break;
+        perror("writing failed");
+        return 3;
     case SGF_LINES_NOT_SGF: fprintf(stderr, "byte %llu: not SGF\n", (unsigned long long)answer.at); break;
     case SGF_LINES_ENDS_EARLY: fprintf(stderr, "byte %llu: input ends too early\n", (unsigned long long)answer.at); break;
     case SGF_LINES_TOO_LONG: fprintf(stderr, "input is longer than %d bytes\n", SGF_LINES_MAX_LENGTH); break;

@@ -14,13 +14,12 @@ Files of lines that are gone stay: remove OUT to begin anew. Status 1: a file wa
 refused.
 """
 import os
-from itertools import zip_longest
 
 import sgfsplit
 
 
 def write_lines(name, folder, form):
-    for row, record in zip_longest(sgfsplit.rows(name), sgfsplit.records(name, form)):
+    for row, record in sgfsplit.rows_with(name, form):
         path = os.path.join(folder, f"{row.place}.{form}")
         if not holds(path, record):
             with sgfsplit.written(path) as file:
@@ -30,9 +29,8 @@ def write_lines(name, folder, form):
 def holds(path, record):
     """Whether the file at the path has exactly these bytes."""
     try:
-        with open(path, "rb") as file:
-            return os.fstat(file.fileno()).st_size == len(record) and file.read() == record
-    except OSError:
+        return os.path.getsize(path) == len(record) and sgfsplit.read(path, len(record) + 1).data == record
+    except (OSError, sgfsplit.Refused):
         return False
 
 
@@ -40,7 +38,7 @@ def main(job):
     form = job.options.get("--form", "sgf")
     if form not in ("sgf", "gtp", "list"):
         raise sgfsplit.Words("--form wants sgf, gtp or list")
-    for name, folder in job.outputs(job.first[0], "", is_apart=True):
+    for name, folder in job.outputs(job.first[0], "", "." + form):
         with job.going_on():
             write_lines(name, folder, form)
 

@@ -11,52 +11,60 @@ at any byte.
   go_on.py out library           out/library/name.rows for each
                                  library/name.sgf, as library.py keeps them
 
-Append only whole games. Status 1: FILE was refused, or none of its lines has
-the last place of ROWS, because earlier text changed. ROWS is then unchanged.
+Append only whole games. ROWS may be a link to the rows. Status 1: FILE was
+refused, or none of its lines has the last place of ROWS, because earlier text
+changed. ROWS is then unchanged.
 """
 import os
 import re
+import stat
 
 import sgfsplit
 
-ROW = re.compile(rb"[0-9]{1,20} [0-9]+ [0-9]+ (score|illegal|unjudged) [a-z0-9 -]+\n")
 CUT = re.compile(rb"([0-9]+[a-z0-9 -]*)?")
+LONGEST = 200  # no row has as many bytes
 
 
 def whole_rows(rows, path):
-    """Returns the place of the last whole row of ROWS (None without such a row), and the number of bytes up to the end of that row. Reads
-    ROWS from its end."""
-    rows.seek(0, os.SEEK_END)
-    begin, tail = rows.tell(), b""
-    while begin > 0 and tail.count(b"\n") < 2:
-        piece = min(begin, sgfsplit.PIECE)
-        begin -= piece
-        rows.seek(begin)
-        tail = rows.read(piece) + tail
+    """Returns the place of the last whole row of ROWS (None without such a row), and the number of bytes up to the end of that row."""
+    begin = max(rows.seek(0, os.SEEK_END) - 2 * LONGEST, 0)
+    rows.seek(begin)
+    tail = rows.read(2 * LONGEST)
     whole = tail.rfind(b"\n") + 1
-    last = tail[tail.rfind(b"\n", 0, max(whole - 1, 0)) + 1:whole]
-    if last and not ROW.fullmatch(last) or not CUT.fullmatch(tail[whole:]):
+    first = tail.rfind(b"\n", 0, max(whole - 1, 0)) + 1
+    last, cut = tail[first:whole], tail[whole:]
+    if last and not sgfsplit.ROW.fullmatch(last) or not CUT.fullmatch(cut) or max(len(last), len(cut)) >= LONGEST:
         raise sgfsplit.Refused(f"{sgfsplit.shown(path)}: its last row isn't one of sgfsplit")
     return int(last.split()[0]) if last else None, begin + whole
 
 
+def copy(old, new, size, path):
+    """Copies the first bytes of a file."""
+    old.seek(0)
+    while size > 0:
+        piece = old.read(min(size, sgfsplit.PIECE))
+        if not piece:
+            raise sgfsplit.Failed(f"{sgfsplit.shown(path)}: it was cut off while it was read")
+        new.write(piece)
+        size -= len(piece)
+
+
 def go_on(path, name):
-    """Adds to the rows at `path` the rows of the later lines of the file `name`."""
-    with open(path if os.path.exists(path) else os.devnull, "rb") as old:
+    """Adds to the rows at `path`, which may be a link to them, the rows of the later lines of the file `name`."""
+    path = os.path.realpath(path) if os.path.islink(path) else path
+    text = sgfsplit.read(name)
+    with sgfsplit.written(path) as new, open(path if os.path.exists(path) else os.devnull, "rb") as old:
         last, size = whole_rows(old, path)
-        old.seek(0)
-        with sgfsplit.written(path) as new:
-            while size > 0:
-                piece = old.read(min(size, sgfsplit.PIECE))
-                size -= len(piece)
-                new.write(piece)
-            sgfsplit.write_rows(new, name, last)
+        if old.name == path:
+            os.fchmod(new.fileno(), stat.S_IMODE(os.fstat(old.fileno()).st_mode))
+        copy(old, new, size, path)
+        sgfsplit.write_rows(new, text, last)
 
 
 def main(job):
     path = job.first[0]
     if os.path.isdir(path) or path.endswith(os.sep):
-        pairs = job.outputs(path, ".rows")
+        pairs = job.outputs(path, ".rows", ".rows")
     else:
         pairs = [(name, path) for name in job.files()]
         if len(pairs) != 1:

@@ -8,7 +8,6 @@ A point is (column, row), both counted from 0 in the upper left corner. A colour
 for texts that the program has accepted.
 """
 import re
-from itertools import zip_longest
 from typing import NamedTuple, Optional
 
 import sgfsplit
@@ -159,9 +158,9 @@ class Line(NamedTuple):
 SETUPS = {"AB": "B", "AW": "W", "AE": None}
 
 
-def lines(name, after=None, limit=None, most=None):
+def lines(file, after=None, limit=None, most=None):
     """The row and the Line of each judged line of a file. With `most`, at most so many moves of each line are played."""
-    for row, record in zip_longest(sgfsplit.rows(name, after, limit), sgfsplit.records(name, "sgf", after, limit)):
+    for row, record in sgfsplit.rows_with(file, "sgf", after=after, limit=limit):
         if row.verdict != "unjudged":
             yield row, played(record, row, most)
 

@@ -33,16 +33,13 @@ def told(node, reason):
 def main(job):
     for name in job.files():
         with job.going_on():
-            text = place_of = None
-            for row in sgfsplit.rows(name):
-                if row.verdict != "illegal":
-                    continue
-                if text is None:
-                    text = sgfsplit.text_of(name)
-                    place_of = sgfsplit.Places(text)
-                line, column = place_of(row.fault)
-                node = next(goboard.nodes(text, row.fault))
-                print(f"{sgfsplit.shown(name)}:{line}:{column}: turn {row.turn}: {told(node, row.reason)}: {row.reason}")
+            text = sgfsplit.read(name)
+            place_of = sgfsplit.Places(text)
+            for row in sgfsplit.rows(text):
+                if row.verdict == "illegal":
+                    line, column = place_of(row.fault)
+                    node = next(goboard.nodes(text.data, row.fault))
+                    print(f"{sgfsplit.shown(name)}:{line}:{column}: turn {row.turn}: {told(node, row.reason)}: {row.reason}")
 
 
 if __name__ == "__main__":

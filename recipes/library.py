@@ -13,12 +13,15 @@ or that weren't split before.
   find . -name '*.sgf' -mtime -7 -print0 | library.py -0 out
 
 OUT/.done.jsonl keeps a checksum of each file that was split. Rows of deleted
-files stay: remove OUT to begin anew. Status 1: a file was refused.
+files stay: remove OUT to begin anew. If a file can't be read, or the system
+fails, what stands in OUT stays too, and the next call tries the file again.
+Status 1: a file was refused.
 """
 import contextlib
 import hashlib
 import json
 import os
+import re
 import shutil
 import signal
 import subprocess
@@ -33,44 +36,55 @@ FILES, FILES_THERE, BYTES = 64, 256, 4 << 20  # a batch ends at so many files he
 DONE = ".done.jsonl"
 
 
-def sum_of(name):
-    total = hashlib.blake2b(digest_size=16)
-    try:
-        with sgfsplit.opened(name) as file:
-            while piece := file.read(sgfsplit.PIECE):
-                total.update(piece)
-    except OSError as error:
-        raise sgfsplit.Refused(f"{sgfsplit.shown(name)}: {error.strerror}") from error
-    return total.hexdigest()
-
-
 def split_one(name, path, known):
     """Writes the rows of a file, unless they exist and the file has the checksum `known`. Returns the file's checksum and None. If the file is
     refused, returns None and the row that says why."""
     try:
         if os.path.exists(name) and not os.path.isfile(name):
-            raise sgfsplit.Refused(f"{sgfsplit.shown(name)}: not a file")
-        total = sum_of(name)
-        if total == known and os.path.isfile(path + ".rows"):
-            return total, None
-        with sgfsplit.written(path + ".rows") as file:
-            sgfsplit.write_rows(file, name)
-        old = path + ".fault"
-        refused = None
+            raise sgfsplit.Failed(f"{sgfsplit.shown(name)}: not a file")
+        text = sgfsplit.read(name)
+        total = hashlib.blake2b(text.data, digest_size=16).hexdigest()
+        if total != known or not os.path.isfile(path + ".rows"):
+            keep(text, path)
+        return total, None
     except sgfsplit.Refused as error:
-        total, refused, old = None, str(error), path + ".rows"
-        keep_fault(path, refused)
-    if os.path.lexists(old):
-        os.unlink(old)
-    return total, refused
+        return None, str(error)
 
 
-def keep_fault(path, row):
+def keep(text, path):
+    """Writes the rows of a text, or the row that says why it is refused. Then the other file, of an earlier call, is removed."""
+    rows, fault = path + ".rows", path + ".fault"
+    name = re.escape(os.fsencode(sgfsplit.shown(os.path.basename(path))))
+    check(rows, sgfsplit.ROW)
+    check(fault, re.compile(rb"(.*/)?" + name + rb"(\.sgf)?: ?.+\n\Z"))
     try:
-        with sgfsplit.written(path + ".fault") as file:
-            file.write(os.fsencode(row) + b"\n")
-    except sgfsplit.Refused:
-        pass  # the row is reported in any case
+        with sgfsplit.written(rows) as file:
+            sgfsplit.write_rows(file, text)
+        remove(fault)
+    except sgfsplit.Failed:
+        raise
+    except sgfsplit.Refused as refused:
+        with contextlib.suppress(sgfsplit.Failed):  # the row is reported in any case
+            with sgfsplit.written(fault) as file:
+                file.write(os.fsencode(str(refused)) + b"\n")
+            remove(rows)
+        raise
+
+
+def check(path, pattern):
+    """Raises Failed if a file stands at the path that doesn't begin as one of this tool."""
+    if os.path.isfile(path):
+        begin = sgfsplit.read(path, sgfsplit.PIECE).data
+        if begin and not pattern.match(begin):
+            raise sgfsplit.Failed(f"{sgfsplit.shown(path)}: library.py didn't write this file, so it stays as it is")
+
+
+def remove(path):
+    try:
+        if os.path.isfile(path):
+            os.unlink(path)
+    except OSError as error:
+        raise sgfsplit.Failed(f"{sgfsplit.shown(path)}: {error.strerror}") from error
 
 
 def split_batch(batch):
@@ -83,7 +97,8 @@ def batches(files, most):
     batch, size = [], 0
     for name, path, known in files:
         batch.append((name, path, known))
-        size += os.path.getsize(name) if os.path.exists(name) else 0
+        with contextlib.suppress(OSError):
+            size += os.path.getsize(name)
         if len(batch) == most or size > BYTES:
             yield batch
             batch, size = [], 0
@@ -91,29 +106,49 @@ def batches(files, most):
         yield batch
 
 
+def answers_of(line):
+    """The results for the files of a batch, in a row of a worker. Raises ValueError if it isn't such a row."""
+    answers = json.loads(line)
+    if not isinstance(answers, list):
+        raise ValueError("no list")
+    return answers
+
+
+class Workers:
+    """Processes that do batches, one for each thread that asks. Signals to the tool's group don't reach them: `end` ends them."""
+
+    def __init__(self):
+        self.all, self.own = [], threading.local()
+
+    def ask(self, batch):
+        """The answer to a batch. If its worker is killed, the batch isn't done, and the next batch gets a new worker."""
+        try:
+            if getattr(self.own, "worker", None) is None:
+                self.own.worker = subprocess.Popen([sys.executable, os.path.abspath(__file__), "--batches"], start_new_session=True,
+                                                   stdin=subprocess.PIPE, stdout=subprocess.PIPE)
+                self.all.append(self.own.worker)
+            self.own.worker.stdin.write(json.dumps(batch).encode() + b"\n")
+            self.own.worker.stdin.flush()
+            return answers_of(self.own.worker.stdout.readline())
+        except (OSError, ValueError):
+            self.own.worker = None
+            return []
+
+    def end(self):
+        for worker in self.all:
+            worker.terminate()
+            worker.wait()
+
+
 def here(work):
     """The answers to the batches, as they come in, from a worker on each core of this machine."""
-    workers, mine = [], threading.local()
-
-    def begin():
-        command = [sys.executable, os.path.abspath(__file__), "--batches"]
-        mine.worker = subprocess.Popen(command, stdin=subprocess.PIPE, stdout=subprocess.PIPE)
-        workers.append(mine.worker)
-
-    def ask(batch):
-        mine.worker.stdin.write(json.dumps(batch).encode() + b"\n")
-        mine.worker.stdin.flush()
-        return json.loads(mine.worker.stdout.readline())
-
-    pool = ThreadPoolExecutor(len(os.sched_getaffinity(0)), initializer=begin)
+    workers, pool = Workers(), ThreadPoolExecutor(len(os.sched_getaffinity(0)))
     try:
-        for answer in as_completed([pool.submit(ask, batch) for batch in work]):
-            with contextlib.suppress(OSError, ValueError):  # if a worker was killed, its batch isn't done
-                yield answer.result()
+        for answer in as_completed([pool.submit(workers.ask, batch) for batch in work]):
+            yield answer.result()
     finally:
-        pool.shutdown(cancel_futures=True)
-        for worker in workers:
-            worker.communicate()
+        pool.shutdown(wait=False, cancel_futures=True)
+        workers.end()
 
 
 def there(work, machines):
@@ -131,7 +166,8 @@ def there(work, machines):
                               stdin=asked, stdout=subprocess.PIPE) as run:
             try:
                 for line in run.stdout:
-                    yield json.loads(line)
+                    with contextlib.suppress(ValueError):  # another machine may write more than answers
+                        yield answers_of(line)
             except BaseException:
                 run.terminate()
                 raise
@@ -139,13 +175,17 @@ def there(work, machines):
 
 def serve():
     """Does the batches on standard input, one in each row."""
-    signal.signal(signal.SIGINT, signal.SIG_DFL)
+    sgfsplit.end_by(signal.SIGINT, signal.SIGTERM, signal.SIGHUP)
     try:
         sgfsplit.program()
     except sgfsplit.Trouble as trouble:
         sys.exit(f"{os.uname().nodename}: {trouble}")
     for line in sys.stdin.buffer:
-        print(json.dumps(split_batch(json.loads(line))), flush=True)
+        answer = json.dumps(split_batch(json.loads(line)))
+        try:
+            print(answer, flush=True)
+        except BrokenPipeError:
+            os._exit(1)  # the tool was killed; an ordinary end would write to the pipe again
 
 
 def bar(done, total):
@@ -160,20 +200,22 @@ def known_of(path):
     known = {}
     with open(path, "rb") as journal:
         for line in journal:
-            with contextlib.suppress(TypeError, ValueError):
+            with contextlib.suppress(TypeError, ValueError, RecursionError):
                 place, total = json.loads(line)
-                known[place] = total
+                if isinstance(place, str) and (total is None or isinstance(total, str)):
+                    known[place] = total
     return known
 
 
 def main(job):
     sgfsplit.program()
     out = job.first[0]
-    os.makedirs(out, exist_ok=True)
+    pairs = list(job.outputs(out, "", ".rows", ".fault", DONE))
+    sgfsplit.make_folders(out)
     done = os.path.join(out, DONE)
     with sgfsplit.locked(done) as journal:
         known = known_of(done)
-        files = [(name, path, known.get(os.path.relpath(path, out))) for name, path in job.outputs(out, "")]
+        files = [(name, path, known.get(os.path.relpath(path, out))) for name, path in pairs]
         machines = job.options.get("--sshlogin")
         work = list(batches(files, FILES if machines is None else FILES_THERE))
         left, refused = {name for name, _, _ in files}, []

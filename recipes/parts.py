@@ -13,48 +13,70 @@ file follow those of the file before.
                                  the most bytes of a part of several games;
                                  without --most it is 67108864
 
-A single game of more than 64 MiB is still refused. Status 1: a file was
-refused; the rows of the parts before the fault are written.
+A file is read as it is split, so at most a part and a game are in memory. A
+single game of more than 64 MiB is still refused, once 64 MiB and a byte of it
+are read. Status 1: a file was refused; the rows of the parts before the fault
+are written.
 """
-import subprocess
+import re
 
 import goboard
 import sgfsplit
 
 MARK = b"\xef\xbb\xbf"  # the byte order mark, which may stand only before the first game
+IN_VALUE = re.compile(rb"\\.?|\]", re.DOTALL)  # an escape, of which the second byte may still have to be read, or the value's end
 
 
-def parts(text, most):
-    """The beginning, the end and the number of games of each part. The last part ends at the end of the text, every other part after a game."""
-    begin = end = depth = count = 0
-    for place, after in goboard.tokens(text, 0, goboard.PARENTHESES):
-        byte = text[place:place + 1]
-        depth += {b"(": 1, b")": -1}.get(byte, 0)
-        if byte == b")" and depth == 0:
-            if after - begin > most and count > 0:
-                yield begin, end, count
-                begin, count = end, 0
-            end = after
-            count += 1
-    if count == 0 or text[end:].strip():
-        end = len(text)  # what isn't white space after the last game has to be refused
-    yield begin, end, count
+def games(file, name):
+    """Each game of a file, with the text before it, and True. Then what stands after the last game, and False: also the beginning of a game
+    that is too long for the program."""
+    text, at, depth, is_in_value = bytearray(), 0, 0, False
+    while piece := sgfsplit.read_from(file, name, min(sgfsplit.PIECE, sgfsplit.LIMIT + 1 - len(text))):
+        text += piece
+        while found := (IN_VALUE if is_in_value else goboard.PARENTHESES).search(text, at):
+            token = found[0]
+            if token == b"\\":
+                at = found.start()
+                break
+            at = found.end()
+            is_in_value = token == b"[" or is_in_value and token != b"]"
+            depth += {b"(": 1, b")": -1}.get(token, 0)
+            if token == b")" and depth <= 0:
+                yield bytes(text[:at]), True
+                if depth < 0:
+                    return  # the program refuses this `)`
+                del text[:at]
+                at = 0
+        else:
+            at = len(text)
+    yield bytes(text), False
+
+
+def parts(file, name, most):
+    """The bytes of each part of a file. What stands after the last game is a part too, unless it is white space."""
+    part, is_empty = bytearray(), True
+    for text, is_game in games(file, name):
+        if part and (len(part) + len(text) > most or not is_game):
+            yield bytes(part)
+            part = bytearray()
+        part += text
+        is_empty = is_empty and not is_game
+    if is_empty or part.strip() or len(part) > sgfsplit.LIMIT:
+        yield bytes(part)
 
 
 def rows_of(name, most):
     """The rows of a file of any size."""
-    text, games_before = sgfsplit.text_of(name), 0
-    for begin, end, count in parts(text, most):
-        if begin > 0 and text[begin:begin + len(MARK)] == MARK:
-            raise sgfsplit.Refused(sgfsplit.fault_of(name, 1, b"sgfsplit: byte 0: not SGF", begin))
-        run = subprocess.run([sgfsplit.program(), "split"], input=text[begin:end], stdout=subprocess.PIPE, stderr=subprocess.PIPE)
-        if run.returncode:
-            raise sgfsplit.Refused(sgfsplit.fault_of(name, run.returncode, run.stderr, begin))
-        for line in run.stdout.splitlines():
-            row = sgfsplit.Row.read(line)
-            fault = None if row.fault is None else row.fault + begin
-            yield row._replace(place=row.place + begin, game=row.game + games_before, fault=fault)
-        games_before += count
+    begin, games_before, start = 0, 0, (1, 1)
+    with sgfsplit.opened(name) as file:
+        for part in parts(file, name, most):
+            text, game = sgfsplit.Text(name, part, start), 0
+            if begin > 0 and part.startswith(MARK):
+                raise sgfsplit.refusal(text, 1, b"sgfsplit: byte 0: not SGF")
+            for row in sgfsplit.rows(text):
+                fault, game = None if row.fault is None else row.fault + begin, row.game
+                yield row._replace(place=row.place + begin, game=game + games_before, fault=fault)
+            begin, games_before, start = begin + len(part), games_before + game, sgfsplit.Places(text)(len(part))
 
 
 def main(job):

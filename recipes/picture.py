@@ -113,12 +113,13 @@ def picture(lines):
 
 def lines_of(name, place):
     """The row of each judged line of a file, and the line as played. If a place is given, only the line with that place."""
+    text = sgfsplit.read(name)
     if place is None:
-        return goboard.lines(name)
+        return goboard.lines(text)
     before = None
-    for row in sgfsplit.rows(name):
+    for row in sgfsplit.rows(text):
         if row.place == place:
-            return goboard.lines(name, before, 1)
+            return goboard.lines(text, before, 1)
         before = row.place
     raise sgfsplit.Refused(f"{sgfsplit.shown(name)}: no line ends at {place}")
 
@@ -136,7 +137,7 @@ def main(job):
     if place is not None:
         place = sgfsplit.number_of(place, 0, sgfsplit.LIMIT, "--line wants a place, the first number of a row")
     if "--out" in job.options:
-        for name, folder in job.outputs(job.options["--out"], ""):
+        for name, folder in job.outputs(job.options["--out"], "", ".svg"):
             with job.going_on():
                 for row, line in lines_of(name, place):
                     with sgfsplit.written(os.path.join(folder, f"{row.place}.svg")) as file:

@@ -13,7 +13,8 @@ of dir/name.sgf, and OUT/dir/mail.txt.sgf gets the text of dir/mail.txt.
   prose.py clean mails/*.txt && verdicts.py clean
 
 Prose that looks like a game, such as `(;`, is treated as a game, and sgfsplit
-refuses it. Status 1: a file was refused.
+refuses it. Status 1: a file was refused, for example because it has more than
+256 MiB.
 """
 import re
 import sys
@@ -22,6 +23,7 @@ import goboard
 import sgfsplit
 
 BEGIN = re.compile(rb"\([ \t\n\r\v\f]*;")
+SPACES = bytes(10 if byte == 10 else 32 for byte in range(256))  # for each byte what is written over it in prose
 
 
 def games(text):
@@ -42,23 +44,28 @@ def without_prose(text):
     last = 3 if text[:3] == b"\xef\xbb\xbf" else 0
     yield text[:last]
     for begin, end in games(text):
-        yield blank(text[last:begin])
+        yield text[last:begin].translate(SPACES)
         yield text[begin:end]
         last = end
-    yield blank(text[last:])
+    yield text[last:].translate(SPACES)
 
 
-def blank(prose):
-    return re.sub(rb"[^\n]", b" ", prose)
+def read(file, name):
+    text = sgfsplit.read_from(file, name, sgfsplit.MOST + 1)
+    if len(text) > sgfsplit.MOST:
+        raise sgfsplit.Refused(f"{sgfsplit.shown(name)}: it is longer than {sgfsplit.MOST} bytes")
+    return text
 
 
 def main(job):
     if not job.first:
-        sys.stdout.buffer.writelines(without_prose(sys.stdin.buffer.read()))
-        return
-    for name, path in job.outputs(job.first[0], ".sgf", is_apart=True):
         with job.going_on():
-            text = sgfsplit.text_of(name)
+            sys.stdout.buffer.writelines(without_prose(read(sys.stdin.buffer, "standard input")))
+        return
+    for name, path in job.outputs(job.first[0], ".sgf", ".sgf"):
+        with job.going_on():
+            with sgfsplit.opened(name) as file:
+                text = read(file, name)
             with sgfsplit.written(path) as file:
                 file.writelines(without_prose(text))
 

@@ -26,13 +26,13 @@ import shlex
 import shutil
 import subprocess
 import threading
-from itertools import zip_longest
 
 import goboard
 import sgfsplit
 
 COMMAND = re.compile(rb"boardsize [0-9]+|clear_board|play [BW] (pass|[A-Z][0-9]+)")
 GNUGO = "gnugo --mode gtp --allow-suicide --positional-superko"
+MOST = 1 << 20  # the most bytes of a reply
 
 
 class Engine:
@@ -72,8 +72,9 @@ class Engine:
             pass  # the engine has ended: the missing reply shows it
 
     def reply(self):
-        lines = []
-        for line in self.run.stdout:
+        lines, left = [], MOST
+        while left > 0 and (line := self.run.stdout.readline(left)):
+            left -= len(line)
             line = line.decode("latin-1").strip()
             if line and not lines and line[0] not in "=?":
                 raise sgfsplit.Trouble(f"the engine doesn't speak the Go Text Protocol: {sgfsplit.shown(line)}")
@@ -81,12 +82,15 @@ class Engine:
                 lines.append(line)
             elif lines:
                 return lines[0].startswith("="), " ".join([lines[0][1:], *lines[1:]]).strip()
-        raise sgfsplit.Trouble("the engine ended without a reply")
+        raise sgfsplit.Trouble("the engine ended without a reply" if left > 0 else "a reply of the engine is too long")
 
     def stones(self, side):
         """The stones on the engine's board, by point."""
         replies = self.ask(["list_stones black", "list_stones white"])
-        return {goboard.point_at(vertex, side): colour for colour, (_, text) in zip("BW", replies) for vertex in text.split()}
+        try:
+            return {goboard.point_at(vertex, side): colour for colour, (_, text) in zip("BW", replies) for vertex in text.split()}
+        except ValueError as error:
+            raise sgfsplit.Trouble("the engine lists stones at points that it doesn't name as the Go Text Protocol does") from error
 
 
 def commands_of(script):
@@ -147,7 +151,7 @@ def main(job):
     with Engine(os.environ.get("ENGINE") or GNUGO) as engine:
         for name in job.files():
             with job.going_on():
-                for row, record, script in zip_longest(sgfsplit.rows(name), sgfsplit.records(name), sgfsplit.records(name, "gtp")):
+                for row, record, script in sgfsplit.rows_with(name, "sgf", "gtp"):
                     said = False if row.verdict == "unjudged" else compare(engine, row, goboard.played(record, row), script)
                     counts["left out" if said is False else "agree" if said is None else "differ"] += 1
                     if said:

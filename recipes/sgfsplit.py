@@ -4,17 +4,21 @@ its rows as named tuples and its records one by one.
     import sgfsplit
     for row in sgfsplit.rows("game.sgf"):
         print(row.place, row.verdict, row.black, row.white)
-    for record in sgfsplit.records("game.sgf", "sgf"):
-        print(len(record))
+    text = sgfsplit.read("game.sgf")
+    for row, record in sgfsplit.rows_with(text, "sgf"):
+        print(row.place, len(record))
 
-A file that can't be opened or is refused raises Refused. The text of Refused is the row that says why: FILE:LINE:COLUMN: not SGF. Names
-are str, as os.fsdecode returns them. The variable SGFSPLIT names the program, or else PROGRAM does. Boards and nodes are in goboard.py.
+A call that takes a name reads the file. If two calls have to see the same bytes, pass them what `read` returns.
+
+A file that is refused raises Refused. If it can't be read or the program fails, that is Failed, which is a kind of Refused. The text of
+both is the row that says why: FILE:LINE:COLUMN: not SGF. Names are str, as os.fsdecode returns them. The variable SGFSPLIT names the program, or else PROGRAM does. Boards and nodes are in goboard.py.
 """
 import contextlib
+import errno
 import fcntl
 import functools
 import hashlib
-import mmap
+import itertools
 import os
 import re
 import shutil
@@ -22,19 +26,26 @@ import signal
 import stat
 import subprocess
 import sys
-import tempfile
+import threading
 from typing import NamedTuple, Optional
 
 PROGRAM = "sgfsplit"  # a name to look for in PATH; `make install` replaces it by a path from this file's folder
 LIMIT = 67108864  # the most bytes that the program takes
 PIECE = 1 << 20
+MOST = 1 << 28  # the most bytes that are read of a mail, and of names on standard input
+ROW = re.compile(rb"[0-9]{1,20} [0-9]+ [0-9]+ (score|illegal|unjudged) [a-z0-9 -]+\n")
 ESCAPE, VALUE = re.compile(rb"\\.", re.DOTALL), re.compile(rb"\[[^\]]*\]")
-PIPES = {}
-CONTROLS = {"\n": "\\n", "\t": "\\t", "\\": "\\\\"}
+# Control characters (also as bytes that aren't UTF-8), those that change the direction of text or end a row, and the backslash.
+HIDDEN = re.compile("[\x00-\x1f\x7f-\x9f\udc80-\udc9f\u061c\u200e\u200f\u2028-\u202e\u2066-\u2069\\\\]")
+ESCAPES = {"\n": "\\n", "\t": "\\t", "\\": "\\\\"}
 
 
 class Refused(Exception):
-    """A file has no lines of play, or its output can't be kept. The text is one row that begins with the file's name."""
+    """A file has no lines of play. The text is one row that begins with a file's name."""
+
+
+class Failed(Refused):
+    """Reading, writing or the program failed, so nothing is known of a file's lines. What earlier calls wrote about it stays."""
 
 
 class Trouble(Exception):
@@ -71,19 +82,33 @@ class Row(NamedTuple):
         return " ".join(str(word) for word in words if word is not None)
 
 
+class Text(NamedTuple):
+    """Bytes of a file, with the file's name, and the line and column of the first byte."""
+    name: str
+    data: bytes
+    start: tuple = (1, 1)
+
+
 class Places:
-    """Converts a place, an offset in bytes from 0, to line and column, both from 1. Columns count bytes. If places rise, the text is read once."""
+    """Converts a place in a Text, an offset in bytes from 0, to line and column, both from 1. Columns count bytes. If places rise, the
+    bytes are read once."""
 
     def __init__(self, text):
-        self.text, self.at, self.line = text, 0, 1
+        self.data, self.start = text.data, text.start
+        self.begin()
+
+    def begin(self):
+        self.at, self.line, self.feed = 0, self.start[0], -self.start[1]  # a place, its line, and the place of the line feed before it
 
     def __call__(self, place):
         if place < self.at:
-            self.at, self.line = 0, 1
-        for begin in range(self.at, place, PIECE):
-            self.line += self.text[begin:min(begin + PIECE, place)].count(b"\n")
+            self.begin()
+        feed = self.data.rfind(b"\n", self.at, place)
+        if feed >= 0:
+            self.line += self.data.count(b"\n", self.at, place)
+            self.feed = feed
         self.at = place
-        return self.line, place - self.text.rfind(b"\n", 0, place)
+        return self.line, place - self.feed
 
 
 @functools.lru_cache(maxsize=None)
@@ -117,70 +142,91 @@ def is_ours(path):
 
 
 def shown(name):
-    """A name as it is shown in a row of text: control characters as \\n or \\x1b, and \\ as \\\\."""
-    return re.sub(r"[\x00-\x1f\x7f-\x9f\\]", lambda found: CONTROLS.get(found[0], f"\\x{ord(found[0]):02x}"), name)
+    """A name as it is shown in a row of text: hidden characters as \\n, \\x1b or \\u202e, and \\ as \\\\."""
+    return HIDDEN.sub(lambda found: ESCAPES.get(found[0]) or escape(ord(found[0])), name)
+
+
+def escape(code):
+    """The escape of a character. The codes from 0xdc80 stand for bytes that aren't UTF-8."""
+    code = code - 0xdc00 if code >= 0xdc80 else code
+    return f"\\x{code:02x}" if code < 256 else f"\\u{code:04x}"
+
+
+def read(name, most=LIMIT + 1):
+    """The text of a file or pipe. Of more than `most` bytes only the first ones are read: by default too many for the program."""
+    with opened(name) as file:
+        return Text(name, read_from(file, name, most))
 
 
 def opened(name):
-    """The file, opened for reading bytes. A pipe, which can be read only once, is copied the first time."""
+    """The file, opened for reading bytes."""
     try:
-        if name in PIPES:
-            return open(PIPES[name].name, "rb")
-        file = open(name, "rb")
-        if not stat.S_ISFIFO(os.fstat(file.fileno()).st_mode):
-            return file
-        with file:
-            PIPES[name] = tempfile.NamedTemporaryFile()
-            shutil.copyfileobj(file, PIPES[name])
-            PIPES[name].flush()
-        return open(PIPES[name].name, "rb")
+        return open(name, "rb")
     except OSError as error:
-        raise Refused(f"{shown(name)}: {error.strerror}") from error
+        raise Failed(f"{shown(name)}: {error.strerror}") from error
 
 
-def text_of(name):
-    """The bytes of a file of any size, mapped if the system can."""
-    with opened(name) as file:
-        try:
-            return mmap.mmap(file.fileno(), 0, access=mmap.ACCESS_READ)
-        except (OSError, ValueError):
-            return file.read()
+def read_from(file, name, most):
+    """At most so many bytes of an open file."""
+    pieces, size = [], 0
+    try:
+        while piece := file.read(min(PIECE, most - size)):
+            pieces.append(piece)
+            size += len(piece)
+    except OSError as error:
+        raise Failed(f"{shown(name)}: {error.strerror}") from error
+    return b"".join(pieces)
 
 
-def fault_of(name, status, fault, begin=0):
-    """The row that says why the program ended with this status. `begin` is the place of the text's first byte in the file."""
+def text_of(file):
+    """The text of a file that is given by its name, or as the Text that `read` returned."""
+    return file if isinstance(file, Text) else read(file)
+
+
+def refusal(text, status, said):
+    """The exception that says why the program ended with this status."""
     if status < 0:
-        return f"{shown(name)}: the program was ended by signal {-status}"
-    said = fault.decode("utf-8", "replace").strip().split(": ", 1)[-1]
+        return Failed(f"{shown(text.name)}: the program was ended by signal {-status}")
+    kind = Refused if status == 1 else Failed
+    said = said.decode("utf-8", "replace").strip().split(": ", 1)[-1]
     place = re.fullmatch(r"byte (\d+): (.*)", said)
     if place is None:
-        return f"{shown(name)}: {said}"
-    line, column = Places(text_of(name))(int(place[1]) + begin)
-    return f"{shown(name)}:{line}:{column}: {place[2]}"
+        return kind(f"{shown(text.name)}: {said}")
+    line, column = Places(text)(int(place[1]))
+    return kind(f"{shown(text.name)}:{line}:{column}: {place[2]}")
+
+
+def feed(stream, data):
+    """Writes the bytes to a program, and closes the stream. The program may end before it has read all."""
+    with contextlib.suppress(OSError, ValueError), stream:
+        stream.write(data)
 
 
 @contextlib.contextmanager
-def output(name, *words):
-    """What the program writes about a file, as a stream of bytes. Raises Refused at the end if the program ended with a
-    fault. If the program refused the file, the stream was empty. If the system failed, it may have had some records."""
-    with opened(name) as text, subprocess.Popen([program(), *words], stdin=text, stdout=subprocess.PIPE, stderr=subprocess.PIPE) as run:
+def output(text, *words):
+    """What the program writes about a text, as a stream of bytes. Raises Refused at the end if the program ended with a
+    fault. If the program refused the text, the stream was empty. If the system failed, it may have had some records."""
+    with subprocess.Popen([program(), *words], stdin=subprocess.PIPE, stdout=subprocess.PIPE, stderr=subprocess.PIPE) as run:
+        feeder = threading.Thread(target=feed, args=(run.stdin, text.data), daemon=True)  # a thread, so that no side waits for the other
+        feeder.start()
         try:
             yield run.stdout
-            fault = run.stderr.read()
+            said = run.stderr.read()
         except BaseException:
             run.kill()
             raise
+        finally:
+            feeder.join()
     if run.returncode:
-        raise Refused(fault_of(name, run.returncode, fault))
+        raise refusal(text, run.returncode, said)
 
 
-def write_rows(file, name, after=None):
-    """Makes the program write the rows of a file to an open file."""
+def write_rows(file, text, after=None):
+    """Makes the program write the rows of a text to an open file."""
     file.flush()
-    with opened(name) as text:
-        run = subprocess.run([program(), "split", *page(after, None)], stdin=text, stdout=file, stderr=subprocess.PIPE)
+    run = subprocess.run([program(), "split", *page(after, None)], input=text.data, stdout=file, stderr=subprocess.PIPE)
     if run.returncode:
-        raise Refused(fault_of(name, run.returncode, run.stderr))
+        raise refusal(text, run.returncode, run.stderr)
 
 
 def page(after, limit):
@@ -188,24 +234,38 @@ def page(after, limit):
     return [word for option, number in (("--after", after), ("--limit", limit)) if number is not None for word in (option, str(number))]
 
 
-def rows(name, after=None, limit=None):
+def rows(file, after=None, limit=None):
     """The row of each line of play of a file, in file order."""
-    with output(name, "split", *page(after, limit)) as lines:
-        for line in lines:
+    with output(text_of(file), "split", *page(after, limit)) as lines:
+        for line in whole(lines):
             yield Row.read(line)
 
 
-def records(name, form="sgf", after=None, limit=None):
+def records(file, form="sgf", after=None, limit=None):
     """The record of each line of play of a file in a form (list, sgf or gtp), in file order. Values may contain line feeds and brackets."""
     ends = {"list": lambda line, inside: True, "gtp": lambda line, inside: line == b"\n", "sgf": lambda line, inside: not inside}[form]
-    with output(name, "split", "--form", form, *page(after, limit)) as lines:
+    with output(text_of(file), "split", "--form", form, *page(after, limit)) as lines:
         record, inside = [], False
-        for line in lines:
+        for line in whole(lines):
             record.append(line)
             inside = form == "sgf" and is_inside(line, inside)
             if ends(line, inside):
                 yield b"".join(record)
                 record = []
+
+
+def rows_with(file, *forms, after=None, limit=None):
+    """The row of each line of play of a file, with the line's record in each of these forms."""
+    text = text_of(file)
+    for made in itertools.zip_longest(rows(text, after, limit), *(records(text, form, after, limit) for form in forms)):
+        if None in made:
+            raise Failed(f"{shown(text.name)}: the program doesn't give as many records in each form")
+        yield made
+
+
+def whole(lines):
+    """The lines of an output up to one that was cut off, because the program was ended."""
+    return itertools.takewhile(lambda line: line.endswith(b"\n"), lines)
 
 
 def is_inside(line, inside):
@@ -225,8 +285,17 @@ def locked(path):
         file = open(os.open(path, os.O_RDWR | os.O_CREAT | os.O_APPEND | os.O_NOFOLLOW, 0o666), "ab")
         fcntl.flock(file, fcntl.LOCK_EX)
         if is_same(path, file.fileno()):
-            return file
+            break
         file.close()
+    if not is_plain(file):
+        raise OSError(errno.EINVAL, "not a file with one name", path)
+    return file
+
+
+def is_plain(file):
+    """Whether an open file is one with a single name. A second name may be that of a game."""
+    status = os.fstat(file.fileno())
+    return stat.S_ISREG(status.st_mode) and status.st_nlink == 1
 
 
 @contextlib.contextmanager
@@ -236,7 +305,9 @@ def written(path):
     folder, name = os.path.split(path)
     beside = os.path.join(folder, f".{hashlib.blake2b(os.fsencode(name), digest_size=8).hexdigest()}.part")
     try:
-        os.makedirs(folder or os.curdir, exist_ok=True)
+        if os.path.lexists(path) and not os.path.isfile(path):
+            raise OSError(errno.EINVAL, "not a file")
+        make_folders(folder)
         with locked(beside) as file:
             try:
                 file.truncate(0)
@@ -244,10 +315,33 @@ def written(path):
                 file.flush()
                 os.replace(beside, path)
             except BaseException:
-                os.unlink(beside)
+                with contextlib.suppress(OSError):
+                    os.unlink(beside)
                 raise
     except OSError as error:
-        raise Refused(f"{shown(path)}: {error.strerror}") from error
+        raise Failed(f"{shown(path)}: {error.strerror}") from error
+    except BaseException:
+        drop(beside)
+        raise
+
+
+def drop(path):
+    """Removes a file that `locked` created when a signal came, unless another process has locked it."""
+    with contextlib.suppress(OSError), open(os.open(path, os.O_RDONLY | os.O_NONBLOCK | os.O_NOFOLLOW), "rb") as file:
+        fcntl.flock(file, fcntl.LOCK_EX | fcntl.LOCK_NB)
+        if is_same(path, file.fileno()) and is_plain(file):
+            os.unlink(path)
+
+
+def make_folders(folder):
+    """Creates a folder and those above it. os.makedirs calls itself, and so fails for a thousand folders in one another."""
+    missing = []
+    while folder and not os.path.isdir(folder):
+        missing.append(folder)
+        folder = os.path.dirname(folder)
+    for folder in reversed(missing):
+        with contextlib.suppress(FileExistsError):
+            os.mkdir(folder)
 
 
 class Words(Exception):
@@ -285,34 +379,51 @@ class Job:
 
     def below(self, folder):
         """The .sgf files below a folder, in the order of their names. Those below `left_out`, the tool's own outputs, are left out."""
-        told = lambda error: self.refuse(f"{shown(error.filename)}: {error.strerror}")
-        for path, folders, names in os.walk(folder, onerror=told):
-            inner = [(name, os.path.join(path, name)) for name in folders]
-            folders[:] = sorted((name for name, whole in inner if not is_same(whole, self.left_out)), key=os.fsencode)
-            for name in sorted(names, key=os.fsencode):
-                whole = os.path.join(path, name)
-                if not name.lower().endswith(".sgf"):
-                    continue
-                if os.path.exists(whole) and not os.path.isfile(whole):
-                    self.refuse(f"{shown(whole)}: not a file")
-                else:
-                    yield whole
-
-    def outputs(self, out, ending, is_apart=False):
-        """The name of each file, and the path of its output below the folder `out`: out/dir/name.ending. With `is_apart` a file below `out` is
-        refused, because the output could overwrite it."""
-        self.left_out = out
-        taken = {}
-        for name in self.files():
-            if is_apart and is_below(name, out):
-                self.refuse(f"{shown(name)}: it stands below the folder {shown(out)}, in which files are written")
+        waiting = [folder]
+        while waiting:
+            path = waiting.pop()
+            try:
+                with os.scandir(path) as entries:
+                    inner = sorted(entries, key=lambda entry: os.fsencode(entry.name))
+            except OSError as error:
+                self.refuse(f"{shown(path)}: {error.strerror}")
                 continue
+            folders = []
+            for entry in inner:
+                if is_folder(entry):
+                    folders.append(entry)
+                elif entry.name.lower().endswith(".sgf"):
+                    if os.path.exists(entry.path) and not os.path.isfile(entry.path):
+                        self.refuse(f"{shown(entry.path)}: not a file")
+                    else:
+                        yield entry.path
+            waiting += [entry.path for entry in reversed(folders) if not entry.is_symlink() and not is_same(entry.path, self.left_out)]
+
+    def outputs(self, out, ending, *endings):
+        """The name of each file, and the path of its output below the folder `out`: out/dir/name.ending. `endings` are those of the files
+        that the tool writes below `out`. A file there with such an ending could be overwritten, so the tool doesn't begin at all."""
+        self.left_out, inside = out, os.path.realpath(out)
+        names, taken = list(self.files()), {}
+        for name in names:
+            if any(is_below(place, inside) and place.lower().endswith((*endings, ".part")) for place in places(name)):
+                raise Words(f"{shown(name)} stands below the folder {shown(out)}, in which files are written")
+        for name in names:
             path = kept(out, name, ending)
             first = taken.setdefault(path, name)
-            if first is name:
+            if not all(is_below(place, inside) for place in places(path)):
+                self.refuse(f"{shown(name)}: left out, since links lead from {shown(path)} out of the folder {shown(out)}")
+            elif first is name:
                 yield name, path
             elif not is_same(first, name):
                 self.refuse(f"{shown(name)}: left out, since what {shown(first)} gives is kept at {shown(path)}")
+
+
+def is_folder(entry):
+    """Whether an entry of a folder is a folder or leads to one."""
+    try:
+        return entry.is_dir()
+    except OSError:
+        return False
 
 
 def is_same(path, other):
@@ -323,10 +434,18 @@ def is_same(path, other):
         return False
 
 
-def is_below(path, folder):
-    """Whether a path leads to something below a folder."""
-    folder = os.path.realpath(folder)
-    return os.path.commonpath([os.path.realpath(path), folder]) == folder
+def places(path):
+    """Where a path stands, and where it leads if it is a link, both without links on the way."""
+    stands = os.path.join(real(os.path.dirname(path)), os.path.basename(path))
+    return (stands, os.path.realpath(path)) if os.path.islink(path) else (stands,)
+
+
+real = functools.lru_cache(maxsize=1024)(os.path.realpath)  # for folders, which many files share
+
+
+def is_below(place, folder):
+    """Whether a place is below a folder, or is that folder, both without links on the way."""
+    return os.path.commonpath([place, folder]) == folder
 
 
 def kept(out, name, ending):
@@ -386,7 +505,10 @@ def job_of(words, flags, values, first, is_filter):
     if len(words) - at < first or not names and "-0" not in options:
         raise Words("too few words")
     if "-0" in options:
-        names += [os.fsdecode(name) for name in sys.stdin.buffer.read().split(b"\0") if name]
+        more = read_from(sys.stdin.buffer, "standard input", MOST)
+        if len(more) == MOST:
+            raise Words("standard input has too many names")
+        names += [os.fsdecode(name) for name in more.split(b"\0") if name]
     return Job(options, words[at:at + first], names)
 
 
@@ -403,14 +525,23 @@ def ended(tool, usage, *takes):
     except Words as wrong:
         me = os.path.basename(sys.argv[0])
         return 2, f"{wrong} ({me} -h says what it takes)"
-    except Trouble as trouble:
+    except (Trouble, Refused) as trouble:
         return 3, trouble
+    except MemoryError:
+        return 3, "no memory is left"
     except OSError as error:
         os.dup2(os.open(os.devnull, os.O_WRONLY), sys.stdout.fileno())  # so Python doesn't try to write the lost output again
         told = error.strerror if error.filename is None else f"{shown(os.fsdecode(error.filename))}: {error.strerror}"
         return (0, None) if isinstance(error, BrokenPipeError) else (3, told)
     except KeyboardInterrupt:
         return 130, None
+
+
+def end_by(*signals):
+    """Lets these signals end the tool as an exception does, so that no file remains that is half written. Ignored ones stay ignored."""
+    for number in signals:
+        if signal.getsignal(number) != signal.SIG_IGN:
+            signal.signal(number, lambda number, frame: sys.exit(128 + number))
 
 
 def start(tool, usage, flags=(), values=(), first=0, is_filter=False):
@@ -420,7 +551,7 @@ def start(tool, usage, flags=(), values=(), first=0, is_filter=False):
     if None in (sys.stdin, sys.stdout, sys.stderr):
         status, fault = 3, "a standard stream is closed"
     else:
-        signal.signal(signal.SIGTERM, lambda number, frame: sys.exit(128 + number))
+        end_by(signal.SIGTERM, signal.SIGHUP)
         for stream in (sys.stdout, sys.stderr):
             stream.reconfigure(encoding=sys.getfilesystemencoding(), errors="surrogateescape")
         status, fault = ended(tool, usage, flags, values, first, is_filter)

@@ -12,8 +12,10 @@ columns, empty in CSV, and null in JSON and SQLite.
   verdicts.py --sqlite games.db library    the table `lines` of a database
 
 SQLite's table is filled in one transaction. If you fill it again, the new rows
-of a file replace its old rows. A file's name that isn't UTF-8 is stored as a
-BLOB. Status 1: a file was refused.
+of a file replace its old rows. A refused file has no rows. If the system failed
+while a file was split, its old rows stay. If another process has the database
+locked, the tool waits up to ten minutes. A file's name that isn't UTF-8 is
+stored as a BLOB. Status 1: a file was refused.
 """
 import contextlib
 import csv
@@ -27,6 +29,7 @@ import sgfsplit
 COLUMNS = ("file", *sgfsplit.Row._fields)
 WIDTHS = (9, 6, 6, 8, 5, 5, 5, 5, 9, 9)
 FORMS = ("--csv", "--json", "--sqlite")
+SECONDS, TIMES = 5, 120  # how long a locked database is waited for, and how often
 
 
 def table(job):
@@ -50,8 +53,16 @@ def head_and(rows):
     yield from rows
 
 
+class Csv:
+    """Standard output for csv.writer, which puts a carriage return between quotes only if rows end with one. So it is taken off here."""
+
+    def write(self, row):
+        sys.stdout.write(row[:-2] + "\n")
+
+
 def as_csv(job):
-    csv.writer(sys.stdout, lineterminator="\n").writerows(head_and(table(job)))
+    named = sgfsplit.shown if sys.stdout.isatty() else str  # no name may give orders to a terminal
+    csv.writer(Csv(), lineterminator="\r\n").writerows((named(name), *cells) for name, *cells in head_and(table(job)))
 
 
 def as_json(job):
@@ -60,16 +71,47 @@ def as_json(job):
 
 
 def as_sqlite(job):
-    with contextlib.closing(sqlite3.connect(job.options["--sqlite"], isolation_level=None)) as base:
-        base.execute("BEGIN IMMEDIATE")
+    path, job.names = job.options["--sqlite"], list(job.files())
+    if path in ("", ":memory:"):
+        raise sgfsplit.Words("--sqlite wants the path of a file")
+    for name in job.names:
+        if any(sgfsplit.is_same(name, path + ending) for ending in ("", "-journal", "-wal", "-shm")):
+            raise sgfsplit.Words(f"{sgfsplit.shown(name)} is a file of the database")
+    with contextlib.closing(sqlite3.connect(path, timeout=SECONDS, isolation_level=None)) as base:
+        patiently(base, path, "BEGIN IMMEDIATE")
         base.execute(f"CREATE TABLE IF NOT EXISTS lines ({', '.join(COLUMNS)}, PRIMARY KEY (file, place))")
-        for name in job.files():
-            key = as_text(name)
-            base.execute("DELETE FROM lines WHERE file = ?", (key,))
+        for name in job.names:
             with job.going_on():
-                rows = list(sgfsplit.rows(name))
-                base.executemany(f"INSERT INTO lines VALUES ({', '.join('?' * len(COLUMNS))})", ((key, *row) for row in rows))
-        base.execute("COMMIT")
+                replace(base, name)
+        patiently(base, path, "COMMIT")
+
+
+def patiently(base, path, command):
+    """Executes a command. Waits for another process that has the database locked, and says so."""
+    for time in range(TIMES):
+        try:
+            return base.execute(command)
+        except sqlite3.OperationalError as error:
+            if "locked" not in str(error) or time == TIMES - 1:
+                raise
+        if time == 0:
+            print(f"{sgfsplit.shown(path)}: another process has it locked; waiting", file=sys.stderr, flush=True)
+
+
+def replace(base, name):
+    """Puts the rows of a file, or none if it is refused, in the place of its old rows. If the system failed, these stay."""
+    rows, refused = [], None
+    try:
+        rows = list(sgfsplit.rows(name))
+    except sgfsplit.Failed:
+        raise
+    except sgfsplit.Refused as error:
+        refused = error
+    key = as_text(name)
+    base.execute("DELETE FROM lines WHERE file = ?", (key,))
+    base.executemany(f"INSERT INTO lines VALUES ({', '.join('?' * len(COLUMNS))})", ((key, *row) for row in rows))
+    if refused is not None:
+        raise refused
 
 
 def as_text(name):

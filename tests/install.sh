@@ -21,6 +21,9 @@ if command -v pkg-config > /dev/null && command -v cc > /dev/null; then
     LD_LIBRARY_PATH=$root/lib ./rows "$top/examples/ko.sgf" > got
     "$SGFSPLIT" split "$top/examples/ko.sgf" > want
     same want got "what the example in C writes"
+    status=0
+    LD_LIBRARY_PATH=$root/lib ./rows "$top/examples/ko.sgf" > /dev/full 2> fault || status=$?
+    [ "$status" = 3 ] && [ -s fault ] || failed "the example in C doesn't say that its output failed: status $status, $(cat fault)"
     [ "$(pkg-config --modversion sgflines)" = "$(cat "$top/VERSION")" ] || failed "pkg-config names another version"
 fi
 if command -v python3 > /dev/null; then

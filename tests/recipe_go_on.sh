@@ -48,6 +48,33 @@ refused rows "rows: its last row isn't one of sgfsplit"
 printf '(;SZ[9];B[aa])' > rows
 refused rows "rows: its last row isn't one of sgfsplit"
 
+# ROWS keeps its mode, and a link to it stays a link.
+"$SGFSPLIT" split library.sgf > want
+head -c 40 want > kept
+chmod 640 kept
+ln -sf kept rows
+"$go_on" rows library.sgf
+[ -L rows ] && [ "$(stat -c %a kept)" = 640 ] || failed "it is now $(ls -l rows kept)"
+same want kept
+rm rows
+# A gigabyte without a line feed isn't read as a whole.
+truncate -s 1G rows
+status=0
+timeout 20 "$go_on" rows library.sgf 2> fault || status=$?
+echo "rows: its last row isn't one of sgfsplit" > want
+same want fault "after status $status, what is said of a gigabyte of zeros"
+rm rows
+
+# Rows that were cut off since their length was read don't stop the tool for ever.
+PYTHONPATH=$top/recipes timeout 20 python3 -c '
+import io, go_on, sgfsplit
+try:
+    go_on.copy(io.BytesIO(b"1 1 1"), io.BytesIO(), 20, "rows")
+except sgfsplit.Failed as failed:
+    print(failed)' > fault || failed "the copy of rows ends with status $?"
+echo 'rows: it was cut off while it was read' > want
+same want fault
+
 # A folder of rows, as library.py writes it.
 mkdir games
 cp "$top"/examples/*.sgf games

@@ -8,6 +8,8 @@ import csv
 import io
 import json
 import os
+import pty
+import re
 import shutil
 import sqlite3
 import subprocess
@@ -19,6 +21,7 @@ NAMES = [b"--sshlogin=touch x.sgf", b"--rpl={} touch pwned.sgf", b"--csv", b"--f
          b"\"$(touch pwned)\".sgf", b"{}.sgf", b"{= system('touch pwned') =}.sgf", b"{.} {#} {%}.sgf", b"*.sgf", b"?.sgf", b"[a].sgf",
          b"a b.sgf", b" .sgf", b"~.sgf", b"#.sgf", b"line\nfeed.sgf", b"\n.sgf", b"forged.sgf:1:1: not SGF\nx.sgf", b"\xff\xfe.sgf",
          b"caf\xc3\xa9.sgf", b"\x1b[31mred.sgf", b"%s%n.sgf", b"back\\slash.sgf", b"\\n.sgf", b".sgf", b"..sgf", b"...sgf", b"x.rows",
+         b"cr\rx.sgf", b"\xe2\x80\xae\xe2\x81\xa6bidi\xd8\x9c.sgf", b"\xc2\x9b1m\x9b1m.sgf",
          b"&.sgf", b"!!.sgf", b"a,b;c\td.sgf", b"=1+1.sgf", b"@list.sgf"]
 BAD = b"$(touch pwned)\nbad.sgf"
 GOOD_TEXT = open(EXAMPLE, "rb").read()
@@ -69,7 +72,10 @@ def stem(name):
 
 
 def shown(name):
-    return b"".join({10: b"\\n", 9: b"\\t", 27: b"\\x1b", 92: b"\\\\"}.get(byte, bytes([byte])) for byte in name)
+    name = b"".join({10: b"\\n", 9: b"\\t", 13: b"\\x0d", 27: b"\\x1b", 92: b"\\\\"}.get(byte, bytes([byte])) for byte in name)
+    for hidden, told in ("\u202e", b"\\u202e"), ("\u2066", b"\\u2066"), ("\u061c", b"\\u061c"), ("\x9b", b"\\x9b"):
+        name = name.replace(hidden.encode(), told)
+    return name.replace(b"\x9b1m", b"\\x9b1m")
 
 
 rows = [b"123 1 3 illegal 2 123 repeat\n", b"185 1 5 score 5 7 open\n"]
@@ -124,6 +130,19 @@ same(held("../out"), {stem(name) + b".sgf": open(b"./" + name, "rb").read() for 
 shutil.rmtree("../out")
 run(TOOLS + "picture.py", "--out", "../out", "--", *NAMES, BAD)
 same(sum(len(files) for _, _, files in os.walk("../out")), 2 * len(NAMES), "picture.py")
+
+# On a terminal the names in CSV are shown as in a row of text.
+seen = []
+
+
+def read(end):
+    seen.append(os.read(end, 65536))
+    return seen[-1]
+
+
+pty.spawn([os.fsencode(TOOLS + "verdicts.py"), b"--csv", b"--", *NAMES], read)
+if re.search(rb"[\x00-\x09\x0b\x0c\x0e-\x1f\x7f\x9b]|\xe2\x80\xae|\xe2\x81\xa6|\xd8\x9c", b"".join(seen)):
+    sys.exit(f"a terminal gets hidden characters: {seen}")
 same(run(TOOLS + "replay.py", "--", *NAMES, BAD), b"%d lines agree, 0 differ, 0 left out\n" % (2 * len(NAMES)), "replay.py")
 
 # A bare name in the place of options: it is a file, unless it is also an option. Then the tool accepts neither.

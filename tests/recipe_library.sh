@@ -84,6 +84,15 @@ for folder in out there; do
     diff -r want.out "$folder" >&2 || failed "$folder isn't the folder that later calls made"
 done
 
+# A journal with rows of another kind is as good as none.
+printf '%s\n' '[1, "x"]' '[["x"], null]' '["x/ko.sgf", 5]' '{}' '"x"' "$(head -c 100000 /dev/zero | tr '\0' '[')" > odd
+printf '\xff\n[' >> odd
+cp out/.done.jsonl journal
+cat odd >> out/.done.jsonl
+call out games
+[ "$status" = 0 ] && [ -z "$(anew out)" ] || failed "with an odd journal: status $status, $(cat faults)"
+same journal out/.done.jsonl "an odd journal"
+
 # A machine that doesn't exist: each file is named, and the next call does them.
 cat > ssh <<'SSH'
 #!/bin/sh
@@ -100,8 +109,11 @@ mkdir many
 for number in $(seq 300); do cp "$top/examples/corner.sgf" "many/$number.sgf"; done
 "$library" all many
 mkdir killed
-for delay in 0.2 0.4 0.7; do
-    timeout -s KILL "$delay" "$library" killed many 2> /dev/null || true
+for count in 1 20 40; do
+    "$library" killed many 2> /dev/null &
+    until [ "$(find killed -name '*.rows' | wc -l)" -ge "$count" ]; do sleep 0.01; done
+    kill -KILL $!
+    wait $! 2> /dev/null || true
     find killed -name '*.rows' | while read -r file; do same "all/${file#killed/}" "$file" "a file of a killed run"; done
     [ ! -e killed/.done.jsonl ] || truncate -s -7 killed/.done.jsonl 2> /dev/null || true
 done

@@ -73,6 +73,22 @@ for engine in cat true 'no-such-engine --gtp' "'"; do
     if ENGINE=$engine timeout 60 "$tool" one.sgf > got 2> faults; then failed "$engine was taken for an engine"; fi
     [ "$(wc -l < faults)" = 1 ] && ! grep -q Traceback faults || failed "$engine: $(cat faults)"
 done
+# Engines that answer with odd points, without an end, and with a row without an end.
+for answer in B99B Q ß 5 pass; do
+    cat > engine <<ENGINE
+#!/bin/sh
+gnugo --mode gtp | sed -u 's/^= B2\$/= $answer/'
+ENGINE
+    status=0
+    ENGINE=./engine "$tool" one.sgf > got 2> faults || status=$?
+    [ "$status" = 3 ] && grep -q "^replay.py: the engine lists stones at points that" faults ||
+        failed "$answer: status $status, $(cat faults)"
+done
+for engine in 'cat /dev/zero' 'yes ='; do
+    status=0
+    (ulimit -v 4000000; ENGINE=$engine timeout 60 "$tool" one.sgf > got 2> faults) || status=$?
+    [ "$status" = 3 ] && [ "$(wc -l < faults)" = 1 ] || failed "$engine: status $status, $(tail -n 1 faults)"
+done
 # An engine without list_stones judges only moves.
 cat > engine <<'ENGINE'
 #!/bin/sh

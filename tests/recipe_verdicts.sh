@@ -67,13 +67,52 @@ grep -v -e ko.sgf cells | sed 's/over.sgf,11,.*/over.sgf,7,1,2,score,4,0,open,,,
 table > got
 same want got
 
-# A run that ends too early doesn't change the table.
+# A run that is killed while it waits for its last file, a pipe, doesn't change the table.
 cp games.db before.db
 mkdir more
-for number in $(seq 2000); do cp games/corner.sgf "more/$number.sgf"; done
-timeout -s KILL 0.3 "$tool" --sqlite games.db more games 2> /dev/null || true
+for number in $(seq 50); do cp games/corner.sgf "more/$number.sgf"; done
+mkfifo pipe
+python3 - "$tool" --sqlite games.db more games pipe 2> faults <<'PYTHON' || failed "$(cat faults)"
+import os
+import subprocess
+import sys
+import time
+
+tool = subprocess.Popen(sys.argv[1:])
+while True:
+    try:
+        os.open("pipe", os.O_WRONLY | os.O_NONBLOCK)  # fails until the tool has opened the pipe
+        break
+    except OSError:
+        if tool.poll() is not None:
+            sys.exit("the tool ended before it read the pipe")
+        time.sleep(0.01)
+tool.kill()
+sys.exit(tool.wait() != -9)
+PYTHON
 table > got
 same want got "the table after a killed run"
+
+# Another process has the database locked. The tool says that it waits, and goes on when the lock is gone.
+python3 - "$tool" --sqlite games.db games/over.sgf <<'PYTHON' || failed "a locked database isn't waited for"
+import sqlite3
+import subprocess
+import sys
+
+# The first lock keeps the tool from its first row, and the second one from its commit.
+for command in "BEGIN IMMEDIATE", "SELECT * FROM lines":
+    base = sqlite3.connect("games.db", isolation_level=None)
+    reading = base.execute(command)
+    reading.fetchone()
+    tool = subprocess.Popen(sys.argv[1:], stderr=subprocess.PIPE)
+    said = tool.stderr.readline()
+    del reading
+    base.close()
+    if tool.wait() or said != b"games.db: another process has it locked; waiting\n":
+        sys.exit(f"{command}: status {tool.returncode}, {said}")
+PYTHON
+table > got
+same want got "the table after the lock"
 
 # A comma, a quote and a line feed in a name stay in its cell.
 cp games/over.sgf $'a,"b"\nc.sgf'

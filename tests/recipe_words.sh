@@ -5,6 +5,7 @@ needs python3 gnugo
 cp "$top/examples/ko.sgf" ko.sgf
 mkdir folder
 cp "$top"/examples/*.sgf folder
+echo 'this is no database' > want.txt
 declare -A first=([library]=out [go_on]=rows [files]=lines [openings]=2 [prose]=clean)
 
 # ends STATUS NAME COMMAND..: the command ends with this status, and writes at most one row to standard error, which isn't a traceback.
@@ -33,7 +34,7 @@ for path in "$top"/recipes/*.py; do
         openings) ends 2 'no number' "$path" ko.sgf folder; ends 2 'no move' "$path" 0 ko.sgf ;;
         files) ends 2 'a wrong form' "$path" --form=list,sgf lines ko.sgf; ends 2 'no form' "$path" --form ;;
         parts) ends 2 'a wrong number' "$path" --most 67108865 ko.sgf ;;
-        verdicts) ends 2 'two forms' "$path" --csv --json ko.sgf; ends 3 'no table' "$path" --sqlite ko.sgf ko.sgf ;;
+        verdicts) ends 2 'two forms' "$path" --csv --json ko.sgf; ends 3 'no table' "$path" --sqlite want.txt ko.sgf ;;
         go_on) ends 2 'rows of a folder' "$path" rows folder; rm -f rows ;;
     esac
     ends 1 "$tool without its file" "$path" "${words[@]}" nix.sgf
@@ -87,6 +88,42 @@ env -u SGFSPLIT PATH="$work/nix:$work/bin with a space:$PATH" "$top/recipes/part
 same want got
 SGFSPLIT='bin with a space/sgfsplit' "$top/recipes/parts.py" ko.sgf > got
 same want got
+
+# A file without an end, and one that can be opened but not read: each is named, and the tool goes on.
+cat > want <<'WANT'
+/dev/zero: input is longer than 67108864 bytes
+/proc/self/mem: Input/output error
+WANT
+for words in 'verdicts.py --csv' illegal_lines.py parts.py 'openings.py 2' 'go_on.py rows/' 'files.py lines' 'picture.py --out pictures' \
+    'prose.py clean'; do
+    [ "$words" != 'prose.py clean' ] || sed -i 's/: input.*/: it is longer than 268435456 bytes/' want
+    if (ulimit -v 2000000; "$top"/recipes/$words /dev/zero /proc/self/mem ko.sgf > got 2> faults); then failed "$words: status 0"; fi
+    same want faults "what $words says"
+done
+[ -s clean/ko.sgf ] && [ -s rows/ko.rows ] || failed "the file after these isn't there"
+if (ulimit -v 2000000; head -c 268435457 /dev/zero | "$top/recipes/prose.py" > got 2> faults); then
+    failed "a mail without an end is accepted"
+fi
+echo 'standard input: it is longer than 268435456 bytes' > want
+same want faults
+ends 2 'names without an end' bash -c 'ulimit -v 2000000; "$0" -0 < /dev/zero' "$top/recipes/verdicts.py"
+
+# Folders in one another, more than Python calls functions in one another.
+python3 - <<'PYTHON'
+import os
+
+for _ in range(1200):
+    os.mkdir("d")
+    os.chdir("d")
+with open("last.sgf", "w") as file:
+    file.write("(;SZ[9];B[aa])")
+PYTHON
+deep=$(printf 'd/%.0s' $(seq 1200))
+ends 0 'deep folders' "$top/recipes/verdicts.py" --csv d
+[ "$(tail -n 1 out.txt)" = "${deep}last.sgf,7,1,2,score,81,0,open,,," ] || failed "the game in the last folder has no row"
+ends 0 'rows of deep folders' "$top/recipes/library.py" out d
+[ "$(cat "out/${deep}last.rows")" = '7 1 2 score 81 0 open' ] || failed "no rows of the game in the last folder"
+rm -r d out
 
 # Files that can't be read are named, and the tool goes on with the others.
 printf 'x' > bad.sgf
