@@ -2,7 +2,7 @@
 use Rattle.std.proofs.Common.{◌≡◌, ◌≢◌, ℕ, suc, ◌+◌, ◌-◌, ◌*◌, ◌/◌, ◌%◌, ◌^◌, ◌<◌, ◌≤◌, ◌==◌, ◌&&◌, Bool, nat_lt, if◌then◌else◌, bit_xor, length, inl, inr, refl, sym, ap, subst, ◌∙◌, arith}
 use Rattle.std.specs.Int.{bit_at}
 use Rattle.std.proofs.lemmas.Bool.{cases_lt, false≢true, lt-ltb}
-use Rattle.std.proofs.lemmas.Nat.Bits.{bit_at_xor, bit_at-lt, same_from_bits_below}
+use Rattle.std.proofs.lemmas.Nat.Bits.{bit_at_xor, bit_at-lt, same_from_bits_below, same_from_bits, bit_at-zero}
 use Rattle.go_board.specs.declared.stones.Cell.{Cell}
 use Rattle.go_board.specs.declared.stones.Cell.TheVariants.{Black, White, Empty}
 use Rattle.go_board.specs.Colour.{same_cell}
@@ -30,6 +30,9 @@ other_bits a b i e same =
     let low : bit_at a i < 2 = bit_at-lt a i in
     grind arith
 
+pub xor_self : (a : ℕ) → bit_xor a a ≡ 0
+xor_self a = same_from_bits (bit_xor a a) 0 (λ i. let twice : (bit_at a i + bit_at a i) % 2 ≡ 0 = omega arith in bit_at_xor a a i ∙ twice ∙ sym (bit_at-zero i))
+
 -- one word more of two rows of bits
 module _ (x y : ℕ → Bool) (a b index : ℕ) (is_a : (col : ℕ) → col < 64 → has_bit a col ≡ x (64 * index + col)) (is_b : (col : ℕ) → col < 64 → has_bit b col ≡ y (64 * index + col)) (before : Agree x y (64 * index)) where
   pub agree_farther : (n : ℕ) → n ≤ 64 → ((i : ℕ) → i < n → bit_at (bit_xor a b) i ≡ 0) → Agree x y (64 * index + n)
@@ -54,6 +57,12 @@ key_at start print grid index col low =
     let word : (64 * index + col) / 64 ≡ index = omega (arith, low) in
     let place : (64 * index + col) % 64 ≡ col = omega (arith, low) in
     ap (λ n. key_bit start print grid n ((64 * index + col) % 64)) word ∙ ap (λ n. key_bit start print grid index n) place
+
+-- the first bits of a key are those of its print
+pub print_bit : (start print : ℕ) (grid : Grid) (place : ℕ) → place < 64 → key_row start print grid place ≡ has_bit print place
+print_bit start print grid place low =
+    let at : 64 * 0 + place ≡ place = omega arith in
+    ap (λ n. key_row start print grid n) (sym at) ∙ key_at start print grid 0 place low
 
 module _ (start start' print print' : ℕ) (grid grid' : Grid) where
   pub front_same : start < 2 ^ 64 → start' < 2 ^ 64 → print < 2 ^ 64 → print' < 2 ^ 64 → Agree (key_row start print grid) (key_row start' print' grid') 128 → (start ≡ start') × (print ≡ print')

@@ -113,9 +113,10 @@ never_back_with past k p q rows on all none takes last stays_too stays (suc j, h
     last.there (sym (cell_at-with_cell_elsewhere g p q (stone_of k) on last.on other) ∙ sym (takes.played.kept q last.on (λ taken. false≢true (sym stays_too ∙ taken))) ∙ free)
 
 -- a past of one colouring
-pub only_kept : (colourings : PastColourings) (table : Table) (emptied : List ℕ) (grid : Grid) → colourings ≡ only grid → IsTable (all_of colourings) table → IsPrintPast colourings table emptied None
+pub only_kept : (colourings : PastColourings) (table : Table) (emptied : List ℕ) (grid : Grid) → colourings ≡ only grid → IsTable (all_of colourings) table → IsPrintPast colourings table emptied None None
 only_kept colourings table emptied grid is tabled = record {
   tabled = tabled;
   emptied_in = subst (λ (past : PastColourings). HasAllEmptied (is_set emptied) (all_of past)) (sym is) tt;
   last = tt;
+  gap_there = tt;
 }

@@ -1,6 +1,8 @@
 -- The table by which colourings are looked up.
-use Rattle.std.proofs.Common.{◌≡◌, ◌≢◌, ℕ, zero, suc, ◌+◌, ◌-◌, ◌*◌, ◌<◌, ◌≤◌, ◌^◌, Bool, if◌then◌else◌, List, [], ◌∷◌, ◌++◌, Some, length, length-take, get_or, map, take, drop, reverse, Contains, inl, inr, refl, sym, ap, subst, ◌∙◌, arith}
+use Rattle.std.proofs.Common.{◌≡◌, ◌≢◌, ℕ, zero, suc, ◌+◌, ◌-◌, ◌*◌, ◌<◌, ◌≤◌, ◌^◌, bit_xor, Bool, true, false, if◌then◌else◌, List, [], ◌∷◌, ◌++◌, Some, length, length-take, get_or, map, take, drop, reverse, Contains, inl, inr, refl, sym, ap, subst, ◌∙◌, arith}
+use Rattle.std.specs.Int.{bit_at}
 use Rattle.std.specs.Vec.{vec_capacity}
+use Rattle.std.proofs.lemmas.Nat.Bits.{same_from_bits_below}
 use Rattle.std.proofs.lemmas.Bool.{cases_lt, cases_Bool}
 use Rattle.std.proofs.lemmas.List.{drop-drop, length-drop, reverse-append, length-map}
 use Rattle.go_board.specs.declared.past.key.TheConstants.{WIDTH}
@@ -11,9 +13,11 @@ use Rattle.go_board.specs.Past.{Held, stretch_of, AllHaveSide}
 use Rattle.go_board.specs.inner.Changes.{first_grid, IsNumber, HasNumber}
 use Rattle.go_board.specs.inner.Key.{key_row, start_of, since, oldest, keys_of}
 use Rattle.go_board.specs.inner.Print.{print_of, prints_of}
+use Rattle.go_board.specs.inner.Rows.{has_bit}
 use Rattle.go_board.specs.inner.Table.{IsTable}
 use Rattle.go_board.specs.inner.Trie.{Agree, IsTrie, IsTree, IsNearest, IsParting, row_of, depth_of, kid_of, without_newest}
-use Rattle.go_board.proofs.KeyLemmas.{front_same, front_agrees, whole_same}
+use Rattle.go_board.proofs.KeyLemmas.{same_bit, other_bits, print_bit, front_same, front_agrees, whole_same}
+use Rattle.go_board.proofs.StoneRowsLemmas.{bit_same}
 use Rattle.go_board.proofs.PrintLemmas.{print_small}
 use Rattle.go_board.proofs.PrintPastLemmas.{some_same, index-of, of-index, same_length, print-number}
 use Rattle.go_board.proofs.TrieLemmas.{agree_self, agree_on, agree_back, agree_less, trie_tree, trie_length, row_first, row_before, way_equal, way_parts}
@@ -69,7 +73,7 @@ start-before (x ∷ xs) number high = elim (cases_lt number (length xs)) [
 
 -- Keys of numbers.
 
-length-keys : (held : List Held) → length (keys_of held) ≡ length held
+pub length-keys : (held : List Held) → length (keys_of held) ≡ length held
 length-keys [] = refl
 length-keys (x ∷ xs) = ap suc (length-keys xs)
 
@@ -170,7 +174,7 @@ module _ (held : List Held) (table : Table) (is : IsTable held table) where
     tree : IsTree WIDTH (length table.nodes.items) (row_of linked_rows) (depth_of table.nodes.items) (kid_of table.nodes.items)
     tree = trie_tree linked_rows table.nodes.items is.linked some
 
-    near_in : {end : ℕ} → Nearest end → near < length table.nodes.items
+    pub near_in : {end : ℕ} → Nearest end → near < length table.nodes.items
     near_in {end} n = subst (λ x. x < length table.nodes.items) (sym n.names) (tree.kids n.node n.side n.way.slot).there
 
     -- if any item is as the key, this one is
@@ -252,6 +256,47 @@ module _ (held : List Held) (table : Table) (is : IsTable held table) where
           },
         )
 
+    -- Where a colouring comes in, if its print parts it from this one.
+    module _ (n : Nearest 64) (all : length table.nodes.items ≡ length held) (start print : ℕ) (any : Grid) (is_key : key ≡ key_row start print any) where
+      near_print : (g : Grid) → IsNumber held near g → (p : ℕ) → p < 64 → row_of linked_rows near p ≡ has_bit (print_of g) p
+      near_print g at p low = ap (λ (x : ℕ → Bool). x p) (key_there near (start_of (since near held)) (print_of g) g (near_in n) at refl refl) ∙ print_bit (start_of (since near held)) (print_of g) g p low
+
+      key_print : (p : ℕ) → p < 64 → key p ≡ has_bit print p
+      key_print p low = ap (λ (x : ℕ → Bool). x p) is_key ∙ print_bit start print any p low
+
+      pub print_parts : (place : ℕ) (row : ℕ → Bool) → place < 64 → ((p : ℕ) → p < 64 → row p ≡ has_bit print p)
+          → ((p : ℕ) → p < place → bit_at (bit_xor print (get_or table.prints.items near 0)) p ≡ 0) → bit_at (bit_xor print (get_or table.prints.items near 0)) place ≡ 1
+          → Agree key row (place + 1) × IsParting (length table.nodes.items) (row_of linked_rows) row near place
+      print_parts place row low is_row same differ =
+          let high : near < length held = omega (arith, near_in n, linked_few) in
+          let there = number_there held near high in
+          let printed = print_there near there.0 high there.1 in
+          let as_row : Agree key row 64 = record { each = λ p h. key_print p h ∙ sym (is_row p h) } in
+          let alike : Agree key (row_of linked_rows near) place = record { each = λ p h.
+              key_print p (omega (arith, h, low)) ∙ same_bit print (get_or table.prints.items near 0) p (same p h) ∙ ap (λ m. has_bit m p) printed ∙ sym (near_print there.0 there.1 p (omega (arith, h, low))) } in
+          let apart : key place ≢ row_of linked_rows near place = λ e. other_bits print (get_or table.prints.items near 0) place differ
+              (sym (key_print place low) ∙ e ∙ near_print there.0 there.1 place low ∙ ap (λ m. has_bit m place) (sym printed)) in
+          let parting = found_parts n (omega arith) place (row_of linked_rows near) refl low alike apart in (
+            agree_less (place + 1) (omega (arith, low)) as_row,
+            record {
+              there = parting.there;
+              same = agree_on parting.same (agree_less place (omega (arith, low)) as_row);
+              differ = λ e. parting.differ (e ∙ sym (as_row.each place low));
+              best = λ j h a. parting.best j h (agree_on a (agree_back (agree_less (place + 1) (omega (arith, low)) as_row)));
+            },
+          )
+
+      -- if a colouring in the trie has that print, so has this one
+      pub print_found : (number : ℕ) (grid : Grid) → print < 2 ^ 64 → number < length table.nodes.items → IsNumber held number grid → print_of grid ≡ print → get_or table.prints.items near 0 ≡ print
+      print_found number grid fits low at is =
+          let high : near < length held = omega (arith, near_in n, linked_few) in
+          let there = number_there held near high in
+          let agrees : Agree (row_of linked_rows number) key 64 = record { each = λ p h.
+              ap (λ (x : ℕ → Bool). x p) (key_there number (start_of (since number held)) print grid low at refl is) ∙ print_bit (start_of (since number held)) print grid p h ∙ sym (key_print p h) } in
+          let found = found_equal n (omega arith) number low agrees in
+          print_there near there.0 high there.1 ∙ same_from_bits_below 64 (print_of there.0) print (print_small there.0) fits
+          (λ i h. bit_same (print_of there.0) print i (sym (near_print there.0 there.1 i h) ∙ found.each i h ∙ key_print i h))
+
     -- The same by all bits.
     module _ (n : Nearest WIDTH) (start' print' : ℕ) (other : ℕ → Bool) (grid' : Grid) (is_other : other ≡ key_row start' print' grid') (at : IsNumber held near grid') (same_start : start' ≡ start_of (since near held)) (same_print : print' ≡ get_or table.prints.items near 0) where
       near_key : row_of linked_rows near ≡ other
@@ -312,7 +357,7 @@ linked_first held g nodes low at trie =
 pub oldest-same : (count : ℕ) (x : Held) (xs : List Held) → count ≤ length xs → oldest count (x ∷ xs) ≡ oldest count xs
 oldest-same count x xs le = let next : suc (length xs) - count ≡ suc (length xs - count) = omega (arith, le) in ap (λ n. drop n (x ∷ xs)) next
 
-oldest-all : (held : List Held) (count : ℕ) → count ≡ length held → oldest count held ≡ held
+pub oldest-all : (held : List Held) (count : ℕ) → count ≡ length held → oldest count held ≡ held
 oldest-all held count e = let none : length held - count ≡ 0 = omega (arith, e) in ap (λ n. drop n held) none
 
 pub linked_back : (x : Held) (xs : List Held) (nodes : List Node) → length nodes ≡ length xs + 1 → IsTrie WIDTH (keys_of (oldest (length nodes) (x ∷ xs))) nodes
@@ -350,3 +395,16 @@ pub printed_back : (prints left : List ℕ) (last : ℕ) (newest : Held) (older 
 printed_back prints left last newest older parts printed =
     let turned : ◌≡◌ {A = List ℕ} (last ∷ reverse left) (print_of newest.colouring ∷ prints_of older) = sym (reverse-append left (last ∷ [])) ∙ ap (λ (xs : List ℕ). reverse xs) (sym parts) ∙ printed in
     cc
+
+-- a colouring of the present stretch has a number
+pub any_number : (held : List Held) (g : Grid) → Contains (stretch_of held) g → (number : ℕ) × (number < length held) × IsNumber held number g
+any_number [] g (j, h, e) = absurd (omega (arith, h))
+any_number (x ∷ xs) g (zero, h, e) = (length xs, omega arith, ap first_grid (since-newest x xs) ∙ ap (λ (y : Grid). Some y) e)
+any_number (x ∷ xs) g (suc j, h, e) = later x.begins (λ low at. any_number xs g (j, low, at)) h e
+  where
+    later : (b : Bool) → (j < length (stretch_of xs) → get_or (stretch_of xs) j g ≡ g → (number : ℕ) × (number < length xs) × IsNumber xs number g)
+        → suc j < length (x.colouring ∷ (if b then [] else stretch_of xs)) → get_or (if b then [] else stretch_of xs) j g ≡ g → (number : ℕ) × (number < suc (length xs)) × IsNumber (x ∷ xs) number g
+    later true before h e = absurd (omega (arith, h))
+    later false before h e =
+        let rest = before (omega (arith, h)) e in
+        (rest.0, omega (arith, rest.1), ap first_grid (since-older rest.0 x xs rest.1) ∙ rest.2)

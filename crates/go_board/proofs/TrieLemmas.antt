@@ -4,7 +4,8 @@ use Rattle.std.proofs.lemmas.Bool.{cases_lt, cases_eq, cases_order, false≢true
 use Rattle.std.proofs.lemmas.List.{get_or-set_same, get_or-set_other, get_or_append_left, set-get_or, length-set}
 use Rattle.std.proofs.Math.Seq.{get_or-append_seam, take-append_seam}
 use Rattle.go_board.specs.declared.past.trie.Node.{Node}
-use Rattle.go_board.specs.inner.Trie.{Agree, IsUnder, IsSlot, IsReach, IsKid, IsTree, IsOnWay, IsParting, IsTrie, row_of, no_node, node_at, depth_of, kid_of, named, with_kid, with_named, displaced, without_newest}
+use Rattle.go_board.specs.declared.past.trie.Slot.{Slot}
+use Rattle.go_board.specs.inner.Trie.{Agree, IsUnder, IsSlot, IsReach, IsKid, IsTree, IsOnWay, IsParting, IsOpening, IsTrie, row_of, no_node, node_at, depth_of, kid_of, named, with_kid, with_named, displaced, without_newest}
 
 -- Rows of bits.
 
@@ -619,3 +620,29 @@ trie_up w [] nodes n none count = absurd (omega (arith, ap (λ (xs : List Node).
 trie_up w (row ∷ older) nodes n trie count =
     let last : length older ≡ n = omega (arith, trie.0, count) in
     subst (λ m. (node_at nodes m).up ≤ m) last trie.2
+
+-- where a walk by the bits of an item ends before the place where the item parts, it comes in
+pub way_opens : {rows : List (ℕ → Bool)} {nodes : List Node} {key row : ℕ → Bool} {item : ℕ} (slot : Slot) (place : ℕ) → IsOnWay (length nodes) (row_of rows) (depth_of nodes) key place slot.node slot.side
+    → (depth_of nodes slot.node < depth_of nodes (kid_of nodes slot.node slot.side) → place < depth_of nodes (kid_of nodes slot.node slot.side))
+    → Agree key row (place + 1) → IsParting (length nodes) (row_of rows) row item place → IsOpening rows nodes row slot place
+way_opens {rows} {nodes} {key} {row} {item} slot place way stop same part = record {
+  item = item;
+  there = way.slot;
+  low = way.low;
+  under = way.all item part.there (agree_on part.same (agree_back (agree_less place (omega arith) same)));
+  stop = stop;
+  part = part;
+}
+
+-- and so does an item that parts behind the last node of the walk
+pub end_opens : (w : ℕ) (rows : List (ℕ → Bool)) (nodes : List Node) {key row : ℕ → Bool} {end : ℕ} (slot : Slot) (place : ℕ) → IsTrie w rows nodes → IsOnWay (length nodes) (row_of rows) (depth_of nodes) key end slot.node slot.side
+    → (depth_of nodes slot.node < depth_of nodes (kid_of nodes slot.node slot.side) → end < depth_of nodes (kid_of nodes slot.node slot.side))
+    → place < end → depth_of nodes slot.node ≤ place → IsParting (length nodes) (row_of rows) row (kid_of nodes slot.node slot.side) place → IsOpening rows nodes row slot place
+end_opens w rows nodes {key} {row} {end} slot place trie way stop before low part = record {
+  item = kid_of nodes slot.node slot.side;
+  there = way.slot;
+  low = low;
+  under = ((trie_tree rows nodes trie (omega (arith, way.slot.there))).kids slot.node slot.side way.slot).under;
+  stop = λ inner. omega (arith, stop inner, before);
+  part = part;
+}

@@ -5,8 +5,9 @@ use Rattle.go_board.specs.declared.points.Point.{Point}
 use Rattle.go_board.specs.Point.{IsOn}
 use Rattle.go_board.specs.Grid.{Grid, cell_at}
 use Rattle.go_board.specs.Past.{Held, PastColourings, all_of, newest_grid, stretch_of}
+use Rattle.go_board.specs.declared.past.table.Gap.{Gap}
 use Rattle.go_board.specs.declared.past.table.Table.{Table}
-use Rattle.go_board.specs.inner.Table.{IsTable}
+use Rattle.go_board.specs.inner.Table.{IsGap, IsTable}
 use Rattle.go_board.specs.inner.Rows.{is_set}
 
 -- the set has each point that has a stone on the grid `before` and none on the grid `after`
@@ -29,8 +30,9 @@ pub record IsLastStone (past : PastColourings) (point : Point) : Type 0 where
   pub new : (grid : Grid) → Contains (if past.newest.begins then [] else stretch_of past.older) grid → cell_at grid point ≡ Empty
 
 -- what a past keeps besides its colourings: the table by which they are looked up, a set of rows that has each emptied point, and perhaps
--- the point of a stone that no older colouring of the stretch has
-pub record IsPrintPast (colourings : PastColourings) (table : Table) (emptied : List ℕ) (last_stone : Option Point) : Type 0 where
+-- the point of a stone that no older colouring of the stretch has, and where a colouring comes into the table
+pub record IsPrintPast (colourings : PastColourings) (table : Table) (emptied : List ℕ) (last_stone : Option Point) (gap : Option Gap) : Type 0 where
   pub tabled : IsTable (all_of colourings) table
   pub emptied_in : HasAllEmptied (is_set emptied) (all_of colourings)
   pub last : IfSome last_stone (IsLastStone colourings)
+  pub gap_there : IfSome gap (IsGap (all_of colourings) table.nodes.items)

@@ -4,6 +4,7 @@
 -- A slot is a side of a node. It names a node below if that is deeper than its own, and otherwise an item.
 use Rattle.std.specs.Prelude.{◌≡◌, ◌≢◌, ◌⊎◌, ℕ, ◌+◌, ◌-◌, ◌<◌, ◌≤◌, ◌==◌, Bool, false, if◌then◌else◌, List, [], ◌∷◌, length, take, slice_index_or, slice_set}
 use Rattle.go_board.specs.declared.past.trie.Node.{Node}
+use Rattle.go_board.specs.declared.past.trie.Slot.{Slot}
 
 -- two rows of bits are the same before that place
 pub record Agree (one other : ℕ → Bool) (end : ℕ) : Type 0 where
@@ -107,6 +108,15 @@ pub record IsNearest (rows : List (ℕ → Bool)) (nodes : List Node) (key : ℕ
   pub way : IsOnWay (length nodes) (row_of rows) (depth_of nodes) key end node side
   pub stop : depth_of nodes node < depth_of nodes (kid_of nodes node side) → end < depth_of nodes (kid_of nodes node side)
   pub names : near ≡ kid_of nodes node side
+
+-- the slot where an item with this row comes in: the item parts from the others at that place
+pub record IsOpening (rows : List (ℕ → Bool)) (nodes : List Node) (row : ℕ → Bool) (slot : Slot) (place : ℕ) : Type 0 where
+  pub item : ℕ
+  pub there : IsSlot (length nodes) (depth_of nodes) slot.node slot.side
+  pub low : depth_of nodes slot.node ≤ place
+  pub under : IsUnder (row_of rows) (depth_of nodes) slot.node slot.side item
+  pub stop : depth_of nodes slot.node < depth_of nodes (kid_of nodes slot.node slot.side) → place < depth_of nodes (kid_of nodes slot.node slot.side)
+  pub part : IsParting (length nodes) (row_of rows) row item place
 
 -- The nodes are a trie of items with these rows, newest first. Without the newest node they are a trie of the others.
 abbrev pub IsTrie : ℕ → List (ℕ → Bool) → List Node → Type 0

@@ -15,7 +15,7 @@ use crate::fault::MemoryFault;
 use crate::past::Past;
 use crate::past::colourings::Colourings;
 use crate::past::print::{print_after_stone, print_after_taking, print_from, print_of};
-use crate::past::table::Table;
+use crate::past::table::{Gap, Table};
 use crate::points::Point;
 use crate::size::MAX_ROWS;
 use crate::stones::Colour;
@@ -39,6 +39,8 @@ pub struct PrintPast {
     /// A point on which the newest colouring has a stone, and no older one of the present stretch has; None if none is known. While
     /// that stone stays, a stone that stays can't bring a colouring back.
     last_stone: Option<Point>,
+    /// Where the colouring that was looked up last comes in, until it is added.
+    gap: Option<Gap>,
 }
 
 impl Model for PrintPast {
@@ -49,7 +51,7 @@ impl Model for PrintPast {
 
     ghost view = { λ p. p.colourings };
 
-    ghost invariant = { λ p. IsPrintPast p.colourings p.table p.emptied p.last_stone };
+    ghost invariant = { λ p. IsPrintPast p.colourings p.table p.emptied p.last_stone p.gap };
 }
 
 impl Past for PrintPast {
@@ -61,6 +63,7 @@ impl Past for PrintPast {
             table: Table::new(alloc, print_of(board))?,
             emptied: no_rows(),
             last_stone: None,
+            gap: None,
         })
     }
 
@@ -96,6 +99,7 @@ impl Past for PrintPast {
         self.table.pop();
         self.colourings.pop();
         self.last_stone = None;
+        self.gap = None;
     }
 
     fn reset(&mut self, _alloc: Global, board: &Board) -> Result<(), MemoryFault> {
@@ -103,6 +107,7 @@ impl Past for PrintPast {
         self.table.reset(print_of(board));
         self.emptied = no_rows();
         self.last_stone = None;
+        self.gap = None;
         Ok(())
     }
 }
@@ -127,6 +132,7 @@ impl PrintPast {
         ensures { self.new ≡ self.old }
     {
         if self.colourings.stretch_start() + 1 < self.table.len() {
+            self.gap = None;
             self.table.link(&self.colourings);
         }
     }
@@ -138,6 +144,7 @@ impl PrintPast {
         ensures ok { OnOk result (self.new ≡ with_next self.old board.now begins) }
         ensures err { OnErr result (self.new ≡ self.old) }
     {
+        self.gap = None;
         add_stones(self.colourings.newest(), &mut self.emptied);
         self.table.push(print)?;
         if self.colourings.add(board, begins).is_err() {
@@ -186,11 +193,14 @@ impl PrintPast {
         if self.may_have(asked, point, taken, print) {
             return self.play_on_copy(colour, point);
         }
+        let gap = self.gap;
+        self.gap = None;
         self.table.push(print)?;
         if self.colourings.add_stone(colour, point, taken).is_err() {
             self.table.pop();
             return Err(MemoryFault);
         }
+        self.table.fill(gap);
         add_points(taken, &mut self.emptied);
         self.last_stone = unless(asked, point);
         Ok(true)
@@ -244,7 +254,8 @@ impl PrintPast {
             return false;
         }
         self.table.link(&self.colourings);
-        self.table.may_have(&self.colourings, print)
+        self.gap = self.table.gap(&self.colourings, print);
+        self.gap.is_none()
     }
 
     /// Whether the newest colouring has a stone that isn't in `taken`, and that no older colouring of the present stretch has.
@@ -282,6 +293,7 @@ impl PrintPast {
         requires empty { cell_at (newest_grid self.old) point ≡ Empty }
         ensures { IsPlayed colour point self.old self.new result }
     {
+        self.gap = None;
         let mut made = self.newest().copy();
         made.place(colour, point);
         let print = print_from(self.table.newest(), self.newest(), &made);

@@ -7,7 +7,7 @@
 //! they have the same print. To take one out is one step. None of this depends on how many colourings there are, or on what was played:
 //! equal prints make no look-up longer.
 
-ghost use Rattle.std.specs.Prelude.{◌≡◌, ◌≢◌, ◌↔◌, ℕ, ◌+◌, ◌<◌, ◌≤◌, ◌^◌, [], ◌∷◌, List, length, slice_index, IsTrue, IsFalse, IfOk, OnOk, OnErr, Contains};
+ghost use Rattle.std.specs.Prelude.{◌≡◌, ◌≢◌, ◌↔◌, ℕ, ◌+◌, ◌<◌, ◌≤◌, ◌^◌, [], ◌∷◌, List, length, slice_index, IsTrue, IsFalse, IsSome, IfSome, IfOk, OnOk, OnErr, Contains};
 ghost use Rattle.std.specs.Vec.{vec_capacity};
 ghost use Rattle.go_board.specs.declared.past.trie.Node.{Node};
 ghost use Rattle.go_board.specs.Grid.{Grid};
@@ -15,14 +15,15 @@ ghost use Rattle.go_board.specs.Past.{Held, all_of, present_stretch, HaveSide};
 ghost use Rattle.go_board.specs.inner.Changes.{IsNumber, HasNumber};
 ghost use Rattle.go_board.specs.inner.Key.{bits_of, keys_of, oldest, start_of, since};
 ghost use Rattle.go_board.specs.inner.Print.{print_of, prints_of};
-ghost use Rattle.go_board.specs.inner.Table.{IsTable};
+ghost use Rattle.go_board.specs.inner.Table.{IsGap, IsTable};
 ghost use Rattle.go_board.specs.inner.Trie.{IsNearest};
 
 use crate::board::Board;
+use crate::board::stone_rows::has_column;
 use crate::fault::MemoryFault;
 use crate::past::colourings::Colourings;
 use crate::past::key::{FRONT, Key, WIDTH, WORD, first_difference};
-use crate::past::trie::{Node, nearest, part, plant, repeat, take_back};
+use crate::past::trie::{Node, Slot, descend, insert, kid, nearest, opening, part, plant, repeat, take_back};
 use std::alloc::Global;
 
 /// The number of colourings that a new table has room for.
@@ -39,6 +40,15 @@ pub(crate) struct Table {
     prints: Vec<u64>,
     /// The nodes of the oldest colourings. The newest ones may not be in the trie yet.
     nodes: Vec<Node>,
+}
+
+/// Where a colouring with that print comes into the trie.
+#[derive(Clone, Copy)]
+pub(crate) struct Gap {
+    print: u64,
+    slot: Slot,
+    /// The place of the bit where it parts from the others. It is one of the print.
+    place: u32,
 }
 
 impl Table {
@@ -75,6 +85,7 @@ impl Table {
         requires { (held : List Held) × IsTable held self.old }
         ensures ok { OnOk result ((held : List Held) (next : Held) → IsTable held self.old → print ≡ print_of next.colouring
             → IsTable (next ∷ held) self.new) }
+        ensures nodes { self.new.nodes.items ≡ self.old.nodes.items }
         ensures err { OnErr result ((held : List Held) → IsTable held self.old → IsTable held self.new) }
     {
         if self.prints.len() >= self.nodes.capacity() {
@@ -106,14 +117,51 @@ impl Table {
         self.prints[0] = print;
     }
 
-    /// Whether the present stretch may have a colouring with this print.
-    pub(crate) fn may_have(&self, colourings: &Colourings, print: u64) -> bool
+    /// Where a colouring with this print comes in, if all colourings are in the trie and none has this print; None otherwise.
+    pub(crate) fn gap(&self, colourings: &Colourings, print: u64) -> Option<Gap>
         requires { IsTable (all_of colourings.now) self.now }
-        ensures { (grid : Grid) → IsFalse result → print ≡ print_of grid → ¬ Contains (present_stretch colourings.now) grid }
+        ensures gap { IfSome result (IsGap (all_of colourings.now) self.now.nodes.items) }
+        ensures lacks { (grid : Grid) → IsSome result → print ≡ print_of grid → ¬ Contains (present_stretch colourings.now) grid }
     {
-        let start = colourings.stretch_start();
-        has_from(&self.prints, print, start.max(self.nodes.len()))
-            || self.has_front(colourings, start, print)
+        if self.nodes.len() != self.prints.len() {
+            return None;
+        }
+        let key = Key::new(0, print, colourings.newest());
+        let from = descend(&self.nodes, &key, WORD);
+        let apart = print ^ self.prints[kid(&self.nodes, from) as usize];
+        if apart == 0 {
+            return None;
+        }
+        let place = apart.trailing_zeros();
+        Some(Gap {
+            print,
+            slot: opening(&self.nodes, &key, from, place),
+            place,
+        })
+    }
+
+    /// Puts the newest colouring into the trie, if it has the print of the gap.
+    #[inline(always)]
+    pub(crate) fn fill(&mut self, gap: Option<Gap>)
+        requires { (newest : Held) × (older : List Held) × IsTable (newest ∷ older) self.old × IfSome gap (IsGap older self.old.nodes.items) }
+        ensures { (newest : Held) (older : List Held) → IsTable (newest ∷ older) self.old
+            → IfSome gap (IsGap older self.old.nodes.items) → IsTable (newest ∷ older) self.new }
+    {
+        if let Some(gap) = gap {
+            self.fill_gap(gap);
+        }
+    }
+
+    /// The same, if there is a gap.
+    fn fill_gap(&mut self, gap: Gap)
+        requires { (newest : Held) × (older : List Held) × IsTable (newest ∷ older) self.old × IsGap older self.old.nodes.items gap }
+        ensures { (newest : Held) (older : List Held) → IsTable (newest ∷ older) self.old
+            → IsGap older self.old.nodes.items gap → IsTable (newest ∷ older) self.new }
+    {
+        if self.newest() == gap.print {
+            let bit = has_column(gap.print, gap.place as usize);
+            insert(&mut self.nodes, gap.slot, gap.place, bit);
+        }
     }
 
     /// Whether the trie may have a colouring of the stretch with this start and print.
@@ -253,19 +301,6 @@ impl Table {
             None => repeat(&mut self.nodes),
         }
     }
-}
-
-/// Whether a print from an index on equals this one.
-fn has_from(prints: &[u64], print: u64, from: usize) -> bool
-    requires { from ≤ length prints.now }
-    ensures { IsFalse result → (index : ℕ) → from ≤ index → index < length prints.now → slice_index prints.now index ≢ print }
-{
-    'prints: for index in from..prints.len() {
-        if prints[index] == print {
-            return true;
-        }
-    }
-    false
 }
 
 /// Makes room for more nodes: twice as many, and some more.

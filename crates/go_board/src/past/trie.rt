@@ -7,7 +7,7 @@ ghost use Rattle.std.specs.Prelude.{not, ◌≡◌, ℕ, ◌+◌, ◌-◌, ◌^�
 ghost use Rattle.std.specs.Vec.{vec_capacity};
 ghost use Rattle.go_board.specs.declared.past.trie.Node.{Node};
 ghost use Rattle.go_board.specs.inner.Key.{bits_of};
-ghost use Rattle.go_board.specs.inner.Trie.{IsTrie, Agree, IsOnWay, IsNearest, IsParting, row_of, node_at, depth_of, kid_of, named, with_named, without_newest, displaced};
+ghost use Rattle.go_board.specs.inner.Trie.{IsTrie, Agree, IsOnWay, IsNearest, IsOpening, IsParting, row_of, node_at, depth_of, kid_of, named, with_named, without_newest, displaced};
 
 use crate::past::key::{Key, WIDTH};
 
@@ -34,7 +34,7 @@ pub(crate) struct Slot {
 }
 
 /// What a slot names.
-fn kid(nodes: &[Node], slot: Slot) -> u32
+pub(crate) fn kid(nodes: &[Node], slot: Slot) -> u32
     requires { slot.node < length nodes.now }
     ensures { result ≡ kid_of nodes.now slot.node slot.side }
 {
@@ -43,7 +43,7 @@ fn kid(nodes: &[Node], slot: Slot) -> u32
 }
 
 /// The slot where the walk by the bits of a key ends, before the place `end`.
-fn descend(nodes: &[Node], key: &Key<'_>, end: u32) -> Slot
+pub(crate) fn descend(nodes: &[Node], key: &Key<'_>, end: u32) -> Slot
     requires trie { (rows : List (ℕ → Bool)) × IsTrie WIDTH rows nodes.now }
     requires some { 0 < length nodes.now }
     requires within { end ≤ WIDTH }
@@ -70,6 +70,28 @@ fn descend(nodes: &[Node], key: &Key<'_>, end: u32) -> Slot
         deeper = u32::from(nodes[below as usize].depth);
     }
     slot
+}
+
+/// The slot where an item comes in that parts at a place. Up to that place, the item has the bits of `key`; `from` is where the walk by
+/// them ends before `end`.
+pub(crate) fn opening(nodes: &[Node], key: &Key<'_>, from: Slot, place: u32) -> Slot
+    requires trie { (rows : List (ℕ → Bool)) × IsTrie WIDTH rows nodes.now }
+    requires from { from.node < length nodes.now }
+    requires within { place < WIDTH }
+    ensures there { result.node < length nodes.now }
+    ensures opening { (rows : List (ℕ → Bool)) (row : ℕ → Bool) (end : ℕ) → IsTrie WIDTH rows nodes.now
+        → IsOnWay (length nodes.now) (row_of rows) (depth_of nodes.now) (bits_of key.now) end from.node from.side
+        → (depth_of nodes.now from.node < depth_of nodes.now (kid_of nodes.now from.node from.side)
+            → end < depth_of nodes.now (kid_of nodes.now from.node from.side))
+        → place < end → Agree (bits_of key.now) row (place + 1)
+        → IsParting (length nodes.now) (row_of rows) row (kid_of nodes.now from.node from.side) place
+        → IsOpening rows nodes.now row result place }
+{
+    // mostly the item parts from the others behind all places of the walk
+    if u32::from(nodes[from.node as usize].depth) <= place {
+        return from;
+    }
+    descend(nodes, key, place)
 }
 
 /// The item that is as `key` at least as far as any other is, as far as `end`. (Behind that place it may be any item that is so.)
@@ -134,8 +156,21 @@ pub(crate) fn part(nodes: &mut Vec<Node>, key: &Key<'_>, place: u32)
     ensures room { vec_capacity nodes.new ≡ vec_capacity nodes.old }
 {
     let slot = descend(nodes, key, place);
+    insert(nodes, slot, place, key.bit(place));
+}
+
+/// Adds the node of an item that comes in at a slot: there it parts from the others at a place. It has that bit there.
+pub(crate) fn insert(nodes: &mut Vec<Node>, slot: Slot, place: u32, bit: bool)
+    requires slot { slot.node < length nodes.old.items }
+    requires few { length nodes.old.items < 2 ^ 32 }
+    requires room { length nodes.old.items < vec_capacity nodes.old }
+    requires within { place < WIDTH }
+    ensures trie { (rows : List (ℕ → Bool)) (row : ℕ → Bool) → IsTrie WIDTH rows nodes.old.items
+        → IsOpening rows nodes.old.items row slot place → row place ≡ bit → IsTrie WIDTH (row ∷ rows) nodes.new.items }
+    ensures room { vec_capacity nodes.new ≡ vec_capacity nodes.old }
+{
     let number = nodes.len() as u32;
-    let node = parted_node(place, slot, key.bit(place), number, kid(nodes, slot));
+    let node = parted_node(place, slot, bit, number, kid(nodes, slot));
     name(nodes, slot, number);
     nodes.push_reserved(node);
 }

@@ -17,6 +17,7 @@ invariant_of-self c =
       tabled = c.in_err-push.ensures.err (all_of was.colourings) c.self.invariant.tabled;
       emptied_in = HasAllEmptied-more (is_set was.emptied) (is_set c.add_stones.new.all) (all_of was.colourings) c.add_stones.ensures.kept c.self.invariant.emptied_in;
       last = c.self.invariant.last;
+      gap_there = tt;
     }
 
 pub invariant_of-self-then-is_err : goal.invariant_of-self-then-is_err
@@ -30,6 +31,7 @@ invariant_of-self-then-is_err c =
       emptied_in = subst (λ (past : PastColourings). HasAllEmptied (is_set c.add_stones.new.all) (all_of past)) (sym same)
           (HasAllEmptied-more (is_set was.emptied) (is_set c.add_stones.new.all) (all_of was.colourings) c.add_stones.ensures.kept c.self.invariant.emptied_in);
       last = subst (λ (past : PastColourings). IfSome was.last_stone (IsLastStone past)) (sym same) c.self.invariant.last;
+      gap_there = tt;
     }
 
 pub invariant_of-self-2 : goal.invariant_of-self-2
@@ -46,6 +48,7 @@ invariant_of-self-2 c =
         HasAllEmptied-more (is_set was.emptied) (is_set c.add_stones.new.all) (all_of was.colourings) c.add_stones.ensures.kept c.self.invariant.emptied_in,
       );
       last = tt;
+      gap_there = tt;
     }
 
 pub push-requires : goal.push-requires
