@@ -31,6 +31,7 @@ pub mod TurnLemmas
 pub mod RepeatLemmas
 pub mod PowerLemmas
 pub mod PrintLemmas
+pub mod ByteLemmas
 pub mod PrintPastLemmas
 pub mod ChangesLemmas
 pub mod ColumnLemmas

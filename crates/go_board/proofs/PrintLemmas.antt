@@ -5,8 +5,8 @@ use Rattle.std.specs.List.{fold}
 use Rattle.std.proofs.Math.Nat.{mod-add-mod, add-mod-mod, add-mul-mod_self_left, mod-add-div, mod-mod, add-mul, mul-add, pow-succ', zero-mod, suc-mul}
 use Rattle.std.proofs.Math.Bool.{and-true, and-false}
 use Rattle.std.proofs.lemmas.Bool.{cases_Bool, cases_eq}
-use Rattle.std.proofs.lemmas.Nat.{mod_below, mul-mod, mul-mod_second, pow_pos}
-use Rattle.std.proofs.lemmas.Nat.Bits.{bit_at-zero}
+use Rattle.std.proofs.lemmas.Nat.{mod_below, mul-mod, mul-mod_second, pow_pos, shr_split}
+use Rattle.std.proofs.lemmas.Nat.Bits.{bit_at-zero, bit_at_cat_high, bit_at_cat_low}
 use Rattle.std.proofs.lemmas.List.{take_all, get_or-set_same, get_or-set_other, length-set}
 use Rattle.std.proofs.lemmas.List.Sums.{fold_more}
 use Rattle.go_board.specs.declared.stones.Cell.{Cell}
@@ -19,7 +19,7 @@ use Rattle.go_board.specs.inner.Print.{code, print_of, in_base, row_number, word
 use Rattle.go_board.specs.inner.Rows.{has_bit, is_set}
 use Rattle.go_board.proofs.PointLemmas.{index_below}
 use Rattle.go_board.proofs.StoneRowsLemmas.{bit_same}
-use Rattle.go_board.proofs.WordLemmas.{bit_at-there, bit_at-gone, has_bit-and, has_bit-zero}
+use Rattle.go_board.proofs.WordLemmas.{bit_at-there, bit_at-gone, bit_at-mod, has_bit-and, has_bit-zero}
 
 pub in_base-more : (base n : ℕ) (d : ℕ → ℕ) → in_base base (n + 1) d ≡ base * in_base base n d + d n
 in_base-more base n d = let next : n + 1 ≡ suc n = omega arith in ap (λ m. in_base base m d) next
@@ -316,24 +316,55 @@ words_apart side old new more less more_is less_is =
     bits col false false o n m l = omega (arith, bit_at-gone old col o, bit_at-gone new col n, bit_at-gone more col (m ∙ without n o), bit_at-gone less col (l ∙ without o n))
 
 -- a word without one of its columns
-pub word_without : (side word next col : ℕ) → col < side → has_bit word col ≡ true → has_bit next col ≡ false → ((k : ℕ) → k ≢ col → has_bit next k ≡ has_bit word k) → word_number side word ≡ word_number side next + 31 ^ (side - 1 - col)
+word_without : (side word next col : ℕ) → col < side → has_bit word col ≡ true → has_bit next col ≡ false → ((k : ℕ) → k ≢ col → has_bit next k ≡ has_bit word k) → word_number side word ≡ word_number side next + 31 ^ (side - 1 - col)
 word_without side word next col low is gone others =
     in_base-greater side col 1 (bit_at next) (bit_at word) low (λ k h other. bit_same next word k (others k other)) (omega (arith, bit_at-there word col is, bit_at-gone next col gone))
     ∙ omega arith
 
--- the sum goes on with one column less
-pub column_counted : (m number left next weight : ℕ) → left ≡ next + weight → ((number + weight % m) % m + next) % m ≡ (number + left) % m
-column_counted m number left next weight is =
-    mod-add-mod (number + weight % m) m next
-    ∙ ap (λ n. n % m) (turned (weight % m))
-    ∙ add-mod-mod (number + next) weight m
-    ∙ ap (λ n. n % m) (omega (arith, is))
-  where
-    turned : (x : ℕ) → number + x + next ≡ number + next + x
-    turned x = omega arith
-
 pub no_column : (side : ℕ) → word_number side 0 ≡ 0
 no_column side = in_base-same 31 side (bit_at 0) (λ i. 0) (λ i low. bit_at-zero i) ∙ in_base-none side
+
+-- a word that has one column
+pub one_column : (side word next col : ℕ) → col < side → has_bit word col ≡ true → has_bit next col ≡ false → ((k : ℕ) → k ≢ col → has_bit next k ≡ has_bit word k) → next ≡ 0 → word_number side word ≡ 31 ^ (side - 1 - col)
+one_column side word next col low is gone others none =
+    word_without side word next col low is gone others ∙ ap (λ n. word_number side n + 31 ^ (side - 1 - col)) none ∙ omega (arith, no_column side)
+
+-- a word that is shifted up: it has digits 0 before its own
+pub shifted_number : (side up word : ℕ) → up + side ≤ 64 → word_number (up + side) (word * 2 ^ up % 2 ^ 64) ≡ word_number side word
+shifted_number side up word few =
+    let shifted = word * 2 ^ up % 2 ^ 64 in
+    let none : in_base 31 up (bit_at shifted) ≡ 0 =
+    in_base-same 31 up (bit_at shifted) (λ i. 0)
+    (λ i low.
+    bit_at-mod (word * 2 ^ up) 64 i (omega (arith, low, few))
+    ∙ ap (λ n. bit_at n i) (omega arith)
+    ∙ bit_at_cat_low word up 0 i low ∙ bit_at-zero i)
+    ∙ in_base-none up in
+    let own : in_base 31 side (λ i. bit_at shifted (up + i)) ≡ word_number side word =
+    in_base-same 31 side (λ i. bit_at shifted (up + i)) (bit_at word)
+    (λ i low.
+    bit_at-mod (word * 2 ^ up) 64 (up + i) (omega (arith, low, few))
+    ∙ ap (λ n. bit_at n (up + i)) (omega arith)
+    ∙ bit_at_cat_high word up 0 (up + i) (pow_pos up) (omega arith) ∙ ap (bit_at word) (omega arith)) in
+    in_base-parts up side (bit_at shifted)
+    ∙ ap (λ n. 31 ^ side * n + in_base 31 side (λ i. bit_at shifted (up + i))) none
+    ∙ omega (arith, own)
+
+-- a word by bytes, with one byte more; `left` has the bytes from it on
+pub byte_more : (word left bytes : ℕ) → ((i : ℕ) → bit_at left i ≡ bit_at word (8 * bytes + i)) → word_number (8 * (bytes + 1)) word ≡ 31 ^ 8 * word_number (8 * bytes) word + word_number 8 left
+byte_more word left bytes rest =
+    let more : 8 * (bytes + 1) ≡ 8 * bytes + 8 = omega arith in
+    ap (λ n. word_number n word) more
+    ∙ in_base-parts (8 * bytes) 8 (bit_at word)
+    ∙ ap (λ n. 31 ^ 8 * word_number (8 * bytes) word + n) (sym (in_base-same 31 8 (bit_at left) (λ i. bit_at word (8 * bytes + i)) (λ i low. rest i)))
+
+pub byte_less : (word left bytes : ℕ) → ((i : ℕ) → bit_at left i ≡ bit_at word (8 * bytes + i)) → (i : ℕ) → bit_at (left / 2 ^ 8) i ≡ bit_at word (8 * (bytes + 1) + i)
+byte_less word left bytes rest i =
+    ap (bit_at (left / 2 ^ 8)) (omega arith)
+    ∙ sym (bit_at_cat_high (left / 2 ^ 8) 8 (left % 2 ^ 8) (8 + i) (mod_below left (2 ^ 8) (pow_pos 8)) (omega arith))
+    ∙ ap (λ n. bit_at n (8 + i)) (shr_split left 8)
+    ∙ rest (8 + i)
+    ∙ ap (bit_at word) (omega arith)
 
 -- what is to be added for both colours
 pub in_both_colours : (m black white old_black old_white new_black new_white : ℕ) → (black + old_black) % m ≡ new_black % m → (white + old_white) % m ≡ new_white % m → ((black + 2 * white) % m + (old_black + 2 * old_white)) % m ≡ (new_black + 2 * new_white) % m

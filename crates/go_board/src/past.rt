@@ -1,5 +1,6 @@
 //! The colourings that a game has been through.
 
+mod bytes;
 mod changes;
 mod colourings;
 mod key;

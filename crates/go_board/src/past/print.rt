@@ -20,6 +20,7 @@ ghost use Rattle.go_board.specs.inner.Rows.{has_bit};
 use crate::board::Board;
 use crate::board::regions::columns_left;
 use crate::board::stone_rows::{has_column, without_column};
+use crate::past::bytes::byte_number;
 use crate::past::powers::{power, small_power};
 use crate::points::Point;
 use crate::size::MAX_SIDE;
@@ -180,18 +181,37 @@ fn change_of(side: u8, old: u64, new: u64) -> u64
     more.wrapping_sub(less)
 }
 
-/// The number of a word, modulo 2^64: each column adds a power of 31.
+/// The number of a word, modulo 2^64.
 fn number_of(side: u8, columns: u64) -> u64
     requires side { side ≤ MAX_SIDE }
     requires columns { (col : ℕ) → IsTrue (has_bit columns col) → col < side }
     ensures { result ≡ word_number side columns % 2 ^ 64 }
 {
+    if columns == 0 {
+        return 0;
+    }
+    // a stone is often put or taken alone
+    let col = columns.trailing_zeros() as usize;
+    if without_column(columns, col) == 0 {
+        return small_power(usize::from(side) - 1 - col);
+    }
+    number_by_bytes(side, columns)
+}
+
+/// The number of a word, modulo 2^64, which may have many columns: each byte is looked up.
+fn number_by_bytes(side: u8, columns: u64) -> u64
+    requires side { side ≤ MAX_SIDE }
+    ensures { result ≡ word_number side columns % 2 ^ 64 }
+{
+    let bytes = side.div_ceil(8);
+    // digits 0 before the first fill up the first byte
+    let mut left = columns << (8 * bytes - side);
     let mut number: u64 = 0;
-    let mut left = columns;
-    'each: while left != 0 {
-        let col = left.trailing_zeros() as usize;
-        left = without_column(left, col);
-        number = number.wrapping_add(small_power(usize::from(side) - 1 - col));
+    for byte in 0..bytes {
+        number = number
+            .wrapping_mul(small_power(8))
+            .wrapping_add(byte_number(left));
+        left >>= 8;
     }
     number
 }
