@@ -1,8 +1,8 @@
 -- Changes that lead back from a colouring to the one before it.
-use Rattle.std.proofs.Common.{◌≡◌, ◌≢◌, ◌⊎◌, ◌==◌, ◌&&◌, ℕ, ◌*◌, ◌<◌, inl, inr, Bool, true, false, cond, List, [], ◌∷◌, ◌++◌, length, take, refl, sym, ap, subst, ◌∙◌, append_assoc, All, slice_index}
+use Rattle.std.proofs.Common.{◌≡◌, ◌≢◌, ◌⊎◌, ◌==◌, ℕ, ◌*◌, ◌<◌, inl, inr, Bool, true, false, cond, List, [], ◌∷◌, ◌++◌, length, take, drop, refl, sym, ap, subst, ◌∙◌, append_assoc, All, slice_index}
 use Rattle.std.proofs.lemmas.Bool.{cases_Bool, cases_eq, false≢true}
 use Rattle.std.proofs.lemmas.Bool.Decides.{Decides-eqb}
-use Rattle.std.proofs.lemmas.List.{append-nil, take_at, length-set}
+use Rattle.std.proofs.lemmas.List.{append-nil, take_at, take-append-drop, length-set}
 use Rattle.std.proofs.lemmas.List.Elements.{All-nil, All-push, All-head, All-tail, All-weaker}
 use Rattle.go_board.specs.declared.stones.Cell.{Cell}
 use Rattle.go_board.specs.declared.stones.Cell.TheVariants.{Black, White, Empty}
@@ -14,7 +14,7 @@ use Rattle.go_board.specs.Point.{IsOn, index_of}
 use Rattle.go_board.specs.Grid.{Grid, cell_at, grid_of}
 use Rattle.go_board.specs.Clearing.{play}
 use Rattle.go_board.specs.inner.Groups.{TakesOff}
-use Rattle.go_board.specs.inner.Regions.{with_columns}
+use Rattle.go_board.specs.inner.Regions.{with_row}
 use Rattle.go_board.specs.inner.Rows.{has_bit}
 use Rattle.go_board.specs.inner.Changes.{with_change, after_changes, AreOn, IsChangeOn, IsRowOf, HasRow, KeepRows, CoverChange, MakeOne}
 use Rattle.go_board.proofs.RuleLemmas.{false_from_Decides}
@@ -22,7 +22,6 @@ use Rattle.go_board.proofs.GridLemmas.{cell_at-grid_of, length-grid_of, cell_at-
 use Rattle.go_board.proofs.GroupLemmas.{grid_of-cells}
 use Rattle.go_board.proofs.GrowLemmas.{row_below}
 use Rattle.go_board.proofs.WordLemmas.{has_bit-zero}
-use Rattle.go_board.proofs.StoneRowsLemmas.{side-coloured, cell_at-coloured, length-coloured}
 
 -- two colourings of one side with the same on each point are one
 pub one_colouring : (g h : Grid) → g.side ≡ h.side → length g.cells ≡ g.side * g.side → length h.cells ≡ h.side * h.side → ((p : Point) → IsOn g.side p → cell_at g p ≡ cell_at h p) → g ≡ h
@@ -36,56 +35,29 @@ abbrev stone_of_bits : Bool → Bool → Cell
 stone_of_bits black white = cond white White (cond black Black Empty)
 
 side-changed : (g : Grid) (c : Change) → (with_change g c).side ≡ g.side
-unfolding with_change
+unfolding with_row
 side-changed g c = refl
 
 length-changed : (g : Grid) (c : Change) → length (with_change g c).cells ≡ g.side * g.side
-unfolding with_change
+unfolding with_row
 length-changed g c = length-grid_of g.side _
 
 cell_at-changed : (g : Grid) (c : Change) (p : Point) → IsOn g.side p → cell_at (with_change g c) p ≡ cond (p.row == c.row) (stone_of_bits (has_bit c.black p.col) (has_bit c.white p.col)) (cell_at g p)
-unfolding with_change
+unfolding with_row
 cell_at-changed g c p on = cell_at-grid_of g.side (λ q. cond (q.row == c.row) (stone_of_bits (has_bit c.black q.col) (has_bit c.white q.col)) (cell_at g q)) p on
 
 -- the side stays, and so does the number of cells
 pub after-side : (g : Grid) (cs : List Change) → (after_changes g cs).side ≡ g.side
 after-side g [] = refl
-after-side g (x ∷ xs) = after-side (with_change g x) xs ∙ side-changed g x
+after-side g (x ∷ xs) = side-changed (after_changes g xs) x ∙ after-side g xs
 
 pub after-length : (g : Grid) (cs : List Change) → length g.cells ≡ g.side * g.side → length (after_changes g cs).cells ≡ g.side * g.side
 after-length g [] all = all
-after-length g (x ∷ xs) all =
-    let side = side-changed g x in
-    after-length (with_change g x) xs (length-changed g x ∙ ap (λ n. n * n) (sym side)) ∙ ap (λ n. n * n) side
+after-length g (x ∷ xs) all = length-changed (after_changes g xs) x ∙ ap (λ n. n * n) (after-side g xs)
 
-pub after-push : (g : Grid) (cs : List Change) (c : Change) → after_changes g (cs ++ c ∷ []) ≡ with_change (after_changes g cs) c
-after-push g [] c = refl
-after-push g (x ∷ xs) c = after-push (with_change g x) xs c
-
--- a row is put back by three sets of columns
-by_row : (e a w b : Bool) (x : Cell) → a ≡ true → cond (e && w) White (cond (e && b) Black (cond (e && a) Empty x)) ≡ cond e (stone_of_bits b w) x
-by_row false a w b x is = refl
-by_row true true w b x is = refl
-by_row true false w b x is = absurd (false≢true is)
-
-pub three_columns : (g : Grid) (all : ℕ) (c : Change) → ((col : ℕ) → col < g.side → has_bit all col ≡ true) → with_columns (with_columns (with_columns g c.row all Empty) c.row c.black Black) c.row c.white White ≡ with_change g c
-three_columns g all c is =
-    let empty = with_columns g c.row all Empty in
-    let black = with_columns empty c.row c.black Black in
-    let side_empty : empty.side ≡ g.side = side-coloured g c.row all Empty in
-    let side_black : black.side ≡ g.side = side-coloured empty c.row c.black Black ∙ side_empty in
-    let side_white : (with_columns black c.row c.white White).side ≡ g.side = side-coloured black c.row c.white White ∙ side_black in
-    one_colouring (with_columns black c.row c.white White) (with_change g c) (side_white ∙ sym (side-changed g c))
-    (length-coloured black c.row c.white White ∙ ap (λ n. n * n) (side_black ∙ sym side_white))
-    (length-changed g c ∙ ap (λ n. n * n) (sym (side-changed g c)))
-    (λ p at.
-    let on : IsOn g.side p = subst (λ n. IsOn n p) side_white at in
-    let e = p.row == c.row in
-    cell_at-coloured black c.row c.white White p (subst (λ n. IsOn n p) (sym side_black) on)
-    ∙ ap (λ x. cond (e && has_bit c.white p.col) White x) (cell_at-coloured empty c.row c.black Black p (subst (λ n. IsOn n p) (sym side_empty) on))
-    ∙ ap (λ x. cond (e && has_bit c.white p.col) White (cond (e && has_bit c.black p.col) Black x)) (cell_at-coloured g c.row all Empty p on)
-    ∙ by_row e (has_bit all p.col) (has_bit c.white p.col) (has_bit c.black p.col) (cell_at g p) (is p.col on.0)
-    ∙ sym (cell_at-changed g c p on))
+pub after-append : (g : Grid) (cs more : List Change) → after_changes g (cs ++ more) ≡ after_changes (after_changes g more) cs
+after-append g [] more = refl
+after-append g (x ∷ xs) more = ap (λ (h : Grid). with_change h x) (after-append g xs more)
 
 -- a row of a colouring, put back, has what stood there
 stone_back : (c : Cell) → stone_of_bits (same_cell c Black) (same_cell c White) ≡ c
@@ -107,23 +79,111 @@ other_row g c p on other =
     cell_at-changed g c p on
     ∙ ap (λ b. cond b (stone_of_bits (has_bit c.black p.col) (has_bit c.white p.col)) (cell_at g p)) (false_from_Decides (p.row == c.row) (Decides-eqb p.row c.row) (λ e. other (sym e)))
 
--- a point has what stood there, or its row is yet to be put back
-abbrev IsToBeBack : Grid → Grid → Point → List Change → Type 0
-IsToBeBack old g p cs = HasRow p.row cs ⊎ (cell_at g p ≡ cell_at old p)
-
-still : (old g : Grid) (c : Change) (cs : List Change) (p : Point) → IsOn g.side p → c.row ≢ p.row → IsToBeBack old g p (c ∷ cs) → IsToBeBack old (with_change g c) p cs
-still old g c cs p on other (inl (inl at)) = absurd (other at)
-still old g c cs p on other (inl (inr later)) = inl later
-still old g c cs p on other (inr same) = inr (other_row g c p on other ∙ same)
-
-all_back : (old g : Grid) (cs : List Change) → g.side ≡ old.side → All (IsRowOf old) cs → (p : Point) → IsOn old.side p → IsToBeBack old g p cs → cell_at (after_changes g cs) p ≡ cell_at old p
+-- a point has what stood there once a row of its own is put back, or if it had it before
+all_back : (old g : Grid) (cs : List Change) → g.side ≡ old.side → All (IsRowOf old) cs → (p : Point) → IsOn old.side p → HasRow p.row cs ⊎ (cell_at g p ≡ cell_at old p) → cell_at (after_changes g cs) p ≡ cell_at old p
 all_back old g [] side are p on (inl none) = absurd none
 all_back old g [] side are p on (inr same) = same
 all_back old g (c ∷ cs) side are p on h =
-    all_back old (with_change g c) cs (side-changed g c ∙ side) (All-tail (IsRowOf old) c cs are) p on (elim (cases_eq c.row p.row) [
-      | inl at ↦ inr (row_back old g c side (All-head (IsRowOf old) c cs are) p on at)
-      | inr other ↦ still old g c cs p (subst (λ n. IsOn n p) (sym side) on) other h
+    let here : (after_changes g cs).side ≡ old.side = after-side g cs ∙ side in
+    elim (cases_eq c.row p.row) [
+      | inl at ↦ row_back old (after_changes g cs) c here (All-head (IsRowOf old) c cs are) p on at
+      | inr other ↦
+          other_row (after_changes g cs) c p (subst (λ n. IsOn n p) (sym here) on) other
+          ∙ all_back old g cs side (All-tail (IsRowOf old) c cs are) p on (elim h [
+            | inl (inl at) ↦ absurd (other at)
+            | inl (inr later) ↦ inl later
+            | inr same ↦ inr same
+          ])
+    ]
+
+same_row : (g h : Grid) (c : Change) (p : Point) → IsOn g.side p → IsOn h.side p → c.row ≡ p.row → cell_at (with_change g c) p ≡ cell_at (with_change h c) p
+same_row g h c p on_g on_h at =
+    let is : (p.row == c.row) ≡ true = (Decides-eqb p.row c.row).1 (sym at) in
+    cell_at-changed g c p on_g
+    ∙ ap (λ b. cond b (stone_of_bits (has_bit c.black p.col) (has_bit c.white p.col)) (cell_at g p)) is
+    ∙ ap (λ b. cond b (stone_of_bits (has_bit c.black p.col) (has_bit c.white p.col)) (cell_at h p)) (sym is)
+    ∙ sym (cell_at-changed h c p on_h)
+
+either_first : (g : Grid) (c d : Change) → c.row ≢ d.row → with_change (with_change g c) d ≡ with_change (with_change g d) c
+either_first g c d apart =
+    let gc = with_change g c in
+    let gd = with_change g d in
+    let side_c = side-changed g c in
+    let side_d = side-changed g d in
+    let side_cd : (with_change gc d).side ≡ g.side = side-changed gc d ∙ side_c in
+    let side_dc : (with_change gd c).side ≡ g.side = side-changed gd c ∙ side_d in
+    one_colouring (with_change gc d) (with_change gd c) (side_cd ∙ sym side_dc)
+    (length-changed gc d ∙ ap (λ n. n * n) (sym (side-changed gc d)))
+    (length-changed gd c ∙ ap (λ n. n * n) (sym (side-changed gd c)))
+    (λ p at.
+    let on : IsOn g.side p = subst (λ n. IsOn n p) side_cd at in
+    let on_c : IsOn gc.side p = subst (λ n. IsOn n p) (sym side_c) on in
+    let on_d : IsOn gd.side p = subst (λ n. IsOn n p) (sym side_d) on in
+    elim (cases_eq c.row p.row) [
+      | inl here ↦
+          other_row gc d p on_c (λ there. apart (here ∙ sym there)) ∙ same_row g gd c p on on_d here
+      | inr other ↦
+          elim (cases_eq d.row p.row) [
+            | inl there ↦ same_row gc g d p on_c on there ∙ sym (other_row gd c p on_d other)
+            | inr neither ↦ other_row gc d p on_c neither ∙ other_row g c p on other ∙ sym (other_row gd c p on_d other ∙ other_row g d p on neither)
+          ]
     ])
+
+-- changes make the same of two grids on each point of a row of their own, and on each point on which the grids agree
+same_after : (g h : Grid) (cs : List Change) → g.side ≡ h.side → (p : Point) → IsOn g.side p → HasRow p.row cs ⊎ (cell_at g p ≡ cell_at h p) → cell_at (after_changes g cs) p ≡ cell_at (after_changes h cs) p
+same_after g h [] side p on (inl none) = absurd none
+same_after g h [] side p on (inr same) = same
+same_after g h (c ∷ cs) side p on at =
+    let on_g : IsOn (after_changes g cs).side p = subst (λ n. IsOn n p) (sym (after-side g cs)) on in
+    let on_h : IsOn (after_changes h cs).side p = subst (λ n. IsOn n p) (sym (after-side h cs ∙ sym side)) on in
+    elim (cases_eq c.row p.row) [
+      | inl here ↦ same_row (after_changes g cs) (after_changes h cs) c p on_g on_h here
+      | inr other ↦
+          other_row (after_changes g cs) c p on_g other
+          ∙ same_after g h cs side p on (elim at [
+            | inl (inl here) ↦ absurd (other here)
+            | inl (inr later) ↦ inl later
+            | inr same ↦ inr same
+          ])
+          ∙ sym (other_row (after_changes h cs) c p on_h other)
+    ]
+
+-- so of the changes of one row the first one counts
+module _ (g : Grid) (cells : length g.cells ≡ g.side * g.side) (cs : List Change) where
+  same_front : (h : Grid) → h.side ≡ g.side → length h.cells ≡ h.side * h.side → ((p : Point) → IsOn g.side p → HasRow p.row cs ⊎ (cell_at h p ≡ cell_at g p)) → after_changes h cs ≡ after_changes g cs
+  same_front h side cells_h each =
+      let side_h = after-side h cs in
+      let side_g = after-side g cs in
+      one_colouring (after_changes h cs) (after_changes g cs) (side_h ∙ side ∙ sym side_g)
+      (after-length h cs cells_h ∙ ap (λ n. n * n) (sym side_h))
+      (after-length g cs cells ∙ ap (λ n. n * n) (sym side_g))
+      (λ p at.
+      let on : IsOn h.side p = subst (λ n. IsOn n p) side_h at in
+      same_after h g cs side p on (each p (subst (λ n. IsOn n p) side on)))
+
+  -- changes of rows that have come count for nothing
+  all_come : (more : List Change) → ((row : ℕ) → row < g.side → HasRow row cs) → after_changes g (cs ++ more) ≡ after_changes g cs
+  all_come more come =
+      let side = after-side g more in
+      after-append g cs more
+      ∙ same_front (after_changes g more) side (after-length g more cells ∙ ap (λ n. n * n) (sym side)) (λ p on. inl (come p.row on.1))
+
+  one_come : (c : Change) → HasRow c.row cs → after_changes g (cs ++ c ∷ []) ≡ after_changes g cs
+  one_come c come =
+      after-append g cs (c ∷ [])
+      ∙ same_front (with_change g c) (side-changed g c) (length-changed g c ∙ ap (λ n. n * n) (sym (side-changed g c)))
+      (λ p on.
+      elim (cases_eq c.row p.row) [
+        | inl at ↦ inl (subst (λ row. HasRow row cs) at come)
+        | inr other ↦ inr (other_row g c p on other)
+      ])
+
+-- a change of another row can be made before the others
+one_more : (g : Grid) (cs : List Change) (c : Change) → (HasRow c.row cs → ⊥) → after_changes g (cs ++ c ∷ []) ≡ with_change (after_changes g cs) c
+one_more g [] c none = refl
+one_more g (x ∷ xs) c none =
+    ap (λ (h : Grid). with_change h x) (one_more g xs c (λ later. none (inr later)))
+    ∙ either_first (after_changes g xs) c x (λ same. none (inl (sym same)))
 
 -- no row is kept yet
 pub KeepRows-none : (g : Grid) (rows : ℕ → Bool) (a : List Change) → ((row : ℕ) → rows row ≡ true → ⊥) → KeepRows g rows a a
@@ -137,6 +197,12 @@ has_row-front row (x ∷ xs) c (inr later) = inr (has_row-front row xs c later)
 has_row-last : (row : ℕ) (xs : List Change) (c : Change) → c.row ≡ row → HasRow row (xs ++ c ∷ [])
 has_row-last row [] c at = inl at
 has_row-last row (x ∷ xs) c at = inr (has_row-last row xs c at)
+
+has_row-parts : (row : ℕ) (xs : List Change) (c : Change) → HasRow row (xs ++ c ∷ []) → HasRow row xs ⊎ (c.row ≡ row)
+has_row-parts row [] c (inl at) = inr at
+has_row-parts row [] c (inr none) = absurd none
+has_row-parts row (x ∷ xs) c (inl at) = inl (inl at)
+has_row-parts row (x ∷ xs) c (inr later) = elim (has_row-parts row xs c later) [ inl before ↦ inl (inr before) | inr at ↦ inr at ]
 
 -- one row more
 pub KeepRows-more : (g : Grid) (rows more : ℕ → Bool) (a b next : List Change) (c : Change) → next ≡ b ++ c ∷ [] → IsRowOf g c → ((row : ℕ) → more row ≡ true → (c.row ≡ row) ⊎ (rows row ≡ true)) → KeepRows g rows a b → KeepRows g more a next
@@ -180,3 +246,46 @@ module _ (old new : Grid) (all : Bool) (rows : ℕ → Bool) (a b : List Change)
 
   pub kept_on : AreOn old.side h.more
   kept_on = All-weaker (IsRowOf old) (IsChangeOn old.side) (λ c is. is.on) h.more h.are
+
+-- Changes made from the first on. What is left are the rows of which none has come.
+pub record IsMade (g h : Grid) (cs : List Change) (left : ℕ) : Type 0 where
+  pub board : h ≡ after_changes g cs
+  pub come : (row : ℕ) → row < g.side → has_bit left row ≡ false → HasRow row cs
+  pub none : (row : ℕ) → has_bit left row ≡ true → HasRow row cs → ⊥
+
+module _ (g h : Grid) (cells : length g.cells ≡ g.side * g.side) (cs : List Change) (left : ℕ) (made : IsMade g h cs left) where
+  pub made-whole : (all : List Change) (i : ℕ) → cs ≡ take i all → left ≡ 0 → h ≡ after_changes g all
+  made-whole all i is gone =
+      made.board
+      ∙ sym (all_come g cells cs (drop i all) (λ row low. made.come row low (ap (λ n. has_bit n row) gone ∙ has_bit-zero row)))
+      ∙ ap (after_changes g) (ap (λ xs. xs ++ drop i all) is ∙ take-append-drop i all)
+
+  pub made-more : (h' : Grid) (left' : ℕ) (c : Change) → has_bit left c.row ≡ true → h' ≡ with_change h c → has_bit left' c.row ≡ false → ((row : ℕ) → row ≢ c.row → has_bit left' row ≡ has_bit left row) → IsMade g h' (cs ++ c ∷ []) left'
+  made-more h' left' c there is gone elsewhere = record {
+    board = is ∙ ap (λ (x : Grid). with_change x c) made.board ∙ sym (one_more g cs c (made.none c.row there));
+    come = λ row low none.
+        elim (cases_eq row c.row) [
+          | inl at ↦ has_row-last row cs c (sym at)
+          | inr other ↦ has_row-front row cs c (made.come row low (sym (elsewhere row other) ∙ none))
+        ];
+    none = λ row is_left has.
+        elim (cases_eq row c.row) [
+          | inl at ↦ false≢true (sym gone ∙ ap (has_bit left') (sym at) ∙ is_left)
+          | inr other ↦
+              elim (has_row-parts row cs c has) [
+                | inl before ↦ made.none row (sym (elsewhere row other) ∙ is_left) before
+                | inr at ↦ other (sym at)
+              ]
+        ];
+  }
+
+  pub made-passed : (c : Change) → c.row < g.side → has_bit left c.row ≡ false → IsMade g h (cs ++ c ∷ []) left
+  made-passed c low gone = record {
+    board = made.board ∙ sym (one_come g cells cs c (made.come c.row low gone));
+    come = λ row on none. has_row-front row cs c (made.come row on none);
+    none = λ row is_left has.
+        elim (has_row-parts row cs c has) [
+          | inl before ↦ made.none row is_left before
+          | inr at ↦ false≢true (sym gone ∙ ap (has_bit left) at ∙ is_left)
+        ];
+  }

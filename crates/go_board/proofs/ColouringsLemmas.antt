@@ -1,6 +1,6 @@
 -- Past colourings, as what is kept of them tells them.
-use Rattle.std.proofs.Common.{◌≡◌, ◌==◌, ℕ, zero, suc, ◌+◌, ◌-◌, ◌<◌, ◌≤◌, inl, inr, List, [], ◌∷◌, ◌++◌, Some, Bool, true, false, cond, length, get_or, map, take, drop, reverse, slice_range, refl, sym, ap, subst, ◌∙◌, arith, length-take, length-append, IsTrue}
-use Rattle.std.proofs.lemmas.List.{take_more, take_all, take_at, drop_at, drop-drop, take-take, reverse-append, length-reverse, get_or-reverse}
+use Rattle.std.proofs.Common.{◌≡◌, ◌==◌, ℕ, zero, suc, ◌+◌, ◌-◌, ◌*◌, ◌<◌, ◌≤◌, inl, inr, List, [], ◌∷◌, ◌++◌, Some, Bool, true, false, cond, length, get_or, map, take, drop, reverse, slice_range, refl, sym, ap, subst, ◌∙◌, arith, length-take, length-append, IsTrue}
+use Rattle.std.proofs.lemmas.List.{take_more, take_all, take_at, drop_at, drop-drop, take-take, take-append-drop, reverse-append, length-reverse, get_or-reverse}
 use Rattle.std.proofs.lemmas.List.Elements.{All-take, All-append}
 use Rattle.std.proofs.lemmas.Bool.{cases_lt}
 use Rattle.std.proofs.lemmas.Bool.Decides.{nat_tests}
@@ -12,7 +12,7 @@ use Rattle.go_board.specs.Clearing.{has_unreaching}
 use Rattle.go_board.specs.Past.{Held, PastColourings, all_of, stretch_of, with_next}
 use Rattle.go_board.specs.inner.Changes.{first_grid, after_changes, is_full, IsEndOf, IsChangeOn, MakeOne, before, changes_before, held_before, AreKept, AreCounted, AreOn, IsPast}
 use Rattle.go_board.specs.inner.Key.{start_of, since}
-use Rattle.go_board.proofs.ChangesLemmas.{after-side}
+use Rattle.go_board.proofs.ChangesLemmas.{after-side, after-append}
 
 -- a stretch has no more older colourings than there are
 pub counted-le : (older_in_stretch : ℕ) (os : List Older) → AreCounted older_in_stretch os → older_in_stretch ≤ length os
@@ -192,6 +192,63 @@ there-from newest older_in_stretch older changes held same kept number end count
           let up = there-all held older changes newest at (length older - number - 1) number one (omega arith) in
           (up.0, up.1, subst (λ e. IsThere held older changes number e up.0) (sym (ends.1 one lt)) up.2, λ is. absurd (omega (arith, lt, is))))
     ]
+
+-- a part of a list as two parts
+parts_of : (changes : List Change) (first middle end : ℕ) → first ≤ middle → middle ≤ end → slice_range changes first middle ++ slice_range changes middle end ≡ slice_range changes first end
+parts_of changes first middle end low high =
+    let all = take end changes in
+    let next : first + (middle - first) ≡ middle = omega (arith, low) in
+    ap (λ xs. xs ++ slice_range changes middle end)
+    (between_is changes first middle ∙ ap (λ xs. drop first xs) (sym (take-take middle end changes high)) ∙ sym (between_is all first middle))
+    ∙ ap (λ xs. take (middle - first) (drop first all) ++ xs) (between_is changes middle end ∙ ap (λ k. drop k all) (sym next) ∙ sym (drop-drop (middle - first) first all))
+    ∙ take-append-drop (middle - first) (drop first all)
+    ∙ sym (between_is changes first end)
+
+-- All changes from a number's own on lead back to its colouring, if those of the last step alone lead back to the one before it.
+module _ (held : List Held) (older : List Older) (changes : List Change) (end : ℕ) (board : Grid) (d : Older) where
+  abbrev start : ℕ → ℕ
+  start number = (get_or older number d).start
+
+  abbrev made : ℕ → Grid
+  made number = after_changes board (slice_range changes (start number) end)
+
+  pub there-down : (top : ℕ) → top < length older → start top ≤ end → IsThere held older changes top (start top) (made top) → (less number : ℕ) → number + less ≡ top → (start number ≤ end) × IsThere held older changes number (start number) (made number)
+  there-down top low le at zero number is =
+      let same : top ≡ number = omega arith in
+      (subst (λ n. start n ≤ end) same le, subst (λ n. IsThere held older changes n (start n) (made n)) same at)
+  there-down top low le at (suc less) number is =
+      let upper = there-down top low le at less (number + 1) (omega arith) in
+      let below : number < length older = omega arith in
+      let first = start-within held older changes number (start (number + 1)) (made (number + 1)) d below upper.1 in
+      let whole =
+      sym (after-append board (slice_range changes (start number) (start (number + 1))) (slice_range changes (start (number + 1)) end))
+      ∙ ap (after_changes board) (parts_of changes (start number) (start (number + 1)) end first upper.0) in
+      (omega (arith, first, upper.0), subst (λ (g : Grid). IsThere held older changes number (start number) g) whole (there-back held older changes number (start (number + 1)) (made (number + 1)) d below upper.1))
+
+-- so a walk back leads to the colouring of a number, from the newest, or after a full step from any
+pub record IsWalk (held : List Held) (older : List Older) (changes : List Change) (number start end : ℕ) (made : Grid) : Type 0 where
+  pub low : start ≤ end
+  pub high : end ≤ length changes
+  pub there : IsThere held older changes number start made
+
+pub walk : (newest board : Grid) (older_in_stretch : ℕ) (older : List Older) (changes : List Change) (held : List Held) → all_held newest older_in_stretch (reverse older) changes ≡ held → AreKept newest (reverse older) changes → board ≡ newest → length board.cells ≡ board.side * board.side
+    → (number from end count : ℕ) (d : Older) → number < from → from ≤ length older → (from < length older → (number < from) × IsTrue (is_full (from - 1))) → count ≡ length changes → IsEndOf older count from end
+    → IsWalk held older changes number (get_or older number d).start end (after_changes board (slice_range changes (get_or older number d).start end))
+walk newest board older_in_stretch older changes held same kept is cells number from end count d low high full is_count ends =
+    let at = there-from newest older_in_stretch older changes held same kept from end count high is_count ends in
+    let top = from - 1 in
+    let next : from ≡ top + 1 = omega arith in
+    let below : top < length older = omega arith in
+    let here : IsThere held older changes (top + 1) end at.0 = subst (λ n. IsThere held older changes n end at.0) next at.2 in
+    let taken = slice_range changes (get_or older top d).start end in
+    let made : after_changes at.0 taken ≡ after_changes board taken = elim (cases_lt from (length older)) [
+      | inl lt ↦ sym (full-back held older changes top end at.0 d below here (full lt).1 board (ap (λ (g : Grid). g.side) is ∙ sym at.1 ∙ sym (after-side at.0 taken)) cells)
+      | inr ge ↦ ap (λ (g : Grid). after_changes g taken) (at.3 (omega (arith, ge, high)) ∙ sym is)
+    ] in
+    let walked = there-down held older changes end board d top below (start-within held older changes top end at.0 d below here)
+    (subst (λ (g : Grid). IsThere held older changes top (get_or older top d).start g) made (there-back held older changes top end at.0 d below here))
+    (top - number) number (omega arith) in
+    record { low = walked.0; high = at.2.within; there = walked.1 }
 
 -- The start of a stretch: as many numbers back as are counted.
 

@@ -14,7 +14,7 @@ use Rattle.go_board.specs.Colour.{same_cell}
 use Rattle.go_board.specs.Point.{IsOn, index_of}
 use Rattle.go_board.specs.Grid.{Grid, cell_at, with_cell, empty_grid}
 use Rattle.go_board.specs.inner.Rows.{has_bit, is_set}
-use Rattle.go_board.specs.inner.Regions.{AreRowsOf, AreStones, grid_with, stone_in, with_columns}
+use Rattle.go_board.specs.inner.Regions.{AreRowsOf, AreStones, grid_with, stone_in, with_columns, with_row}
 use Rattle.go_board.proofs.WordLemmas.{has_bit-zero, has_bit-and, has_bit-or, has_bit-without, bit_at-there, bit_at-gone}
 use Rattle.go_board.proofs.GrowLemmas.{row_below}
 use Rattle.go_board.proofs.RowLemmas.{is_set-none}
@@ -109,15 +109,6 @@ same_rows n side other a b c d g h all sizes is_g is_h first second =
       λ e. same_words side a b c d first (subst (λ m. AreStones m c d) (sym sizes) second) (is_g ∙ e ∙ sym grid),
     )
 
--- a grid with points of a row coloured
-pub side-coloured : (g : Grid) (row columns : ℕ) (c : Cell) → (with_columns g row columns c).side ≡ g.side
-unfolding with_columns
-side-coloured g row columns c = refl
-
-pub cell_at-coloured : (g : Grid) (row columns : ℕ) (c : Cell) (p : Point) → IsOn g.side p → cell_at (with_columns g row columns c) p ≡ cond ((p.row == row) && has_bit columns p.col) c (cell_at g p)
-unfolding with_columns
-cell_at-coloured g row columns c p on = cell_at-grid_of g.side (λ q. cond ((q.row == row) && has_bit columns q.col) c (cell_at g q)) p on
-
 -- the words of one kind of stone after points of a row were coloured
 is_set-coloured : (words : List ℕ) (row columns word : ℕ) (c k : Cell) → row < length words → ((col : ℕ) → has_bit word col ≡ cond (has_bit columns col) (same_cell c k) (has_bit (get_or words row 0) col)) → (q : Point) → is_set (set words row word) q ≡ cond ((q.row == row) && has_bit columns q.col) (same_cell c k) (is_set words q)
 is_set-coloured words row columns word c k within is q =
@@ -182,6 +173,77 @@ module _ (side : ℕ) (black white : List ℕ) (row columns : ℕ) (c : Cell) (b
       ∙ chosen (turned q) c (is_set black q) (is_set white q)
       ∙ ap (λ x. cond (turned q) c x) (sym (cell_at-grid_of side (stone_in black white) q on)))
 
+-- the words of one colour with one row set
+is_set-row : (words : List ℕ) (row word : ℕ) → row < length words → (q : Point) → is_set (set words row word) q ≡ cond (q.row == row) (has_bit word q.col) (is_set words q)
+is_set-row words row word within q =
+    elim (cases_Bool (q.row == row)) [
+      | inl same ↦
+          ap (λ r. has_bit (get_or (set words row word) r 0) q.col) ((Decides-eqb q.row row).0 same)
+          ∙ ap (λ w. has_bit w q.col) (get_or-set_same words row word 0 within)
+          ∙ ap (λ b. cond b (has_bit word q.col) (is_set words q)) (sym same)
+      | inr apart ↦
+          ap (λ w. has_bit w q.col) (get_or-set_other words row q.row word 0 (λ e. false≢true (sym apart ∙ (Decides-eqb q.row row).1 e)))
+          ∙ ap (λ b. cond b (has_bit word q.col) (is_set words q)) (sym apart)
+    ]
+
+row_on : (side : ℕ) (words : List ℕ) (row word : ℕ) → row < length words → row < side → ((col : ℕ) → has_bit word col ≡ true → col < side) → ((q : Point) → is_set words q ≡ true → IsOn side q) → (q : Point) → is_set (set words row word) q ≡ true → IsOn side q
+row_on side words row word within below here elsewhere q is =
+    elim (cases_Bool (q.row == row)) [
+      | inl same ↦ (here q.col (sym (is_set-row words row word within q ∙ ap (λ b. cond b (has_bit word q.col) (is_set words q)) same) ∙ is), omega (arith, below, (Decides-eqb q.row row).0 same))
+      | inr apart ↦ elsewhere q (sym (is_set-row words row word within q ∙ ap (λ b. cond b (has_bit word q.col) (is_set words q)) apart) ∙ is)
+    ]
+
+one_stone : (b all w : Bool) → b ≡ (all && not w) → b ≡ true → w ≡ false
+one_stone b all false is there = refl
+one_stone b true true is there = absurd (false≢true (sym is ∙ there))
+one_stone b false true is there = absurd (false≢true (sym is ∙ there))
+
+row_stone : (e b w x y : Bool) → cond (cond e (b && not w) x) Black (cond (cond e w y) White Empty) ≡ cond e (cond w White (cond b Black Empty)) (cond x Black (cond y White Empty))
+row_stone false b w x y = refl
+row_stone true true true x y = refl
+row_stone true true false x y = refl
+row_stone true false true x y = refl
+row_stone true false false x y = refl
+
+-- a board after a row was set
+module _ (side : ℕ) (black white : List ℕ) (row all b w : ℕ) (are : AreStones side black white) (below : row < side) (black_in : (col : ℕ) → has_bit all col ≡ true → col < side) (white_in : (col : ℕ) → has_bit w col ≡ true → col < side) (rest : (col : ℕ) → col < 64 → has_bit b col ≡ (has_bit all col && not (has_bit w col))) (off : (col : ℕ) → has_bit b col ≡ true → has_bit all col ≡ true) where
+  in_black_rows : row < length black
+  in_black_rows = omega (arith, below, are.few, are.black_rows)
+
+  in_white_rows : row < length white
+  in_white_rows = omega (arith, below, are.few, are.white_rows)
+
+  pub AreStones-row : AreStones side (set black row b) (set white row w)
+  AreStones-row = record {
+    few = are.few;
+    black_rows = length-set black row b ∙ are.black_rows;
+    white_rows = length-set white row w ∙ are.white_rows;
+    black_on = row_on side black row b in_black_rows below (λ col is. black_in col (off col is)) are.black_on;
+    white_on = row_on side white row w in_white_rows below white_in are.white_on;
+    apart = λ q is.
+        elim (cases_Bool (q.row == row)) [
+          | inl same ↦
+              let there : has_bit b q.col ≡ true = sym (is_set-row black row b in_black_rows q ∙ ap (λ e. cond e (has_bit b q.col) (is_set black q)) same) ∙ is in
+              is_set-row white row w in_white_rows q ∙ ap (λ e. cond e (has_bit w q.col) (is_set white q)) same
+              ∙ one_stone (has_bit b q.col) (has_bit all q.col) (has_bit w q.col) (rest q.col (omega (arith, black_in q.col (off q.col there), are.few))) there
+          | inr other ↦
+              is_set-row white row w in_white_rows q ∙ ap (λ e. cond e (has_bit w q.col) (is_set white q)) other
+              ∙ are.apart q (sym (is_set-row black row b in_black_rows q ∙ ap (λ e. cond e (has_bit b q.col) (is_set black q)) other) ∙ is)
+        ];
+  }
+
+  pub grid-row : grid_with side (set black row b) (set white row w) ≡ with_row (grid_with side black white) row all w
+  unfolding with_row
+  grid-row =
+      same_colours side _ _
+      (λ q on.
+      let e = q.row == row in
+      ap (λ x. cond x Black (cond (is_set (set white row w) q) White Empty)) (is_set-row black row b in_black_rows q)
+      ∙ ap (λ x. cond (cond e (has_bit b q.col) (is_set black q)) Black (cond x White Empty)) (is_set-row white row w in_white_rows q)
+      ∙ ap (λ x. cond (cond e x (is_set black q)) Black (cond (cond e (has_bit w q.col) (is_set white q)) White Empty)) (rest q.col (omega (arith, on.0, are.few)))
+      ∙ row_stone e (has_bit all q.col) (has_bit w q.col) (is_set black q) (is_set white q)
+      ∙ ap (λ x. cond e (cond (has_bit w q.col) White (cond (has_bit all q.col) Black Empty)) x) (sym (cell_at-grid_of side (stone_in black white) q on)))
+
 -- one point coloured is a grid with that point coloured
 pub one_coloured : (g : Grid) (p : Point) (row columns : ℕ) (c : Cell) → IsOn g.side p → length g.cells ≡ g.side * g.side → row ≡ p.row → has_bit columns p.col ≡ true → ((k : ℕ) → k ≢ p.col → has_bit columns k ≡ false) → with_columns g row columns c ≡ with_cell g p c
 unfolding with_columns
@@ -209,10 +271,6 @@ one_coloured g p row columns c on all at there elsewhere =
               ∙ elsewhere q.col (λ e. other (one_point q p e ((Decides-eqb q.row row).0 same ∙ at)))
           | inr apart ↦ ap (λ b. b && has_bit columns q.col) apart
         ]
-
-pub length-coloured : (g : Grid) (row columns : ℕ) (c : Cell) → length (with_columns g row columns c).cells ≡ g.side * g.side
-unfolding with_columns
-length-coloured g row columns c = length-grid_of g.side _
 
 -- a word with some columns as they are to be
 pub columns_set : (word columns c : ℕ) → has_bit (bit_or word columns) c ≡ cond (has_bit columns c) true (has_bit word c)

@@ -12,7 +12,7 @@ mod search;
 pub(crate) mod stone_rows;
 
 use crate::board::both_areas::HALF;
-use crate::board::regions::{count_apart, no_rows, with_column};
+use crate::board::regions::{columns_left, count_apart, no_rows, with_column};
 use crate::board::stone_rows::{cell_in, with_columns};
 use crate::points::Point;
 use crate::size::{MAX_POINTS, MAX_ROWS, Size};
@@ -58,7 +58,7 @@ impl Board {
     ghost use Rattle.go_board.specs.Reaching.{Reaches};
     ghost use Rattle.go_board.specs.Clearing.{clear, play, has_unreaching};
     ghost use Rattle.go_board.specs.Score.{score_of};
-    ghost use Rattle.go_board.specs.inner.Regions.{with_columns};
+    ghost use Rattle.go_board.specs.inner.Regions.{with_columns, with_row};
     ghost use Rattle.go_board.specs.inner.Rows.{has_bit};
 
     /// The board of that size without stones.
@@ -131,6 +131,19 @@ impl Board {
         let row = usize::from(row);
         self.black[row] = with_columns(self.black[row], columns, cell, Cell::Black);
         self.white[row] = with_columns(self.white[row], columns, cell, Cell::White);
+        self.settled = false;
+    }
+
+    /// Changes what stands in a row. A column that is in both words gets a white stone. Nothing is cleared.
+    pub(crate) fn set_row(&mut self, row: u8, black: u64, white: u64)
+        requires row { row < self.old.side }
+        requires black { (col : ℕ) → IsTrue (has_bit black col) → col < self.old.side }
+        requires white { (col : ℕ) → IsTrue (has_bit white col) → col < self.old.side }
+        ensures { self.new ≡ with_row self.old row black white }
+    {
+        let row = usize::from(row);
+        self.black[row] = columns_left(black, white);
+        self.white[row] = white;
         self.settled = false;
     }
 

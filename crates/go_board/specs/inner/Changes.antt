@@ -1,17 +1,18 @@
 -- Past colourings. The newest is kept whole; of each older one the rows are kept that lead back to it. A change is one such row.
-use Rattle.std.specs.Prelude.{◌≡◌, ◌⊎◌, ◌==◌, ℕ, suc, ◌-◌, ◌*◌, ◌%◌, ◌<◌, ◌≤◌, Bool, List, [], ◌∷◌, ◌++◌, IsTrue, IsFalse, All, false, if◌then◌else◌, Option, Some, None, length, take, drop, reverse, slice_index_or}
-use Rattle.go_board.specs.declared.stones.Cell.TheVariants.{Black, White, Empty}
+use Rattle.std.specs.Prelude.{◌≡◌, ◌⊎◌, ◌==◌, ℕ, suc, ◌-◌, ◌*◌, ◌%◌, ◌<◌, ◌≤◌, Bool, List, [], ◌∷◌, ◌++◌, IsTrue, IsFalse, All, false, Option, Some, None, length, take, drop, reverse, slice_index_or}
+use Rattle.go_board.specs.declared.stones.Cell.TheVariants.{Black, White}
 use Rattle.go_board.specs.declared.points.Point.{Point}
 use Rattle.go_board.specs.declared.past.changes.Change.{Change}
 use Rattle.go_board.specs.declared.past.changes.Older.{Older}
 use Rattle.go_board.specs.declared.past.changes.TheConstants.{FULL}
 use Rattle.go_board.specs.Colour.{same_cell}
 use Rattle.go_board.specs.Point.{IsOn}
-use Rattle.go_board.specs.Grid.{Grid, cell_at, grid_of}
+use Rattle.go_board.specs.Grid.{Grid, cell_at}
 use Rattle.go_board.specs.Clearing.{has_unreaching, play}
 use Rattle.go_board.specs.Past.{Held}
 use Rattle.go_board.specs.declared.stones.Colour.{Colour}
 use Rattle.go_board.specs.inner.Groups.{TakesOff}
+use Rattle.go_board.specs.inner.Regions.{with_row}
 use Rattle.go_board.specs.inner.Rows.{has_bit}
 
 -- the first of these colourings
@@ -28,11 +29,8 @@ abbrev pub HasNumber : List Held → (ℕ → Type 0) → Grid → Type 0
 HasNumber held test grid = (number : ℕ) × (number < length held) × test number × IsNumber held number grid
 
 -- the grid with one row replaced by the row that the change keeps
-unfoldable pub with_change : Grid → Change → Grid
-with_change grid change =
-    grid_of grid.side (λ point. if point.row == change.row
-    then (if has_bit change.white point.col then White else (if has_bit change.black point.col then Black else Empty))
-    else cell_at grid point)
+abbrev pub with_change : Grid → Change → Grid
+with_change grid change = with_row grid change.row change.black change.white
 
 -- a change's row and all its stones are on a grid of that side
 pub record IsChangeOn (side : ℕ) (change : Change) : Type 0 where
@@ -44,10 +42,10 @@ pub record IsChangeOn (side : ℕ) (change : Change) : Type 0 where
 abbrev pub AreOn : ℕ → List Change → Type 0
 AreOn side changes = All (IsChangeOn side) changes
 
--- the grid after the changes, one after another
+-- the grid after the changes, the last one first
 abbrev pub after_changes : Grid → List Change → Grid
 after_changes grid [] = grid
-after_changes grid (change ∷ others) = after_changes (with_change grid change) others
+after_changes grid (change ∷ others) = with_change (after_changes grid others) change
 
 -- a change has the stones of its row of the grid
 pub record IsRowOf (grid : Grid) (change : Change) : Type 0 where

@@ -42,6 +42,13 @@ unfoldable pub with_columns : Grid → ℕ → ℕ → Cell → Grid
 with_columns grid row columns cell =
     grid_of grid.side (λ point. if (point.row == row) && has_bit columns point.col then cell else cell_at grid point)
 
+-- The grid with these stones on a row, and no others on it. If a column is in both words, its stone is white.
+unfoldable pub with_row : Grid → ℕ → ℕ → ℕ → Grid
+with_row grid row black white =
+    grid_of grid.side (λ point. if point.row == row
+    then (if has_bit white point.col then White else (if has_bit black point.col then Black else Empty))
+    else cell_at grid point)
+
 -- a point of the wanted colour, or one of the colour `own` that reaches it
 abbrev pub reaches_through_own : Grid → Cell → Cell → Point → Bool
 reaches_through_own grid own wanted point = is_either (cell_at grid point) own wanted && reaches grid wanted point

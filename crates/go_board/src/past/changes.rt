@@ -4,16 +4,16 @@ ghost use Rattle.std.specs.Prelude.{◌≡◌, ◌≢◌, ◌==◌, ◌<◌, ◌
 ghost use Rattle.go_board.specs.declared.stones.Colour.{Colour};
 ghost use Rattle.go_board.specs.Point.{IsOn};
 ghost use Rattle.go_board.specs.Clearing.{play};
-ghost use Rattle.go_board.specs.inner.Changes.{after_changes, with_change, AreOn, IsChangeOn, KeepRows, KeepPlayed, CoverChange, is_full};
+ghost use Rattle.go_board.specs.inner.Changes.{after_changes, AreOn, KeepRows, KeepPlayed, CoverChange, is_full};
 ghost use Rattle.go_board.specs.inner.Groups.{TakesOff};
 ghost use Rattle.go_board.specs.inner.Rows.{has_bit};
 
 use crate::board::Board;
-use crate::board::regions::{other_columns, with_column};
-use crate::board::stone_rows::without_column;
+use crate::board::regions::{all_columns, other_columns, with_column};
+use crate::board::stone_rows::{has_column, without_column};
 use crate::fault::MemoryFault;
 use crate::points::Point;
-use crate::stones::{Cell, Colour};
+use crate::stones::Colour;
 
 /// One step in this many keeps all rows of the colouring before it. So an older colouring
 /// can be worked out from the next such step, or else from the newest colouring.
@@ -38,26 +38,25 @@ pub(crate) struct Older {
     pub settled: bool,
 }
 
-/// Takes a board back by changes, one after another.
+/// Takes a board back by changes, the last one first.
+// The first change of a row is made last, so the row's other changes don't count. This way each row is set
+// once at most, however often it has changed.
 pub(crate) fn take_back(board: &mut Board, changes: &[Change])
     requires { AreOn board.old.side changes.now }
     ensures { board.new ≡ after_changes board.old changes.now }
 {
-    for change in changes {
-        put_back(board, *change);
-    }
-}
-
-/// Puts the stones of a row back.
-fn put_back(board: &mut Board, change: Change)
-    requires { IsChangeOn board.old.side change }
-    ensures { board.new ≡ with_change board.old change }
-{
     board.has_all_cells();
-    let all = other_columns(0, usize::from(board.size().side()));
-    board.colour_columns(change.row, all, Cell::Empty);
-    board.colour_columns(change.row, change.black, Cell::Black);
-    board.colour_columns(change.row, change.white, Cell::White);
+    let mut left = all_columns(usize::from(board.size().side()));
+    'each: for change in changes {
+        if left == 0 {
+            return;
+        }
+        let row = usize::from(change.row);
+        if has_column(left, row) {
+            board.set_row(change.row, change.black, change.white);
+            left = without_column(left, row);
+        }
+    }
 }
 
 /// Adds the rows of a board whose bits are set in `rows`. If memory is refused, none is added.

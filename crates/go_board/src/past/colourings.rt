@@ -123,11 +123,10 @@ impl Colourings {
         ensures { IsNumber (all_of self.now) number board.new }
     {
         board.has_all_cells();
-        let (from, mut end) = next_full(&self.older, self.changes.len(), number);
-        'steps: for i in (number..from).rev() {
-            let start = self.older[i].start;
+        let (from, end) = next_full(&self.older, self.changes.len(), number);
+        if number < from {
+            let start = self.older[number].start;
             take_back(board, &self.changes[start..end]);
-            end = start;
         }
     }
 
