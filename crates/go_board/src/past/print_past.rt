@@ -190,8 +190,8 @@ impl PrintPast {
         self.colourings.newest().has_all_cells();
         let print = self.print_once_put(colour, point, taken);
         let asked = self.may_repeat(point, taken);
-        if self.may_have(asked, point, taken, print) {
-            return self.play_on_copy(colour, point);
+        if self.repeats(asked, colour, point, taken, print) {
+            return Ok(false);
         }
         let gap = self.gap;
         self.gap = None;
@@ -221,33 +221,42 @@ impl PrintPast {
         has_point(&self.emptied, point) | has_point(taken, point)
     }
 
-    /// Whether the present stretch may have the colouring that a stone makes, whose print is `print`. If `asked` is false, it can't.
+    /// Whether the present stretch has the colouring that a stone makes (positional superko); `print` is that colouring's print, and
+    /// `taken` is what the stone takes off. If `asked` is false, the stretch can't have it.
     #[inline(always)]
-    fn may_have(&mut self, asked: bool, point: Point, taken: &[u64], print: u64) -> bool
+    fn repeats(
+        &mut self,
+        asked: bool,
+        colour: Colour,
+        point: Point,
+        taken: &[u64],
+        print: u64,
+    ) -> bool
+        requires one_side { HaveSide (newest_grid self.old).side self.old }
         requires on_board { IsOn (newest_grid self.old).side point }
         requires empty { cell_at (newest_grid self.old) point ≡ Empty }
-        requires never { (colour : Colour) → TakesOff (newest_grid self.old) colour point taken.now
-            → IsFalse asked → ¬ Contains (present_stretch self.old) (play (newest_grid self.old) colour point) }
+        requires taken { TakesOff (newest_grid self.old) colour point taken.now }
+        requires print { print ≡ print_of (play (newest_grid self.old) colour point) }
+        requires never { IsFalse asked → ¬ Contains (present_stretch self.old) (play (newest_grid self.old) colour point) }
         ensures kept { self.new ≡ self.old }
-        ensures may { (colour : Colour) → TakesOff (newest_grid self.old) colour point taken.now
-            → print ≡ print_of (play (newest_grid self.old) colour point)
-            → IsFalse result → ¬ Contains (present_stretch self.old) (play (newest_grid self.old) colour point) }
+        ensures has { IsTrue result ↔ Contains (present_stretch self.old) (play (newest_grid self.old) colour point) }
     {
         if !asked {
             return false;
         }
-        self.look_up(point, taken, print)
+        self.look_up(colour, point, taken, print)
     }
 
     /// The same, if it isn't known yet.
     #[inline(never)]
-    fn look_up(&mut self, point: Point, taken: &[u64], print: u64) -> bool
+    fn look_up(&mut self, colour: Colour, point: Point, taken: &[u64], print: u64) -> bool
+        requires one_side { HaveSide (newest_grid self.old).side self.old }
         requires on_board { IsOn (newest_grid self.old).side point }
         requires empty { cell_at (newest_grid self.old) point ≡ Empty }
+        requires taken { TakesOff (newest_grid self.old) colour point taken.now }
+        requires print { print ≡ print_of (play (newest_grid self.old) colour point) }
         ensures kept { self.new ≡ self.old }
-        ensures may { (colour : Colour) → TakesOff (newest_grid self.old) colour point taken.now
-            → print ≡ print_of (play (newest_grid self.old) colour point)
-            → IsFalse result → ¬ Contains (present_stretch self.old) (play (newest_grid self.old) colour point) }
+        ensures has { IsTrue result ↔ Contains (present_stretch self.old) (play (newest_grid self.old) colour point) }
     {
         self.colourings.newest().has_all_cells();
         if !has_point(taken, point) && self.last_stone_stays(taken) {
@@ -255,7 +264,24 @@ impl PrintPast {
         }
         self.table.link(&self.colourings);
         self.gap = self.table.gap(&self.colourings, print);
-        self.gap.is_none()
+        if self.gap.is_some() {
+            return false;
+        }
+        self.has_made(colour, point, taken, print)
+    }
+
+    /// The same. All points are compared.
+    fn has_made(&self, colour: Colour, point: Point, taken: &[u64], print: u64) -> bool
+        requires one_side { HaveSide (newest_grid self.now).side self.now }
+        requires on_board { IsOn (newest_grid self.now).side point }
+        requires empty { cell_at (newest_grid self.now) point ≡ Empty }
+        requires taken { TakesOff (newest_grid self.now) colour point taken.now }
+        requires print { print ≡ print_of (play (newest_grid self.now) colour point) }
+        ensures { IsTrue result ↔ Contains (present_stretch self.now) (play (newest_grid self.now) colour point) }
+    {
+        let mut made = self.newest().copy();
+        made.put(colour, point, taken);
+        self.table.has(&self.colourings, &made, print)
     }
 
     /// Whether the newest colouring has a stone that isn't in `taken`, and that no older colouring of the present stretch has.

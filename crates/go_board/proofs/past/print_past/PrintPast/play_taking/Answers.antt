@@ -24,7 +24,7 @@ add_points-requires c =
 pub invariant_of-self-2 : goal.invariant_of-self-2
 invariant_of-self-2 c =
     let was = c.self-2.inside in
-    let kept : was.colourings ≡ c.args.self.now = c.self-2.view_is ∙ c.may_have.ensures.kept in
+    let kept : was.colourings ≡ c.args.self.now = c.self-2.view_is ∙ c.repeats.ensures.kept in
     let k = c.args.colour in
     let p = c.args.point in
     let rows = c.args.taken.now in
@@ -50,10 +50,6 @@ invariant_of-self-2 c =
       gap_there = tt;
     }
 
-pub returns-then-may_have : goal.returns-then-may_have
-returns-then-may_have c =
-    subst (λ (past : PastColourings). IsPlayed c.args.colour c.args.point past c.play_on_copy.new.self c.play_on_copy.result) c.may_have.ensures.kept c.play_on_copy.ensures
-
 pub invariant_of-self : goal.invariant_of-self
 invariant_of-self c =
     let was = c.self-2.inside in
@@ -62,7 +58,7 @@ invariant_of-self c =
 pub pop-requires : goal.pop-requires
 pop-requires c =
     let was = c.self-2.inside in
-    let kept : was.colourings ≡ c.args.self.now = c.self-2.view_is ∙ c.may_have.ensures.kept in
+    let kept : was.colourings ≡ c.args.self.now = c.self-2.view_is ∙ c.repeats.ensures.kept in
     let made = play (newest_grid was.colourings) c.args.colour c.args.point in
     let print : c.print_once_put-print.result ≡ print_of made = c.print_once_put-print.ensures ∙ ap (λ (past : PastColourings). print_of (play (newest_grid past) c.args.colour c.args.point)) (sym kept) in
     let next : Held = record { colouring = made; begins = false } in
@@ -71,7 +67,7 @@ pop-requires c =
 pub invariant_of-self-then-is_err : goal.invariant_of-self-then-is_err
 invariant_of-self-then-is_err c =
     let was = c.self-2.inside in
-    let kept : was.colourings ≡ c.args.self.now = c.self-2.view_is ∙ c.may_have.ensures.kept in
+    let kept : was.colourings ≡ c.args.self.now = c.self-2.view_is ∙ c.repeats.ensures.kept in
     let made = play (newest_grid was.colourings) c.args.colour c.args.point in
     let print : c.print_once_put-print.result ≡ print_of made = c.print_once_put-print.ensures ∙ ap (λ (past : PastColourings). print_of (play (newest_grid past) c.args.colour c.args.point)) (sym kept) in
     let next : Held = record { colouring = made; begins = false } in
@@ -87,7 +83,7 @@ invariant_of-self-then-is_err c =
 pub fill-requires : goal.fill-requires
 fill-requires c =
     let was = c.self-2.inside in
-    let kept : was.colourings ≡ c.args.self.now = c.self-2.view_is ∙ c.may_have.ensures.kept in
+    let kept : was.colourings ≡ c.args.self.now = c.self-2.view_is ∙ c.repeats.ensures.kept in
     let made = play (newest_grid was.colourings) c.args.colour c.args.point in
     let print : c.print_once_put-print.result ≡ print_of made = c.print_once_put-print.ensures ∙ ap (λ (past : PastColourings). print_of (play (newest_grid past) c.args.colour c.args.point)) (sym kept) in
     let next : Held = record { colouring = made; begins = false } in
