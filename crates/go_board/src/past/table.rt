@@ -212,7 +212,8 @@ impl Table {
     #[inline(never)]
     pub(crate) fn link(&mut self, colourings: &Colourings)
         requires { IsTable (all_of colourings.now) self.old }
-        ensures { IsTable (all_of colourings.now) self.new }
+        ensures table { IsTable (all_of colourings.now) self.new }
+        ensures all { length self.new.nodes.items ≡ length self.new.prints.items }
     {
         'each: while self.nodes.len() < self.prints.len() {
             self.link_next(colourings);
