@@ -234,18 +234,17 @@ module _ (held : List Held) (table : Table) (is : IsTable held table) where
         (agree_back (subst (λ x. Agree x (key_row start print grid) WIDTH) near_key (subst (λ x. Agree (row_of linked_rows near) x WIDTH) is_key found)))
 
     -- Where the next colouring parts, if its start or its print parts it from this one.
-    pub nearest_parts : Nearest 128 → (start print place start' print' : ℕ) (other : ℕ → Bool) (any any' grid : Grid) → key ≡ key_row start print any → other ≡ key_row start' print' any'
-        → start' ≡ start_of (since near held) → print' ≡ get_or table.prints.items near 0 → place < 128 → Agree key other place → key place ≢ other place
+    pub nearest_parts : Nearest 128 → (start print place : ℕ) (other : ℕ → Bool) (any any' grid grid' : Grid) → key ≡ key_row start print any
+        → IsNumber held near grid' → other ≡ key_row (start_of (since near held)) (print_of grid') any' → place < 128 → Agree key other place → key place ≢ other place
         → Agree key (key_row start print grid) (place + 1) × IsParting (length table.nodes.items) (row_of linked_rows) (key_row start print grid) near place
-    nearest_parts n start print place start' print' other any any' grid is_key is_other same_start same_print low same differ =
-        let high : near < length held = omega (arith, near_in n, linked_few) in
-        let there = number_there held near high in
-        let printed = print_there near there.0 high there.1 in
+    nearest_parts n start print place other any any' grid grid' is_key at is_other low same differ =
+        let start' = start_of (since near held) in
+        let print' = print_of grid' in
         let row = key_row start print grid in
         let as_row : Agree key row 128 = subst (λ x. Agree x row 128) (sym is_key) (front_agrees start start print print any grid refl refl) in
-        let near_key = key_there near start' print' there.0 (near_in n) there.1 (sym same_start) (sym (same_print ∙ printed)) in
+        let near_key = key_there near start' print' grid' (near_in n) at refl refl in
         let as_near : Agree other (row_of linked_rows near) 128 = subst (λ x. Agree x (row_of linked_rows near) 128) (sym is_other) (subst (λ x. Agree (key_row start' print' any') x 128) (sym near_key)
-        (front_agrees start' start' print' print' any' there.0 refl refl)) in
+        (front_agrees start' start' print' print' any' grid' refl refl)) in
         let parting = found_parts n (omega arith) place (row_of linked_rows near) refl low (agree_on same (agree_less place (omega (arith, low)) as_near)) (λ e. differ (e ∙ sym (as_near.each place low))) in (
           agree_less (place + 1) (omega (arith, low)) as_row,
           record {
@@ -298,11 +297,9 @@ module _ (held : List Held) (table : Table) (is : IsTable held table) where
           (λ i h. bit_same (print_of there.0) print i (sym (near_print there.0 there.1 i h) ∙ found.each i h ∙ key_print i h))
 
     -- The same by all bits.
-    module _ (n : Nearest WIDTH) (start' print' : ℕ) (other : ℕ → Bool) (grid' : Grid) (is_other : other ≡ key_row start' print' grid') (at : IsNumber held near grid') (same_start : start' ≡ start_of (since near held)) (same_print : print' ≡ get_or table.prints.items near 0) where
+    module _ (n : Nearest WIDTH) (other : ℕ → Bool) (grid' : Grid) (at : IsNumber held near grid') (is_other : other ≡ key_row (start_of (since near held)) (print_of grid') grid') where
       near_key : row_of linked_rows near ≡ other
-      near_key =
-          let high : near < length held = omega (arith, near_in n, linked_few) in
-          key_there near start' print' grid' (near_in n) at (sym same_start) (sym (same_print ∙ print_there near grid' high at)) ∙ sym is_other
+      near_key = key_there near (start_of (since near held)) (print_of grid') grid' (near_in n) at refl refl ∙ sym is_other
 
       pub nearest_parts_whole : (place : ℕ) → place < WIDTH → Agree key other place → key place ≢ other place → IsParting (length table.nodes.items) (row_of linked_rows) key near place
       nearest_parts_whole place low same differ = found_parts n (omega arith) place other near_key low same differ
@@ -312,24 +309,22 @@ module _ (held : List Held) (table : Table) (is : IsTable held table) where
       nearest_same same = subst (λ x. Agree x key WIDTH) (sym near_key) (agree_back same)
 
 -- one colouring more in the trie
-pub linked_next : (held : List Held) (count : ℕ) (g : Grid) (start print : ℕ) (nodes : List Node) → count < length held → IsNumber held count g → start ≡ start_of (since count held) → print ≡ print_of g
-    → IsTrie WIDTH (key_row start print g ∷ keys_of (oldest count held)) nodes → (length nodes ≡ count + 1) × IsTrie WIDTH (keys_of (oldest (length nodes) held)) nodes
-linked_next held count g start print nodes low at is_start is_print trie =
+linked_next : (held : List Held) (count : ℕ) (g : Grid) (nodes : List Node) → count < length held → IsNumber held count g
+    → IsTrie WIDTH (key_row (start_of (since count held)) (print_of g) g ∷ keys_of (oldest count held)) nodes → (length nodes ≡ count + 1) × IsTrie WIDTH (keys_of (oldest (length nodes) held)) nodes
+linked_next held count g nodes low at trie =
     let all : length nodes ≡ count + 1 = trie.0 ∙ omega (arith, length-keys (oldest count held), length-oldest count held (omega (arith, low))) in
-    let rows : key_row start print g ∷ keys_of (oldest count held) ≡ keys_of (oldest (length nodes) held) =
-    ap (λ n. key_row n print g ∷ keys_of (oldest count held)) is_start ∙ ap (λ n. key_row (start_of (since count held)) n g ∷ keys_of (oldest count held)) is_print
-    ∙ sym (oldest-next count held g low at) ∙ ap (λ n. keys_of (oldest n held)) (sym all) in
+    let rows : key_row (start_of (since count held)) (print_of g) g ∷ keys_of (oldest count held) ≡ keys_of (oldest (length nodes) held) =
+    sym (oldest-next count held g low at) ∙ ap (λ n. keys_of (oldest n held)) (sym all) in
     (all, subst (λ (xs : List (ℕ → Bool)). IsTrie WIDTH xs nodes) rows trie)
 
-pub tabled_next : (held : List Held) (table next : Table) (g : Grid) (start print : ℕ) → IsTable held table → length table.nodes.items < length table.prints.items
-    → next.prints ≡ table.prints → vec_capacity next.nodes ≡ vec_capacity table.nodes
-    → IsNumber held (length table.nodes.items) g → start ≡ start_of (since (length table.nodes.items) held) → print ≡ print_of g
-    → IsTrie WIDTH (key_row start print g ∷ keys_of (oldest (length table.nodes.items) held)) next.nodes.items
+pub tabled_next : (held : List Held) (table next : Table) (g : Grid) → IsTable held table → length table.nodes.items < length table.prints.items
+    → next.prints ≡ table.prints → vec_capacity next.nodes ≡ vec_capacity table.nodes → IsNumber held (length table.nodes.items) g
+    → IsTrie WIDTH (key_row (start_of (since (length table.nodes.items) held)) (print_of g) g ∷ keys_of (oldest (length table.nodes.items) held)) next.nodes.items
     → IsTable held next × (length next.nodes.items ≡ length table.nodes.items + 1)
-tabled_next held table next g start print is more prints room at is_start is_print trie =
+tabled_next held table next g is more prints room at trie =
     let low : length table.nodes.items < length held = omega (arith, more, tabled held table is) in
     let count : length next.prints.items ≡ length table.prints.items = cc in
-    let linked = linked_next held (length table.nodes.items) g start print next.nodes.items low at is_start is_print trie in (
+    let linked = linked_next held (length table.nodes.items) g next.nodes.items low at trie in (
       record {
         printed = rw prints is.printed;
         few = omega (arith, linked.0, more, count);
@@ -340,13 +335,16 @@ tabled_next held table next g start print is more prints room at is_start is_pri
       linked.0,
     )
 
-pub linked_first : (held : List Held) (g : Grid) (nodes : List Node) → 0 < length held → IsNumber held 0 g
-    → IsTrie WIDTH (key_row (start_of (since 0 held)) (print_of g) g ∷ []) nodes → (length nodes ≡ 1) × IsTrie WIDTH (keys_of (oldest (length nodes) held)) nodes
-linked_first held g nodes low at trie =
-    let none : oldest 0 held ≡ [] = empty (oldest 0 held) (length-oldest 0 held (omega arith)) in
-    let next = linked_next held 0 g (start_of (since 0 held)) (print_of g) nodes low at refl refl
-    (subst (λ (hs : List Held). IsTrie WIDTH (key_row (start_of (since 0 held)) (print_of g) g ∷ keys_of hs) nodes) (sym none) trie) in
-    (omega (arith, next.0), next.1)
+-- the first one
+pub tabled_first : (held : List Held) (table next : Table) (g : Grid) → IsTable held table → length table.nodes.items < length table.prints.items
+    → next.prints ≡ table.prints → vec_capacity next.nodes ≡ vec_capacity table.nodes → IsNumber held (length table.nodes.items) g → length table.nodes.items ≡ 0
+    → IsTrie WIDTH (key_row (start_of (since (length table.nodes.items) held)) (print_of g) g ∷ []) next.nodes.items
+    → IsTable held next × (length next.nodes.items ≡ length table.nodes.items + 1)
+tabled_first held table next g is more prints room at none trie =
+    let count = length table.nodes.items in
+    let first : oldest count held ≡ [] = empty (oldest count held) (length-oldest count held (omega (arith, none)) ∙ none) in
+    tabled_next held table next g is more prints room at
+    (subst (λ (hs : List Held). IsTrie WIDTH (key_row (start_of (since count held)) (print_of g) g ∷ keys_of hs) next.nodes.items) (sym first) trie)
   where
     empty : (hs : List Held) → length hs ≡ 0 → hs ≡ []
     empty [] e = refl

@@ -77,7 +77,7 @@ module _ {b : ℕ → ℕ → Bool} {d : ℕ → ℕ} {i : ℕ} {s : Bool} where
     ];
   }
 
--- the second of two equal nodes, and so on: facts of a trie
+-- What a trie tells.
 module _ {w n : ℕ} {b : ℕ → ℕ → Bool} {d : ℕ → ℕ} {k : ℕ → Bool → ℕ} (tree : IsTree w n b d k) where
   -- The walk.
 

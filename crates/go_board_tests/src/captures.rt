@@ -1,18 +1,11 @@
 //! Games with captures. Both kinds of past must return the same results, and undoing must restore each board.
 
-use crate::given::{at, size};
+use crate::given::{at, next_number, size};
 use crate::referee::{answers, turn, undo};
 use go_board::{Colour, ListPast, Past, Play, PrintPast, Reason, Referee, TurnFault};
 use std::alloc::Global;
 use std::process::Abort;
 use std::test::Fail;
-
-/// The number after one in a pseudorandom sequence.
-fn next_number(number: u64) -> u64 {
-    number
-        .wrapping_mul(6_364_136_223_846_793_005)
-        .wrapping_add(1_442_695_040_888_963_407)
-}
 
 /// The column or the row that a number stands for.
 fn coordinate(rt: &impl Abort, number: u64, side: u8) -> u8 {

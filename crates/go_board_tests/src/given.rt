@@ -1,4 +1,4 @@
-//! Points and sizes for the tests.
+//! Points, sizes and numbers for the tests.
 
 ghost use Rattle.std.specs.Prelude.{◌≡◌};
 
@@ -18,4 +18,11 @@ pub(crate) fn size(rt: &impl Abort, side: u8) -> Size
     ensures { result ≡ side }
 {
     Size::new(side).expect(rt, "the side of a board")
+}
+
+/// The number after one in a pseudorandom sequence.
+pub(crate) fn next_number(number: u64) -> u64 {
+    number
+        .wrapping_mul(6_364_136_223_846_793_005)
+        .wrapping_add(1_442_695_040_888_963_407)
 }

@@ -10,7 +10,8 @@
 //! | `past` | a second stretch, and prints with the same low bits |
 //! | `referee` | turns, setup, undo, another game; the messages of the faults |
 //! | `captures` | games with captures over both pasts |
-//! | `given` | nothing: it has points and sizes for the other modules |
+//! | `in_step` | the same calls of both pasts, also on many colourings with one print |
+//! | `given` | nothing: it has points, sizes and numbers for the other modules |
 #![tactic(auto)]
 
 #[cfg(test)]
@@ -19,6 +20,8 @@ mod board;
 mod captures;
 #[cfg(test)]
 mod given;
+#[cfg(test)]
+mod in_step;
 #[cfg(test)]
 mod moves;
 #[cfg(test)]

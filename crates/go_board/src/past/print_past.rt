@@ -26,7 +26,7 @@ use std::marker::Model;
 /// it. A colouring is looked up only in the present stretch, and by its print: a 64-bit number made from
 /// what stands on all its points. If two prints are equal, all points are compared.
 ///
-/// A colouring that only adds one stone to the one before it takes 56 bytes, and 12 more once prints were looked up.
+/// A colouring that only adds one stone to the one before it takes 56 bytes, and a node of the trie 16 more.
 #[derive(Drop)]
 pub struct PrintPast {
     colourings: Colourings,

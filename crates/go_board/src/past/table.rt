@@ -6,6 +6,9 @@
 //! To put a colouring into the trie costs at most two colourings worked out, its own and that at the end of its walk, and this only if
 //! they have the same print. To take one out is one step. None of this depends on how many colourings there are, or on what was played:
 //! equal prints make no look-up longer.
+//!
+//! This is so once `link` has put all colourings into the trie. The past calls it before each look-up of a stone. `has` itself changes
+//! nothing: it compares one by one with the colourings that aren't there yet.
 
 ghost use Rattle.std.specs.Prelude.{◌≡◌, ◌≢◌, ◌↔◌, ℕ, ◌+◌, ◌<◌, ◌≤◌, ◌^◌, [], ◌∷◌, List, length, slice_index, IsTrue, IsFalse, IsSome, IfSome, IfOk, OnOk, OnErr, Contains};
 ghost use Rattle.std.specs.Vec.{vec_capacity};
@@ -13,7 +16,7 @@ ghost use Rattle.go_board.specs.declared.past.trie.Node.{Node};
 ghost use Rattle.go_board.specs.Grid.{Grid};
 ghost use Rattle.go_board.specs.Past.{Held, all_of, present_stretch, HaveSide};
 ghost use Rattle.go_board.specs.inner.Changes.{IsNumber, HasNumber};
-ghost use Rattle.go_board.specs.inner.Key.{bits_of, keys_of, oldest, start_of, since};
+ghost use Rattle.go_board.specs.inner.Key.{bits_of, key_row, keys_of, oldest, start_of, since};
 ghost use Rattle.go_board.specs.inner.Print.{print_of, prints_of};
 ghost use Rattle.go_board.specs.inner.Table.{IsGap, IsTable};
 ghost use Rattle.go_board.specs.inner.Trie.{IsNearest};
@@ -180,7 +183,8 @@ impl Table {
         near >= start && self.prints[near] == print
     }
 
-    /// Whether the present stretch has this colouring; `print` is its print. Colourings that aren't in the trie yet are compared one by one.
+    /// Whether the present stretch has this colouring; `print` is its print. Colourings that aren't in the trie yet are compared one
+    /// by one.
     pub(crate) fn has(&self, colourings: &Colourings, board: &Board, print: u64) -> bool
         requires table { IsTable (all_of colourings.now) self.now }
         requires side { HaveSide board.now.side colourings.now }
@@ -242,11 +246,22 @@ impl Table {
         nearest(&self.nodes, key, end)
     }
 
+    /// The front of the key of the colouring with this number, and for its rest the bits of a board.
+    fn key_of<'a>(&self, colourings: &Colourings, number: usize, board: &'a Board) -> Key<'a>
+        requires table { IsTable (all_of colourings.now) self.now }
+        requires number { number < length (all_of colourings.now) }
+        ensures { (grid : Grid) → IsNumber (all_of colourings.now) number grid
+            → bits_of result ≡ key_row (start_of (since number (all_of colourings.now))) (print_of grid) board.now }
+    {
+        Key::new(colourings.start_at(number), self.prints[number], board)
+    }
+
     /// Puts all colourings into the trie.
     #[inline(never)]
     pub(crate) fn link(&mut self, colourings: &Colourings)
         requires { IsTable (all_of colourings.now) self.old }
-        ensures { IsTable (all_of colourings.now) self.new }
+        ensures table { IsTable (all_of colourings.now) self.new }
+        ensures all { length self.new.nodes.items ≡ length self.new.prints.items }
     {
         'each: while self.nodes.len() < self.prints.len() {
             self.link_next(colourings);
@@ -266,36 +281,30 @@ impl Table {
             plant(&mut self.nodes);
             return;
         }
-        let start = colourings.start_at(number);
-        let key = Key::new(start, self.prints[number], colourings.newest());
+        let key = self.key_of(colourings, number, colourings.newest());
         let near = self.nearest(&key, FRONT);
-        let other = Key::new(
-            colourings.start_at(near),
-            self.prints[near],
-            colourings.newest(),
-        );
+        let other = self.key_of(colourings, near, colourings.newest());
         match first_difference(&key, &other, FRONT / WORD) {
             Some(place) => part(&mut self.nodes, &key, place),
-            None => self.link_by_board(colourings, number, start),
+            None => self.link_by_board(colourings),
         }
     }
 
     /// The same, by all bits of the keys.
-    fn link_by_board(&mut self, colourings: &Colourings, number: usize, start: usize)
+    fn link_by_board(&mut self, colourings: &Colourings)
         requires table { IsTable (all_of colourings.now) self.old }
         requires more { length self.old.nodes.items < length self.old.prints.items }
         requires some { 0 < length self.old.nodes.items }
-        requires number { number ≡ length self.old.nodes.items }
-        requires start { start ≡ start_of (since number (all_of colourings.now)) }
         ensures table { IsTable (all_of colourings.now) self.new }
         ensures next { length self.new.nodes.items ≡ length self.old.nodes.items + 1 }
         ensures prints { self.new.prints.items ≡ self.old.prints.items }
     {
-        let board = colourings.board_at(number);
-        let key = Key::new(start, self.prints[number], &board);
+        let next = self.nodes.len();
+        let board = colourings.board_at(next);
+        let key = self.key_of(colourings, next, &board);
         let near = self.nearest(&key, WIDTH);
         let past = colourings.board_at(near);
-        let other = Key::new(colourings.start_at(near), self.prints[near], &past);
+        let other = self.key_of(colourings, near, &past);
         match first_difference(&key, &other, WIDTH / WORD) {
             Some(place) => part(&mut self.nodes, &key, place),
             None => repeat(&mut self.nodes),
