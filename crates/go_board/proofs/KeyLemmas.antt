@@ -68,11 +68,11 @@ module _ (start start' print print' : ℕ) (grid grid' : Grid) where
   pub front_same : start < 2 ^ 64 → start' < 2 ^ 64 → print < 2 ^ 64 → print' < 2 ^ 64 → Agree (key_row start print grid) (key_row start' print' grid') 128 → (start ≡ start') × (print ≡ print')
   front_same few few' small small' a = (
     same_from_bits_below 64 start start' few few' (λ i h. bit_same start start' i (
-      sym (key_at start print grid 1 i h) ∙ a.each (64 * 1 + i) (omega (arith, h)) ∙ key_at start' print' grid' 1 i h
-    )),
+        sym (key_at start print grid 1 i h) ∙ a.each (64 * 1 + i) (omega (arith, h)) ∙ key_at start' print' grid' 1 i h
+        )),
     same_from_bits_below 64 print print' small small' (λ i h. bit_same print print' i (
-      sym (key_at start print grid 0 i h) ∙ a.each (64 * 0 + i) (omega (arith, h)) ∙ key_at start' print' grid' 0 i h
-    )),
+        sym (key_at start print grid 0 i h) ∙ a.each (64 * 0 + i) (omega (arith, h)) ∙ key_at start' print' grid' 0 i h
+        )),
   )
 
   pub front_agrees : start ≡ start' → print ≡ print' → Agree (key_row start print grid) (key_row start' print' grid') 128

@@ -271,10 +271,12 @@ module _ (held : List Held) (table : Table) (is : IsTable held table) where
           let there = number_there held near high in
           let printed = print_there near there.0 high there.1 in
           let as_row : Agree key row 64 = record { each = λ p h. key_print p h ∙ sym (is_row p h) } in
-          let alike : Agree key (row_of linked_rows near) place = record { each = λ p h.
-              key_print p (omega (arith, h, low)) ∙ same_bit print (get_or table.prints.items near 0) p (same p h) ∙ ap (λ m. has_bit m p) printed ∙ sym (near_print there.0 there.1 p (omega (arith, h, low))) } in
+          let alike : Agree key (row_of linked_rows near) place = record {
+            each = λ p h.
+                key_print p (omega (arith, h, low)) ∙ same_bit print (get_or table.prints.items near 0) p (same p h) ∙ ap (λ m. has_bit m p) printed ∙ sym (near_print there.0 there.1 p (omega (arith, h, low)));
+          } in
           let apart : key place ≢ row_of linked_rows near place = λ e. other_bits print (get_or table.prints.items near 0) place differ
-              (sym (key_print place low) ∙ e ∙ near_print there.0 there.1 place low ∙ ap (λ m. has_bit m place) (sym printed)) in
+          (sym (key_print place low) ∙ e ∙ near_print there.0 there.1 place low ∙ ap (λ m. has_bit m place) (sym printed)) in
           let parting = found_parts n (omega arith) place (row_of linked_rows near) refl low alike apart in (
             agree_less (place + 1) (omega (arith, low)) as_row,
             record {
@@ -290,8 +292,10 @@ module _ (held : List Held) (table : Table) (is : IsTable held table) where
       print_found number grid fits low at is =
           let high : near < length held = omega (arith, near_in n, linked_few) in
           let there = number_there held near high in
-          let agrees : Agree (row_of linked_rows number) key 64 = record { each = λ p h.
-              ap (λ (x : ℕ → Bool). x p) (key_there number (start_of (since number held)) print grid low at refl is) ∙ print_bit (start_of (since number held)) print grid p h ∙ sym (key_print p h) } in
+          let agrees : Agree (row_of linked_rows number) key 64 = record {
+            each = λ p h.
+                ap (λ (x : ℕ → Bool). x p) (key_there number (start_of (since number held)) print grid low at refl is) ∙ print_bit (start_of (since number held)) print grid p h ∙ sym (key_print p h);
+          } in
           let found = found_equal n (omega arith) number low agrees in
           print_there near there.0 high there.1 ∙ same_from_bits_below 64 (print_of there.0) print (print_small there.0) fits
           (λ i h. bit_same (print_of there.0) print i (sym (near_print there.0 there.1 i h) ∙ found.each i h ∙ key_print i h))

@@ -26,7 +26,9 @@ use crate::board::stone_rows::has_column;
 use crate::fault::MemoryFault;
 use crate::past::colourings::Colourings;
 use crate::past::key::{FRONT, Key, WIDTH, WORD, first_difference};
-use crate::past::trie::{Node, Slot, descend, insert, kid, nearest, opening, part, plant, repeat, take_back};
+use crate::past::trie::{
+    Node, Slot, descend, insert, kid, nearest, opening, part, plant, repeat, take_back,
+};
 use std::alloc::Global;
 
 /// The number of colourings that a new table has room for.

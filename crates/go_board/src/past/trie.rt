@@ -82,7 +82,7 @@ pub(crate) fn opening(nodes: &[Node], key: &Key<'_>, from: Slot, place: u32) -> 
     ensures opening { (rows : List (ℕ → Bool)) (row : ℕ → Bool) (end : ℕ) → IsTrie WIDTH rows nodes.now
         → IsOnWay (length nodes.now) (row_of rows) (depth_of nodes.now) (bits_of key.now) end from.node from.side
         → (depth_of nodes.now from.node < depth_of nodes.now (kid_of nodes.now from.node from.side)
-            → end < depth_of nodes.now (kid_of nodes.now from.node from.side))
+        → end < depth_of nodes.now (kid_of nodes.now from.node from.side))
         → place < end → Agree (bits_of key.now) row (place + 1)
         → IsParting (length nodes.now) (row_of rows) row (kid_of nodes.now from.node from.side) place
         → IsOpening rows nodes.now row result place }

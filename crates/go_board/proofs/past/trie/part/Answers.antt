@@ -11,6 +11,6 @@ returns-clause-trie c = λ rows row item trie same parting.
     let slot = c.descend-slot in
     let seen : c.deref.result.now ≡ nodes = c.deref.ensures.value in
     let opening : IsOpening rows nodes row slot.result c.args.place = subst (λ (xs : List Node). IsOpening rows xs row slot.result c.args.place) seen
-        (way_opens slot.result c.args.place (slot.ensures.way rows (subst (λ (xs : List Node). IsTrie WIDTH rows xs) (sym seen) trie)) slot.ensures.stop same
-        (subst (λ (xs : List Node). IsParting (length xs) (row_of rows) row item c.args.place) (sym seen) parting)) in
+    (way_opens slot.result c.args.place (slot.ensures.way rows (subst (λ (xs : List Node). IsTrie WIDTH rows xs) (sym seen) trie)) slot.ensures.stop same
+    (subst (λ (xs : List Node). IsParting (length xs) (row_of rows) row item c.args.place) (sym seen) parting)) in
     c.insert.ensures.trie rows row trie opening (sym (c.bit.ensures ∙ same.each c.args.place (omega arith)))

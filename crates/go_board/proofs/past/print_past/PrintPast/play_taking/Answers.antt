@@ -37,7 +37,7 @@ invariant_of-self-2 c =
     let next : Held = record { colouring = play g k p; begins = false } in
     let pushed = c.in_ok-push.ensures.ok (all_of was.colourings) next c.self-2.invariant.tabled print in
     let gap : IfSome was.gap (IsGap (all_of was.colourings) c.push.new.self.nodes.items) =
-        subst (λ (xs : List Node). IfSome was.gap (IsGap (all_of was.colourings) xs)) (sym c.push.ensures.nodes) c.self-2.invariant.gap_there in
+    subst (λ (xs : List Node). IfSome was.gap (IsGap (all_of was.colourings) xs)) (sym c.push.ensures.nodes) c.self-2.invariant.gap_there in
     let whole : c.add_stone.new.self ≡ with_next c.args.self.now (play (newest_grid c.args.self.now) k p) false = made ∙ ap (λ (past : PastColourings). with_next past (play (newest_grid past) k p) false) kept in
     record {
       tabled = subst (λ (past : PastColourings). IsTable (all_of past) c.fill.new.self) (sym made) (c.fill.ensures next (all_of was.colourings) pushed gap);
@@ -86,8 +86,7 @@ fill-requires c =
     let kept : was.colourings ≡ c.args.self.now = c.self-2.view_is ∙ c.repeats.ensures.kept in
     let made = play (newest_grid was.colourings) c.args.colour c.args.point in
     let print : c.print_once_put-print.result ≡ print_of made = c.print_once_put-print.ensures ∙ ap (λ (past : PastColourings). print_of (play (newest_grid past) c.args.colour c.args.point)) (sym kept) in
-    let next : Held = record { colouring = made; begins = false } in
-    (
+    let next : Held = record { colouring = made; begins = false } in (
       next,
       all_of was.colourings,
       c.in_ok-push.ensures.ok (all_of was.colourings) next c.self-2.invariant.tabled print,

@@ -26,7 +26,7 @@ returns-then-newest-gap c = λ newest older is gap.
     let row = key_row (start_of (newest ∷ older)) (print_of newest.colouring) newest.colouring in
     let front : (p : ℕ) → p < 64 → row p ≡ has_bit c.args.gap.print p = λ p h. print_bit (start_of (newest ∷ older)) (print_of newest.colouring) newest.colouring p h ∙ ap (λ n. has_bit n p) print in
     let before : IsTrie WIDTH (keys_of older) nodes = subst (λ (hs : List Held). IsTrie WIDTH (keys_of hs) nodes)
-        (oldest-same (length nodes) newest older (omega (arith, gap.all)) ∙ oldest-all older (length nodes) gap.all) is.linked in
+    (oldest-same (length nodes) newest older (omega (arith, gap.all)) ∙ oldest-all older (length nodes) gap.all) is.linked in
     let trie : IsTrie WIDTH (row ∷ keys_of older) new = c.insert.ensures.trie (keys_of older) row before (gap.opens row front) (front c.args.gap.place gap.low ∙ sym c.has_column-bit.ensures) in
     let count : length new ≡ length older + 1 = trie.0 ∙ omega (arith, length-keys older) in
     let all = tabled (newest ∷ older) t is in

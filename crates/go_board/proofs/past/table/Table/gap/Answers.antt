@@ -29,14 +29,14 @@ returns-clause-gap c =
     let near = kid_of nodes from.node from.side in
     let trie : IsTrie WIDTH rows c.deref.result.now = subst (λ (xs : List Node). IsTrie WIDTH rows xs) (sym c.deref.ensures.value) is.linked in
     let way : IsOnWay (length nodes) (row_of rows) (depth_of nodes) key 64 from.node from.side =
-        subst (λ (xs : List Node). IsOnWay (length xs) (row_of rows) (depth_of xs) key 64 from.node from.side) c.deref.ensures.value (c.descend-from.ensures.way rows trie) in
+    subst (λ (xs : List Node). IsOnWay (length xs) (row_of rows) (depth_of xs) key 64 from.node from.side) c.deref.ensures.value (c.descend-from.ensures.way rows trie) in
     let stop : depth_of nodes from.node < depth_of nodes near → 64 < depth_of nodes near =
-        subst (λ (xs : List Node). depth_of xs from.node < depth_of xs (kid_of xs from.node from.side) → 64 < depth_of xs (kid_of xs from.node from.side)) c.deref.ensures.value c.descend-from.ensures.stop in
+    subst (λ (xs : List Node). depth_of xs from.node < depth_of xs (kid_of xs from.node from.side) → 64 < depth_of xs (kid_of xs from.node from.side)) c.deref.ensures.value c.descend-from.ensures.stop in
     let found : IsNearest rows nodes key 64 near = record { node = from.node; side = from.side; way = way; stop = stop; names = refl } in
     let item : c.kid.result ≡ near = c.kid.ensures ∙ ap (λ (xs : List Node). kid_of xs from.node from.side) c.deref-2.ensures.value in
     let low : near < length nodes = near_in held t is some key near found in
     let print : c.index.result.now ≡ get_or t.prints.items near 0 =
-        c.index.ensures ∙ ap (λ n. get_or t.prints.items n c.index.result.now) item ∙ get_or_default_zero t.prints.items near c.index.result.now (omega (arith, low, is.few)) in
+    c.index.ensures ∙ ap (λ n. get_or t.prints.items n c.index.result.now) item ∙ get_or_default_zero t.prints.items near c.index.result.now (omega (arith, low, is.few)) in
     let near_fits : c.index.result.now < 2 ^ 64 = subst (λ n. n < 2 ^ 64) (sym (print ∙ print_there held t is near (number_there held near (omega (arith, low, count))).0 (omega (arith, low, count)) (number_there held near (omega (arith, low, count))).1)) (print_small _) in
     let xor = bit_xor c.args.print c.index.result.now in
     let small : xor < 2 ^ 64 = Fits-lt-pow (Fits-xor {w = w64} c.ranges.print (Fits-of_lt near_fits)) in
@@ -45,14 +45,14 @@ returns-clause-gap c =
     let place = trailing_zeros w64 xor in
     let slot = c.opening.result in
     let opens : (row : ℕ → Bool) → ((p : ℕ) → p < 64 → row p ≡ has_bit c.args.print p) → IsOpening rows nodes row slot place = λ row is_row.
-        let parts = print_parts held t is some key near found count 0 c.args.print c.newest.result.now c.new-key.ensures place row bits.0 is_row
-            (λ p h. ap (λ n. bit_at (bit_xor c.args.print n) p) (sym print) ∙ bits.2 p h) (ap (λ n. bit_at (bit_xor c.args.print n) place) (sym print) ∙ bits.1) in
-        subst (λ (xs : List Node). IsOpening rows xs row slot place) c.deref-3.ensures.value
-        (c.opening.ensures.opening rows row 64 (subst (λ (xs : List Node). IsTrie WIDTH rows xs) (sym c.deref-3.ensures.value) is.linked)
-        (subst (λ (xs : List Node). IsOnWay (length xs) (row_of rows) (depth_of xs) key 64 from.node from.side) (sym c.deref-3.ensures.value) way)
-        (subst (λ (xs : List Node). depth_of xs from.node < depth_of xs (kid_of xs from.node from.side) → 64 < depth_of xs (kid_of xs from.node from.side)) (sym c.deref-3.ensures.value) stop)
-        bits.0 parts.0
-        (subst (λ (xs : List Node). IsParting (length xs) (row_of rows) row (kid_of xs from.node from.side) place) (sym c.deref-3.ensures.value) parts.1)) in
+    let parts = print_parts held t is some key near found count 0 c.args.print c.newest.result.now c.new-key.ensures place row bits.0 is_row
+    (λ p h. ap (λ n. bit_at (bit_xor c.args.print n) p) (sym print) ∙ bits.2 p h) (ap (λ n. bit_at (bit_xor c.args.print n) place) (sym print) ∙ bits.1) in
+    subst (λ (xs : List Node). IsOpening rows xs row slot place) c.deref-3.ensures.value
+    (c.opening.ensures.opening rows row 64 (subst (λ (xs : List Node). IsTrie WIDTH rows xs) (sym c.deref-3.ensures.value) is.linked)
+    (subst (λ (xs : List Node). IsOnWay (length xs) (row_of rows) (depth_of xs) key 64 from.node from.side) (sym c.deref-3.ensures.value) way)
+    (subst (λ (xs : List Node). depth_of xs from.node < depth_of xs (kid_of xs from.node from.side) → 64 < depth_of xs (kid_of xs from.node from.side)) (sym c.deref-3.ensures.value) stop)
+    bits.0 parts.0
+    (subst (λ (xs : List Node). IsParting (length xs) (row_of rows) row (kid_of xs from.node from.side) place) (sym c.deref-3.ensures.value) parts.1)) in
     record {
       all = count;
       low = bits.0;
@@ -73,14 +73,14 @@ returns-clause-lacks c = λ grid some_gap is_print has.
     let near = kid_of nodes from.node from.side in
     let trie : IsTrie WIDTH rows c.deref.result.now = subst (λ (xs : List Node). IsTrie WIDTH rows xs) (sym c.deref.ensures.value) is.linked in
     let way : IsOnWay (length nodes) (row_of rows) (depth_of nodes) key 64 from.node from.side =
-        subst (λ (xs : List Node). IsOnWay (length xs) (row_of rows) (depth_of xs) key 64 from.node from.side) c.deref.ensures.value (c.descend-from.ensures.way rows trie) in
+    subst (λ (xs : List Node). IsOnWay (length xs) (row_of rows) (depth_of xs) key 64 from.node from.side) c.deref.ensures.value (c.descend-from.ensures.way rows trie) in
     let stop : depth_of nodes from.node < depth_of nodes near → 64 < depth_of nodes near =
-        subst (λ (xs : List Node). depth_of xs from.node < depth_of xs (kid_of xs from.node from.side) → 64 < depth_of xs (kid_of xs from.node from.side)) c.deref.ensures.value c.descend-from.ensures.stop in
+    subst (λ (xs : List Node). depth_of xs from.node < depth_of xs (kid_of xs from.node from.side) → 64 < depth_of xs (kid_of xs from.node from.side)) c.deref.ensures.value c.descend-from.ensures.stop in
     let found : IsNearest rows nodes key 64 near = record { node = from.node; side = from.side; way = way; stop = stop; names = refl } in
     let item : c.kid.result ≡ near = c.kid.ensures ∙ ap (λ (xs : List Node). kid_of xs from.node from.side) c.deref-2.ensures.value in
     let low : near < length nodes = near_in held t is some key near found in
     let print : c.index.result.now ≡ get_or t.prints.items near 0 =
-        c.index.ensures ∙ ap (λ n. get_or t.prints.items n c.index.result.now) item ∙ get_or_default_zero t.prints.items near c.index.result.now (omega (arith, low, is.few)) in
+    c.index.ensures ∙ ap (λ n. get_or t.prints.items n c.index.result.now) item ∙ get_or_default_zero t.prints.items near c.index.result.now (omega (arith, low, is.few)) in
     let start = c.args.colourings.now in
     let number = any_number held grid has in
     let same = print_found held t is some key near found count 0 c.args.print c.newest.result.now c.new-key.ensures number.0 grid (Fits-lt-pow c.ranges.print) (omega (arith, number.1, count)) number.2 (sym is_print) in
