@@ -15,6 +15,7 @@ Needs /usr/bin/time.
 """
 import argparse
 import hashlib
+import itertools
 import os
 import random
 import re
@@ -187,6 +188,51 @@ def equal_prints(size):
     return "".join(text)[:len(text[0]) + max(room, 0) // 20 * 20] + ")"
 
 
+# Holes of two points, by number: the even ones are Black's, on the left, the odd ones White's, on the right. The second entry says which of the
+# two points gets a stone, the third says whether it stands there at first (1) or only later (-1). The stones of both kinds have the same sum
+# of codes times powers of 31, modulo 2^64. So the print stays the same when all these holes turn over.
+BALANCED = ((9, 0, -1), (2, 1, -1), (1, 0, 1), (0, 0, 1), (22, 1, -1), (21, 1, -1), (16, 0, 1), (14, 1, 1),
+            (35, 0, 1), (34, 1, 1), (31, 0, -1), (29, 0, -1), (44, 1, 1), (43, 0, -1), (40, 1, 1), (37, 0, 1))
+
+
+def small_hole(number, which=0):
+    """The points of a hole of two points, on which a stone is put first, and which then fills the hole."""
+    row, col = number // 2 * 2 + 1, 49 if number % 2 else 1
+    return point(col + which, row), point(col + 1 - which, row)
+
+
+def turned(hole, filled):
+    """The move that turns a hole over: it fills the hole by half, or fills the rest, which is suicide."""
+    filled ^= {hole}
+    return hole[0] if hole in filled else hole[1]
+
+
+def by_turns(black, white):
+    """Both players' moves in turn. Who has none left passes."""
+    return "".join(f";B[{b}];W[{w}]" for b, w in itertools.zip_longest(black, white, fillvalue=""))
+
+
+def costly(size):
+    """Variations each of whose moves makes the print of a colouring that takes long to work out, but not that colouring. Both players have holes
+    of two points and shafts of 51. Some moves come first. Then all shafts are emptied by suicide, filled again, and BALANCED turns over."""
+    filled, steps = {small_hole(number, which) for number, which, sign in BALANCED if sign == 1}, [0, 1, 0, 2, 0, 1, 0, 3, 0, 1, 0, 2, 0, 1, 0, 4]
+    used = {number for number, _, _ in BALANCED}
+    free = [[small_hole(number) for number in range(player, 50, 2) if number not in used] for player in (0, 1)]
+    shafts = [[[point(col, row) for row in range(1, 52)] for col in cols] for cols in (range(4, 25, 2), range(27, 48, 2))]
+    holes = {spot for number in range(50) for spot in small_hole(number)} | {spot for half in shafts for shaft in half for spot in shaft}
+    stones = [{spot[0] for spot in filled if spot[0][0].isupper() == bool(player)} | {spot for shaft in shafts[player] for spot in shaft[:-1]}
+              | {point(col, row) for col in (range(26, 52), range(26))[player] for row in range(52)} - holes - {"aa", "Za"} for player in (0, 1)]
+    there = [[turned(free[player][step], filled) for step in steps] for player in (0, 1)]
+    back = [[turned(free[player][step], filled) for step in reversed(steps)] for player in (0, 1)]
+    over = [[turned(small_hole(number, which), filled) for number, which, _ in BALANCED if number % 2 == player] for player in (0, 1)]
+    refill = [[spot for shaft in shafts[player] for spot in shaft[:-1]] for player in (0, 1)]
+    front = ("(;SZ[52]" + "".join(f"A{name}" + "".join(f"[{spot}]" for spot in sorted(own)) for name, own in zip("BW", stones)) + "PL[B]"
+             + by_turns(*there) + by_turns(*[[shaft[-1] for shaft in half] for half in shafts])
+             + by_turns(*[back[player] + over[player] + refill[player] for player in (0, 1)]))
+    unit = "(" + by_turns(*there) + ")"
+    return repeated(max(size, len(front) + len(unit) + 1), front, unit, ")")
+
+
 def searches(size):
     """One line of moves on side 52. Black fills a hole of two points in a large white group whose one eye is far away. Every second time this is
     suicide. White counts beside it."""
@@ -273,6 +319,7 @@ INPUTS = {
     "keys": ("one line of moves on side 52, half of whose sums of powers of 31 have the same low bits", equal_keys, ["list", "count"]),
     "right": ("one line of moves on side 52 in holes of the last two columns", far_right, ["list", "count"]),
     "prints": ("one line of moves on side 52, of colourings with equal sums of powers of 31", equal_prints, ["list", "count"]),
+    "costly": ("variations whose moves have the prints of colourings that take long to work out", costly, FORMS),
     "searches": ("moves in a hole of two points in a group of 1,973 stones, whose only other liberty is far away", searches, ["list", "count"]),
     "captures": ("variations that capture 2,703 stones", lambda n: repeated(n, "(;SZ[52]AW[aa:ZZ]AE[aa]PL[B]", "(;B[aa])", ")"), ["list", "count"]),
     "boards": ("variations that set up a full board of 52", lambda n: repeated(n, "(;SZ[52]", "(;AB[aa:ZZ])", ")"), ["list", "count"]),
