@@ -33,6 +33,7 @@ pub mod PowerLemmas
 pub mod PrintLemmas
 pub mod ByteLemmas
 pub mod PrintPastLemmas
+pub mod EmptiedLemmas
 pub mod ChangesLemmas
 pub mod ColumnLemmas
 pub mod ColouringsLemmas

@@ -10,7 +10,7 @@ use Rattle.go_board.specs.Grid.{Grid, cell_at}
 use Rattle.go_board.specs.Clearing.{play}
 use Rattle.go_board.specs.Past.{Held, PastColourings, all_of, newest_grid, only, with_next, stretch_of, present_stretch, AllHaveSide, HaveSide}
 use Rattle.go_board.specs.Reason.{WasEmptied}
-use Rattle.go_board.specs.inner.Emptied.{HasEmptied, HasAllEmptied, IsLastStone, IsPrintPast}
+use Rattle.go_board.specs.inner.Emptied.{HasEmptied, HasAllEmptied, IsLastStone}
 use Rattle.go_board.specs.declared.past.table.Table.{Table}
 use Rattle.go_board.specs.inner.Table.{IsTable}
 use Rattle.go_board.specs.inner.Groups.{TakesOff}
@@ -95,10 +95,6 @@ last_stone_put past k p rows emptied on all none sides kept takes fresh stays =
           ];
     }
 
-pub last_unless : (asked : Bool) (past : PastColourings) (p : Point) → (asked ≡ false → IsLastStone past p) → IfSome (if asked then None else Some p) (IsLastStone past)
-last_unless true past p is = tt
-last_unless false past p is = is refl
-
 -- while such a stone stays, a stone that stays makes no colouring of the present stretch
 pub never_back_with : (past : PastColourings) (k : Colour) (p q : Point) (rows : List ℕ) → IsOn (newest_grid past).side p → length (newest_grid past).cells ≡ (newest_grid past).side * (newest_grid past).side → cell_at (newest_grid past) p ≡ Empty
     → TakesOff (newest_grid past) k p rows → IsLastStone past q → is_set rows q ≡ false → is_set rows p ≡ false → Contains (present_stretch past) (play (newest_grid past) k p) → ⊥
@@ -111,12 +107,3 @@ never_back_with past k p q rows on all none takes last stays_too stays (suc j, h
     let free : cell_at (play g k p) q ≡ Empty = last.new (play g k p) (j, omega (arith, h), e) in
     let other : q ≢ p = λ same. last.there (ap (cell_at g) same ∙ none) in
     last.there (sym (cell_at-with_cell_elsewhere g p q (stone_of k) on last.on other) ∙ sym (takes.played.kept q last.on (λ taken. false≢true (sym stays_too ∙ taken))) ∙ free)
-
--- a past of one colouring
-pub only_kept : (colourings : PastColourings) (table : Table) (emptied : List ℕ) (grid : Grid) → colourings ≡ only grid → IsTable (all_of colourings) table → IsPrintPast colourings table emptied None None
-only_kept colourings table emptied grid is tabled = record {
-  tabled = tabled;
-  emptied_in = subst (λ (past : PastColourings). HasAllEmptied (is_set emptied) (all_of past)) (sym is) tt;
-  last = tt;
-  gap_there = tt;
-}

@@ -481,7 +481,7 @@ with_kid-back : (node : Node) (s : Bool) (x : ℕ) → with_kid (with_kid node s
 with_kid-back node true x = refl
 with_kid-back node false x = refl
 
-set-twice : {X : Type 0} (xs : List X) (i : ℕ) (x y : X) → slice_set (slice_set xs i x) i y ≡ slice_set xs i y
+pub set-twice : {X : Type 0} (xs : List X) (i : ℕ) (x y : X) → slice_set (slice_set xs i x) i y ≡ slice_set xs i y
 set-twice [] i x y = refl
 set-twice (z ∷ zs) zero x y = refl
 set-twice (z ∷ zs) (suc i) x y = ap (λ (rest : List _). z ∷ rest) (set-twice zs i x y)

@@ -3,6 +3,7 @@
 mod bytes;
 mod changes;
 mod colourings;
+mod emptied;
 mod key;
 mod list_past;
 mod powers;

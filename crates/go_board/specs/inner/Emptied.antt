@@ -1,13 +1,15 @@
 -- Points that were emptied in a game. A stone that stays can bring a colouring back only on such a point.
-use Rattle.std.specs.Prelude.{◌≡◌, ◌≢◌, ℕ, Bool, if◌then◌else◌, IsFalse, IsTrue, IfSome, Option, Contains, List, [], ◌∷◌}
+use Rattle.std.specs.Prelude.{◌+◌, ◌<◌, ◌≤◌, All, length, reverse, slice_set, ◌≡◌, ◌≢◌, ℕ, Bool, if◌then◌else◌, IsFalse, IsTrue, IfSome, Option, Contains, List, [], ◌∷◌}
 use Rattle.go_board.specs.declared.stones.Cell.TheVariants.{Empty}
 use Rattle.go_board.specs.declared.points.Point.{Point}
 use Rattle.go_board.specs.Point.{IsOn}
 use Rattle.go_board.specs.Grid.{Grid, cell_at}
 use Rattle.go_board.specs.Past.{Held, PastColourings, all_of, newest_grid, stretch_of}
-use Rattle.go_board.specs.declared.past.table.Gap.{Gap}
+use Rattle.go_board.specs.declared.past.emptied.Emptied.{Emptied}
+use Rattle.go_board.specs.declared.past.emptied.OldRow.{OldRow}
 use Rattle.go_board.specs.declared.past.table.Table.{Table}
-use Rattle.go_board.specs.inner.Table.{IsGap, IsTable}
+use Rattle.go_board.specs.inner.Table.{IsTable}
+use Rattle.go_board.specs.inner.Key.{oldest}
 use Rattle.go_board.specs.inner.Rows.{is_set}
 
 -- the set has each point that has a stone on the grid `before` and none on the grid `after`
@@ -23,6 +25,29 @@ HasAllEmptied set (later ∷ []) = Unit {0}
 HasAllEmptied set (later ∷ (earlier ∷ others)) =
     (IsFalse later.begins → HasEmptied set earlier.colouring later.colouring) × HasAllEmptied set (earlier ∷ others)
 
+-- The set `rows` has all points that were emptied. Each old row, newest first, leads back to the set of an earlier time, which has all that
+-- were emptied up to the colouring with its number.
+abbrev pub HasHistory : List ℕ → List OldRow → List Held → Type 0
+HasHistory rows [] held = HasAllEmptied (is_set rows) held
+HasHistory rows (last ∷ older) held =
+    HasAllEmptied (is_set rows) held × (last.number ≤ length held)
+    × HasHistory (slice_set rows last.row last.word) older (oldest last.number held)
+
+-- the numbers of old rows, newest first, don't rise, and all are below that
+abbrev pub IsBelow : List OldRow → ℕ → Type 0
+IsBelow [] count = Unit {0}
+IsBelow (last ∷ older) count = (last.number < count) × IsBelow older (last.number + 1)
+
+abbrev pub HasRowsBelow : List OldRow → Type 0
+HasRowsBelow log = All (λ old. old.row < 52) log
+
+-- what is kept of the points that were emptied in the steps to these colourings
+pub record IsEmptied (held : List Held) (emptied : Emptied) : Type 0 where
+  pub count : length emptied.rows ≡ 52
+  pub inside : HasRowsBelow emptied.log.items
+  pub history : HasHistory emptied.rows (reverse emptied.log.items) held
+  pub below : IsBelow (reverse emptied.log.items) (length held)
+
 -- the newest colouring has a stone on that point, and no older one of the present stretch has
 pub record IsLastStone (past : PastColourings) (point : Point) : Type 0 where
   pub on : IsOn (newest_grid past).side point
@@ -30,9 +55,8 @@ pub record IsLastStone (past : PastColourings) (point : Point) : Type 0 where
   pub new : (grid : Grid) → Contains (if past.newest.begins then [] else stretch_of past.older) grid → cell_at grid point ≡ Empty
 
 -- what a past keeps besides its colourings: the table by which they are looked up, a set of rows that has each emptied point, and perhaps
--- the point of a stone that no older colouring of the stretch has, and where a colouring comes into the table
-pub record IsPrintPast (colourings : PastColourings) (table : Table) (emptied : List ℕ) (last_stone : Option Point) (gap : Option Gap) : Type 0 where
+-- the point of a stone that no older colouring of the stretch has
+pub record IsPrintPast (colourings : PastColourings) (table : Table) (emptied : Emptied) (last_stone : Option Point) : Type 0 where
   pub tabled : IsTable (all_of colourings) table
-  pub emptied_in : HasAllEmptied (is_set emptied) (all_of colourings)
+  pub emptied_in : IsEmptied (all_of colourings) emptied
   pub last : IfSome last_stone (IsLastStone colourings)
-  pub gap_there : IfSome gap (IsGap (all_of colourings) table.nodes.items)

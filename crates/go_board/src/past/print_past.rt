@@ -1,11 +1,16 @@
 //! A past that looks colourings up by their prints.
 
-ghost use Rattle.std.specs.Prelude.{◌≡◌, ◌≢◌, ◌<◌, if◌then◌else◌, None, Some, IsTrue, length};
+ghost use Rattle.std.specs.Prelude.{◌≡◌, ◌≢◌, ◌<◌, false, IsTrue, OnOk, OnErr, length};
 ghost use Rattle.go_board.specs.declared.stones.Cell.TheVariants.{Empty};
 ghost use Rattle.go_board.specs.declared.points.Point.{Point};
 ghost use Rattle.go_board.specs.Point.{IsOn};
 ghost use Rattle.go_board.specs.Grid.{cell_at};
-ghost use Rattle.go_board.specs.inner.Rows.{is_set, IsAmong};
+ghost use Rattle.go_board.specs.Clearing.{play};
+ghost use Rattle.go_board.specs.Past.{all_of, newest_grid, with_next};
+ghost use Rattle.go_board.specs.inner.Groups.{TakesOff};
+ghost use Rattle.go_board.specs.inner.Print.{print_of};
+ghost use Rattle.go_board.specs.inner.Rows.{is_set};
+ghost use Rattle.go_board.specs.inner.Table.{IsTable};
 
 use crate::board::Board;
 use crate::board::capture::add_points;
@@ -14,6 +19,7 @@ use crate::board::stone_rows::has_column;
 use crate::fault::MemoryFault;
 use crate::past::Past;
 use crate::past::colourings::Colourings;
+use crate::past::emptied::Emptied;
 use crate::past::print::{print_after_stone, print_after_taking, print_from, print_of};
 use crate::past::table::{Gap, Table};
 use crate::points::Point;
@@ -32,15 +38,11 @@ pub struct PrintPast {
     colourings: Colourings,
     /// The table by which colourings are looked up.
     table: Table,
-    /// All points that were emptied since the game began, and perhaps others: a bit for each
-    /// column of a row. A stone that stays can bring a colouring back only on one of these points.
-    /// Taking a colouring back leaves this set as it is, because that may go back over a setup.
-    emptied: [u64; MAX_ROWS],
+    /// The points that were emptied. A stone that stays can bring a colouring back only on one of these.
+    emptied: Emptied,
     /// A point on which the newest colouring has a stone, and no older one of the present stretch has; None if none is known. While
     /// that stone stays, a stone that stays can't bring a colouring back.
     last_stone: Option<Point>,
-    /// Where the colouring that was looked up last comes in, until it is added.
-    gap: Option<Gap>,
 }
 
 impl Model for PrintPast {
@@ -51,7 +53,7 @@ impl Model for PrintPast {
 
     ghost view = { λ p. p.colourings };
 
-    ghost invariant = { λ p. IsPrintPast p.colourings p.table p.emptied p.last_stone p.gap };
+    ghost invariant = { λ p. IsPrintPast p.colourings p.table p.emptied p.last_stone };
 }
 
 impl Past for PrintPast {
@@ -61,9 +63,8 @@ impl Past for PrintPast {
         Ok(PrintPast {
             colourings: Colourings::new(alloc, board)?,
             table: Table::new(alloc, print_of(board))?,
-            emptied: no_rows(),
+            emptied: Emptied::new(alloc),
             last_stone: None,
-            gap: None,
         })
     }
 
@@ -98,22 +99,21 @@ impl Past for PrintPast {
     fn pop(&mut self) {
         self.table.pop();
         self.colourings.pop();
+        self.emptied.go_back(self.table.next_number());
         self.last_stone = None;
-        self.gap = None;
     }
 
     fn reset(&mut self, _alloc: Global, board: &Board) -> Result<(), MemoryFault> {
         self.colourings.reset(board);
         self.table.reset(print_of(board));
-        self.emptied = no_rows();
+        self.emptied.clear();
         self.last_stone = None;
-        self.gap = None;
         Ok(())
     }
 }
 
 impl PrintPast {
-    ghost use Rattle.std.specs.Prelude.{◌≡◌, ◌↔◌, false, IsFalse, IsTrue, OnOk, OnErr, Contains};
+    ghost use Rattle.std.specs.Prelude.{◌≡◌, ◌↔◌, false, IsFalse, IsTrue, IsSome, OnOk, OnErr, Contains};
     ghost use Rattle.go_board.specs.declared.stones.Cell.TheVariants.{Empty};
     ghost use Rattle.go_board.specs.Point.{IsOn};
     ghost use Rattle.go_board.specs.Grid.{Grid, cell_at};
@@ -132,7 +132,6 @@ impl PrintPast {
         ensures { self.new ≡ self.old }
     {
         if self.colourings.stretch_start() + 1 < self.table.len() {
-            self.gap = None;
             self.table.link(&self.colourings);
         }
     }
@@ -144,13 +143,16 @@ impl PrintPast {
         ensures ok { OnOk result (self.new ≡ with_next self.old board.now begins) }
         ensures err { OnErr result (self.new ≡ self.old) }
     {
-        self.gap = None;
-        add_stones(self.colourings.newest(), &mut self.emptied);
+        let mut stones = no_rows();
+        add_stones(self.colourings.newest(), &mut stones);
+        self.emptied.reserve(stones.len())?;
+        let number = self.table.next_number();
         self.table.push(print)?;
         if self.colourings.add(board, begins).is_err() {
             self.table.pop();
             return Err(MemoryFault);
         }
+        self.emptied.add(&stones, number);
         self.last_stone = None;
         Ok(())
     }
@@ -189,20 +191,11 @@ impl PrintPast {
     {
         self.colourings.newest().has_all_cells();
         let print = self.print_once_put(colour, point, taken);
-        let asked = self.may_repeat(point, taken);
-        if self.repeats(asked, colour, point, taken, print) {
-            return Ok(false);
+        if self.may_repeat(point, taken) {
+            return self.play_asked(colour, point, taken, print);
         }
-        let gap = self.gap;
-        self.gap = None;
-        self.table.push(print)?;
-        if self.colourings.add_stone(colour, point, taken).is_err() {
-            self.table.pop();
-            return Err(MemoryFault);
-        }
-        self.table.fill(gap);
-        add_points(taken, &mut self.emptied);
-        self.last_stone = unless(asked, point);
+        self.add_made(colour, point, taken, print)?;
+        self.last_stone = Some(point);
         Ok(true)
     }
 
@@ -218,60 +211,114 @@ impl PrintPast {
             → IsFalse result → IsLastStone (with_next self.now (play (newest_grid self.now) colour point) false) point }
     {
         self.colourings.newest().has_all_cells();
-        has_point(&self.emptied, point) | has_point(taken, point)
+        has_point(&self.emptied.rows, point) | has_point(taken, point)
     }
 
-    /// Whether the present stretch has the colouring that a stone makes (positional superko); `print` is that colouring's print, and
-    /// `taken` is what the stone takes off. If `asked` is false, the stretch can't have it.
+    /// Adds the colouring that a stone makes; `print` is its print, and `taken` is what the stone takes off. After a refusal nothing
+    /// is changed.
     #[inline(always)]
-    fn repeats(
+    fn add_made(
         &mut self,
-        asked: bool,
+        colour: Colour,
+        point: Point,
+        taken: &[u64],
+        print: u64,
+    ) -> Result<(), MemoryFault>
+        requires on_board { IsOn (newest_grid self.old).side point }
+        requires empty { cell_at (newest_grid self.old) point ≡ Empty }
+        requires taken { TakesOff (newest_grid self.old) colour point taken.now }
+        requires print { print ≡ print_of (play (newest_grid self.old) colour point) }
+        ensures ok { OnOk result (self.new ≡ with_next self.old (play (newest_grid self.old) colour point) false) }
+        ensures err { OnErr result (self.new ≡ self.old) }
+    {
+        self.colourings.newest().has_all_cells();
+        self.emptied.reserve(taken.len())?;
+        let number = self.table.next_number();
+        add_stone(
+            &mut self.colourings,
+            &mut self.table,
+            colour,
+            point,
+            taken,
+            print,
+        )?;
+        self.emptied.add(taken, number);
+        self.last_stone = None;
+        Ok(())
+    }
+
+    /// The same as `play_taking`, for a stone that may bring a colouring back; `print` is the print of what it makes.
+    #[inline(never)]
+    fn play_asked(
+        &mut self,
+        colour: Colour,
+        point: Point,
+        taken: &[u64],
+        print: u64,
+    ) -> Result<bool, MemoryFault>
+        requires one_side { HaveSide (newest_grid self.old).side self.old }
+        requires on_board { IsOn (newest_grid self.old).side point }
+        requires empty { cell_at (newest_grid self.old) point ≡ Empty }
+        requires taken { TakesOff (newest_grid self.old) colour point taken.now }
+        requires print { print ≡ print_of (play (newest_grid self.old) colour point) }
+        ensures { IsPlayed colour point self.old self.new result }
+    {
+        self.colourings.newest().has_all_cells();
+        if !has_point(taken, point) && self.last_stone_stays(taken) {
+            self.add_made(colour, point, taken, print)?;
+            return Ok(true);
+        }
+        self.play_looked_up(colour, point, taken, print)
+    }
+
+    /// The same. The colouring that the stone makes is looked up (positional superko), and put into the trie at once.
+    fn play_looked_up(
+        &mut self,
+        colour: Colour,
+        point: Point,
+        taken: &[u64],
+        print: u64,
+    ) -> Result<bool, MemoryFault>
+        requires one_side { HaveSide (newest_grid self.old).side self.old }
+        requires on_board { IsOn (newest_grid self.old).side point }
+        requires empty { cell_at (newest_grid self.old) point ≡ Empty }
+        requires taken { TakesOff (newest_grid self.old) colour point taken.now }
+        requires print { print ≡ print_of (play (newest_grid self.old) colour point) }
+        ensures { IsPlayed colour point self.old self.new result }
+    {
+        self.colourings.newest().has_all_cells();
+        self.table.link(&self.colourings);
+        let gap = self.table.gap(&self.colourings, print);
+        if self.has_made(gap, colour, point, taken, print) {
+            return Ok(false);
+        }
+        self.emptied.reserve(taken.len())?;
+        let number = self.table.next_number();
+        add_stone(
+            &mut self.colourings,
+            &mut self.table,
+            colour,
+            point,
+            taken,
+            print,
+        )?;
+        self.table.fill(gap);
+        self.emptied.add(taken, number);
+        self.last_stone = None;
+        Ok(true)
+    }
+
+    /// Whether the present stretch has the colouring that a stone makes; `print` is that colouring's print, and `taken` is what the
+    /// stone takes off. If it has a gap in the trie, the stretch can't have it. Otherwise all points are compared.
+    fn has_made(
+        &self,
+        gap: Option<Gap>,
         colour: Colour,
         point: Point,
         taken: &[u64],
         print: u64,
     ) -> bool
-        requires one_side { HaveSide (newest_grid self.old).side self.old }
-        requires on_board { IsOn (newest_grid self.old).side point }
-        requires empty { cell_at (newest_grid self.old) point ≡ Empty }
-        requires taken { TakesOff (newest_grid self.old) colour point taken.now }
-        requires print { print ≡ print_of (play (newest_grid self.old) colour point) }
-        requires never { IsFalse asked → ¬ Contains (present_stretch self.old) (play (newest_grid self.old) colour point) }
-        ensures kept { self.new ≡ self.old }
-        ensures has { IsTrue result ↔ Contains (present_stretch self.old) (play (newest_grid self.old) colour point) }
-    {
-        if !asked {
-            return false;
-        }
-        self.look_up(colour, point, taken, print)
-    }
-
-    /// The same, if it isn't known yet.
-    #[inline(never)]
-    fn look_up(&mut self, colour: Colour, point: Point, taken: &[u64], print: u64) -> bool
-        requires one_side { HaveSide (newest_grid self.old).side self.old }
-        requires on_board { IsOn (newest_grid self.old).side point }
-        requires empty { cell_at (newest_grid self.old) point ≡ Empty }
-        requires taken { TakesOff (newest_grid self.old) colour point taken.now }
-        requires print { print ≡ print_of (play (newest_grid self.old) colour point) }
-        ensures kept { self.new ≡ self.old }
-        ensures has { IsTrue result ↔ Contains (present_stretch self.old) (play (newest_grid self.old) colour point) }
-    {
-        self.colourings.newest().has_all_cells();
-        if !has_point(taken, point) && self.last_stone_stays(taken) {
-            return false;
-        }
-        self.table.link(&self.colourings);
-        self.gap = self.table.gap(&self.colourings, print);
-        if self.gap.is_some() {
-            return false;
-        }
-        self.has_made(colour, point, taken, print)
-    }
-
-    /// The same. All points are compared.
-    fn has_made(&self, colour: Colour, point: Point, taken: &[u64], print: u64) -> bool
+        requires lacks { (grid : Grid) → IsSome gap → print ≡ print_of grid → ¬ Contains (present_stretch self.now) grid }
         requires one_side { HaveSide (newest_grid self.now).side self.now }
         requires on_board { IsOn (newest_grid self.now).side point }
         requires empty { cell_at (newest_grid self.now) point ≡ Empty }
@@ -279,6 +326,9 @@ impl PrintPast {
         requires print { print ≡ print_of (play (newest_grid self.now) colour point) }
         ensures { IsTrue result ↔ Contains (present_stretch self.now) (play (newest_grid self.now) colour point) }
     {
+        if gap.is_some() {
+            return false;
+        }
         let mut made = self.newest().copy();
         made.put(colour, point, taken);
         self.table.has(&self.colourings, &made, print)
@@ -319,7 +369,6 @@ impl PrintPast {
         requires empty { cell_at (newest_grid self.old) point ≡ Empty }
         ensures { IsPlayed colour point self.old self.new result }
     {
-        self.gap = None;
         let mut made = self.newest().copy();
         made.place(colour, point);
         let print = print_from(self.table.newest(), self.newest(), &made);
@@ -332,17 +381,38 @@ impl PrintPast {
     }
 }
 
-/// The point, unless `asked` is true.
-fn unless(asked: bool, point: Point) -> Option<Point>
-    ensures { result ≡ (if asked then None else Some point) }
+/// Adds the colouring that a stone makes to the colourings, and its print to their table; `taken` is what the stone takes off. After a
+/// refusal nothing is changed.
+#[inline(always)]
+fn add_stone(
+    colourings: &mut Colourings,
+    table: &mut Table,
+    colour: Colour,
+    point: Point,
+    taken: &[u64],
+    print: u64,
+) -> Result<(), MemoryFault>
+    requires table { IsTable (all_of colourings.old) table.old }
+    requires on_board { IsOn (newest_grid colourings.old).side point }
+    requires empty { cell_at (newest_grid colourings.old) point ≡ Empty }
+    requires taken { TakesOff (newest_grid colourings.old) colour point taken.now }
+    requires print { print ≡ print_of (play (newest_grid colourings.old) colour point) }
+    ensures ok { OnOk result (colourings.new ≡ with_next colourings.old (play (newest_grid colourings.old) colour point) false) }
+    ensures nodes { OnOk result (table.new.nodes.items ≡ table.old.nodes.items) }
+    ensures err { OnErr result (colourings.new ≡ colourings.old) }
+    ensures table { IsTable (all_of colourings.new) table.new }
 {
-    if asked { None } else { Some(point) }
+    table.push(print)?;
+    if colourings.add_stone(colour, point, taken).is_err() {
+        table.pop();
+        return Err(MemoryFault);
+    }
+    Ok(())
 }
 
 /// Adds the points of a board's stones to a set.
 fn add_stones(board: &Board, all: &mut [u64])
     requires { length all.old ≡ MAX_ROWS }
-    ensures kept { IsAmong (is_set all.old) (is_set all.new) }
     ensures stones { (point : Point) → IsOn board.now.side point → cell_at board.now point ≢ Empty → IsTrue (is_set all.new point) }
     ensures rows { length all.new ≡ length all.old }
 {

@@ -76,6 +76,14 @@ impl Table {
         self.prints.len()
     }
 
+    /// The number that the next colouring gets.
+    pub(crate) fn next_number(&self) -> u32
+        requires { (held : List Held) × IsTable held self.now }
+        ensures { (held : List Held) → IsTable held self.now → result ≡ length held }
+    {
+        self.prints.len() as u32
+    }
+
     /// The newest print.
     pub(crate) fn newest(&self) -> u64
         requires { 0 < length self.now.prints.items }

@@ -11,9 +11,6 @@ in_one Black b w some is_black is_white = inl is_black
 in_one White b w some is_black is_white = inr is_white
 in_one Empty b w some is_black is_white = absurd (some refl)
 
-pub returns-clause-kept : goal.returns-clause-kept
-returns-clause-kept c = λ p is. c.add_points-2.ensures.both p ∙ or_left _ _ (c.add_points.ensures.both p ∙ or_left _ _ is)
-
 pub returns-clause-stones : goal.returns-clause-stones
 returns-clause-stones c = λ p on some.
     elim (in_one (cell_at c.args.board.now p) _ _ some (c.rows_of.ensures.are.on p on) (c.rows_of-2.ensures.are.on p on)) [

@@ -1,23 +1,24 @@
-use Rattle.std.proofs.Common.{◌≡◌, ◌≢◌, IfSome, true, subst, sym, rules}
+use Rattle.std.proofs.Common.{◌≡◌, ◌≢◌, ◌∷◌, IfSome, true, subst, sym, ◌∙◌, rules}
+use Rattle.std.proofs.lemmas.Bool.{or_left, or_right}
 use Rattle.go_board.specs.declared.stones.Cell.TheVariants.{Empty}
 use Rattle.go_board.specs.declared.points.Point.{Point}
 use Rattle.go_board.specs.Point.{IsOn}
 use Rattle.go_board.specs.Grid.{Grid, cell_at}
 use Rattle.go_board.specs.Past.{Held, PastColourings, all_of, with_next}
-use Rattle.go_board.specs.inner.Emptied.{HasAllEmptied, IsLastStone}
+use Rattle.go_board.specs.inner.Emptied.{HasAllEmptied, IsEmptied, IsLastStone}
 use Rattle.go_board.specs.inner.Rows.{is_set}
 use Rattle.go_board.specs.inner.Table.{IsTable}
+use Rattle.go_board.proofs.EmptiedLemmas.{emptied_next, emptied_same, history_all}
 use Rattle.go_board.proofs.RepeatLemmas.{HasAllEmptied-more}
 use Rattle.go_board.proofs.past.print_past.PrintPast.add.Goals as goal
 
-pub invariant_of-self : goal.invariant_of-self
-invariant_of-self c =
+pub invariant_of-self-in_err-push : goal.invariant_of-self-in_err-push
+invariant_of-self-in_err-push c =
     let was = c.self.inside in
     record {
       tabled = c.in_err-push.ensures.err (all_of was.colourings) c.self.invariant.tabled;
-      emptied_in = HasAllEmptied-more (is_set was.emptied) (is_set c.add_stones.new.all) (all_of was.colourings) c.add_stones.ensures.kept c.self.invariant.emptied_in;
+      emptied_in = emptied_same (all_of was.colourings) was.emptied c.reserve.new.self c.reserve.ensures.rows c.reserve.ensures.log c.self.invariant.emptied_in;
       last = c.self.invariant.last;
-      gap_there = tt;
     }
 
 pub invariant_of-self-then-is_err : goal.invariant_of-self-then-is_err
@@ -28,31 +29,30 @@ invariant_of-self-then-is_err c =
     record {
       tabled = subst (λ (past : PastColourings). IsTable (all_of past) c.pop.new.self) (sym same)
           (c.pop.ensures next (all_of was.colourings) (c.in_ok-push.ensures.ok (all_of was.colourings) next c.self.invariant.tabled c.requires.print));
-      emptied_in = subst (λ (past : PastColourings). HasAllEmptied (is_set c.add_stones.new.all) (all_of past)) (sym same)
-          (HasAllEmptied-more (is_set was.emptied) (is_set c.add_stones.new.all) (all_of was.colourings) c.add_stones.ensures.kept c.self.invariant.emptied_in);
+      emptied_in = subst (λ (past : PastColourings). IsEmptied (all_of past) c.reserve.new.self) (sym same)
+          (emptied_same (all_of was.colourings) was.emptied c.reserve.new.self c.reserve.ensures.rows c.reserve.ensures.log c.self.invariant.emptied_in);
       last = subst (λ (past : PastColourings). IfSome was.last_stone (IsLastStone past)) (sym same) c.self.invariant.last;
-      gap_there = tt;
     }
 
 pub invariant_of-self-2 : goal.invariant_of-self-2
 invariant_of-self-2 c =
     let was = c.self.inside in
+    let held = all_of was.colourings in
     let next : Held = record { colouring = c.args.board.now; begins = c.args.begins } in
     let made : c.add.new.self ≡ with_next was.colourings c.args.board.now c.args.begins = search rules in
     let stones = subst (λ (g : Grid). (q : Point) → IsOn g.side q → cell_at g q ≢ Empty → is_set c.add_stones.new.all q ≡ true) c.newest.ensures c.add_stones.ensures.stones in
+    let before : IsEmptied held c.reserve.new.self = emptied_same held was.emptied c.reserve.new.self c.reserve.ensures.rows c.reserve.ensures.log c.self.invariant.emptied_in in
+    let all : HasAllEmptied (is_set c.add-2.new.self.rows) (next ∷ held) = (
+      λ goes_on q on some free. c.add-2.ensures.both q ∙ or_right _ _ (stones q on some),
+      HasAllEmptied-more (is_set c.reserve.new.self.rows) (is_set c.add-2.new.self.rows) held (λ q is. c.add-2.ensures.both q ∙ or_left _ _ is) (history_all c.reserve.new.self.rows _ _ before.history),
+    ) in
     record {
-      tabled = subst (λ (past : PastColourings). IsTable (all_of past) c.push.new.self) (sym made)
-          (c.in_ok-push.ensures.ok (all_of was.colourings) next c.self.invariant.tabled c.requires.print);
-      emptied_in = subst (λ (past : PastColourings). HasAllEmptied (is_set c.add_stones.new.all) (all_of past)) (sym made) (
-        λ goes_on q on some free. stones q on some,
-        HasAllEmptied-more (is_set was.emptied) (is_set c.add_stones.new.all) (all_of was.colourings) c.add_stones.ensures.kept c.self.invariant.emptied_in,
-      );
+      tabled = subst (λ (past : PastColourings). IsTable (all_of past) c.push.new.self) (sym made) (c.in_ok-push.ensures.ok held next c.self.invariant.tabled c.requires.print);
+      emptied_in = subst (λ (past : PastColourings). IsEmptied (all_of past) c.add-2.new.self) (sym made)
+          (emptied_next held next c.reserve.new.self c.add-2.new.self c.next_number-number.result (c.next_number-number.ensures held c.self.invariant.tabled) c.add-2.ensures.length c.add-2.ensures.history
+          c.add-2.ensures.below c.add-2.ensures.inside all before);
       last = tt;
-      gap_there = tt;
     }
-
-pub push-requires : goal.push-requires
-push-requires c = (all_of c.self.inside.colourings, c.self.invariant.tabled)
 
 pub pop-requires : goal.pop-requires
 pop-requires c =

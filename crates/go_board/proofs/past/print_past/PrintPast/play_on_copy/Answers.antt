@@ -10,7 +10,7 @@ returns-in_err-add c =
     let k = c.args.colour in
     let p = c.args.point in
     let old = c.args.self.now in
-    let same : c.newest.result.now ≡ newest_grid old = c.newest.ensures ∙ ap (λ (past : PastColourings). newest_grid past) c.self.view_is in
+    let same : c.newest.result.now ≡ newest_grid old = c.newest.ensures in
     let made : c.place.new.self ≡ play (newest_grid old) k p = c.place.ensures.value ∙ ap (λ (g : Grid). play g k p) (c.copy-made.ensures ∙ same) in
     let never : Contains (present_stretch old) (play (newest_grid old) k p) → ⊥ = λ has. false≢true (sym c.if-has.false
     ∙ c.has.ensures.1 (subst (λ (g : Grid). Contains (present_stretch c.self.inside.colourings) g) (sym made) (subst (λ (past : PastColourings). Contains (present_stretch past) (play (newest_grid old) k p)) (sym c.self.view_is) has))) in

@@ -1,11 +1,15 @@
-use Rattle.std.proofs.Common.{◌∷◌, [], ap, sym, ◌∙◌}
+use Rattle.std.proofs.Common.{◌∷◌, [], ap, sym, subst, ◌∙◌}
 use Rattle.go_board.specs.Past.{PastColourings, all_of}
+use Rattle.go_board.specs.inner.Emptied.{IsEmptied}
 use Rattle.go_board.specs.inner.Print.{prints_of}
-use Rattle.go_board.proofs.RepeatLemmas.{only_kept}
+use Rattle.go_board.proofs.EmptiedLemmas.{emptied_first}
 use Rattle.go_board.proofs.past.print_past.PrintPastPast.new.Goals as goal
 
 pub invariant_of-result : goal.invariant_of-result
 invariant_of-result c =
     let made = c.in_ok-new.ensures in
-    only_kept _ _ _ c.args.board.now made
-    (c.in_ok-new-2.ensures (all_of c.in_ok-new.field-0) (ap (λ (past : PastColourings). prints_of (all_of past)) made ∙ ap (λ n. n ∷ []) (sym c.print_of.ensures)))
+    record {
+      tabled = c.in_ok-new-2.ensures (all_of c.in_ok-new.field-0) (ap (λ (past : PastColourings). prints_of (all_of past)) made ∙ ap (λ n. n ∷ []) (sym c.print_of.ensures));
+      emptied_in = subst (λ (past : PastColourings). IsEmptied (all_of past) c.new-3.result) (sym made) (emptied_first _ c.new-3.result c.new-3.ensures.rows c.new-3.ensures.log);
+      last = tt;
+    }

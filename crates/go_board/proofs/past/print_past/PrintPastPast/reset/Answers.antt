@@ -1,10 +1,13 @@
-use Rattle.std.proofs.Common.{◌∷◌, [], ap, sym, ◌∙◌}
+use Rattle.std.proofs.Common.{◌∷◌, [], ap, sym, subst, ◌∙◌}
 use Rattle.go_board.specs.Past.{PastColourings, all_of}
+use Rattle.go_board.specs.inner.Emptied.{IsEmptied}
 use Rattle.go_board.specs.inner.Print.{prints_of}
-use Rattle.go_board.proofs.RepeatLemmas.{only_kept}
+use Rattle.go_board.proofs.EmptiedLemmas.{emptied_first}
 use Rattle.go_board.proofs.past.print_past.PrintPastPast.reset.Goals as goal
 
 pub invariant_of-self : goal.invariant_of-self
-invariant_of-self c =
-    only_kept _ _ _ c.args.board.now c.reset.ensures
-    (c.reset-2.ensures (all_of c.reset.new.self) (ap (λ (past : PastColourings). prints_of (all_of past)) c.reset.ensures ∙ ap (λ n. n ∷ []) (sym c.print_of.ensures)))
+invariant_of-self c = record {
+  tabled = c.reset-2.ensures (all_of c.reset.new.self) (ap (λ (past : PastColourings). prints_of (all_of past)) c.reset.ensures ∙ ap (λ n. n ∷ []) (sym c.print_of.ensures));
+  emptied_in = subst (λ (past : PastColourings). IsEmptied (all_of past) c.clear.new.self) (sym c.reset.ensures) (emptied_first _ c.clear.new.self c.clear.ensures.rows c.clear.ensures.log);
+  last = tt;
+}
