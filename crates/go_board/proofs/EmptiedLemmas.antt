@@ -1,5 +1,5 @@
 -- The points that were emptied, and the rows that lead back to earlier sets of them.
-use Rattle.std.proofs.Common.{◌≡◌, ◌≢◌, ℕ, zero, suc, ◌+◌, ◌-◌, ◌<◌, ◌≤◌, ◌||◌, Bool, true, false, All, List, [], ◌∷◌, ◌++◌, length, length-append, reverse, get_or, slice_index, slice_set, bit_or, inl, inr, refl, sym, ap, subst, ◌∙◌, arith}
+use Rattle.std.proofs.Common.{◌≡◌, ℕ, ◌+◌, ◌-◌, ◌<◌, ◌≤◌, Bool, List, [], ◌∷◌, ◌++◌, length, length-append, reverse, get_or, slice_index, slice_set, bit_or, inl, inr, sym, ap, subst, ◌∙◌, arith}
 use Rattle.std.specs.Vec.{vec_capacity}
 use Rattle.std.proofs.lemmas.Bool.{cases_eq, cases_lt, or_left}
 use Rattle.std.proofs.lemmas.List.{get_or_append_left, get_or_push, get_or-set_same, get_or-set_other, length-set, set-get_or, reverse-append}

@@ -1,5 +1,5 @@
 -- A stone that stays can repeat a colouring of the stretch only on a point that was emptied.
-use Rattle.std.proofs.Common.{◌≡◌, ◌≢◌, ◌*◌, zero, suc, inl, inr, ℕ, Bool, true, false, cond, if◌then◌else◌, IfSome, None, Some, List, [], ◌∷◌, length, Contains, refl, ap, sym, subst, ◌∙◌, arith}
+use Rattle.std.proofs.Common.{◌≡◌, ◌≢◌, ◌*◌, zero, suc, inl, inr, ℕ, Bool, true, false, cond, List, [], ◌∷◌, length, Contains, refl, ap, sym, subst, ◌∙◌, arith}
 use Rattle.std.proofs.lemmas.Bool.{cases_Bool, false≢true}
 use Rattle.go_board.specs.declared.stones.Cell.TheVariants.{Empty}
 use Rattle.go_board.specs.declared.stones.Colour.{Colour}
@@ -8,11 +8,9 @@ use Rattle.go_board.specs.Colour.{same_cell, stone_of}
 use Rattle.go_board.specs.Point.{IsOn}
 use Rattle.go_board.specs.Grid.{Grid, cell_at}
 use Rattle.go_board.specs.Clearing.{play}
-use Rattle.go_board.specs.Past.{Held, PastColourings, all_of, newest_grid, only, with_next, stretch_of, present_stretch, AllHaveSide, HaveSide}
+use Rattle.go_board.specs.Past.{Held, PastColourings, all_of, newest_grid, with_next, stretch_of, present_stretch, AllHaveSide, HaveSide}
 use Rattle.go_board.specs.Reason.{WasEmptied}
 use Rattle.go_board.specs.inner.Emptied.{HasEmptied, HasAllEmptied, IsLastStone}
-use Rattle.go_board.specs.declared.past.table.Table.{Table}
-use Rattle.go_board.specs.inner.Table.{IsTable}
 use Rattle.go_board.specs.inner.Groups.{TakesOff}
 use Rattle.go_board.specs.inner.Rows.{is_set, IsAmong}
 use Rattle.go_board.proofs.PointLemmas.{same_or_not}

@@ -32,6 +32,7 @@
 //! | `board/areas` | colouring areas and emptying sets of points |
 //! | `past` | the colourings that a game has been through; `past/list_past` and `past/print_past` keep them |
 //! | `past/colourings`, `past/changes` | past colourings as rows that lead back |
+//! | `past/emptied` | the points that were emptied, where a colouring can come back |
 //! | `past/print`, `past/powers` | the print of a colouring, a number in base 31; the powers of 31 |
 //! | `past/table` | how a past colouring is looked up, and what that costs |
 //! | `past/key`, `past/trie` | a colouring as a row of bits; the trie of such rows |

@@ -29,10 +29,10 @@ use std::alloc::Global;
 use std::marker::Model;
 
 /// A past that keeps the newest colouring whole. Of each older one it keeps the rows that lead back to
-/// it. A colouring is looked up only in the present stretch, and by its print: a 64-bit number made from
-/// what stands on all its points. If two prints are equal, all points are compared.
+/// it. A colouring is looked up only in the present stretch, and first by its print: a 64-bit number made
+/// from what stands on all its points. If two prints are equal, all points are compared.
 ///
-/// A colouring that only adds one stone to the one before it takes 56 bytes, and a node of the trie 16 more.
+/// A colouring that only adds one stone to the one before it takes 48 bytes, and a node of the trie 16 more.
 #[derive(Drop)]
 pub struct PrintPast {
     colourings: Colourings,

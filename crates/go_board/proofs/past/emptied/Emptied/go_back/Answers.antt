@@ -1,4 +1,4 @@
-use Rattle.std.proofs.Common.{rules, ◌≡◌, ◌∙◌, ap, arith, ◌-◌, slice_set, ◌++◌, ◌∷◌, [], ◌≤◌}
+use Rattle.std.proofs.Common.{rules, ◌≡◌, ap, slice_set, ◌++◌, ◌∷◌, [], ◌≤◌}
 use Rattle.go_board.proofs.EmptiedLemmas.{taken_back}
 use Rattle.go_board.proofs.past.emptied.Emptied.go_back.Goals as goal
 

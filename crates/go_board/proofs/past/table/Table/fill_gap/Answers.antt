@@ -1,9 +1,7 @@
-use Rattle.std.proofs.Common.{◌≡◌, ◌+◌, ◌<◌, ◌≤◌, ◌∷◌, List, ℕ, Bool, length, refl, ap, subst, sym, ◌∙◌, arith, rules}
-use Rattle.std.specs.Vec.{vec_capacity}
-use Rattle.go_board.specs.declared.past.trie.Node.{Node}
+use Rattle.std.proofs.Common.{◌≡◌, ◌+◌, ◌<◌, ◌∷◌, List, ℕ, length, refl, ap, subst, sym, ◌∙◌, arith}
 use Rattle.go_board.specs.declared.past.key.TheConstants.{WIDTH}
 use Rattle.go_board.specs.Past.{Held}
-use Rattle.go_board.specs.inner.Key.{key_row, keys_of, oldest, start_of}
+use Rattle.go_board.specs.inner.Key.{key_row, keys_of, start_of}
 use Rattle.go_board.specs.inner.Print.{print_of}
 use Rattle.go_board.specs.inner.Rows.{has_bit}
 use Rattle.go_board.specs.inner.Trie.{IsTrie}
