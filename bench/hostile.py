@@ -146,16 +146,17 @@ def far_right(size):
     return front + "".join(moves) + ")"
 
 
-def signs():
-    """Of 32 numbers the halves whose sums of powers of 31 to 64 times them are the same modulo 2^64: by how many bits of a number are set."""
-    return [[i for i in range(32) if bin(i).count("1") % 2 == half] for half in (0, 1)]
+def signs(count):
+    """Two halves of the numbers below `count`, by how many bits of a number are set. The sums of 31 to the power of 64 times them are the same:
+    modulo 2^64 if there are 32 numbers, modulo 2^50 if there are 16."""
+    return [[i for i in range(count) if i.bit_count() % 2 == half] for half in (0, 1)]
 
 
-def hole_sets(side):
-    """Sets of 32 holes of two points, the first points 64 points apart row by row, so that no two holes of all sets touch."""
+def hole_sets(side, count):
+    """Sets of holes of two points, the first points 64 points apart row by row, so that no two holes of all sets touch."""
     sets, taken = [], set()
-    for base in range(side * side - 31 * 64):
-        cells = [divmod(base + 64 * i, side) for i in range(32)]
+    for base in range(side * side - (count - 1) * 64):
+        cells = [divmod(base + 64 * i, side) for i in range(count)]
         holes = [((row, col), (row, col + 1)) for row, col in cells]
         around = {(y, x) for hole in holes for row, col in hole for y, x in ((row, col), (row - 1, col), (row + 1, col), (row, col - 1), (row, col + 1))}
         if all(col < side - 1 for _, col in cells) and not around & taken:
@@ -164,11 +165,12 @@ def hole_sets(side):
     return sets
 
 
-def equal_prints(size):
-    """One line of moves, each colouring of which has very many before it with the same sum of codes times powers of 31 modulo 2^64: sets
-    of 32 holes, a half of each filled, turn over one after another. Black fills the rest of a hole, which is suicide; White passes."""
+def equal_prints(size, count):
+    """One line of moves, most colourings of which have very many before them with the same print (sets of 32 holes) or the same 50 low bits of it
+    (sets of 16): a half of each set is filled, and the sets turn over one after another. Black fills the rest of a hole, which is suicide; White
+    passes."""
     side = 52
-    halves, sets = signs(), hole_sets(side)
+    halves, sets = signs(count), hole_sets(side, count)
     name = lambda place: point(place[1], place[0])
     holes = {place for holes in sets for hole in holes for place in hole}
     walls = {(y, x) for row, col in holes for y, x in ((row - 1, col), (row + 1, col), (row, col - 1), (row, col + 1))
@@ -183,7 +185,7 @@ def equal_prints(size):
         turned[which] = 1 - turned[which]
         for old, new in zip(now, then):
             text.append(f";B[{name(sets[which][old][1])}];W[];B[{name(sets[which][new][0])}];W[]")
-        if step * 320 >= room:
+        if step * 10 * count >= room:
             break
     return "".join(text)[:len(text[0]) + max(room, 0) // 20 * 20] + ")"
 
@@ -230,6 +232,49 @@ def costly(size):
              + by_turns(*there) + by_turns(*[[shaft[-1] for shaft in half] for half in shafts])
              + by_turns(*[back[player] + over[player] + refill[player] for player in (0, 1)]))
     unit = "(" + by_turns(*there) + ")"
+    return repeated(max(size, len(front) + len(unit) + 1), front, unit, ")")
+
+
+def cubes():
+    """Sets of places on side 52, each the corners of a cube: the sums of some of its steps. By how many steps a corner has, one adds or takes off
+    31 to the power of the corner. The result is divisible by 2^64, or by another power of 2 for each other set: a step adds 5 to its exponent,
+    and 1 more each time it can be halved."""
+    found = {}
+    across = [steps for count in range(4) for steps in itertools.combinations((4, 8, 16, 32), count) if sum(steps) < 52]
+    down = [steps for count in range(5) for steps in itertools.combinations((104, 208, 416, 832, 1664), count) if sum(steps) < 2496]
+    for steps in [one + other for one in across for other in down][1:]:
+        exponent = sum((step & -step).bit_length() + 4 for step in steps)
+        if exponent <= 64 and (exponent not in found or len(steps) < len(found[exponent])):
+            found[exponent] = steps
+    return [{sum(some) for count in range(len(steps) + 1) for some in itertools.combinations(steps, count)}
+            for _, steps in sorted(found.items())]
+
+
+def long_walks(size):
+    """Variations each of whose moves makes the print of an earlier colouring, but not that colouring. For nearly each bit of that print there is
+    an earlier colouring whose print differs first in it. Black has holes of two points at the corners of cubes, half of them filled. The cubes turn
+    over one after another. After each, both players turn other holes over, there and back in turn, and the variations do this once more."""
+    sets = cubes()
+    places = {52 * row + col: (point(col, row), point(col + 1, row)) for row in range(0, 48, 2) for col in range(0, 52, 4)}
+    corners = set().union(*sets)
+    free = [[hole for place, hole in places.items() if place not in corners],
+            [(point(col, row), point(col + 1, row)) for row in (49, 51) for col in range(0, 9, 3)]]
+    odd = {place for place in corners if (bin(place % 52 // 4).count("1") + bin(place // 104).count("1")) % 2}
+    filled = {places[place] for place in odd ^ sets[0]}
+    outside = {spot for hole in list(places.values()) + free[1] for spot in hole} | {"ZV", "ZX"}
+    stones = [{hole[0] for hole in filled} | {point(col, row) for row in range(48, 52) for col in range(52)} - outside,
+              {point(col, row) for row in range(48) for col in range(52)} - outside]
+    front = "(;SZ[52]" + "".join(f"A{name}" + "".join(f"[{spot}]" for spot in sorted(own)) for name, own in zip("BW", stones)) + "PL[B]"
+    both = [own[step] for step in (0, 1, 0, 2, 0, 1, 0, 3, 0, 1, 0, 2, 0, 1, 0, 4) for own in free]
+    moves = []
+    for now, then in zip(sets, sets[1:] + [set()]):
+        moves += [turned(hole, filled) for hole in both] + [""] * (len(moves) % 2)
+        for place in sorted(then - now) + sorted(now - then):
+            moves += [turned(places[place], filled), ""]
+        moves = moves[:-1] if both[0] in free[0] else moves
+        both.reverse()
+    front += "".join(f";{'BW'[turn % 2]}[{move}]" for turn, move in enumerate(moves))
+    unit = "(" + "".join(f";{'WB'[turn % 2]}[{turned(hole, filled)}]" for turn, hole in enumerate(both)) + ")"
     return repeated(max(size, len(front) + len(unit) + 1), front, unit, ")")
 
 
@@ -318,8 +363,12 @@ INPUTS = {
     "long52": ("one line of moves on side 52, all in one stretch", lambda n: long_line(n, 52), FORMS),
     "keys": ("one line of moves on side 52, half of whose sums of powers of 31 have the same low bits", equal_keys, ["list", "count"]),
     "right": ("one line of moves on side 52 in holes of the last two columns", far_right, ["list", "count"]),
-    "prints": ("one line of moves on side 52, of colourings with equal sums of powers of 31", equal_prints, ["list", "count"]),
+    "prints": ("one line of moves on side 52, of colourings very many of which have the same print", lambda n: equal_prints(n, 32), ["list", "count"]),
+    "low": ("the same, but only the 50 low bits of the prints are the same", lambda n: equal_prints(n, 16), ["list", "count"]),
     "costly": ("variations whose moves have the prints of colourings that take long to work out", costly, FORMS),
+    "walks": ("variations whose moves have the prints of colourings to which a look-up walks through nearly all bits of a print", long_walks, FORMS),
+    "restarts": ("setups that fill a board of 52 but for one point, and a suicide there after each",
+                 lambda n: repeated(n, "(;SZ[52]", ";AB[aa:ZZ]AE[aa];B[aa]", ")"), ["list", "count"]),
     "searches": ("moves in a hole of two points in a group of 1,973 stones, whose only other liberty is far away", searches, ["list", "count"]),
     "captures": ("variations that capture 2,703 stones", lambda n: repeated(n, "(;SZ[52]AW[aa:ZZ]AE[aa]PL[B]", "(;B[aa])", ")"), ["list", "count"]),
     "boards": ("variations that set up a full board of 52", lambda n: repeated(n, "(;SZ[52]", "(;AB[aa:ZZ])", ")"), ["list", "count"]),
