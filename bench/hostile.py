@@ -91,8 +91,8 @@ def long_line(size, side):
 
 
 def equal_keys(size):
-    """One line of moves whose colourings have equal low bits in a sum of powers of 31. Pairs of distant points have equal weights in these bits,
-    and always one of the two is black. White passes."""
+    """One line of moves, half of whose colourings have the same 16 low bits in their prints. Each pair of points is 2,048 places apart, row by row,
+    so both add the same to these bits, and always one of the two is black. White passes."""
     chance = random.Random(19)
     pairs, walls = [], set()
     for row in (1, 4, 7, 10):
@@ -148,7 +148,7 @@ def far_right(size):
 
 def signs(count):
     """Two halves of the numbers below `count`, by how many bits of a number are set. The sums of 31 to the power of 64 times them are the same:
-    modulo 2^64 if there are 32 numbers, modulo 2^50 if there are 16."""
+    modulo 2^64 if there are 32 numbers, modulo 2^36 if there are 8."""
     return [[i for i in range(count) if i.bit_count() % 2 == half] for half in (0, 1)]
 
 
@@ -166,8 +166,8 @@ def hole_sets(side, count):
 
 
 def equal_prints(size, count):
-    """One line of moves, most colourings of which have very many before them with the same print (sets of 32 holes) or the same 50 low bits of it
-    (sets of 16): a half of each set is filled, and the sets turn over one after another. Black fills the rest of a hole, which is suicide; White
+    """One line of moves, most colourings of which have very many before them with the same print (sets of 32 holes) or the same 36 low bits of it
+    (sets of 8): a half of each set is filled, and the sets turn over one after another. Black fills the rest of a hole, which is suicide; White
     passes."""
     side = 52
     halves, sets = signs(count), hole_sets(side, count)
@@ -361,10 +361,10 @@ INPUTS = {
     "root": ("a root of half the text, and variations of it", lambda n: repeated(n, "(;" + "A[]" * (n // 6), "(;B[aa])", ")"), ["list", "count"]),
     "long19": ("one line of moves on side 19, all in one stretch", lambda n: long_line(n, 19), FORMS),
     "long52": ("one line of moves on side 52, all in one stretch", lambda n: long_line(n, 52), FORMS),
-    "keys": ("one line of moves on side 52, half of whose sums of powers of 31 have the same low bits", equal_keys, ["list", "count"]),
+    "keys": ("one line of moves on side 52, half of whose prints have the same 16 low bits", equal_keys, ["list", "count"]),
     "right": ("one line of moves on side 52 in holes of the last two columns", far_right, ["list", "count"]),
     "prints": ("one line of moves on side 52, of colourings very many of which have the same print", lambda n: equal_prints(n, 32), ["list", "count"]),
-    "low": ("the same, but only the 50 low bits of the prints are the same", lambda n: equal_prints(n, 16), ["list", "count"]),
+    "low": ("one line of moves on side 52, of colourings very many of which have the same 36 low bits in their prints", lambda n: equal_prints(n, 8), ["list", "count"]),
     "costly": ("variations whose moves have the prints of colourings that take long to work out", costly, FORMS),
     "walks": ("variations whose moves have the prints of colourings to which a look-up walks through nearly all bits of a print", long_walks, FORMS),
     "restarts": ("setups that fill a board of 52 but for one point, and a suicide there after each",

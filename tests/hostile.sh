@@ -152,7 +152,7 @@ PROGRAM
 if command -v python3 > /dev/null; then
     small costly 0 '(;B[bf];W[];B[cf])'
     small walks 0 '(;W[eZ];B[];W[dZ])'
-    small low 12000 ';B[jg]'
+    small low 12000 ';B[nb]'
     small restarts 1000 ';AE[aa:ZZ]AW[ab][ba];B[aa]'
 else
     skipped=4
