@@ -214,23 +214,55 @@ def by_turns(black, white):
     return "".join(f";B[{b}];W[{w}]" for b, w in itertools.zip_longest(black, white, fillvalue=""))
 
 
+def print_sets(worths):
+    """For each power of 2 that comes up, a set of holes whose worths add up to a number that it divides, but twice it doesn't."""
+    holes, found = list(worths), {}
+    sums = [[(0, ())], [(0, ())]]
+    for number, hole in enumerate(holes):
+        sums[number % 2] += [(total + worths[hole], some + (hole,)) for total, some in sums[number % 2]]
+    for bits in range(0, 30, 2):
+        ends = {total % (1 << bits): (total, some) for total, some in sums[0]}
+        for total, some in sums[1]:
+            other, more = ends.get(-total % (1 << bits), (-total, ()))
+            power = (total + other & -total - other) % 2**64
+            if power not in found or len(some + more) < len(found[power]):
+                found[power] = some + more
+    return [found[power] for power in sorted(found) if power]
+
+
 def costly(size):
     """Variations each of whose moves makes the print of a colouring that takes long to work out, but not that colouring. Both players have holes
-    of two points and shafts of 51. Some moves come first. Then all shafts are emptied by suicide, filled again, and BALANCED turns over."""
+    of two points and shafts of 51. Some moves come first. Then all shafts are emptied by suicide, filled again, and BALANCED turns over. For many
+    bits of the print there is besides a colouring whose print differs first in it: other holes turn over, and the first moves come again each time."""
     filled, steps = {small_hole(number, which) for number, which, sign in BALANCED if sign == 1}, [0, 1, 0, 2, 0, 1, 0, 3, 0, 1, 0, 2, 0, 1, 0, 4]
     used = {number for number, _, _ in BALANCED}
     free = [[small_hole(number) for number in range(player, 50, 2) if number not in used] for player in (0, 1)]
+    spare = free[0][5:] + free[1][5:]
+    filled |= set(spare[::2])
+    worths = {hole: (1 + free[1].count(hole)) * (-1) ** (hole in filled) * 31 ** (2703 - LETTERS.index(hole[0][0]) - 52 * LETTERS.index(hole[0][1]))
+              for hole in spare}
+    sets = print_sets(worths)
+    sets = sets[len(sets) % 2:]
     shafts = [[[point(col, row) for row in range(1, 52)] for col in cols] for cols in (range(4, 25, 2), range(27, 48, 2))]
     holes = {spot for number in range(50) for spot in small_hole(number)} | {spot for half in shafts for shaft in half for spot in shaft}
     stones = [{spot[0] for spot in filled if spot[0][0].isupper() == bool(player)} | {spot for shaft in shafts[player] for spot in shaft[:-1]}
               | {point(col, row) for col in (range(26, 52), range(26))[player] for row in range(52)} - holes - {"aa", "Za"} for player in (0, 1)]
     there = [[turned(free[player][step], filled) for step in steps] for player in (0, 1)]
     back = [[turned(free[player][step], filled) for step in reversed(steps)] for player in (0, 1)]
-    over = [[turned(small_hole(number, which), filled) for number, which, _ in BALANCED if number % 2 == player] for player in (0, 1)]
+    over = [[turned(small_hole(number, which), filled) for number, which, _ in BALANCED if number % 2 == player]
+            + [turned(hole, filled) for hole in sets[0] if hole in free[player]] for player in (0, 1)]
     refill = [[spot for shaft in shafts[player] for spot in shaft[:-1]] for player in (0, 1)]
     front = ("(;SZ[52]" + "".join(f"A{name}" + "".join(f"[{spot}]" for spot in sorted(own)) for name, own in zip("BW", stones)) + "PL[B]"
              + by_turns(*there) + by_turns(*[[shaft[-1] for shaft in half] for half in shafts])
              + by_turns(*[back[player] + over[player] + refill[player] for player in (0, 1)]))
+    both, mover = [own[step] for step in steps for own in free], 0
+    for now, then in zip(sets, sets[1:] + [()]):
+        for hole in both + sorted(set(then) - set(now)) + sorted(set(now) - set(then)):
+            player = int(hole in free[1])
+            front += f";{'BW'[mover]}[]" * (player != mover) + f";{'BW'[player]}[{turned(hole, filled)}]"
+            mover = 1 - player
+        both.reverse()
+    front += ";W[]" * mover
     unit = "(" + by_turns(*there) + ")"
     return repeated(max(size, len(front) + len(unit) + 1), front, unit, ")")
 
