@@ -91,8 +91,8 @@ def long_line(size, side):
 
 
 def equal_keys(size):
-    """One line of moves whose colourings have equal low bits in a sum of powers of 31. Pairs of distant points have equal weights in these bits,
-    and always one of the two is black. White passes."""
+    """One line of moves, half of whose colourings have the same 16 low bits in their prints. Each pair of points is 2,048 places apart, row by row,
+    so both add the same to these bits, and always one of the two is black. White passes."""
     chance = random.Random(19)
     pairs, walls = [], set()
     for row in (1, 4, 7, 10):
@@ -146,16 +146,17 @@ def far_right(size):
     return front + "".join(moves) + ")"
 
 
-def signs():
-    """Of 32 numbers the halves whose sums of powers of 31 to 64 times them are the same modulo 2^64: by how many bits of a number are set."""
-    return [[i for i in range(32) if bin(i).count("1") % 2 == half] for half in (0, 1)]
+def signs(count):
+    """Two halves of the numbers below `count`, by how many bits of a number are set. The sums of 31 to the power of 64 times them are the same:
+    modulo 2^64 if there are 32 numbers, modulo 2^36 if there are 8."""
+    return [[i for i in range(count) if i.bit_count() % 2 == half] for half in (0, 1)]
 
 
-def hole_sets(side):
-    """Sets of 32 holes of two points, the first points 64 points apart row by row, so that no two holes of all sets touch."""
+def hole_sets(side, count):
+    """Sets of holes of two points, the first points 64 points apart row by row, so that no two holes of all sets touch."""
     sets, taken = [], set()
-    for base in range(side * side - 31 * 64):
-        cells = [divmod(base + 64 * i, side) for i in range(32)]
+    for base in range(side * side - (count - 1) * 64):
+        cells = [divmod(base + 64 * i, side) for i in range(count)]
         holes = [((row, col), (row, col + 1)) for row, col in cells]
         around = {(y, x) for hole in holes for row, col in hole for y, x in ((row, col), (row - 1, col), (row + 1, col), (row, col - 1), (row, col + 1))}
         if all(col < side - 1 for _, col in cells) and not around & taken:
@@ -164,11 +165,12 @@ def hole_sets(side):
     return sets
 
 
-def equal_prints(size):
-    """One line of moves, each colouring of which has very many before it with the same sum of codes times powers of 31 modulo 2^64: sets
-    of 32 holes, a half of each filled, turn over one after another. Black fills the rest of a hole, which is suicide; White passes."""
+def equal_prints(size, count):
+    """One line of moves, most colourings of which have very many before them with the same print (sets of 32 holes) or the same 36 low bits of it
+    (sets of 8): a half of each set is filled, and the sets turn over one after another. Black fills the rest of a hole, which is suicide; White
+    passes."""
     side = 52
-    halves, sets = signs(), hole_sets(side)
+    halves, sets = signs(count), hole_sets(side, count)
     name = lambda place: point(place[1], place[0])
     holes = {place for holes in sets for hole in holes for place in hole}
     walls = {(y, x) for row, col in holes for y, x in ((row - 1, col), (row + 1, col), (row, col - 1), (row, col + 1))
@@ -183,7 +185,7 @@ def equal_prints(size):
         turned[which] = 1 - turned[which]
         for old, new in zip(now, then):
             text.append(f";B[{name(sets[which][old][1])}];W[];B[{name(sets[which][new][0])}];W[]")
-        if step * 320 >= room:
+        if step * 10 * count >= room:
             break
     return "".join(text)[:len(text[0]) + max(room, 0) // 20 * 20] + ")"
 
@@ -212,24 +214,99 @@ def by_turns(black, white):
     return "".join(f";B[{b}];W[{w}]" for b, w in itertools.zip_longest(black, white, fillvalue=""))
 
 
+def print_sets(worths):
+    """For each power of 2 that comes up, a set of holes whose worths add up to a number that it divides, but twice it doesn't."""
+    holes, found = list(worths), {}
+    sums = [[(0, ())], [(0, ())]]
+    for number, hole in enumerate(holes):
+        sums[number % 2] += [(total + worths[hole], some + (hole,)) for total, some in sums[number % 2]]
+    for bits in range(0, 30, 2):
+        ends = {total % (1 << bits): (total, some) for total, some in sums[0]}
+        for total, some in sums[1]:
+            other, more = ends.get(-total % (1 << bits), (-total, ()))
+            power = (total + other & -total - other) % 2**64
+            if power not in found or len(some + more) < len(found[power]):
+                found[power] = some + more
+    return [found[power] for power in sorted(found) if power]
+
+
 def costly(size):
     """Variations each of whose moves makes the print of a colouring that takes long to work out, but not that colouring. Both players have holes
-    of two points and shafts of 51. Some moves come first. Then all shafts are emptied by suicide, filled again, and BALANCED turns over."""
+    of two points and shafts of 51. Some moves come first. Then all shafts are emptied by suicide, filled again, and BALANCED turns over. For many
+    bits of the print there is besides a colouring whose print differs first in it: other holes turn over, and the first moves come again each time."""
     filled, steps = {small_hole(number, which) for number, which, sign in BALANCED if sign == 1}, [0, 1, 0, 2, 0, 1, 0, 3, 0, 1, 0, 2, 0, 1, 0, 4]
     used = {number for number, _, _ in BALANCED}
     free = [[small_hole(number) for number in range(player, 50, 2) if number not in used] for player in (0, 1)]
+    spare = free[0][5:] + free[1][5:]
+    filled |= set(spare[::2])
+    worths = {hole: (1 + free[1].count(hole)) * (-1) ** (hole in filled) * 31 ** (2703 - LETTERS.index(hole[0][0]) - 52 * LETTERS.index(hole[0][1]))
+              for hole in spare}
+    sets = print_sets(worths)
+    sets = sets[len(sets) % 2:]
     shafts = [[[point(col, row) for row in range(1, 52)] for col in cols] for cols in (range(4, 25, 2), range(27, 48, 2))]
     holes = {spot for number in range(50) for spot in small_hole(number)} | {spot for half in shafts for shaft in half for spot in shaft}
     stones = [{spot[0] for spot in filled if spot[0][0].isupper() == bool(player)} | {spot for shaft in shafts[player] for spot in shaft[:-1]}
               | {point(col, row) for col in (range(26, 52), range(26))[player] for row in range(52)} - holes - {"aa", "Za"} for player in (0, 1)]
     there = [[turned(free[player][step], filled) for step in steps] for player in (0, 1)]
     back = [[turned(free[player][step], filled) for step in reversed(steps)] for player in (0, 1)]
-    over = [[turned(small_hole(number, which), filled) for number, which, _ in BALANCED if number % 2 == player] for player in (0, 1)]
+    over = [[turned(small_hole(number, which), filled) for number, which, _ in BALANCED if number % 2 == player]
+            + [turned(hole, filled) for hole in sets[0] if hole in free[player]] for player in (0, 1)]
     refill = [[spot for shaft in shafts[player] for spot in shaft[:-1]] for player in (0, 1)]
     front = ("(;SZ[52]" + "".join(f"A{name}" + "".join(f"[{spot}]" for spot in sorted(own)) for name, own in zip("BW", stones)) + "PL[B]"
              + by_turns(*there) + by_turns(*[[shaft[-1] for shaft in half] for half in shafts])
              + by_turns(*[back[player] + over[player] + refill[player] for player in (0, 1)]))
+    both, mover = [own[step] for step in steps for own in free], 0
+    for now, then in zip(sets, sets[1:] + [()]):
+        for hole in both + sorted(set(then) - set(now)) + sorted(set(now) - set(then)):
+            player = int(hole in free[1])
+            front += f";{'BW'[mover]}[]" * (player != mover) + f";{'BW'[player]}[{turned(hole, filled)}]"
+            mover = 1 - player
+        both.reverse()
+    front += ";W[]" * mover
     unit = "(" + by_turns(*there) + ")"
+    return repeated(max(size, len(front) + len(unit) + 1), front, unit, ")")
+
+
+def cubes():
+    """Sets of places on side 52, each the corners of a cube: the sums of some of its steps. By how many steps a corner has, one adds or takes off
+    31 to the power of the corner. The result is divisible by 2^64, or by another power of 2 for each other set: a step adds 5 to its exponent,
+    and 1 more each time it can be halved."""
+    found = {}
+    across = [steps for count in range(4) for steps in itertools.combinations((4, 8, 16, 32), count) if sum(steps) < 52]
+    down = [steps for count in range(5) for steps in itertools.combinations((104, 208, 416, 832, 1664), count) if sum(steps) < 2496]
+    for steps in [one + other for one in across for other in down][1:]:
+        exponent = sum((step & -step).bit_length() + 4 for step in steps)
+        if exponent <= 64 and (exponent not in found or len(steps) < len(found[exponent])):
+            found[exponent] = steps
+    return [{sum(some) for count in range(len(steps) + 1) for some in itertools.combinations(steps, count)}
+            for _, steps in sorted(found.items())]
+
+
+def long_walks(size):
+    """Variations each of whose moves makes the print of an earlier colouring, but not that colouring. For nearly each bit of that print there is
+    an earlier colouring whose print differs first in it. Black has holes of two points at the corners of cubes, half of them filled. The cubes turn
+    over one after another. After each, both players turn other holes over, there and back in turn, and the variations do this once more."""
+    sets = cubes()
+    places = {52 * row + col: (point(col, row), point(col + 1, row)) for row in range(0, 48, 2) for col in range(0, 52, 4)}
+    corners = set().union(*sets)
+    free = [[hole for place, hole in places.items() if place not in corners],
+            [(point(col, row), point(col + 1, row)) for row in (49, 51) for col in range(0, 9, 3)]]
+    odd = {place for place in corners if (bin(place % 52 // 4).count("1") + bin(place // 104).count("1")) % 2}
+    filled = {places[place] for place in odd ^ sets[0]}
+    outside = {spot for hole in list(places.values()) + free[1] for spot in hole} | {"ZV", "ZX"}
+    stones = [{hole[0] for hole in filled} | {point(col, row) for row in range(48, 52) for col in range(52)} - outside,
+              {point(col, row) for row in range(48) for col in range(52)} - outside]
+    front = "(;SZ[52]" + "".join(f"A{name}" + "".join(f"[{spot}]" for spot in sorted(own)) for name, own in zip("BW", stones)) + "PL[B]"
+    both = [own[step] for step in (0, 1, 0, 2, 0, 1, 0, 3, 0, 1, 0, 2, 0, 1, 0, 4) for own in free]
+    moves = []
+    for now, then in zip(sets, sets[1:] + [set()]):
+        moves += [turned(hole, filled) for hole in both] + [""] * (len(moves) % 2)
+        for place in sorted(then - now) + sorted(now - then):
+            moves += [turned(places[place], filled), ""]
+        moves = moves[:-1] if both[0] in free[0] else moves
+        both.reverse()
+    front += "".join(f";{'BW'[turn % 2]}[{move}]" for turn, move in enumerate(moves))
+    unit = "(" + "".join(f";{'WB'[turn % 2]}[{turned(hole, filled)}]" for turn, hole in enumerate(both)) + ")"
     return repeated(max(size, len(front) + len(unit) + 1), front, unit, ")")
 
 
@@ -316,10 +393,14 @@ INPUTS = {
     "root": ("a root of half the text, and variations of it", lambda n: repeated(n, "(;" + "A[]" * (n // 6), "(;B[aa])", ")"), ["list", "count"]),
     "long19": ("one line of moves on side 19, all in one stretch", lambda n: long_line(n, 19), FORMS),
     "long52": ("one line of moves on side 52, all in one stretch", lambda n: long_line(n, 52), FORMS),
-    "keys": ("one line of moves on side 52, half of whose sums of powers of 31 have the same low bits", equal_keys, ["list", "count"]),
+    "keys": ("one line of moves on side 52, half of whose prints have the same 16 low bits", equal_keys, ["list", "count"]),
     "right": ("one line of moves on side 52 in holes of the last two columns", far_right, ["list", "count"]),
-    "prints": ("one line of moves on side 52, of colourings with equal sums of powers of 31", equal_prints, ["list", "count"]),
+    "prints": ("one line of moves on side 52, of colourings very many of which have the same print", lambda n: equal_prints(n, 32), ["list", "count"]),
+    "low": ("one line of moves on side 52, of colourings very many of which have the same 36 low bits in their prints", lambda n: equal_prints(n, 8), ["list", "count"]),
     "costly": ("variations whose moves have the prints of colourings that take long to work out", costly, FORMS),
+    "walks": ("variations whose moves have the prints of colourings to which a look-up walks through nearly all bits of a print", long_walks, FORMS),
+    "restarts": ("setups that fill a board of 52 but for one point, and a suicide there after each",
+                 lambda n: repeated(n, "(;SZ[52]", ";AB[aa:ZZ]AE[aa];B[aa]", ")"), ["list", "count"]),
     "searches": ("moves in a hole of two points in a group of 1,973 stones, whose only other liberty is far away", searches, ["list", "count"]),
     "captures": ("variations that capture 2,703 stones", lambda n: repeated(n, "(;SZ[52]AW[aa:ZZ]AE[aa]PL[B]", "(;B[aa])", ")"), ["list", "count"]),
     "boards": ("variations that set up a full board of 52", lambda n: repeated(n, "(;SZ[52]", "(;AB[aa:ZZ])", ")"), ["list", "count"]),

@@ -3,7 +3,7 @@
 # a minute. bench/hostile.py measures such inputs up to the limit. The last line is `N passed, N failed, N skipped`.
 . "$(dirname "$0")/lib.sh"
 set +e
-passed=0 failed=0
+passed=0 failed=0 skipped=0
 
 check() {
     if [ "$2" = "$3" ]; then
@@ -135,5 +135,28 @@ answer 'stones in one stretch' "$(($(stat -c %s input.sgf) - 7)) 1 140557 score 
 { printf '(;SZ[1];B[aa]'; times 300000 ';B[aa]'; printf ')'; } > input.sgf
 answer 'moves after an illegal one' '1800007 1 300002 illegal 1 7 repeat' split
 
-echo "$passed passed, $failed failed, 0 skipped"
+# ---- the past: inputs of bench/hostile.py in small, each with a stone at its end that repeats a colouring. A separate referee judges them.
+# small KIND BYTES END: the rows of the input of this kind, with END before its last parenthesis.
+small() {
+    python3 -B - "$1" "$2" "$3" "$top/bench" > input.sgf <<'PROGRAM'
+import sys
+sys.path.insert(0, sys.argv[4])
+import hostile
+sys.stdout.write(hostile.INPUTS[sys.argv[1]][1](int(sys.argv[2]))[:-1] + sys.argv[3] + ")")
+PROGRAM
+    python3 -B "$top/tests/verdicts.py" < input.sgf > want
+    check "$1: the last row" repeat "$(tail -n 1 want | cut -d ' ' -f 7)"
+    answer "$1" "$(cat want)" split
+}
+
+if command -v python3 > /dev/null; then
+    small costly 0 '(;B[bf];W[];B[cf])'
+    small walks 0 '(;W[eZ];B[];W[dZ])'
+    small low 12000 ';B[nb]'
+    small restarts 1000 ';AE[aa:ZZ]AW[ab][ba];B[aa]'
+else
+    skipped=4
+fi
+
+echo "$passed passed, $failed failed, $skipped skipped"
 [ "$failed" = 0 ]
