@@ -6,12 +6,14 @@ use Rattle.std.proofs.lemmas.Nat.Bits.{same_from_bits_below}
 use Rattle.std.proofs.lemmas.Bool.{cases_lt, cases_Bool}
 use Rattle.std.proofs.lemmas.List.{drop-drop, length-drop, reverse-append, length-map}
 use Rattle.go_board.specs.declared.past.key.TheConstants.{WIDTH}
+use Rattle.go_board.specs.declared.past.marks.Marks.{Marks}
 use Rattle.go_board.specs.declared.past.table.Table.{Table}
 use Rattle.go_board.specs.declared.past.trie.Node.{Node}
 use Rattle.go_board.specs.Grid.{Grid}
 use Rattle.go_board.specs.Past.{Held, stretch_of, AllHaveSide}
 use Rattle.go_board.specs.inner.Changes.{first_grid, IsNumber, HasNumber}
 use Rattle.go_board.specs.inner.Key.{key_row, start_of, since, oldest, keys_of}
+use Rattle.go_board.specs.inner.Marks.{IsMarked}
 use Rattle.go_board.specs.inner.Print.{print_of, prints_of}
 use Rattle.go_board.specs.inner.Rows.{has_bit}
 use Rattle.go_board.specs.inner.Table.{IsTable}
@@ -322,10 +324,10 @@ linked_next held count g nodes low at trie =
     (all, subst (λ (xs : List (ℕ → Bool)). IsTrie WIDTH xs nodes) rows trie)
 
 pub tabled_next : (held : List Held) (table next : Table) (g : Grid) → IsTable held table → length table.nodes.items < length table.prints.items
-    → next.prints ≡ table.prints → vec_capacity next.nodes ≡ vec_capacity table.nodes → IsNumber held (length table.nodes.items) g
+    → next.prints ≡ table.prints → next.marks ≡ table.marks → vec_capacity next.nodes ≡ vec_capacity table.nodes → IsNumber held (length table.nodes.items) g
     → IsTrie WIDTH (key_row (start_of (since (length table.nodes.items) held)) (print_of g) g ∷ keys_of (oldest (length table.nodes.items) held)) next.nodes.items
     → IsTable held next × (length next.nodes.items ≡ length table.nodes.items + 1)
-tabled_next held table next g is more prints room at trie =
+tabled_next held table next g is more prints marks room at trie =
     let low : length table.nodes.items < length held = omega (arith, more, tabled held table is) in
     let count : length next.prints.items ≡ length table.prints.items = cc in
     let linked = linked_next held (length table.nodes.items) g next.nodes.items low at trie in (
@@ -335,24 +337,32 @@ tabled_next held table next g is more prints room at trie =
         linked = linked.1;
         room = omega (arith, is.room, room, count);
         most = omega (arith, is.most, room);
+        marked = subst (λ (m : Marks). IsMarked next.prints.items m) (sym marks) (rw prints is.marked);
       },
       linked.0,
     )
 
 -- the first one
+no_items : (held : List Held) → length held ≡ 0 → held ≡ []
+no_items [] none = refl
+no_items (x ∷ xs) none = absurd (omega (arith, none))
+
+-- an empty trie
+pub linked_none : (held : List Held) (nodes : List Node) → nodes ≡ [] → IsTrie WIDTH (keys_of (oldest (length nodes) held)) nodes
+linked_none held nodes none =
+    let few : length nodes ≡ 0 = ap (λ (xs : List Node). length xs) none in
+    let first : oldest (length nodes) held ≡ [] = no_items (oldest (length nodes) held) (length-oldest (length nodes) held (omega (arith, few)) ∙ few) in
+    subst (λ (hs : List Held). IsTrie WIDTH (keys_of hs) nodes) (sym first) none
+
 pub tabled_first : (held : List Held) (table next : Table) (g : Grid) → IsTable held table → length table.nodes.items < length table.prints.items
-    → next.prints ≡ table.prints → vec_capacity next.nodes ≡ vec_capacity table.nodes → IsNumber held (length table.nodes.items) g → length table.nodes.items ≡ 0
+    → next.prints ≡ table.prints → next.marks ≡ table.marks → vec_capacity next.nodes ≡ vec_capacity table.nodes → IsNumber held (length table.nodes.items) g → length table.nodes.items ≡ 0
     → IsTrie WIDTH (key_row (start_of (since (length table.nodes.items) held)) (print_of g) g ∷ []) next.nodes.items
     → IsTable held next × (length next.nodes.items ≡ length table.nodes.items + 1)
-tabled_first held table next g is more prints room at none trie =
+tabled_first held table next g is more prints marks room at none trie =
     let count = length table.nodes.items in
-    let first : oldest count held ≡ [] = empty (oldest count held) (length-oldest count held (omega (arith, none)) ∙ none) in
-    tabled_next held table next g is more prints room at
+    let first : oldest count held ≡ [] = no_items (oldest count held) (length-oldest count held (omega (arith, none)) ∙ none) in
+    tabled_next held table next g is more prints marks room at
     (subst (λ (hs : List Held). IsTrie WIDTH (key_row (start_of (since count held)) (print_of g) g ∷ keys_of hs) next.nodes.items) (sym first) trie)
-  where
-    empty : (hs : List Held) → length hs ≡ 0 → hs ≡ []
-    empty [] e = refl
-    empty (x ∷ xs) e = absurd (omega (arith, e))
 
 -- The trie of one colouring more, and of one less.
 

@@ -6,6 +6,7 @@ mod colourings;
 mod emptied;
 mod key;
 mod list_past;
+mod marks;
 mod powers;
 pub(crate) mod print;
 mod print_past;

@@ -287,6 +287,10 @@ impl PrintPast {
         ensures { IsPlayed colour point self.old self.new result }
     {
         self.colourings.newest().has_all_cells();
+        if !self.table.may_have(print) {
+            self.add_made(colour, point, taken, print)?;
+            return Ok(true);
+        }
         self.table.link(&self.colourings);
         let gap = self.table.gap(&self.colourings, print);
         if self.has_made(gap, colour, point, taken, print) {

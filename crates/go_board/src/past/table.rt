@@ -14,7 +14,7 @@ ghost use Rattle.std.specs.Prelude.{◌≡◌, ◌≢◌, ◌↔◌, ℕ, ◌+�
 ghost use Rattle.std.specs.Vec.{vec_capacity};
 ghost use Rattle.go_board.specs.declared.past.trie.Node.{Node};
 ghost use Rattle.go_board.specs.Grid.{Grid};
-ghost use Rattle.go_board.specs.Past.{Held, all_of, present_stretch, HaveSide};
+ghost use Rattle.go_board.specs.Past.{Held, all_of, present_stretch, stretch_of, HaveSide};
 ghost use Rattle.go_board.specs.inner.Changes.{IsNumber, HasNumber};
 ghost use Rattle.go_board.specs.inner.Key.{bits_of, key_row, keys_of, oldest, start_of, since};
 ghost use Rattle.go_board.specs.inner.Print.{print_of, prints_of};
@@ -26,6 +26,7 @@ use crate::board::stone_rows::has_column;
 use crate::fault::MemoryFault;
 use crate::past::colourings::Colourings;
 use crate::past::key::{FRONT, Key, WIDTH, WORD, first_difference};
+use crate::past::marks::Marks;
 use crate::past::trie::{
     Node, Slot, descend, insert, kid, nearest, opening, part, plant, repeat, take_back,
 };
@@ -45,6 +46,8 @@ pub(crate) struct Table {
     prints: Vec<u64>,
     /// The nodes of the oldest colourings. The newest ones may not be in the trie yet.
     nodes: Vec<Node>,
+    /// Marks for the low bits of the prints.
+    marks: Marks,
 }
 
 /// Where a colouring with that print comes into the trie.
@@ -66,6 +69,7 @@ impl Table {
         Ok(Table {
             prints,
             nodes: Vec::with_capacity(alloc, FIRST_ROOM)?,
+            marks: Marks::new(),
         })
     }
 
@@ -117,6 +121,7 @@ impl Table {
             take_back(&mut self.nodes);
         }
         let _ = self.prints.pop();
+        self.marks.go_back(self.prints.len());
     }
 
     /// Replaces all colourings by one with this print.
@@ -128,6 +133,17 @@ impl Table {
         self.nodes.clear();
         self.prints.truncate(1);
         self.prints[0] = print;
+        self.marks.go_back(0);
+    }
+
+    /// Whether a colouring may have this print. This doesn't ask the trie.
+    pub(crate) fn may_have(&mut self, print: u64) -> bool
+        requires { (held : List Held) × IsTable held self.old }
+        ensures table { (held : List Held) → IsTable held self.old → IsTable held self.new }
+        ensures lacks { (held : List Held) (grid : Grid) → IsTable held self.old → IsFalse result → print ≡ print_of grid
+            → ¬ Contains (stretch_of held) grid }
+    {
+        self.marks.may_have(&self.prints, print)
     }
 
     /// Where a colouring with this print comes in, if all colourings are in the trie and none has this print; None otherwise.

@@ -8,11 +8,38 @@ use Rattle.go_board.specs.Clearing.{play}
 use Rattle.go_board.specs.Past.{Held, PastColourings, all_of, newest_grid, present_stretch, with_next}
 use Rattle.go_board.specs.inner.Emptied.{HasAllEmptied, IsEmptied, IsLastStone}
 use Rattle.go_board.specs.inner.Groups.{TakesOff}
+use Rattle.go_board.specs.inner.Print.{print_of}
 use Rattle.go_board.specs.inner.Rows.{is_set}
 use Rattle.go_board.specs.inner.Table.{IsGap, IsTable}
 use Rattle.go_board.proofs.EmptiedLemmas.{emptied_next, emptied_same, history_all}
 use Rattle.go_board.proofs.RepeatLemmas.{HasAllEmptied-more, emptied_by_play}
 use Rattle.go_board.proofs.past.print_past.PrintPast.play_looked_up.Goals as goal
+
+pub invariant_of-self : goal.invariant_of-self
+invariant_of-self c = record { tabled = c.may_have.ensures.table (all_of c.self.inside.colourings) c.self.invariant.tabled; emptied_in = c.self.invariant.emptied_in; last = c.self.invariant.last }
+
+pub link-requires : goal.link-requires
+link-requires c = c.may_have.ensures.table (all_of c.self.inside.colourings) c.self.invariant.tabled
+
+pub returns-in_err-add_made : goal.returns-in_err-add_made
+returns-in_err-add_made c =
+    let inside = c.self.inside.colourings in
+    let made = play (newest_grid inside) c.args.colour c.args.point in
+    let print : c.args.print ≡ print_of made = c.requires.print ∙ ap (λ (past : PastColourings). print_of (play (newest_grid past) c.args.colour c.args.point)) (sym c.self.view_is) in
+    let never : Contains (present_stretch c.args.self.now) (play (newest_grid c.args.self.now) c.args.colour c.args.point) → ⊥ = λ has.
+    c.may_have.ensures.lacks (all_of inside) made c.self.invariant.tabled c.if-not-may_have.true print
+    (subst (λ (past : PastColourings). Contains (present_stretch past) (play (newest_grid past) c.args.colour c.args.point)) (sym c.self.view_is) has) in
+    record { known = search rules; ok = search rules; refused = search (rules, never); err = search rules }
+
+pub returns-then-not-may_have : goal.returns-then-not-may_have
+returns-then-not-may_have c =
+    let inside = c.self.inside.colourings in
+    let made = play (newest_grid inside) c.args.colour c.args.point in
+    let print : c.args.print ≡ print_of made = c.requires.print ∙ ap (λ (past : PastColourings). print_of (play (newest_grid past) c.args.colour c.args.point)) (sym c.self.view_is) in
+    let never : Contains (present_stretch c.args.self.now) (play (newest_grid c.args.self.now) c.args.colour c.args.point) → ⊥ = λ has.
+    c.may_have.ensures.lacks (all_of inside) made c.self.invariant.tabled c.if-not-may_have.true print
+    (subst (λ (past : PastColourings). Contains (present_stretch past) (play (newest_grid past) c.args.colour c.args.point)) (sym c.self.view_is) has) in
+    record { known = (λ t. absurd (false≢true (sym t)), λ has. absurd (never has)); ok = search rules; refused = search rules; err = search rules }
 
 pub returns-in_err-reserve : goal.returns-in_err-reserve
 returns-in_err-reserve c =
@@ -37,8 +64,8 @@ returns-in_err-add_stone c =
     false≢true (sym c.if-has_made.false ∙ c.has_made.ensures.1 (subst (λ (past : PastColourings). Contains (present_stretch past) (play (newest_grid past) c.args.colour c.args.point)) (sym c.self.view_is) has)) in
     record { known = search rules; ok = search rules; refused = search (rules, never); err = search rules }
 
-pub invariant_of-self-2 : goal.invariant_of-self-2
-invariant_of-self-2 c =
+pub invariant_of-self-3 : goal.invariant_of-self-3
+invariant_of-self-3 c =
     let was = c.self.inside in
     let held = all_of was.colourings in
     let k = c.args.colour in

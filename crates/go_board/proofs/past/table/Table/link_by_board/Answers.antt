@@ -25,7 +25,7 @@ returns-in-Some c =
     let apart = c.in-Some.ensures in
     let parts = nearest_parts_whole held t is c.requires.some key near (c.nearest-near.ensures.nearest held is) (bits_of c.key_of-other.result) past.result past.ensures (c.key_of-other.ensures past.result past.ensures)
     c.in-Some.place apart.0 apart.1 apart.2 in
-    let next = tabled_next held t (record t { nodes = c.part.new.nodes }) board is c.requires.more refl c.part.ensures.room at
+    let next = tabled_next held t (record t { nodes = c.part.new.nodes }) board is c.requires.more refl refl c.part.ensures.room at
     (subst (λ row. IsTrie WIDTH (row ∷ rows) c.part.new.nodes.items) is_key (c.part.ensures.trie rows key near is.linked (agree_self key (c.in-Some.place + 1)) parts)) in
     record { table = next.0; next = next.1; prints = refl }
 
@@ -43,6 +43,6 @@ returns-in-None c =
     let near = c.nearest-near.result in
     let past = c.board_at-past in
     let same = nearest_same held t is c.requires.some key near (c.nearest-near.ensures.nearest held is) (bits_of c.key_of-other.result) past.result past.ensures (c.key_of-other.ensures past.result past.ensures) c.in-None.ensures in
-    let next = tabled_next held t (record t { nodes = c.repeat.new.nodes }) board is c.requires.more refl c.repeat.ensures.room at
+    let next = tabled_next held t (record t { nodes = c.repeat.new.nodes }) board is c.requires.more refl refl c.repeat.ensures.room at
     (subst (λ row. IsTrie WIDTH (row ∷ rows) c.repeat.new.nodes.items) is_key (c.repeat.ensures.trie rows key near is.linked c.nearest-near.ensures.there same)) in
     record { table = next.0; next = next.1; prints = refl }

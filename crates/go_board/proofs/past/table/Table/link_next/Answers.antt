@@ -26,7 +26,7 @@ returns-in-Some c =
     let apart = c.in-Some.ensures in
     let parts = nearest_parts held t is some (bits_of c.key_of-key.result) near (c.nearest-near.ensures.nearest held is) start (print_of grid) c.in-Some.place (bits_of c.key_of-other.result)
     c.newest.result.now c.newest-2.result.now grid near_there.0 is_key near_there.1 (c.key_of-other.ensures near_there.0 near_there.1) apart.0 apart.1 apart.2 in
-    let next = tabled_next held t (record t { nodes = c.part.new.nodes }) grid is c.requires.more refl c.part.ensures.room there.1
+    let next = tabled_next held t (record t { nodes = c.part.new.nodes }) grid is c.requires.more refl refl c.part.ensures.room there.1
     (c.part.ensures.trie (linked_rows held t is) (key_row start (print_of grid) grid) near is.linked parts.0 parts.1) in
     record { table = next.0; next = next.1; prints = refl }
 
@@ -38,6 +38,6 @@ returns-then-number-eq0 c =
     let m = length t.nodes.items in
     let none : m ≡ 0 = sym (c.len-number.ensures ∙ t.nodes.ok.0) ∙ c.if-number-eq0.true in
     let there = number_there held m (omega (arith, c.requires.more, tabled held t is)) in
-    let next = tabled_first held t (record t { nodes = c.plant.new.nodes }) there.0 is c.requires.more refl c.plant.ensures.room there.1 none
+    let next = tabled_first held t (record t { nodes = c.plant.new.nodes }) there.0 is c.requires.more refl refl c.plant.ensures.room there.1 none
     (c.plant.ensures.trie (key_row (start_of (since m held)) (print_of there.0) there.0)) in
     record { table = next.0; next = next.1; prints = refl }
