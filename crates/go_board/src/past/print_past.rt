@@ -291,6 +291,9 @@ impl PrintPast {
             self.add_made(colour, point, taken, print)?;
             return Ok(true);
         }
+        if self.has_near(colour, point, taken, print) {
+            return Ok(false);
+        }
         self.table.link(&self.colourings);
         let gap = self.table.gap(&self.colourings, print);
         if self.has_made(gap, colour, point, taken, print) {
@@ -310,6 +313,23 @@ impl PrintPast {
         self.emptied.add(taken, number);
         self.last_stone = None;
         Ok(true)
+    }
+
+    /// Whether one of the newest colourings of the stretch is the one that a stone makes, as in a ko; `print` is that colouring's print,
+    /// and `taken` is what the stone takes off. At most one colouring is compared, so the answer may be false for one that is there.
+    fn has_near(&self, colour: Colour, point: Point, taken: &[u64], print: u64) -> bool
+        requires on_board { IsOn (newest_grid self.now).side point }
+        requires empty { cell_at (newest_grid self.now) point ≡ Empty }
+        requires taken { TakesOff (newest_grid self.now) colour point taken.now }
+        ensures { IsTrue result → Contains (present_stretch self.now) (play (newest_grid self.now) colour point) }
+    {
+        let start = self.colourings.stretch_start();
+        let Some(number) = self.table.near(start, print) else {
+            return false;
+        };
+        let mut made = self.newest().copy();
+        made.put(colour, point, taken);
+        self.colourings.is_at(number, &made)
     }
 
     /// Whether the present stretch has the colouring that a stone makes; `print` is that colouring's print, and `taken` is what the

@@ -7,8 +7,8 @@
 //! they have the same print. To take one out is one step. None of this depends on how many colourings there are, or on what was played:
 //! equal prints make no look-up longer.
 //!
-//! This is so once `link` has put all colourings into the trie. The past calls it before each look-up of a stone. `has` itself changes
-//! nothing: it compares one by one with the colourings that aren't there yet.
+//! This is so once `link` has put all colourings into the trie. The past calls it before each look-up of a stone that `may_have` doesn't
+//! answer (see `marks`). `has` itself changes nothing: it compares one by one with the colourings that aren't there yet.
 
 ghost use Rattle.std.specs.Prelude.{◌≡◌, ◌≢◌, ◌↔◌, ℕ, ◌+◌, ◌<◌, ◌≤◌, ◌^◌, [], ◌∷◌, List, length, slice_index, IsTrue, IsFalse, IsSome, IfSome, IfOk, OnOk, OnErr, Contains};
 ghost use Rattle.std.specs.Vec.{vec_capacity};
@@ -34,6 +34,9 @@ use std::alloc::Global;
 
 /// The number of colourings that a new table has room for.
 const FIRST_ROOM: usize = 256;
+
+/// How many of the newest colourings are looked at before the trie is asked.
+const NEAR: usize = 64;
 
 /// The most colourings that a table has room for: each number of a node is below 2^32.
 const MOST: usize = 0xffff_ffff;
@@ -134,6 +137,19 @@ impl Table {
         self.prints.truncate(1);
         self.prints[0] = print;
         self.marks.go_back(0);
+    }
+
+    /// The newest colouring with this print, if it is one of the last `NEAR` and not before `start`.
+    pub(crate) fn near(&self, start: usize, print: u64) -> Option<usize>
+        ensures { IfSome result (λ number. (start ≤ number) × (number < length self.now.prints.items)) }
+    {
+        let len = self.prints.len();
+        'each: for number in (start.max(len.saturating_sub(NEAR))..len).rev() {
+            if self.prints[number] == print {
+                return Some(number);
+            }
+        }
+        None
     }
 
     /// Whether a colouring may have this print. This doesn't ask the trie.

@@ -18,6 +18,12 @@ use Rattle.go_board.proofs.past.print_past.PrintPast.play_looked_up.Goals as goa
 pub invariant_of-self : goal.invariant_of-self
 invariant_of-self c = record { tabled = c.may_have.ensures.table (all_of c.self.inside.colourings) c.self.invariant.tabled; emptied_in = c.self.invariant.emptied_in; last = c.self.invariant.last }
 
+pub invariant_of-self-2 : goal.invariant_of-self-2
+invariant_of-self-2 c = record { tabled = c.may_have.ensures.table (all_of c.self.inside.colourings) c.self.invariant.tabled; emptied_in = c.self.invariant.emptied_in; last = c.self.invariant.last }
+
+pub invariant_of-self-then-has_near : goal.invariant_of-self-then-has_near
+invariant_of-self-then-has_near c = record { tabled = c.may_have.ensures.table (all_of c.self.inside.colourings) c.self.invariant.tabled; emptied_in = c.self.invariant.emptied_in; last = c.self.invariant.last }
+
 pub link-requires : goal.link-requires
 link-requires c = c.may_have.ensures.table (all_of c.self.inside.colourings) c.self.invariant.tabled
 
@@ -64,8 +70,8 @@ returns-in_err-add_stone c =
     false≢true (sym c.if-has_made.false ∙ c.has_made.ensures.1 (subst (λ (past : PastColourings). Contains (present_stretch past) (play (newest_grid past) c.args.colour c.args.point)) (sym c.self.view_is) has)) in
     record { known = search rules; ok = search rules; refused = search (rules, never); err = search rules }
 
-pub invariant_of-self-3 : goal.invariant_of-self-3
-invariant_of-self-3 c =
+pub invariant_of-self-4 : goal.invariant_of-self-4
+invariant_of-self-4 c =
     let was = c.self.inside in
     let held = all_of was.colourings in
     let k = c.args.colour in
