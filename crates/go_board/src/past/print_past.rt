@@ -315,8 +315,8 @@ impl PrintPast {
         Ok(true)
     }
 
-    /// Whether one of the newest colourings of the stretch is the one that a stone makes, as in a ko; `print` is that colouring's print,
-    /// and `taken` is what the stone takes off. At most one colouring is compared, so the answer may be false for one that is there.
+    /// Whether the colouring that a stone makes is that before the newest, as in a simple ko, and in the present stretch; `print` is its
+    /// print, and `taken` is what the stone takes off.
     fn has_near(&self, colour: Colour, point: Point, taken: &[u64], print: u64) -> bool
         requires on_board { IsOn (newest_grid self.now).side point }
         requires empty { cell_at (newest_grid self.now) point ≡ Empty }

@@ -35,8 +35,9 @@ use std::alloc::Global;
 /// The number of colourings that a new table has room for.
 const FIRST_ROOM: usize = 256;
 
-/// How many of the newest colourings are looked at before the trie is asked.
-const NEAR: usize = 64;
+/// How many of the newest colourings are looked at before the trie is asked: the newest, and the one that a simple ko brings back. To work
+/// that one out takes one step.
+const NEAR: usize = 2;
 
 /// The most colourings that a table has room for: each number of a node is below 2^32.
 const MOST: usize = 0xffff_ffff;
