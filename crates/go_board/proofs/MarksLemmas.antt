@@ -11,7 +11,7 @@ marked_more prints print marks is = record {
   size = is.size;
   few = omega (arith, is.few, length-append prints (print ∷ []));
   all = λ number low.
-      subst (λ n. slice_index marks.marks (n % 8192) ≡ 1) (sym (get_or_append_left prints (print ∷ []) 0 number (omega (arith, low, is.few)))) (is.all number low);
+      subst (λ n. slice_index marks.marks (n % 4096) ≡ 1) (sym (get_or_append_left prints (print ∷ []) 0 number (omega (arith, low, is.few)))) (is.all number low);
 }
 
 -- without marks, the prints may be any
@@ -24,20 +24,20 @@ marked_back prints more old new same fewer few is = record {
   size = ap length same ∙ is.size;
   few = few;
   all = λ number low.
-      ap (λ (ms : List ℕ). slice_index ms (slice_index prints number % 8192)) same
-      ∙ subst (λ n. slice_index old.marks (n % 8192) ≡ 1) (get_or_append_left prints more 0 number (omega (arith, low, few))) (is.all number (omega (arith, low, fewer)));
+      ap (λ (ms : List ℕ). slice_index ms (slice_index prints number % 4096)) same
+      ∙ subst (λ n. slice_index old.marks (n % 4096) ≡ 1) (get_or_append_left prints more 0 number (omega (arith, low, few))) (is.all number (omega (arith, low, fewer)));
 }
 
 -- once the next print has its mark
-pub marked_next : (prints : List ℕ) (old new : Marks) → old.count < length prints → new.count ≡ old.count + 1 → new.marks ≡ slice_set old.marks (slice_index prints old.count % 8192) 1 → IsMarked prints old → IsMarked prints new
+pub marked_next : (prints : List ℕ) (old new : Marks) → old.count < length prints → new.count ≡ old.count + 1 → new.marks ≡ slice_set old.marks (slice_index prints old.count % 4096) 1 → IsMarked prints old → IsMarked prints new
 marked_next prints old new more count set is =
-    let here = slice_index prints old.count % 8192 in
-    let low_here : here < 8192 = omega arith in
+    let here = slice_index prints old.count % 4096 in
+    let low_here : here < 4096 = omega arith in
     record {
       size = ap length set ∙ length-set old.marks here 1 ∙ is.size;
       few = omega (arith, more, count);
       all = λ number low.
-          let place = slice_index prints number % 8192 in
+          let place = slice_index prints number % 4096 in
           ap (λ (ms : List ℕ). get_or ms place 0) set
           ∙ elim (cases_eq place here) [
             | inl same ↦ ap (λ n. get_or (slice_set old.marks here 1) n 0) same ∙ get_or-set_same old.marks here 1 0 (omega (arith, low_here, is.size))
@@ -45,7 +45,7 @@ marked_next prints old new more count set is =
                 get_or-set_other old.marks here place 1 0 other
                 ∙ elim (cases_lt number old.count) [
                   | inl before ↦ is.all number before
-                  | inr after ↦ absurd (other (ap (λ n. slice_index prints n % 8192) (omega (arith, low, count, after))))
+                  | inr after ↦ absurd (other (ap (λ n. slice_index prints n % 4096) (omega (arith, low, count, after))))
                 ]
           ];
     }

@@ -4,6 +4,6 @@ use Rattle.go_board.specs.declared.past.marks.Marks.{Marks}
 
 -- the low bits of the first prints have marks
 pub record IsMarked (prints : List ℕ) (marks : Marks) : Type 0 where
-  pub size : length marks.marks ≡ 8192
+  pub size : length marks.marks ≡ 4096
   pub few : marks.count ≤ length prints
-  pub all : (number : ℕ) → number < marks.count → slice_index marks.marks (slice_index prints number % 8192) ≡ 1
+  pub all : (number : ℕ) → number < marks.count → slice_index marks.marks (slice_index prints number % 4096) ≡ 1

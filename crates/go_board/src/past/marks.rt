@@ -8,7 +8,7 @@ ghost use Rattle.std.specs.Prelude.{◌≡◌, ◌≢◌, ℕ, ◌+◌, ◌++◌
 ghost use Rattle.go_board.specs.inner.Marks.{IsMarked};
 
 /// How many marks there are.
-const LOW: usize = 8192;
+const LOW: usize = 4096;
 
 /// The most prints that are marked and compared.
 const MOST_COMPARED: usize = 2048;
@@ -16,7 +16,7 @@ const MOST_COMPARED: usize = 2048;
 /// After so many marks they are made anew, because those of undone colourings stay.
 const MOST_MADE: usize = 8192;
 
-/// A mark for each number of 13 low bits that a print has.
+/// A mark for each number of 12 low bits that a print has.
 #[derive(Drop)]
 pub(crate) struct Marks {
     /// 1 if some print has these low bits. Others may have a mark, too.
