@@ -104,14 +104,15 @@ grown_by_form() {
 times() { printf "%.0s$2" $(seq "$1"); }  # TEXT, N times
 
 # Games without a referee, in list form: more nodes than there is room for at first, and more first nodes of variations. With the 129th node
-# both vectors must grow, and the second of these requests is refused too.
+# both vectors must grow, and the second of these requests is refused too. A comment makes each text long enough for the most room.
+remark=$(times 1200 x)
 for count in 5 10; do
-    printf '(;GM[2]%s)' "$(times "$count" "($(times 20 ';'))")" > input.sgf
+    printf '(;GM[2]C[%s]%s)' "$remark" "$(times "$count" "($(times 20 ';'))")" > input.sgf
     each "$count times 20 nodes" REFUSE_MEMORY 4 "$memory" "$nl" split
 done
 grown '10 times 20 nodes' '5 times 20 nodes' 1
 for count in 10 140; do
-    printf '(;GM[2]%s)' "$(times "$count" '(;)')" > input.sgf
+    printf '(;GM[2]C[%s]%s)' "$remark" "$(times "$count" '(;)')" > input.sgf
     each "$count variations" REFUSE_MEMORY 4 "$memory" "$nl" split
 done
 grown '140 variations' '10 variations' 5
@@ -128,8 +129,7 @@ turns() {
 }
 
 # More turns than there is room for at first: in the referee, in the past, and in scripts. In the second game only the first 100 of 304 nodes
-# have a move. A comment makes the longer script as long as needed.
-remark=$(times 1200 x)
+# have a move. The comment makes the longer script as long as needed.
 printf '(;SZ[19]C[%s]%s)' "$remark" "$(turns 304)" > input.sgf
 for form in list gtp; do
     each "304 turns, $form" REFUSE_MEMORY 4 "$memory" "$nl" split --form "$form"
