@@ -68,7 +68,6 @@ table > got
 same want got
 
 # A run that is killed while it waits for its last file, a pipe, doesn't change the table.
-cp games.db before.db
 mkdir more
 for number in $(seq 50); do cp games/corner.sgf "more/$number.sgf"; done
 mkfifo pipe

@@ -41,12 +41,13 @@ def game(count, comment):
 
 
 def whole_game(count, comment):
+    """Returns the number of bytes of its sgf record, and of its script without the row at the beginning."""
     text, row, script = game(count, comment)
     same(text, ["count"], f"1 {count + 1} 1\n")
     same(text, ["split"], row)
     same(text, ["split", "--form", "sgf"], text + "\n")
     same(text, ["split", "--form", "gtp"], script)
-    return len(text) + 1, len(script)
+    return len(text) + 1, len(script) - len("# " + row)
 
 
 def variations(count):

@@ -1,5 +1,6 @@
-//! Calls of a past that ask for memory: `new`, `push` and `restart`. There are few colourings, so only `new` asks with a
-//! `PrintPast`. The turns and setups of `long_games` cover `play` and `set_up`, and a past that needs more room.
+//! Calls of a past that ask for memory: `new`, `push` and `restart`. There are few colourings. So a `PrintPast` asks only in `new`, and in
+//! the first `push`, for room for the points that are emptied. The turns and setups of `long_games` cover `play` and `set_up`, and a past
+//! that needs more room.
 
 ghost use Rattle.std.specs.Prelude.{◌≡◌, true, false, IfOk, OnOk};
 ghost use Rattle.go_board.specs.Past.{only, with_next, HaveSide};

@@ -1,5 +1,6 @@
-//! Texts with as many games, variations and nodes as there is room for at first, with one less, and with more. Values as long as those
-//! whose lengths are kept, one byte shorter, and longer.
+//! Texts with as many games, variations and nodes as there is room for at most at first, with one less, and with more. The room goes by the
+//! length of a text, and these texts are short. So each of them needs more room than it is given at first. Values as long as those whose
+//! lengths are kept, one byte shorter, and longer.
 
 use crate::seen::Seen;
 use crate::tree::collection;
