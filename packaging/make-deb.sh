@@ -27,7 +27,7 @@ rmdir "$stage/usr/share/zsh/site-functions"
 sed -i '1s|^#!/usr/bin/env |#!/usr/bin/|' "$stage"/usr/share/sgfsplit/*.py
 documents=$stage/usr/share/doc/$program
 mkdir -p "$documents"
-cp -R README.md docs examples "$documents"
+cp -R README.md CHANGELOG.md docs examples "$documents"
 ln -s ../../sgfsplit "$documents/recipes"
 sed "s/^sgfsplit (/$program (/" packaging/changelog | gzip -9n > "$documents/changelog.gz"
 cp packaging/copyright "$documents/copyright"

@@ -1,6 +1,6 @@
 #!/usr/bin/env bash
-# The help of the program and of its commands is exactly this text. The last row of the help, the foot of the manual page and the changelog have
-# the version of the file VERSION.
+# The help of the program and of its commands is exactly this text. The last row of the help, the foot of the manual page and both changelogs
+# have the version of the file VERSION.
 . "$(dirname "$0")/lib.sh"
 version=$(cat "$top/VERSION")
 name=$(basename "$SGFSPLIT")
@@ -107,4 +107,5 @@ writes three numbers: games, nodes, lines of play.
 TEXT
 
 grep -qx "\.Os sgfsplit $version" "$top/man/sgfsplit.1" || failed "the manual page's foot isn't of version $version"
-grep -q "^sgfsplit ($version) " <(head -n 1 "$top/packaging/changelog") || failed "the changelog doesn't begin with version $version"
+grep -q "^sgfsplit ($version) " <(head -n 1 "$top/packaging/changelog") || failed "packaging/changelog doesn't begin with version $version"
+[ "$(grep -m 1 '^## ' "$top/CHANGELOG.md")" = "## $version" ] || failed "CHANGELOG.md doesn't begin with version $version"

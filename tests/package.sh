@@ -18,7 +18,8 @@ mkdir -p "$root"/var/lib/dpkg/{info,updates,triggers}
 touch "$root"/var/lib/dpkg/{status,available}
 dpkg --root="$root" --log=/dev/null --force-not-root --force-depends --install "$package" > log 2>&1 || failed "$(cat log)"
 for file in share/man/man1/sgfsplit.1.gz share/bash-completion/completions/sgfsplit share/zsh/vendor-completions/_sgfsplit \
-    share/fish/vendor_completions.d/sgfsplit.fish share/doc/sgfsplit/README.md share/doc/sgfsplit/recipes/verdicts.py \
+    share/fish/vendor_completions.d/sgfsplit.fish share/doc/sgfsplit/README.md share/doc/sgfsplit/CHANGELOG.md \
+    share/doc/sgfsplit/recipes/verdicts.py \
     lib/libsgflines.so.0 lib/libsgflines.so include/sgf_lines.h lib/pkgconfig/sgflines.pc lib/python3/dist-packages/sgflines.py; do
     [ -s "$root/usr/$file" ] || failed "no $file"
 done
