@@ -76,7 +76,7 @@ for form in 0, 1:
     short = whole_game(20, "x" * 3000)[form]
     for length in 4095, 4096, 4097:
         assert whole_game(20, "x" * (3000 + length - short))[form] == length
-for length in 4095, 4096, 4097, 69631, 69632, 69633:
+for length in 4096, 65535, 65536, 65537, 131071, 131072, 131073:
     nodes = ";" * (length - 2)
     same(f"({nodes})", ["count"], f"1 {length - 2} 1\n")
     same(f"({nodes})", ["split"], f"{length - 2} 1 {length - 2} score 0 0 open\n")

@@ -33,10 +33,7 @@ use crate::seek::SeekFault;
 use sgf_tree::{Collection, MAX_LENGTH, MemoryFault, read};
 use std::alloc::Global;
 
-/// The number of bytes that a source is asked for at once, until it gives as many.
-const SMALL_CHUNK: usize = 4_096;
-
-/// The number of bytes that it is asked for at once after that.
+/// The number of bytes that a source is asked for at once.
 const CHUNK: usize = 65_536;
 
 /// Reads a source to its end, and writes the records of the lines of the collection that
@@ -137,34 +134,13 @@ fn split_text<T: Sink>(
     result
 }
 
-/// Appends all that a source gives to an empty text. Most games fit in the small buffer, and setting the large one to zeros takes longer
-/// than reading such a game.
+/// Appends all that a source gives to an empty text. The buffer is this function's own, so it is set to zeros only for a source that
+/// needs it.
+#[inline(never)]
 pub(crate) fn read_all<S: Source>(source: &mut S, text: &mut Vec<u8>) -> Result<(), RunFault>
     requires countable { (S.state source.old).failures < u64.MAX }
     requires empty { text.old.items ≡ [] }
     ensures answer { IsReading (S.state source.old) (S.state source.new) text.new.items result }
-    ensures failures { (S.state source.new).failures
-        ≡ (S.state source.old).failures + read_failures result }
-    ensures one_end { S.ends source.new ≤ S.ends source.old + 1 }
-{
-    let mut chunk = [0u8; SMALL_CHUNK];
-    'read: loop {
-        match read_some(source, &mut chunk, text) {
-            Ok(0) => return Ok(()),
-            Ok(SMALL_CHUNK) => return read_rest(source, text),
-            Ok(_) => {}
-            Err(fault) => return Err(fault),
-        }
-    }
-}
-
-/// Appends all that a source still gives. The large buffer is this function's own, so it is set to zeros only for a text that needs it.
-#[inline(never)]
-fn read_rest<S: Source>(source: &mut S, text: &mut Vec<u8>) -> Result<(), RunFault>
-    requires countable { (S.state source.old).failures < u64.MAX }
-    requires short { length text.old.items ≤ MAX_LENGTH }
-    ensures answer { (start : SourceState) → HasRead start (S.state source.old) text.old.items
-        → IsReading start (S.state source.new) text.new.items result }
     ensures failures { (S.state source.new).failures
         ≡ (S.state source.old).failures + read_failures result }
     ensures one_end { S.ends source.new ≤ S.ends source.old + 1 }

@@ -9,22 +9,22 @@ use sgf_lines::{Counts, Form, Options, RunFault, Source, SourceFault, count, spl
 use std::alloc::Global;
 
 /// The number of bytes of a text, the most bytes that its source gives at once, how often it must be asked, and the text's row. The
-/// source is asked for 4,096 bytes until it gives as many, and then for 65,536.
+/// source is asked for 65,536 bytes at a time.
 type Read = (usize, usize, u32, &'static [u8]);
 
 const READS: [Read; 12] = [
-    (4_095, 70_000, 2, b"4093 1 1 score 0 0 open\n"),
     (4_096, 70_000, 2, b"4094 1 1 score 0 0 open\n"),
-    (4_097, 70_000, 3, b"4095 1 1 score 0 0 open\n"),
-    (6_000, 70_000, 3, b"5998 1 1 score 0 0 open\n"),
+    (6_000, 70_000, 2, b"5998 1 1 score 0 0 open\n"),
     (6_000, 4_095, 3, b"5998 1 1 score 0 0 open\n"),
     (6_000, 1_000, 7, b"5998 1 1 score 0 0 open\n"),
-    (69_631, 70_000, 3, b"69629 1 1 score 0 0 open\n"),
-    (69_632, 70_000, 3, b"69630 1 1 score 0 0 open\n"),
-    (69_633, 70_000, 4, b"69631 1 1 score 0 0 open\n"),
-    (69_633, 65_535, 4, b"69631 1 1 score 0 0 open\n"),
-    (135_169, 70_000, 5, b"135167 1 1 score 0 0 open\n"),
-    (200_000, 30_000, 9, b"199998 1 1 score 0 0 open\n"),
+    (65_535, 70_000, 2, b"65533 1 1 score 0 0 open\n"),
+    (65_536, 70_000, 2, b"65534 1 1 score 0 0 open\n"),
+    (65_537, 70_000, 3, b"65535 1 1 score 0 0 open\n"),
+    (65_537, 65_535, 3, b"65535 1 1 score 0 0 open\n"),
+    (131_072, 70_000, 3, b"131070 1 1 score 0 0 open\n"),
+    (131_073, 70_000, 4, b"131071 1 1 score 0 0 open\n"),
+    (131_073, 65_535, 4, b"131071 1 1 score 0 0 open\n"),
+    (200_000, 30_000, 8, b"199998 1 1 score 0 0 open\n"),
 ];
 
 /// Counts each text from two sources, and splits it.

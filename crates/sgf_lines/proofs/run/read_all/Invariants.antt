@@ -7,7 +7,7 @@ use Rattle.sgf_lines.proofs.run.read_all.Given as goal
 abbrev pub invariant-read : goal.invariant-read
 invariant-read g l = record {
   bound : length l.text.items ≤ MAX_LENGTH;
-  room : length l.chunk ≡ 4096;
+  room : length l.chunk ≡ 65536;
   has_read : HasRead (g.S.Source.state l.initial.source) (g.S.Source.state l.source) l.text.items;
   ends : g.S.Source.ends l.source ≤ g.S.Source.ends l.initial.source;
 }
