@@ -6,14 +6,12 @@ use Rattle.std.proofs.lemmas.Nat.Bits.{same_from_bits_below}
 use Rattle.std.proofs.lemmas.Bool.{cases_lt, cases_Bool}
 use Rattle.std.proofs.lemmas.List.{drop-drop, length-drop, reverse-append, length-map}
 use Rattle.go_board.specs.declared.past.key.TheConstants.{WIDTH}
-use Rattle.go_board.specs.declared.past.marks.Marks.{Marks}
 use Rattle.go_board.specs.declared.past.table.Table.{Table}
 use Rattle.go_board.specs.declared.past.trie.Node.{Node}
 use Rattle.go_board.specs.Grid.{Grid}
 use Rattle.go_board.specs.Past.{Held, stretch_of, AllHaveSide}
 use Rattle.go_board.specs.inner.Changes.{first_grid, IsNumber, HasNumber}
 use Rattle.go_board.specs.inner.Key.{key_row, start_of, since, oldest, keys_of}
-use Rattle.go_board.specs.inner.Marks.{IsMarked}
 use Rattle.go_board.specs.inner.Print.{print_of, prints_of}
 use Rattle.go_board.specs.inner.Rows.{has_bit}
 use Rattle.go_board.specs.inner.Table.{IsTable}
@@ -324,10 +322,10 @@ linked_next held count g nodes low at trie =
     (all, subst (λ (xs : List (ℕ → Bool)). IsTrie WIDTH xs nodes) rows trie)
 
 pub tabled_next : (held : List Held) (table next : Table) (g : Grid) → IsTable held table → length table.nodes.items < length table.prints.items
-    → next.prints ≡ table.prints → next.marks ≡ table.marks → vec_capacity next.nodes ≡ vec_capacity table.nodes → IsNumber held (length table.nodes.items) g
+    → next.prints ≡ table.prints → next.filter ≡ table.filter → vec_capacity next.nodes ≡ vec_capacity table.nodes → IsNumber held (length table.nodes.items) g
     → IsTrie WIDTH (key_row (start_of (since (length table.nodes.items) held)) (print_of g) g ∷ keys_of (oldest (length table.nodes.items) held)) next.nodes.items
     → IsTable held next × (length next.nodes.items ≡ length table.nodes.items + 1)
-tabled_next held table next g is more prints marks room at trie =
+tabled_next held table next g is more prints filter room at trie =
     let low : length table.nodes.items < length held = omega (arith, more, tabled held table is) in
     let count : length next.prints.items ≡ length table.prints.items = cc in
     let linked = linked_next held (length table.nodes.items) g next.nodes.items low at trie in (
@@ -337,7 +335,7 @@ tabled_next held table next g is more prints marks room at trie =
         linked = linked.1;
         room = omega (arith, is.room, room, count);
         most = omega (arith, is.most, room);
-        marked = subst (λ (m : Marks). IsMarked next.prints.items m) (sym marks) (rw prints is.marked);
+        filtered = rw (prints, filter) is.filtered;
       },
       linked.0,
     )
@@ -355,13 +353,13 @@ linked_none held nodes none =
     subst (λ (hs : List Held). IsTrie WIDTH (keys_of hs) nodes) (sym first) none
 
 pub tabled_first : (held : List Held) (table next : Table) (g : Grid) → IsTable held table → length table.nodes.items < length table.prints.items
-    → next.prints ≡ table.prints → next.marks ≡ table.marks → vec_capacity next.nodes ≡ vec_capacity table.nodes → IsNumber held (length table.nodes.items) g → length table.nodes.items ≡ 0
+    → next.prints ≡ table.prints → next.filter ≡ table.filter → vec_capacity next.nodes ≡ vec_capacity table.nodes → IsNumber held (length table.nodes.items) g → length table.nodes.items ≡ 0
     → IsTrie WIDTH (key_row (start_of (since (length table.nodes.items) held)) (print_of g) g ∷ []) next.nodes.items
     → IsTable held next × (length next.nodes.items ≡ length table.nodes.items + 1)
-tabled_first held table next g is more prints marks room at none trie =
+tabled_first held table next g is more prints filter room at none trie =
     let count = length table.nodes.items in
     let first : oldest count held ≡ [] = no_items (oldest count held) (length-oldest count held (omega (arith, none)) ∙ none) in
-    tabled_next held table next g is more prints marks room at
+    tabled_next held table next g is more prints filter room at
     (subst (λ (hs : List Held). IsTrie WIDTH (key_row (start_of (since count held)) (print_of g) g ∷ keys_of hs) next.nodes.items) (sym first) trie)
 
 -- The trie of one colouring more, and of one less.
