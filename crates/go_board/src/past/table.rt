@@ -166,8 +166,7 @@ impl Table {
     /// Where a colouring with this print comes in, if all colourings are in the trie and none has this print; None otherwise.
     pub(crate) fn gap(&self, colourings: &Colourings, print: u64) -> Option<Gap>
         requires { IsTable (all_of colourings.now) self.now }
-        ensures gap { IfSome result (IsGap (all_of colourings.now) self.now.nodes.items) }
-        ensures lacks { (grid : Grid) → IsSome result → print ≡ print_of grid → ¬ Contains (present_stretch colourings.now) grid }
+        ensures { IfSome result (λ gap. IsGap (all_of colourings.now) self.now.nodes.items gap × (gap.print ≡ print)) }
     {
         if self.nodes.len() != self.prints.len() {
             return None;

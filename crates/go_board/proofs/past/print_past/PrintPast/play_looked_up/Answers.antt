@@ -11,6 +11,7 @@ use Rattle.go_board.specs.inner.Groups.{TakesOff}
 use Rattle.go_board.specs.inner.Print.{print_of}
 use Rattle.go_board.specs.inner.Table.{IsGap, IsTable}
 use Rattle.go_board.proofs.RepeatLemmas.{emptied_by_play}
+use Rattle.go_board.proofs.TableLemmas.{gap_found}
 use Rattle.go_board.proofs.past.print_past.PrintPast.play_looked_up.Goals as goal
 
 pub invariant_of-self : goal.invariant_of-self
@@ -24,6 +25,9 @@ invariant_of-self-then-has_near c = record { tabled = c.may_have.ensures.table (
 
 pub link-requires : goal.link-requires
 link-requires c = c.may_have.ensures.table (all_of c.self.inside.colourings) c.self.invariant.tabled
+
+pub has_made-requires-clause-lacks : goal.has_made-requires-clause-lacks
+has_made-requires-clause-lacks c = (gap_found (all_of c.self.inside.colourings) c.link.new.self.nodes.items c.args.print c.gap-gap.result c.gap-gap.ensures).1
 
 pub returns-in_err-add_made : goal.returns-in_err-add_made
 returns-in_err-add_made c =
@@ -83,7 +87,7 @@ invariant_of-self-4 c =
     let takes : TakesOff g k p rows = subst (λ (past : PastColourings). TakesOff (newest_grid past) k p rows) (sym c.self.view_is) c.requires.taken in
     let pushed : IsTable (next ∷ held) c.add_stone.new.table = subst (λ (past : PastColourings). IsTable (all_of past) c.add_stone.new.table) made c.add_stone.ensures.table in
     let gap : IfSome c.gap-gap.result (IsGap held c.add_stone.new.table.nodes.items) =
-    subst (λ (xs : List Node). IfSome c.gap-gap.result (IsGap held xs)) (sym c.in_ok-add_stone.ensures.nodes) c.gap-gap.ensures.gap in
+    subst (λ (xs : List Node). IfSome c.gap-gap.result (IsGap held xs)) (sym c.in_ok-add_stone.ensures.nodes) (gap_found held c.link.new.self.nodes.items c.args.print c.gap-gap.result c.gap-gap.ensures).0 in
     record {
       tabled = subst (λ (past : PastColourings). IsTable (all_of past) c.fill.new.self) (sym made) (c.fill.ensures next held pushed gap);
       emptied_in = subst (λ (past : PastColourings). IsEmptied (all_of past) c.add.new.self) (sym made)
