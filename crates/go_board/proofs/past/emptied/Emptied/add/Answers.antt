@@ -1,4 +1,4 @@
-use Rattle.std.proofs.Common.{◌≡◌, ◌+◌, ◌<◌, [], ◌∷◌, List, ℕ, length, length-append, get_or, refl, slice_set, sym, subst, ap, ◌∙◌, arith}
+use Rattle.std.proofs.Common.{◌+◌, ◌<◌, [], ◌∷◌, List, ℕ, length, length-append, get_or, refl, slice_set, sym, subst, ap, ◌∙◌, arith}
 use Rattle.std.proofs.lemmas.Bool.{or_left, or_right}
 use Rattle.std.proofs.lemmas.List.{length-set, set-get_or}
 use Rattle.go_board.specs.declared.past.emptied.Emptied.{Emptied}

@@ -1,13 +1,10 @@
 use Rattle.std.proofs.Common.{◌≡◌, ◌∷◌, Contains, IfSome, List, false, subst, sym, ap, ◌∙◌, rules}
 use Rattle.std.proofs.lemmas.Bool.{false≢true}
-use Rattle.go_board.specs.declared.stones.Cell.TheVariants.{Empty}
 use Rattle.go_board.specs.declared.past.trie.Node.{Node}
-use Rattle.go_board.specs.Point.{IsOn}
-use Rattle.go_board.specs.Grid.{cell_at}
 use Rattle.go_board.specs.Clearing.{play}
 use Rattle.go_board.specs.Past.{Held, PastColourings, all_of, newest_grid, present_stretch, with_next}
 use Rattle.go_board.specs.inner.Emptied.{IsEmptied, IsLastStone}
-use Rattle.go_board.specs.inner.Groups.{TakesOff}
+use Rattle.go_board.specs.inner.Groups.{IsMove}
 use Rattle.go_board.specs.inner.Print.{print_of}
 use Rattle.go_board.specs.inner.Table.{IsGap, IsTable}
 use Rattle.go_board.proofs.RepeatLemmas.{emptied_by_play}
@@ -82,9 +79,7 @@ invariant_of-self-4 c =
     let g = newest_grid was.colourings in
     let next : Held = record { colouring = play g k p; begins = false } in
     let made : c.add_stone.new.colourings ≡ with_next was.colourings (play g k p) false = search rules in
-    let on : IsOn g.side p = subst (λ (past : PastColourings). IsOn (newest_grid past).side p) (sym c.self.view_is) c.requires.on_board in
-    let empty : cell_at g p ≡ Empty = ap (λ (past : PastColourings). cell_at (newest_grid past) p) c.self.view_is ∙ c.requires.empty in
-    let takes : TakesOff g k p rows = subst (λ (past : PastColourings). TakesOff (newest_grid past) k p rows) (sym c.self.view_is) c.requires.taken in
+    let move : IsMove g k p rows = subst (λ (past : PastColourings). IsMove (newest_grid past) k p rows) (sym c.self.view_is) c.requires.stone in
     let pushed : IsTable (next ∷ held) c.add_stone.new.table = subst (λ (past : PastColourings). IsTable (all_of past) c.add_stone.new.table) made c.add_stone.ensures.table in
     let gap : IfSome c.gap-gap.result (IsGap held c.add_stone.new.table.nodes.items) =
     subst (λ (xs : List Node). IfSome c.gap-gap.result (IsGap held xs)) (sym c.in_ok-add_stone.ensures.nodes) (gap_found held c.link.new.self.nodes.items c.args.print c.gap-gap.result c.gap-gap.ensures).0 in
@@ -92,7 +87,7 @@ invariant_of-self-4 c =
       tabled = subst (λ (past : PastColourings). IsTable (all_of past) c.fill.new.self) (sym made) (c.fill.ensures next held pushed gap);
       emptied_in = subst (λ (past : PastColourings). IsEmptied (all_of past) c.add.new.self) (sym made)
           (c.add.ensures next was.colourings.newest was.colourings.older (c.reserve.ensures.emptied held c.self.invariant.emptied_in) (c.next_number-number.ensures held c.link.ensures.table)
-          (λ goes_on. emptied_by_play g k p rows on empty takes));
+          (λ goes_on. emptied_by_play g k p rows move));
       last = tt;
     }
 
