@@ -1,8 +1,7 @@
-//! A filter for prints, a Bloom filter with one hash: a bit for each number of 13 low bits that a print has. Most colourings that are
-//! looked up have a print that no past colouring has. Then its bit is usually not set, and neither the table's trie is asked nor
-//! colourings are put into it.
+//! A filter of prints: a Bloom filter whose one hash is the 13 low bits of a print. Most colourings that are looked up have a print that
+//! no past colouring has. Usually its bit isn't set then, and neither the table's trie is asked nor colourings are put into it.
 //!
-//! This costs one bit set for each colouring, and for a look-up at most `MOST_COMPARED` prints compared. If there are more colourings
+//! This costs one bit to set for each colouring, and for a look-up at most `MOST_COMPARED` prints compared. If there are more colourings
 //! than that, only the trie is asked.
 
 ghost use Rattle.std.specs.Prelude.{◌≡◌, ◌≢◌, ℕ, ◌++◌, ◌<◌, List, length, slice_index, IsFalse};
@@ -25,14 +24,14 @@ const MOST_PUT: usize = 4096;
 pub(crate) struct Filter {
     /// A bit is set if some print has these low bits. Others may be set, too.
     words: [u64; WORDS],
-    /// How many of the oldest prints have their bits set.
+    /// How many of the oldest prints have been put: their bits are set.
     count: usize,
-    /// How many prints were put since no bit was set.
+    /// How many prints were put since no bit was set. Some may have been undone.
     put: usize,
 }
 
 impl Filter {
-    /// No bit is set.
+    /// A filter with no bit set: none of the prints has been put yet.
     pub(crate) fn new() -> Filter
         ensures { (prints : List ℕ) → IsFilter prints result }
     {
@@ -63,7 +62,7 @@ impl Filter {
         has_column(self.words[word_of(print)], column_of(print)) && is_among(prints, print)
     }
 
-    /// Sets the bits of all prints.
+    /// Puts all prints: sets their bits.
     fn put_all(&mut self, prints: &[u64])
         requires { IsFilter prints.now self.old }
         ensures filter { IsFilter prints.now self.new }

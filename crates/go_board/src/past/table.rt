@@ -50,7 +50,7 @@ pub(crate) struct Table {
     prints: Vec<u64>,
     /// The nodes of the oldest colourings. The newest ones may not be in the trie yet.
     nodes: Vec<Node>,
-    /// A filter for the prints.
+    /// A filter of the prints.
     filter: Filter,
 }
 
