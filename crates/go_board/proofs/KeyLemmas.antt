@@ -2,7 +2,7 @@
 use Rattle.std.proofs.Common.{◌≡◌, ◌≢◌, ℕ, suc, ◌+◌, ◌-◌, ◌*◌, ◌/◌, ◌%◌, ◌^◌, ◌<◌, ◌≤◌, ◌==◌, ◌&&◌, Bool, nat_lt, if◌then◌else◌, bit_xor, length, inl, inr, refl, sym, ap, subst, ◌∙◌, arith}
 use Rattle.std.specs.Int.{bit_at}
 use Rattle.std.proofs.lemmas.Bool.{cases_lt, false≢true, lt-ltb}
-use Rattle.std.proofs.lemmas.Nat.Bits.{bit_at_xor, bit_at-lt, same_from_bits_below, same_from_bits, bit_at-zero}
+use Rattle.std.proofs.lemmas.Nat.Bits.{bit_at_xor, bit_at-lt, same_from_bits_below}
 use Rattle.go_board.specs.declared.stones.Cell.{Cell}
 use Rattle.go_board.specs.declared.stones.Cell.TheVariants.{Black, White, Empty}
 use Rattle.go_board.specs.Colour.{same_cell}
@@ -29,9 +29,6 @@ other_bits a b i e same =
     let one : bit_at a i ≡ bit_at b i = bit_same a b i same in
     let low : bit_at a i < 2 = bit_at-lt a i in
     grind arith
-
-pub xor_self : (a : ℕ) → bit_xor a a ≡ 0
-xor_self a = same_from_bits (bit_xor a a) 0 (λ i. let twice : (bit_at a i + bit_at a i) % 2 ≡ 0 = omega arith in bit_at_xor a a i ∙ twice ∙ sym (bit_at-zero i))
 
 -- one word more of two rows of bits
 module _ (x y : ℕ → Bool) (a b index : ℕ) (is_a : (col : ℕ) → col < 64 → has_bit a col ≡ x (64 * index + col)) (is_b : (col : ℕ) → col < 64 → has_bit b col ≡ y (64 * index + col)) (before : Agree x y (64 * index)) where

@@ -37,7 +37,7 @@ pub mod EmptiedLemmas
 pub mod ChangesLemmas
 pub mod ColumnLemmas
 pub mod ColouringsLemmas
-pub mod MarksLemmas
+pub mod FilterLemmas
 pub mod TableLemmas
 pub mod TrieLemmas
 pub mod KeyLemmas

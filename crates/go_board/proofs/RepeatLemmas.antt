@@ -11,7 +11,7 @@ use Rattle.go_board.specs.Clearing.{play}
 use Rattle.go_board.specs.Past.{Held, PastColourings, all_of, newest_grid, with_next, stretch_of, present_stretch, AllHaveSide, HaveSide}
 use Rattle.go_board.specs.Reason.{WasEmptied}
 use Rattle.go_board.specs.inner.Emptied.{HasEmptied, HasAllEmptied, IsLastStone}
-use Rattle.go_board.specs.inner.Groups.{TakesOff}
+use Rattle.go_board.specs.inner.Groups.{IsMove}
 use Rattle.go_board.specs.inner.Rows.{is_set, IsAmong}
 use Rattle.go_board.proofs.PointLemmas.{same_or_not}
 use Rattle.go_board.proofs.GridLemmas.{Decides-same_cell, cell_at-with_cell, cell_at-with_cell_elsewhere}
@@ -53,55 +53,55 @@ HasAllEmptied-more a b (later ∷ (earlier ∷ others)) among all =
     (λ goes_on p on stone free. among p (all.0 goes_on p on stone free), HasAllEmptied-more a b (earlier ∷ others) among all.1)
 
 -- a stone empties what it takes off, and no other point
-pub emptied_by_play : (g : Grid) (k : Colour) (p : Point) (rows : List ℕ) → IsOn g.side p → cell_at g p ≡ Empty → TakesOff g k p rows → HasEmptied (is_set rows) g (play g k p)
-emptied_by_play g k p rows on none takes = λ q at stone free.
+pub emptied_by_play : (g : Grid) (k : Colour) (p : Point) (rows : List ℕ) → IsMove g k p rows → HasEmptied (is_set rows) g (play g k p)
+emptied_by_play g k p rows move = λ q at stone free.
     elim (cases_Bool (is_set rows q)) [
       | inl taken ↦ taken
       | inr left ↦
           absurd (elim (same_or_not q p) [
-            | inl same ↦ stone (ap (cell_at g) same ∙ none)
+            | inl same ↦ stone (ap (cell_at g) same ∙ move.empty)
             | inr other ↦
-                stone (sym (cell_at-with_cell_elsewhere g p q (stone_of k) on at other) ∙ sym (takes.played.kept q at (λ taken. false≢true (sym left ∙ taken))) ∙ free)
+                stone (sym (cell_at-with_cell_elsewhere g p q (stone_of k) move.on_board at other) ∙ sym (move.taken.played.kept q at (λ taken. false≢true (sym left ∙ taken))) ∙ free)
           ])
     ]
 
 -- a stone that stays on a point that isn't in the set makes no colouring of the present stretch
-pub never_back : (past : PastColourings) (k : Colour) (p : Point) (rows emptied : List ℕ) → IsOn (newest_grid past).side p → length (newest_grid past).cells ≡ (newest_grid past).side * (newest_grid past).side → cell_at (newest_grid past) p ≡ Empty → HaveSide (newest_grid past).side past → HasAllEmptied (is_set emptied) (all_of past)
-    → TakesOff (newest_grid past) k p rows → is_set emptied p ≡ false → is_set rows p ≡ false → Contains (present_stretch past) (play (newest_grid past) k p) → ⊥
-never_back past k p rows emptied on all none sides kept takes fresh stays has =
+pub never_back : (past : PastColourings) (k : Colour) (p : Point) (rows emptied : List ℕ) → length (newest_grid past).cells ≡ (newest_grid past).side * (newest_grid past).side → HaveSide (newest_grid past).side past → HasAllEmptied (is_set emptied) (all_of past)
+    → IsMove (newest_grid past) k p rows → is_set emptied p ≡ false → is_set rows p ≡ false → Contains (present_stretch past) (play (newest_grid past) k p) → ⊥
+never_back past k p rows emptied all sides kept move fresh stays has =
     let g = newest_grid past in
-    let there : cell_at (play g k p) p ≡ stone_of k = takes.played.kept p on (λ taken. false≢true (sym stays ∙ taken)) ∙ cell_at-with_cell g p (stone_of k) on all in
-    let was = emptied-if_back p (play g k p) g (cond past.newest.begins [] (stretch_of past.older)) none (λ e. stone_of≢Empty k (sym there ∙ e)) has in
-    false≢true (sym fresh ∙ was_in_set (is_set emptied) g.side p on (all_of past) sides kept was)
+    let there : cell_at (play g k p) p ≡ stone_of k = move.taken.played.kept p move.on_board (λ taken. false≢true (sym stays ∙ taken)) ∙ cell_at-with_cell g p (stone_of k) move.on_board all in
+    let was = emptied-if_back p (play g k p) g (cond past.newest.begins [] (stretch_of past.older)) move.empty (λ e. stone_of≢Empty k (sym there ∙ e)) has in
+    false≢true (sym fresh ∙ was_in_set (is_set emptied) g.side p move.on_board (all_of past) sides kept was)
 
 -- a stone that stays on such a point is in no older colouring of the stretch
-pub last_stone_put : (past : PastColourings) (k : Colour) (p : Point) (rows emptied : List ℕ) → IsOn (newest_grid past).side p → length (newest_grid past).cells ≡ (newest_grid past).side * (newest_grid past).side → cell_at (newest_grid past) p ≡ Empty → HaveSide (newest_grid past).side past → HasAllEmptied (is_set emptied) (all_of past)
-    → TakesOff (newest_grid past) k p rows → is_set emptied p ≡ false → is_set rows p ≡ false → IsLastStone (with_next past (play (newest_grid past) k p) false) p
-last_stone_put past k p rows emptied on all none sides kept takes fresh stays =
+pub last_stone_put : (past : PastColourings) (k : Colour) (p : Point) (rows emptied : List ℕ) → length (newest_grid past).cells ≡ (newest_grid past).side * (newest_grid past).side → HaveSide (newest_grid past).side past → HasAllEmptied (is_set emptied) (all_of past)
+    → IsMove (newest_grid past) k p rows → is_set emptied p ≡ false → is_set rows p ≡ false → IsLastStone (with_next past (play (newest_grid past) k p) false) p
+last_stone_put past k p rows emptied all sides kept move fresh stays =
     let g = newest_grid past in
-    let there : cell_at (play g k p) p ≡ stone_of k = takes.played.kept p on (λ taken. false≢true (sym stays ∙ taken)) ∙ cell_at-with_cell g p (stone_of k) on all in
+    let there : cell_at (play g k p) p ≡ stone_of k = move.taken.played.kept p move.on_board (λ taken. false≢true (sym stays ∙ taken)) ∙ cell_at-with_cell g p (stone_of k) move.on_board all in
     record {
-      on = subst (λ n. IsOn n p) (sym (side_play g k p)) on;
+      on = subst (λ n. IsOn n p) (sym (side_play g k p)) move.on_board;
       there = λ e. stone_of≢Empty k (sym there ∙ e);
       new = λ grid has.
           let here = Decides-same_cell (cell_at grid p) Empty in
           elim (cases_Bool (same_cell (cell_at grid p) Empty)) [
             | inl free ↦ here.0 free
             | inr taken ↦
-                let was = emptied-if_back p grid g (cond past.newest.begins [] (stretch_of past.older)) none (λ is. false≢true (sym taken ∙ here.1 is)) has in
-                absurd (false≢true (sym fresh ∙ was_in_set (is_set emptied) g.side p on (all_of past) sides kept was))
+                let was = emptied-if_back p grid g (cond past.newest.begins [] (stretch_of past.older)) move.empty (λ is. false≢true (sym taken ∙ here.1 is)) has in
+                absurd (false≢true (sym fresh ∙ was_in_set (is_set emptied) g.side p move.on_board (all_of past) sides kept was))
           ];
     }
 
 -- while such a stone stays, a stone that stays makes no colouring of the present stretch
-pub never_back_with : (past : PastColourings) (k : Colour) (p q : Point) (rows : List ℕ) → IsOn (newest_grid past).side p → length (newest_grid past).cells ≡ (newest_grid past).side * (newest_grid past).side → cell_at (newest_grid past) p ≡ Empty
-    → TakesOff (newest_grid past) k p rows → IsLastStone past q → is_set rows q ≡ false → is_set rows p ≡ false → Contains (present_stretch past) (play (newest_grid past) k p) → ⊥
-never_back_with past k p q rows on all none takes last stays_too stays (zero, h, e) =
+pub never_back_with : (past : PastColourings) (k : Colour) (p q : Point) (rows : List ℕ) → length (newest_grid past).cells ≡ (newest_grid past).side * (newest_grid past).side
+    → IsMove (newest_grid past) k p rows → IsLastStone past q → is_set rows q ≡ false → is_set rows p ≡ false → Contains (present_stretch past) (play (newest_grid past) k p) → ⊥
+never_back_with past k p q rows all move last stays_too stays (zero, h, e) =
     let g = newest_grid past in
-    let there : cell_at (play g k p) p ≡ stone_of k = takes.played.kept p on (λ taken. false≢true (sym stays ∙ taken)) ∙ cell_at-with_cell g p (stone_of k) on all in
-    stone_of≢Empty k (sym there ∙ ap (λ (x : Grid). cell_at x p) (sym e) ∙ none)
-never_back_with past k p q rows on all none takes last stays_too stays (suc j, h, e) =
+    let there : cell_at (play g k p) p ≡ stone_of k = move.taken.played.kept p move.on_board (λ taken. false≢true (sym stays ∙ taken)) ∙ cell_at-with_cell g p (stone_of k) move.on_board all in
+    stone_of≢Empty k (sym there ∙ ap (λ (x : Grid). cell_at x p) (sym e) ∙ move.empty)
+never_back_with past k p q rows all move last stays_too stays (suc j, h, e) =
     let g = newest_grid past in
     let free : cell_at (play g k p) q ≡ Empty = last.new (play g k p) (j, omega (arith, h), e) in
-    let other : q ≢ p = λ same. last.there (ap (cell_at g) same ∙ none) in
-    last.there (sym (cell_at-with_cell_elsewhere g p q (stone_of k) on last.on other) ∙ sym (takes.played.kept q last.on (λ taken. false≢true (sym stays_too ∙ taken))) ∙ free)
+    let other : q ≢ p = λ same. last.there (ap (cell_at g) same ∙ move.empty) in
+    last.there (sym (cell_at-with_cell_elsewhere g p q (stone_of k) move.on_board last.on other) ∙ sym (move.taken.played.kept q last.on (λ taken. false≢true (sym stays_too ∙ taken))) ∙ free)

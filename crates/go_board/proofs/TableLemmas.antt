@@ -1,25 +1,22 @@
 -- The table by which colourings are looked up.
-use Rattle.std.proofs.Common.{◌≡◌, ◌≢◌, ℕ, zero, suc, ◌+◌, ◌-◌, ◌*◌, ◌<◌, ◌≤◌, ◌^◌, bit_xor, Bool, true, false, if◌then◌else◌, List, [], ◌∷◌, ◌++◌, Some, length, length-take, get_or, map, take, drop, reverse, Contains, inl, inr, refl, sym, ap, subst, ◌∙◌, arith}
+use Rattle.std.proofs.Common.{◌≡◌, ◌≢◌, ℕ, zero, suc, ◌+◌, ◌-◌, ◌*◌, ◌<◌, ◌≤◌, ◌^◌, bit_xor, Bool, true, false, if◌then◌else◌, List, [], ◌∷◌, ◌++◌, Option, None, Some, IfSome, IsSome, length, length-take, get_or, map, take, drop, reverse, Contains, inl, inr, refl, sym, ap, subst, ◌∙◌, arith}
 use Rattle.std.specs.Int.{bit_at}
 use Rattle.std.specs.Vec.{vec_capacity}
-use Rattle.std.proofs.lemmas.Nat.Bits.{same_from_bits_below}
-use Rattle.std.proofs.lemmas.Bool.{cases_lt, cases_Bool}
+use Rattle.std.proofs.lemmas.Bool.{cases_lt, cases_Bool, false≢true}
 use Rattle.std.proofs.lemmas.List.{drop-drop, length-drop, reverse-append, length-map}
 use Rattle.go_board.specs.declared.past.key.TheConstants.{WIDTH}
-use Rattle.go_board.specs.declared.past.marks.Marks.{Marks}
+use Rattle.go_board.specs.declared.past.table.Gap.{Gap}
 use Rattle.go_board.specs.declared.past.table.Table.{Table}
 use Rattle.go_board.specs.declared.past.trie.Node.{Node}
 use Rattle.go_board.specs.Grid.{Grid}
 use Rattle.go_board.specs.Past.{Held, stretch_of, AllHaveSide}
 use Rattle.go_board.specs.inner.Changes.{first_grid, IsNumber, HasNumber}
 use Rattle.go_board.specs.inner.Key.{key_row, start_of, since, oldest, keys_of}
-use Rattle.go_board.specs.inner.Marks.{IsMarked}
 use Rattle.go_board.specs.inner.Print.{print_of, prints_of}
 use Rattle.go_board.specs.inner.Rows.{has_bit}
-use Rattle.go_board.specs.inner.Table.{IsTable}
+use Rattle.go_board.specs.inner.Table.{IsGap, IsTable}
 use Rattle.go_board.specs.inner.Trie.{Agree, IsTrie, IsTree, IsNearest, IsParting, row_of, depth_of, kid_of, without_newest}
 use Rattle.go_board.proofs.KeyLemmas.{same_bit, other_bits, print_bit, front_same, front_agrees, whole_same}
-use Rattle.go_board.proofs.StoneRowsLemmas.{bit_same}
 use Rattle.go_board.proofs.PrintLemmas.{print_small}
 use Rattle.go_board.proofs.PrintPastLemmas.{some_same, index-of, of-index, same_length, print-number}
 use Rattle.go_board.proofs.TrieLemmas.{agree_self, agree_on, agree_back, agree_less, trie_tree, trie_length, row_first, row_before, way_equal, way_parts}
@@ -289,19 +286,6 @@ module _ (held : List Held) (table : Table) (is : IsTable held table) where
             },
           )
 
-      -- if a colouring in the trie has that print, so has this one
-      pub print_found : (number : ℕ) (grid : Grid) → print < 2 ^ 64 → number < length table.nodes.items → IsNumber held number grid → print_of grid ≡ print → get_or table.prints.items near 0 ≡ print
-      print_found number grid fits low at is =
-          let high : near < length held = omega (arith, near_in n, linked_few) in
-          let there = number_there held near high in
-          let agrees : Agree (row_of linked_rows number) key 64 = record {
-            each = λ p h.
-                ap (λ (x : ℕ → Bool). x p) (key_there number (start_of (since number held)) print grid low at refl is) ∙ print_bit (start_of (since number held)) print grid p h ∙ sym (key_print p h);
-          } in
-          let found = found_equal n (omega arith) number low agrees in
-          print_there near there.0 high there.1 ∙ same_from_bits_below 64 (print_of there.0) print (print_small there.0) fits
-          (λ i h. bit_same (print_of there.0) print i (sym (near_print there.0 there.1 i h) ∙ found.each i h ∙ key_print i h))
-
     -- The same by all bits.
     module _ (n : Nearest WIDTH) (other : ℕ → Bool) (grid' : Grid) (at : IsNumber held near grid') (is_other : other ≡ key_row (start_of (since near held)) (print_of grid') grid') where
       near_key : row_of linked_rows near ≡ other
@@ -324,10 +308,10 @@ linked_next held count g nodes low at trie =
     (all, subst (λ (xs : List (ℕ → Bool)). IsTrie WIDTH xs nodes) rows trie)
 
 pub tabled_next : (held : List Held) (table next : Table) (g : Grid) → IsTable held table → length table.nodes.items < length table.prints.items
-    → next.prints ≡ table.prints → next.marks ≡ table.marks → vec_capacity next.nodes ≡ vec_capacity table.nodes → IsNumber held (length table.nodes.items) g
+    → next.prints ≡ table.prints → next.filter ≡ table.filter → vec_capacity next.nodes ≡ vec_capacity table.nodes → IsNumber held (length table.nodes.items) g
     → IsTrie WIDTH (key_row (start_of (since (length table.nodes.items) held)) (print_of g) g ∷ keys_of (oldest (length table.nodes.items) held)) next.nodes.items
     → IsTable held next × (length next.nodes.items ≡ length table.nodes.items + 1)
-tabled_next held table next g is more prints marks room at trie =
+tabled_next held table next g is more prints filter room at trie =
     let low : length table.nodes.items < length held = omega (arith, more, tabled held table is) in
     let count : length next.prints.items ≡ length table.prints.items = cc in
     let linked = linked_next held (length table.nodes.items) g next.nodes.items low at trie in (
@@ -337,7 +321,7 @@ tabled_next held table next g is more prints marks room at trie =
         linked = linked.1;
         room = omega (arith, is.room, room, count);
         most = omega (arith, is.most, room);
-        marked = subst (λ (m : Marks). IsMarked next.prints.items m) (sym marks) (rw prints is.marked);
+        filtered = rw (prints, filter) is.filtered;
       },
       linked.0,
     )
@@ -355,13 +339,13 @@ linked_none held nodes none =
     subst (λ (hs : List Held). IsTrie WIDTH (keys_of hs) nodes) (sym first) none
 
 pub tabled_first : (held : List Held) (table next : Table) (g : Grid) → IsTable held table → length table.nodes.items < length table.prints.items
-    → next.prints ≡ table.prints → next.marks ≡ table.marks → vec_capacity next.nodes ≡ vec_capacity table.nodes → IsNumber held (length table.nodes.items) g → length table.nodes.items ≡ 0
+    → next.prints ≡ table.prints → next.filter ≡ table.filter → vec_capacity next.nodes ≡ vec_capacity table.nodes → IsNumber held (length table.nodes.items) g → length table.nodes.items ≡ 0
     → IsTrie WIDTH (key_row (start_of (since (length table.nodes.items) held)) (print_of g) g ∷ []) next.nodes.items
     → IsTable held next × (length next.nodes.items ≡ length table.nodes.items + 1)
-tabled_first held table next g is more prints marks room at none trie =
+tabled_first held table next g is more prints filter room at none trie =
     let count = length table.nodes.items in
     let first : oldest count held ≡ [] = no_items (oldest count held) (length-oldest count held (omega (arith, none)) ∙ none) in
-    tabled_next held table next g is more prints marks room at
+    tabled_next held table next g is more prints filter room at
     (subst (λ (hs : List Held). IsTrie WIDTH (key_row (start_of (since count held)) (print_of g) g ∷ keys_of hs) next.nodes.items) (sym first) trie)
 
 -- The trie of one colouring more, and of one less.
@@ -420,3 +404,17 @@ any_number (x ∷ xs) g (suc j, h, e) = later x.begins (λ low at. any_number xs
     later false before h e =
         let rest = before (omega (arith, h)) e in
         (rest.0, omega (arith, rest.1), ap first_grid (since-older rest.0 x xs rest.1) ∙ rest.2)
+
+-- where a gap opens, no colouring of the present stretch has its print
+gap_lacks : (held : List Held) (nodes : List Node) (gap : Gap) (g : Grid) → IsGap held nodes gap → gap.print ≡ print_of g → ¬ Contains (stretch_of held) g
+gap_lacks held nodes gap g is print has =
+    let number = any_number held g has in
+    let row = row_of (keys_of held) number.0 in
+    let front : (p : ℕ) → p < 64 → row p ≡ has_bit gap.print p = λ p low.
+    ap (λ (x : ℕ → Bool). x p) (key_of held number.0 g number.1 number.2) ∙ print_bit (start_of (since number.0 held)) (print_of g) g p low ∙ ap (λ n. has_bit n p) (sym print) in
+    (is.opens row front).part.best number.0 (omega (arith, is.all, number.1)) (agree_self row (gap.place + 1))
+
+pub gap_found : (held : List Held) (nodes : List Node) (print : ℕ) (gap : Option Gap) → IfSome gap (λ one. IsGap held nodes one × (one.print ≡ print))
+    → IfSome gap (IsGap held nodes) × ((g : Grid) → IsSome gap → print ≡ print_of g → ¬ Contains (stretch_of held) g)
+gap_found held nodes print None is = (tt, λ g some. absurd (false≢true some))
+gap_found held nodes print (Some one) is = (is.0, λ g some same. gap_lacks held nodes one g is.0 (is.1 ∙ same))

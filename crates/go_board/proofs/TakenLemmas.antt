@@ -1,8 +1,8 @@
 -- What a stone takes off, as rows: playing it is putting it on its point and emptying these.
-use Rattle.std.proofs.Common.{◌≡◌, ◌⊎◌, inl, inr, ◌*◌, ◌<◌, ◌≤◌, ◌||◌, true, false, ℕ, List, [], length, slice_index, bit_or, refl, sym, ap, subst, ◌∙◌, arith}
+use Rattle.std.proofs.Common.{◌≡◌, ◌⊎◌, inl, inr, ◌*◌, ◌+◌, ◌<◌, ◌≤◌, ◌||◌, true, false, ℕ, List, [], length, slice_index, slice_set, bit_or, refl, sym, ap, subst, ◌∙◌, arith}
 use Rattle.std.proofs.Math.Bool.{or-false}
 use Rattle.std.proofs.lemmas.Bool.{cases_Bool, cases_lt, or_cases, or_left, or_right, false≢true}
-use Rattle.std.proofs.lemmas.List.{length-set, get_or_past}
+use Rattle.std.proofs.lemmas.List.{length-set, get_or_past, get_or-set_other}
 use Rattle.go_board.specs.declared.stones.Cell.{Cell}
 use Rattle.go_board.specs.declared.stones.Cell.TheVariants.{Empty}
 use Rattle.go_board.specs.declared.stones.Colour.{Colour}
@@ -17,6 +17,7 @@ use Rattle.go_board.proofs.PointLemmas.{same_or_not}
 use Rattle.go_board.proofs.GridLemmas.{cell_at-with_cell, cell_at-with_cell_elsewhere}
 use Rattle.go_board.proofs.MoveLemmas.{IsWithoutLiberty-none, takes_off_own}
 use Rattle.go_board.proofs.ChangesLemmas.{one_colouring}
+use Rattle.go_board.proofs.RegionLemmas.{written_more}
 use Rattle.go_board.proofs.WordLemmas.{has_bit-or, has_bit-zero}
 
 -- no group
@@ -65,6 +66,12 @@ taken_away g p stone on all free =
 pub record AddedBelow (old rows : List ℕ) (row : ℕ) (new : List ℕ) : Type 0 where
   pub added : (r : ℕ) → r < row → slice_index new r ≡ bit_or (slice_index old r) (slice_index rows r)
   pub same : (r : ℕ) → row ≤ r → slice_index new r ≡ slice_index old r
+
+pub added_next : (old rows now : List ℕ) (row : ℕ) → row < length now → AddedBelow old rows row now → AddedBelow old rows (row + 1) (slice_set now row (bit_or (slice_index now row) (slice_index rows row)))
+added_next old rows now row low is = record {
+  added = written_more (λ r w. w ≡ bit_or (slice_index old r) (slice_index rows r)) now row _ low is.added (ap (λ w. bit_or w (slice_index rows row)) (is.same row (omega arith)));
+  same = λ r above. get_or-set_other now row r _ 0 (omega (arith, above)) ∙ is.same r (omega (arith, above));
+}
 
 pub added_all : (old rows new : List ℕ) → AddedBelow old rows (length rows) new → (p : Point) → is_set new p ≡ (is_set old p || is_set rows p)
 added_all old rows new each p =

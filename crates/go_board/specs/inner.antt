@@ -13,6 +13,6 @@ pub mod Print
 pub mod Changes
 pub mod Trie
 pub mod Key
-pub mod Marks
+pub mod Filter
 pub mod Table
 pub mod Emptied

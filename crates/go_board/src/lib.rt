@@ -35,7 +35,7 @@
 //! | `past/emptied` | the points that were emptied, where a colouring can come back |
 //! | `past/print`, `past/powers` | the print of a colouring, a number in base 31; the powers of 31 |
 //! | `past/table` | how a past colouring is looked up, and what that costs |
-//! | `past/marks` | what makes most look-ups short |
+//! | `past/filter` | a filter of prints, which answers most look-ups |
 //! | `past/key`, `past/trie` | a colouring as a row of bits; the trie of such rows |
 //! | `reason`, `fault` | why a turn, or a node, isn't allowed; the errors |
 //! | `referee` | the referee and undo; below it `plays`, `setup` and `turn` |

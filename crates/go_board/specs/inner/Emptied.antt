@@ -41,12 +41,16 @@ IsBelow (last ∷ older) count = (last.number < count) × IsBelow older (last.nu
 abbrev pub HasRowsBelow : List OldRow → Type 0
 HasRowsBelow log = All (λ old. old.row < 52) log
 
--- what is kept of the points that were emptied in the steps to these colourings
-pub record IsEmptied (held : List Held) (emptied : Emptied) : Type 0 where
-  pub count : length emptied.rows ≡ 52
+-- what is kept of the points that were emptied in the steps to these colourings; all old rows are of numbers below `count`
+pub record IsLogged (held : List Held) (count : ℕ) (emptied : Emptied) : Type 0 where
+  pub rows : length emptied.rows ≡ 52
   pub inside : HasRowsBelow emptied.log.items
   pub history : HasHistory emptied.rows (reverse emptied.log.items) held
-  pub below : IsBelow (reverse emptied.log.items) (length held)
+  pub below : IsBelow (reverse emptied.log.items) count
+
+-- the same between steps: no old row is of the step to the next colouring
+abbrev pub IsEmptied : List Held → Emptied → Type 0
+IsEmptied held emptied = IsLogged held (length held) emptied
 
 -- the newest colouring has a stone on that point, and no older one of the present stretch has
 pub record IsLastStone (past : PastColourings) (point : Point) : Type 0 where

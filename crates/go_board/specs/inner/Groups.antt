@@ -77,3 +77,9 @@ pub record TakesOff (grid : Grid) (colour : Colour) (point : Point) (rows : List
   pub few : length rows ≤ grid.side
   pub on_grid : (q : Point) → IsTrue (is_set rows q) → IsOn grid.side q
   pub played : IsWithout (with_cell grid point (stone_of colour)) (play grid colour point) (λ q. IsTrue (is_set rows q))
+
+-- a stone that is put on an empty point, and what it takes off
+pub record IsMove (grid : Grid) (colour : Colour) (point : Point) (rows : List ℕ) : Type 0 where
+  pub on_board : IsOn grid.side point
+  pub empty : cell_at grid point ≡ Empty
+  pub taken : TakesOff grid colour point rows

@@ -6,8 +6,8 @@ use Rattle.go_board.specs.declared.past.table.Gap.{Gap}
 use Rattle.go_board.specs.declared.past.table.Table.{Table}
 use Rattle.go_board.specs.declared.past.trie.Node.{Node}
 use Rattle.go_board.specs.Past.{Held}
+use Rattle.go_board.specs.inner.Filter.{IsFilter}
 use Rattle.go_board.specs.inner.Key.{keys_of, oldest}
-use Rattle.go_board.specs.inner.Marks.{IsMarked}
 use Rattle.go_board.specs.inner.Print.{prints_of}
 use Rattle.go_board.specs.inner.Rows.{has_bit}
 use Rattle.go_board.specs.inner.Trie.{IsTrie, IsOpening}
@@ -19,7 +19,7 @@ pub record IsTable (held : List Held) (table : Table) : Type 0 where
   pub linked : IsTrie WIDTH (keys_of (oldest (length table.nodes.items) held)) table.nodes.items
   pub room : length table.prints.items ≤ vec_capacity table.nodes
   pub most : vec_capacity table.nodes < 2 ^ 32
-  pub marked : IsMarked table.prints.items table.marks
+  pub filtered : IsFilter table.prints.items table.filter
 
 -- Where a colouring comes into a trie that has all of these: any row whose first bits are those of the print parts there.
 pub record IsGap (held : List Held) (nodes : List Node) (gap : Gap) : Type 0 where

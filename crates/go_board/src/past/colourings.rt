@@ -8,7 +8,7 @@ ghost use Rattle.go_board.specs.Grid.{cell_at};
 ghost use Rattle.go_board.specs.Clearing.{play, has_unreaching};
 ghost use Rattle.go_board.specs.Past.{Held, all_of, newest_grid, only, with_next, present_stretch};
 ghost use Rattle.go_board.specs.inner.Changes.{is_full, IsEndOf, IsNumber};
-ghost use Rattle.go_board.specs.inner.Groups.{TakesOff};
+ghost use Rattle.go_board.specs.inner.Groups.{IsMove, TakesOff};
 ghost use Rattle.go_board.specs.inner.Key.{start_of, since};
 ghost use Rattle.go_board.specs.inner.Rows.{is_set};
 ghost use Rattle.go_board.specs.declared.points.Point.{Point};
@@ -176,9 +176,7 @@ impl Colourings {
         point: Point,
         taken: &[u64],
     ) -> Result<(), MemoryFault>
-        requires on_board { IsOn (newest_grid self.old).side point }
-        requires empty { cell_at (newest_grid self.old) point ≡ Empty }
-        requires taken { TakesOff (newest_grid self.old) colour point taken.now }
+        requires stone { IsMove (newest_grid self.old) colour point taken.now }
         ensures ok { OnOk result (self.new ≡ with_next self.old (play (newest_grid self.old) colour point) false) }
         ensures err { OnErr result (self.new ≡ self.old) }
     {

@@ -3,11 +3,10 @@
 //! A stone that stays can bring a colouring back only on one of these points. Taking a colouring back takes out the points that its step
 //! emptied first.
 
-ghost use Rattle.std.specs.Prelude.{◌≡◌, ℕ, ◌+◌, ◌<◌, ◌≤◌, ◌||◌, List, [], length, reverse, OnOk};
+ghost use Rattle.std.specs.Prelude.{◌≡◌, ◌+◌, ◌≤◌, List, [], ◌∷◌, length, IsFalse, OnOk};
 ghost use Rattle.std.specs.Vec.{vec_capacity};
-ghost use Rattle.go_board.specs.declared.points.Point.{Point};
 ghost use Rattle.go_board.specs.Past.{Held};
-ghost use Rattle.go_board.specs.inner.Emptied.{HasHistory, IsBelow, HasRowsBelow};
+ghost use Rattle.go_board.specs.inner.Emptied.{HasEmptied, IsEmptied};
 ghost use Rattle.go_board.specs.inner.Rows.{is_set};
 
 use crate::board::regions::no_rows;
@@ -34,10 +33,9 @@ pub(crate) struct Emptied {
 }
 
 impl Emptied {
-    /// No points.
+    /// The set of one colouring: no points.
     pub(crate) fn new(alloc: Global) -> Emptied
-        ensures rows { length result.rows ≡ MAX_ROWS }
-        ensures log { result.log.items ≡ [] }
+        ensures { (first : Held) → IsEmptied (first ∷ []) result }
     {
         Emptied {
             rows: no_rows(),
@@ -47,8 +45,7 @@ impl Emptied {
 
     /// Takes all points out.
     pub(crate) fn clear(&mut self)
-        ensures rows { length self.new.rows ≡ MAX_ROWS }
-        ensures log { self.new.log.items ≡ [] }
+        ensures { (first : Held) → IsEmptied (first ∷ []) self.new }
     {
         self.rows = no_rows();
         self.log.clear();
@@ -56,8 +53,7 @@ impl Emptied {
 
     /// Makes room for the points of that many rows.
     pub(crate) fn reserve(&mut self, rows: usize) -> Result<(), MemoryFault>
-        ensures rows { self.new.rows ≡ self.old.rows }
-        ensures log { self.new.log.items ≡ self.old.log.items }
+        ensures emptied { (held : List Held) → IsEmptied held self.old → IsEmptied held self.new }
         ensures ok { OnOk result (length self.new.log.items + rows ≤ vec_capacity self.new.log) }
     {
         self.log.reserve(rows)?;
@@ -66,15 +62,12 @@ impl Emptied {
 
     /// Adds points that the step to the colouring with this number empties.
     pub(crate) fn add(&mut self, points: &[u64], number: u32)
-        requires length { length self.old.rows ≡ MAX_ROWS }
+        requires emptied { (held : List Held) × IsEmptied held self.old }
         requires few { length points.now ≤ MAX_ROWS }
         requires room { length self.old.log.items + length points.now ≤ vec_capacity self.old.log }
-        ensures both { (p : Point) → is_set self.new.rows p ≡ (is_set self.old.rows p || is_set points.now p) }
-        ensures length { length self.new.rows ≡ MAX_ROWS }
-        ensures history { (held : List Held) → number ≡ length held → HasHistory self.old.rows (reverse self.old.log.items) held
-            → HasHistory self.new.rows (reverse self.new.log.items) held }
-        ensures below { IsBelow (reverse self.old.log.items) (number + 1) → IsBelow (reverse self.new.log.items) (number + 1) }
-        ensures inside { HasRowsBelow self.old.log.items → HasRowsBelow self.new.log.items }
+        ensures { (next newest : Held) (older : List Held) → IsEmptied (newest ∷ older) self.old → number ≡ length (newest ∷ older)
+            → (IsFalse next.begins → HasEmptied (is_set points.now) newest.colouring next.colouring)
+            → IsEmptied (next ∷ newest ∷ older) self.new }
     {
         'each: for row in 0..points.len() {
             let old = self.rows[row];
@@ -90,16 +83,11 @@ impl Emptied {
         }
     }
 
-    /// Takes out the points that the step to the colouring with this number emptied first. No later step has added any.
+    /// Takes out the points that the step to the colouring with this number emptied first.
     pub(crate) fn go_back(&mut self, number: u32)
-        requires length { length self.old.rows ≡ MAX_ROWS }
-        requires inside { HasRowsBelow self.old.log.items }
-        ensures length { length self.new.rows ≡ MAX_ROWS }
-        ensures inside { HasRowsBelow self.new.log.items }
-        ensures history { (held : List Held) → number ≡ length held → IsBelow (reverse self.old.log.items) (number + 1)
-            → HasHistory self.old.rows (reverse self.old.log.items) held
-            → HasHistory self.new.rows (reverse self.new.log.items) held }
-        ensures below { IsBelow (reverse self.old.log.items) (number + 1) → IsBelow (reverse self.new.log.items) number }
+        requires { (held : List Held) × IsEmptied held self.old }
+        ensures { (newest : Held) (older : List Held) → IsEmptied (newest ∷ older) self.old → number ≡ length older
+            → IsEmptied older self.new }
     {
         'each: while !self.log.is_empty() && self.log[self.log.len() - 1].number >= number {
             let last = self.log.pop().unwrap();

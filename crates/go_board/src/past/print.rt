@@ -13,7 +13,7 @@ ghost use Rattle.go_board.specs.Colour.{stone_of};
 ghost use Rattle.go_board.specs.Point.{IsOn, index_of};
 ghost use Rattle.go_board.specs.Grid.{cell_at, with_cell};
 ghost use Rattle.go_board.specs.Clearing.{play};
-ghost use Rattle.go_board.specs.inner.Groups.{TakesOff};
+ghost use Rattle.go_board.specs.inner.Groups.{IsMove};
 ghost use Rattle.go_board.specs.inner.Print.{number_within, print_of, row_number, word_number};
 ghost use Rattle.go_board.specs.inner.Rows.{has_bit};
 
@@ -88,9 +88,7 @@ pub(crate) fn print_after_taking(
     point: Point,
     taken: &[u64],
 ) -> u64
-    requires on_board { IsOn board.now.side point }
-    requires empty { cell_at board.now point ≡ Empty }
-    requires taken { TakesOff board.now colour point taken.now }
+    requires stone { IsMove board.now colour point taken.now }
     requires print { print ≡ print_of board.now }
     ensures { result ≡ print_of (play board.now colour point) }
 {

@@ -7,7 +7,7 @@ ghost use Rattle.go_board.specs.Point.{IsOn};
 ghost use Rattle.go_board.specs.Grid.{cell_at};
 ghost use Rattle.go_board.specs.Clearing.{play};
 ghost use Rattle.go_board.specs.Past.{all_of, newest_grid, with_next};
-ghost use Rattle.go_board.specs.inner.Groups.{TakesOff};
+ghost use Rattle.go_board.specs.inner.Groups.{IsMove};
 ghost use Rattle.go_board.specs.inner.Print.{print_of};
 ghost use Rattle.go_board.specs.inner.Rows.{is_set};
 ghost use Rattle.go_board.specs.inner.Table.{IsTable};
@@ -120,7 +120,7 @@ impl PrintPast {
     ghost use Rattle.go_board.specs.Clearing.{has_unreaching, play};
     ghost use Rattle.go_board.specs.Past.{newest_grid, with_next, present_stretch, HaveSide, IsPlayed};
     ghost use Rattle.go_board.specs.declared.stones.Colour.{Colour};
-    ghost use Rattle.go_board.specs.inner.Groups.{TakesOff};
+    ghost use Rattle.go_board.specs.inner.Groups.{IsMove, TakesOff};
     ghost use Rattle.go_board.specs.inner.Emptied.{IsLastStone};
     ghost use Rattle.go_board.specs.inner.Print.{print_of};
     ghost use Rattle.go_board.specs.declared.points.Point.{Point};
@@ -184,9 +184,7 @@ impl PrintPast {
         taken: &[u64],
     ) -> Result<bool, MemoryFault>
         requires one_side { HaveSide (newest_grid self.old).side self.old }
-        requires on_board { IsOn (newest_grid self.old).side point }
-        requires empty { cell_at (newest_grid self.old) point ≡ Empty }
-        requires taken { TakesOff (newest_grid self.old) colour point taken.now }
+        requires stone { IsMove (newest_grid self.old) colour point taken.now }
         ensures { IsPlayed colour point self.old self.new result }
     {
         self.colourings.newest().has_all_cells();
@@ -224,9 +222,7 @@ impl PrintPast {
         taken: &[u64],
         print: u64,
     ) -> Result<(), MemoryFault>
-        requires on_board { IsOn (newest_grid self.old).side point }
-        requires empty { cell_at (newest_grid self.old) point ≡ Empty }
-        requires taken { TakesOff (newest_grid self.old) colour point taken.now }
+        requires stone { IsMove (newest_grid self.old) colour point taken.now }
         requires print { print ≡ print_of (play (newest_grid self.old) colour point) }
         ensures ok { OnOk result (self.new ≡ with_next self.old (play (newest_grid self.old) colour point) false) }
         ensures err { OnErr result (self.new ≡ self.old) }
@@ -257,9 +253,7 @@ impl PrintPast {
         print: u64,
     ) -> Result<bool, MemoryFault>
         requires one_side { HaveSide (newest_grid self.old).side self.old }
-        requires on_board { IsOn (newest_grid self.old).side point }
-        requires empty { cell_at (newest_grid self.old) point ≡ Empty }
-        requires taken { TakesOff (newest_grid self.old) colour point taken.now }
+        requires stone { IsMove (newest_grid self.old) colour point taken.now }
         requires print { print ≡ print_of (play (newest_grid self.old) colour point) }
         ensures { IsPlayed colour point self.old self.new result }
     {
@@ -280,9 +274,7 @@ impl PrintPast {
         print: u64,
     ) -> Result<bool, MemoryFault>
         requires one_side { HaveSide (newest_grid self.old).side self.old }
-        requires on_board { IsOn (newest_grid self.old).side point }
-        requires empty { cell_at (newest_grid self.old) point ≡ Empty }
-        requires taken { TakesOff (newest_grid self.old) colour point taken.now }
+        requires stone { IsMove (newest_grid self.old) colour point taken.now }
         requires print { print ≡ print_of (play (newest_grid self.old) colour point) }
         ensures { IsPlayed colour point self.old self.new result }
     {
@@ -318,9 +310,7 @@ impl PrintPast {
     /// Whether the colouring that a stone makes is that before the newest, as in a simple ko, and in the present stretch; `print` is its
     /// print, and `taken` is what the stone takes off.
     fn has_near(&self, colour: Colour, point: Point, taken: &[u64], print: u64) -> bool
-        requires on_board { IsOn (newest_grid self.now).side point }
-        requires empty { cell_at (newest_grid self.now) point ≡ Empty }
-        requires taken { TakesOff (newest_grid self.now) colour point taken.now }
+        requires stone { IsMove (newest_grid self.now) colour point taken.now }
         ensures { IsTrue result → Contains (present_stretch self.now) (play (newest_grid self.now) colour point) }
     {
         let start = self.colourings.stretch_start();
@@ -344,9 +334,7 @@ impl PrintPast {
     ) -> bool
         requires lacks { (grid : Grid) → IsSome gap → print ≡ print_of grid → ¬ Contains (present_stretch self.now) grid }
         requires one_side { HaveSide (newest_grid self.now).side self.now }
-        requires on_board { IsOn (newest_grid self.now).side point }
-        requires empty { cell_at (newest_grid self.now) point ≡ Empty }
-        requires taken { TakesOff (newest_grid self.now) colour point taken.now }
+        requires stone { IsMove (newest_grid self.now) colour point taken.now }
         requires print { print ≡ print_of (play (newest_grid self.now) colour point) }
         ensures { IsTrue result ↔ Contains (present_stretch self.now) (play (newest_grid self.now) colour point) }
     {
@@ -371,9 +359,7 @@ impl PrintPast {
 
     /// The print of the colouring that a stone makes; `taken` is what the stone takes off.
     fn print_once_put(&self, colour: Colour, point: Point, taken: &[u64]) -> u64
-        requires on_board { IsOn (newest_grid self.now).side point }
-        requires empty { cell_at (newest_grid self.now) point ≡ Empty }
-        requires taken { TakesOff (newest_grid self.now) colour point taken.now }
+        requires stone { IsMove (newest_grid self.now) colour point taken.now }
         ensures { result ≡ print_of (play (newest_grid self.now) colour point) }
     {
         let newest = self.colourings.newest();
@@ -417,9 +403,7 @@ fn add_stone(
     print: u64,
 ) -> Result<(), MemoryFault>
     requires table { IsTable (all_of colourings.old) table.old }
-    requires on_board { IsOn (newest_grid colourings.old).side point }
-    requires empty { cell_at (newest_grid colourings.old) point ≡ Empty }
-    requires taken { TakesOff (newest_grid colourings.old) colour point taken.now }
+    requires stone { IsMove (newest_grid colourings.old) colour point taken.now }
     requires print { print ≡ print_of (play (newest_grid colourings.old) colour point) }
     ensures ok { OnOk result (colourings.new ≡ with_next colourings.old (play (newest_grid colourings.old) colour point) false) }
     ensures nodes { OnOk result (table.new.nodes.items ≡ table.old.nodes.items) }

@@ -8,7 +8,7 @@
 //! equal prints make no look-up longer.
 //!
 //! This is so once `link` has put all colourings into the trie. The past calls it before each look-up of a stone that `may_have` doesn't
-//! answer (see `marks`). `has` itself changes nothing: it compares one by one with the colourings that aren't there yet.
+//! answer (see `filter`). `has` itself changes nothing: it compares one by one with the colourings that aren't there yet.
 
 ghost use Rattle.std.specs.Prelude.{◌≡◌, ◌≢◌, ◌↔◌, ℕ, ◌+◌, ◌<◌, ◌≤◌, ◌^◌, [], ◌∷◌, List, length, slice_index, IsTrue, IsFalse, IsSome, IfSome, IfOk, OnOk, OnErr, Contains};
 ghost use Rattle.std.specs.Vec.{vec_capacity};
@@ -25,8 +25,8 @@ use crate::board::Board;
 use crate::board::stone_rows::has_column;
 use crate::fault::MemoryFault;
 use crate::past::colourings::Colourings;
+use crate::past::filter::Filter;
 use crate::past::key::{FRONT, Key, WIDTH, WORD, first_difference};
-use crate::past::marks::Marks;
 use crate::past::trie::{
     Node, Slot, descend, insert, kid, nearest, opening, part, plant, repeat, take_back,
 };
@@ -50,8 +50,8 @@ pub(crate) struct Table {
     prints: Vec<u64>,
     /// The nodes of the oldest colourings. The newest ones may not be in the trie yet.
     nodes: Vec<Node>,
-    /// Marks for the low bits of the prints.
-    marks: Marks,
+    /// A filter of the prints.
+    filter: Filter,
 }
 
 /// Where a colouring with that print comes into the trie.
@@ -73,7 +73,7 @@ impl Table {
         Ok(Table {
             prints,
             nodes: Vec::with_capacity(alloc, FIRST_ROOM)?,
-            marks: Marks::new(),
+            filter: Filter::new(),
         })
     }
 
@@ -125,7 +125,7 @@ impl Table {
             take_back(&mut self.nodes);
         }
         let _ = self.prints.pop();
-        self.marks.go_back(self.prints.len());
+        self.filter.go_back(self.prints.len());
     }
 
     /// Replaces all colourings by one with this print.
@@ -137,7 +137,7 @@ impl Table {
         self.nodes.clear();
         self.prints.truncate(1);
         self.prints[0] = print;
-        self.marks.go_back(0);
+        self.filter.go_back(0);
     }
 
     /// The newest colouring with this print, if it is one of the last `NEAR` and not before `start`.
@@ -160,14 +160,13 @@ impl Table {
         ensures lacks { (held : List Held) (grid : Grid) → IsTable held self.old → IsFalse result → print ≡ print_of grid
             → ¬ Contains (stretch_of held) grid }
     {
-        self.marks.may_have(&self.prints, print)
+        self.filter.may_have(&self.prints, print)
     }
 
     /// Where a colouring with this print comes in, if all colourings are in the trie and none has this print; None otherwise.
     pub(crate) fn gap(&self, colourings: &Colourings, print: u64) -> Option<Gap>
         requires { IsTable (all_of colourings.now) self.now }
-        ensures gap { IfSome result (IsGap (all_of colourings.now) self.now.nodes.items) }
-        ensures lacks { (grid : Grid) → IsSome result → print ≡ print_of grid → ¬ Contains (present_stretch colourings.now) grid }
+        ensures { IfSome result (λ gap. IsGap (all_of colourings.now) self.now.nodes.items gap × (gap.print ≡ print)) }
     {
         if self.nodes.len() != self.prints.len() {
             return None;

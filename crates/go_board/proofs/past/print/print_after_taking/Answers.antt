@@ -20,7 +20,7 @@ returns c =
     let taken = c.args.taken.now in
     let made = with_cell g p (stone_of k) in
     let left = play g k p in
-    let played = c.requires.taken.played in
+    let played = c.requires.stone.taken.played in
     let side = side_play g k p in
     let all = c.has_all_cells.ensures.all in
     let all_made = length-set g.cells (index_of g.side p) (stone_of k) ∙ all in
@@ -34,14 +34,14 @@ returns c =
           (λ q on gone. (played.emptied q on gone, refl))
           (λ q on none.
           let other : q ≢ p = λ e. false≢true (sym none ∙ ap (is_set taken) e ∙ there) in
-          sym (played.kept q on (λ gone. false≢true (sym none ∙ gone)) ∙ cell_at-with_cell_elsewhere g p q (stone_of k) c.requires.on_board on other))
+          sym (played.kept q on (λ gone. false≢true (sym none ∙ gone)) ∙ cell_at-with_cell_elsewhere g p q (stone_of k) c.requires.stone.on_board on other))
           all all_left c.if-is_taken.put c.print_within.result (w.put-is ∙ c.requires.print) c.print_within.ensures
       | else-is_taken w ↦
           let not_there : is_set taken p ≡ false = sym is ∙ w.if-is_taken.false in
           print_left g made left taken refl side
           (λ q on gone.
           let other : q ≢ p = λ e. false≢true (sym not_there ∙ ap (is_set taken) (sym e) ∙ gone) in
-          (played.emptied q on gone, cell_at-with_cell_elsewhere g p q (stone_of k) c.requires.on_board on other))
+          (played.emptied q on gone, cell_at-with_cell_elsewhere g p q (stone_of k) c.requires.stone.on_board on other))
           (λ q on none. sym (played.kept q on (λ gone. false≢true (sym none ∙ gone))))
           all_made all_left c.if-is_taken.put c.print_within.result (w.put-is ∙ w.print_after_stone-put.ensures) c.print_within.ensures
     ]

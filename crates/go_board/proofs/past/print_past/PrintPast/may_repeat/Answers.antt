@@ -18,7 +18,7 @@ returns-clause-never c = λ k takes none has.
     let all : length g.cells ≡ g.side * g.side = subst (λ (x : Grid). length x.cells ≡ x.side * x.side) same c.has_all_cells.ensures.all in
     let kept : HasAllEmptied (is_set was.emptied.rows) (all_of past) = subst (λ (held : PastColourings). HasAllEmptied (is_set was.emptied.rows) (all_of held)) c.self.view_is (history_all was.emptied.rows _ _ c.self.invariant.emptied_in.history) in
     let unset = or_parts _ _ none in
-    never_back past k p c.args.taken.now was.emptied.rows c.requires.on_board all c.requires.empty c.requires.one_side kept takes (sym c.has_point.ensures ∙ unset.0) (sym c.has_point-2.ensures ∙ unset.1) has
+    never_back past k p c.args.taken.now was.emptied.rows all c.requires.one_side kept (record { on_board = c.requires.on_board; empty = c.requires.empty; taken = takes }) (sym c.has_point.ensures ∙ unset.0) (sym c.has_point-2.ensures ∙ unset.1) has
 
 pub returns-clause-last : goal.returns-clause-last
 returns-clause-last c = λ k takes none.
@@ -30,4 +30,4 @@ returns-clause-last c = λ k takes none.
     let all : length g.cells ≡ g.side * g.side = subst (λ (x : Grid). length x.cells ≡ x.side * x.side) same c.has_all_cells.ensures.all in
     let kept : HasAllEmptied (is_set was.emptied.rows) (all_of past) = subst (λ (held : PastColourings). HasAllEmptied (is_set was.emptied.rows) (all_of held)) c.self.view_is (history_all was.emptied.rows _ _ c.self.invariant.emptied_in.history) in
     let unset = or_parts _ _ none in
-    last_stone_put past k p c.args.taken.now was.emptied.rows c.requires.on_board all c.requires.empty c.requires.one_side kept takes (sym c.has_point.ensures ∙ unset.0) (sym c.has_point-2.ensures ∙ unset.1)
+    last_stone_put past k p c.args.taken.now was.emptied.rows all c.requires.one_side kept (record { on_board = c.requires.on_board; empty = c.requires.empty; taken = takes }) (sym c.has_point.ensures ∙ unset.0) (sym c.has_point-2.ensures ∙ unset.1)

@@ -14,7 +14,7 @@ returns-in_err-add_made c =
     let all : length g.cells ≡ g.side * g.side = subst (λ (x : Grid). length x.cells ≡ x.side * x.side) same c.has_all_cells.ensures.all in
     let last = c.last_stone_stays.ensures c.if-last_stone_stays.true in
     let never : Contains (present_stretch past) (play g c.args.colour c.args.point) → ⊥ = λ has.
-    never_back_with past c.args.colour c.args.point last.0 c.args.taken.now c.requires.on_board all c.requires.empty c.requires.taken last.1 last.2 (sym c.has_point.ensures ∙ c.if-not-has_point.true) has in
+    never_back_with past c.args.colour c.args.point last.0 c.args.taken.now all c.requires.stone last.1 last.2 (sym c.has_point.ensures ∙ c.if-not-has_point.true) has in
     record { known = search rules; ok = search rules; refused = search (rules, never); err = search rules }
 
 pub returns-then-last_stone_stays : goal.returns-then-last_stone_stays
@@ -25,5 +25,5 @@ returns-then-last_stone_stays c =
     let all : length g.cells ≡ g.side * g.side = subst (λ (x : Grid). length x.cells ≡ x.side * x.side) same c.has_all_cells.ensures.all in
     let last = c.last_stone_stays.ensures c.if-last_stone_stays.true in
     let never : Contains (present_stretch past) (play g c.args.colour c.args.point) → ⊥ = λ has.
-    never_back_with past c.args.colour c.args.point last.0 c.args.taken.now c.requires.on_board all c.requires.empty c.requires.taken last.1 last.2 (sym c.has_point.ensures ∙ c.if-not-has_point.true) has in
+    never_back_with past c.args.colour c.args.point last.0 c.args.taken.now all c.requires.stone last.1 last.2 (sym c.has_point.ensures ∙ c.if-not-has_point.true) has in
     record { known = (λ t. absurd (false≢true (sym t)), λ has. absurd (never has)); ok = search rules; refused = search rules; err = search rules }

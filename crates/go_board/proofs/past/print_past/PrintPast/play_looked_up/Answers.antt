@@ -1,18 +1,14 @@
 use Rattle.std.proofs.Common.{◌≡◌, ◌∷◌, Contains, IfSome, List, false, subst, sym, ap, ◌∙◌, rules}
-use Rattle.std.proofs.lemmas.Bool.{false≢true, or_left, or_right}
-use Rattle.go_board.specs.declared.stones.Cell.TheVariants.{Empty}
+use Rattle.std.proofs.lemmas.Bool.{false≢true}
 use Rattle.go_board.specs.declared.past.trie.Node.{Node}
-use Rattle.go_board.specs.Point.{IsOn}
-use Rattle.go_board.specs.Grid.{cell_at}
 use Rattle.go_board.specs.Clearing.{play}
 use Rattle.go_board.specs.Past.{Held, PastColourings, all_of, newest_grid, present_stretch, with_next}
-use Rattle.go_board.specs.inner.Emptied.{HasAllEmptied, IsEmptied, IsLastStone}
-use Rattle.go_board.specs.inner.Groups.{TakesOff}
+use Rattle.go_board.specs.inner.Emptied.{IsEmptied, IsLastStone}
+use Rattle.go_board.specs.inner.Groups.{IsMove}
 use Rattle.go_board.specs.inner.Print.{print_of}
-use Rattle.go_board.specs.inner.Rows.{is_set}
 use Rattle.go_board.specs.inner.Table.{IsGap, IsTable}
-use Rattle.go_board.proofs.EmptiedLemmas.{emptied_next, emptied_same, history_all}
-use Rattle.go_board.proofs.RepeatLemmas.{HasAllEmptied-more, emptied_by_play}
+use Rattle.go_board.proofs.RepeatLemmas.{emptied_by_play}
+use Rattle.go_board.proofs.TableLemmas.{gap_found}
 use Rattle.go_board.proofs.past.print_past.PrintPast.play_looked_up.Goals as goal
 
 pub invariant_of-self : goal.invariant_of-self
@@ -26,6 +22,9 @@ invariant_of-self-then-has_near c = record { tabled = c.may_have.ensures.table (
 
 pub link-requires : goal.link-requires
 link-requires c = c.may_have.ensures.table (all_of c.self.inside.colourings) c.self.invariant.tabled
+
+pub has_made-requires-clause-lacks : goal.has_made-requires-clause-lacks
+has_made-requires-clause-lacks c = (gap_found (all_of c.self.inside.colourings) c.link.new.self.nodes.items c.args.print c.gap-gap.result c.gap-gap.ensures).1
 
 pub returns-in_err-add_made : goal.returns-in_err-add_made
 returns-in_err-add_made c =
@@ -60,7 +59,7 @@ invariant_of-self-in_err-add_stone c =
     record {
       tabled = c.add_stone.ensures.table;
       emptied_in = subst (λ (past : PastColourings). IsEmptied (all_of past) c.reserve.new.self) (sym same)
-          (emptied_same (all_of was.colourings) was.emptied c.reserve.new.self c.reserve.ensures.rows c.reserve.ensures.log c.self.invariant.emptied_in);
+          (c.reserve.ensures.emptied (all_of was.colourings) c.self.invariant.emptied_in);
       last = subst (λ (past : PastColourings). IfSome was.last_stone (IsLastStone past)) (sym same) c.self.invariant.last;
     }
 
@@ -80,21 +79,17 @@ invariant_of-self-4 c =
     let g = newest_grid was.colourings in
     let next : Held = record { colouring = play g k p; begins = false } in
     let made : c.add_stone.new.colourings ≡ with_next was.colourings (play g k p) false = search rules in
-    let on : IsOn g.side p = subst (λ (past : PastColourings). IsOn (newest_grid past).side p) (sym c.self.view_is) c.requires.on_board in
-    let empty : cell_at g p ≡ Empty = ap (λ (past : PastColourings). cell_at (newest_grid past) p) c.self.view_is ∙ c.requires.empty in
-    let takes : TakesOff g k p rows = subst (λ (past : PastColourings). TakesOff (newest_grid past) k p rows) (sym c.self.view_is) c.requires.taken in
-    let before : IsEmptied held c.reserve.new.self = emptied_same held was.emptied c.reserve.new.self c.reserve.ensures.rows c.reserve.ensures.log c.self.invariant.emptied_in in
-    let all : HasAllEmptied (is_set c.add.new.self.rows) (next ∷ held) = (
-      λ goes_on q at some free. c.add.ensures.both q ∙ or_right _ _ (emptied_by_play g k p rows on empty takes q at some free),
-      HasAllEmptied-more (is_set c.reserve.new.self.rows) (is_set c.add.new.self.rows) held (λ q is. c.add.ensures.both q ∙ or_left _ _ is) (history_all c.reserve.new.self.rows _ _ before.history),
-    ) in
+    let move : IsMove g k p rows = subst (λ (past : PastColourings). IsMove (newest_grid past) k p rows) (sym c.self.view_is) c.requires.stone in
     let pushed : IsTable (next ∷ held) c.add_stone.new.table = subst (λ (past : PastColourings). IsTable (all_of past) c.add_stone.new.table) made c.add_stone.ensures.table in
     let gap : IfSome c.gap-gap.result (IsGap held c.add_stone.new.table.nodes.items) =
-    subst (λ (xs : List Node). IfSome c.gap-gap.result (IsGap held xs)) (sym c.in_ok-add_stone.ensures.nodes) c.gap-gap.ensures.gap in
+    subst (λ (xs : List Node). IfSome c.gap-gap.result (IsGap held xs)) (sym c.in_ok-add_stone.ensures.nodes) (gap_found held c.link.new.self.nodes.items c.args.print c.gap-gap.result c.gap-gap.ensures).0 in
     record {
       tabled = subst (λ (past : PastColourings). IsTable (all_of past) c.fill.new.self) (sym made) (c.fill.ensures next held pushed gap);
       emptied_in = subst (λ (past : PastColourings). IsEmptied (all_of past) c.add.new.self) (sym made)
-          (emptied_next held next c.reserve.new.self c.add.new.self c.next_number-number.result (c.next_number-number.ensures held c.link.ensures.table) c.add.ensures.length c.add.ensures.history c.add.ensures.below
-          c.add.ensures.inside all before);
+          (c.add.ensures next was.colourings.newest was.colourings.older (c.reserve.ensures.emptied held c.self.invariant.emptied_in) (c.next_number-number.ensures held c.link.ensures.table)
+          (λ goes_on. emptied_by_play g k p rows move));
       last = tt;
     }
+
+pub add-requires-clause-emptied : goal.add-requires-clause-emptied
+add-requires-clause-emptied c = (all_of c.self.inside.colourings, c.reserve.ensures.emptied (all_of c.self.inside.colourings) c.self.invariant.emptied_in)

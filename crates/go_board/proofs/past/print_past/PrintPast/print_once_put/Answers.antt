@@ -15,4 +15,4 @@ returns-then-is_empty c =
     let same : c.newest-newest.result.now ≡ g = c.newest-newest.ensures ∙ ap (λ (past : PastColourings). newest_grid past) c.self.view_is in
     let all : length g.cells ≡ g.side * g.side = subst (λ (x : Grid). length x.cells ≡ x.side * x.side) same c.has_all_cells.ensures.all in
     c.print_after_stone.ensures
-    ∙ ap print_of (ap (λ x. with_cell x p (stone_of k)) same ∙ sym (takes_nothing-alone g p k c.args.taken.now all none c.requires.taken))
+    ∙ ap print_of (ap (λ x. with_cell x p (stone_of k)) same ∙ sym (takes_nothing-alone g p k c.args.taken.now all none c.requires.stone.taken))

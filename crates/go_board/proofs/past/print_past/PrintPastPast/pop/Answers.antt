@@ -2,7 +2,6 @@ use Rattle.std.proofs.Common.{◌∷◌, List, subst}
 use Rattle.go_board.specs.Past.{Held, all_of}
 use Rattle.go_board.specs.inner.Emptied.{IsEmptied}
 use Rattle.go_board.specs.inner.Table.{IsTable}
-use Rattle.go_board.proofs.EmptiedLemmas.{emptied_back}
 use Rattle.go_board.proofs.past.print_past.PrintPastPast.pop.Goals as goal
 
 pub invariant_of-self : goal.invariant_of-self
@@ -13,7 +12,6 @@ invariant_of-self c =
     let table = c.pop.ensures newest left (subst (λ (held : List Held). IsTable (newest ∷ held) was.table) c.pop-2.ensures c.self.invariant.tabled) in
     record {
       tabled = table;
-      emptied_in = emptied_back newest left was.emptied c.go_back.new.self c.next_number.result (c.next_number.ensures left table) c.go_back.ensures.length c.go_back.ensures.inside
-          c.go_back.ensures.history c.go_back.ensures.below (subst (λ (held : List Held). IsEmptied (newest ∷ held) was.emptied) c.pop-2.ensures c.self.invariant.emptied_in);
+      emptied_in = c.go_back.ensures newest left (subst (λ (held : List Held). IsEmptied (newest ∷ held) was.emptied) c.pop-2.ensures c.self.invariant.emptied_in) (c.next_number.ensures left table);
       last = tt;
     }

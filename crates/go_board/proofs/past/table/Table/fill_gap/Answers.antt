@@ -34,5 +34,5 @@ returns-then-newest-gap c = λ newest older is gap.
       linked = subst (λ (hs : List Held). IsTrie WIDTH (keys_of hs) new) (sym (oldest-all (newest ∷ older) (length new) (omega (arith, count)))) trie;
       room = omega (arith, is.room, c.insert.ensures.room);
       most = omega (arith, is.most, c.insert.ensures.room);
-      marked = is.marked;
+      filtered = is.filtered;
     }

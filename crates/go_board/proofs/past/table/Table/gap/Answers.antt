@@ -10,13 +10,12 @@ use Rattle.go_board.specs.Past.{Held, all_of}
 use Rattle.go_board.specs.inner.Key.{bits_of, keys_of}
 use Rattle.go_board.specs.inner.Rows.{has_bit}
 use Rattle.go_board.specs.inner.Trie.{IsTrie, IsNearest, IsOnWay, IsOpening, IsParting, row_of, depth_of, kid_of}
-use Rattle.go_board.proofs.KeyLemmas.{xor_self}
 use Rattle.go_board.proofs.PrintLemmas.{print_small}
-use Rattle.go_board.proofs.TableLemmas.{tabled, linked_rows, oldest-all, print_parts, print_found, print_there, number_there, near_in, any_number}
+use Rattle.go_board.proofs.TableLemmas.{tabled, linked_rows, oldest-all, print_parts, print_there, number_there, near_in}
 use Rattle.go_board.proofs.past.table.Table.gap.Goals as goal
 
-pub returns-clause-gap : goal.returns-clause-gap
-returns-clause-gap c =
+pub returns : goal.returns
+returns c =
     let t = c.args.self.now in
     let held = all_of c.args.colourings.now in
     let nodes = t.nodes.items in
@@ -52,36 +51,11 @@ returns-clause-gap c =
     (subst (λ (xs : List Node). IsOnWay (length xs) (row_of rows) (depth_of xs) key 64 from.node from.side) (sym c.deref-3.ensures.value) way)
     (subst (λ (xs : List Node). depth_of xs from.node < depth_of xs (kid_of xs from.node from.side) → 64 < depth_of xs (kid_of xs from.node from.side)) (sym c.deref-3.ensures.value) stop)
     bits.0 parts.0
-    (subst (λ (xs : List Node). IsParting (length xs) (row_of rows) row (kid_of xs from.node from.side) place) (sym c.deref-3.ensures.value) parts.1)) in
-    record {
-      all = count;
-      low = bits.0;
-      opens = λ row is_row. subst (λ (hs : List Held). IsOpening (keys_of hs) nodes row slot place) (oldest-all held (length nodes) count) (opens row is_row);
-    }
-
-pub returns-clause-lacks : goal.returns-clause-lacks
-returns-clause-lacks c = λ grid some_gap is_print has.
-    let t = c.args.self.now in
-    let held = all_of c.args.colourings.now in
-    let nodes = t.nodes.items in
-    let is = c.requires in
-    let rows = linked_rows held t is in
-    let count : length nodes ≡ length held = omega (arith, c.if-len.false, c.len.ensures, c.len-2.ensures, t.nodes.ok.0, t.prints.ok.0, tabled held t is) in
-    let some : 0 < length nodes = omega (arith, count) in
-    let key = bits_of c.new-key.result in
-    let from = c.descend-from.result in
-    let near = kid_of nodes from.node from.side in
-    let trie : IsTrie WIDTH rows c.deref.result.now = subst (λ (xs : List Node). IsTrie WIDTH rows xs) (sym c.deref.ensures.value) is.linked in
-    let way : IsOnWay (length nodes) (row_of rows) (depth_of nodes) key 64 from.node from.side =
-    subst (λ (xs : List Node). IsOnWay (length xs) (row_of rows) (depth_of xs) key 64 from.node from.side) c.deref.ensures.value (c.descend-from.ensures.way rows trie) in
-    let stop : depth_of nodes from.node < depth_of nodes near → 64 < depth_of nodes near =
-    subst (λ (xs : List Node). depth_of xs from.node < depth_of xs (kid_of xs from.node from.side) → 64 < depth_of xs (kid_of xs from.node from.side)) c.deref.ensures.value c.descend-from.ensures.stop in
-    let found : IsNearest rows nodes key 64 near = record { node = from.node; side = from.side; way = way; stop = stop; names = refl } in
-    let item : c.kid.result ≡ near = c.kid.ensures ∙ ap (λ (xs : List Node). kid_of xs from.node from.side) c.deref-2.ensures.value in
-    let low : near < length nodes = near_in held t is some key near found in
-    let print : c.index.result.now ≡ get_or t.prints.items near 0 =
-    c.index.ensures ∙ ap (λ n. get_or t.prints.items n c.index.result.now) item ∙ get_or_default_zero t.prints.items near c.index.result.now (omega (arith, low, is.few)) in
-    let start = c.args.colourings.now in
-    let number = any_number held grid has in
-    let same = print_found held t is some key near found count 0 c.args.print c.newest.result.now c.new-key.ensures number.0 grid (Fits-lt-pow c.ranges.print) (omega (arith, number.1, count)) number.2 (sym is_print) in
-    c.if-apart-eq0.false (ap (λ n. bit_xor c.args.print n) (print ∙ same) ∙ xor_self c.args.print)
+    (subst (λ (xs : List Node). IsParting (length xs) (row_of rows) row (kid_of xs from.node from.side) place) (sym c.deref-3.ensures.value) parts.1)) in (
+      record {
+        all = count;
+        low = bits.0;
+        opens = λ row is_row. subst (λ (hs : List Held). IsOpening (keys_of hs) nodes row slot place) (oldest-all held (length nodes) count) (opens row is_row);
+      },
+      refl,
+    )

@@ -1,5 +1,5 @@
 use Rattle.std.proofs.Common.{[], refl, rules}
-use Rattle.go_board.proofs.MarksLemmas.{marked_any}
+use Rattle.go_board.proofs.FilterLemmas.{filter_any}
 use Rattle.go_board.proofs.TableLemmas.{linked_none}
 use Rattle.go_board.proofs.past.table.Table.reset.Goals as goal
 
@@ -12,5 +12,5 @@ returns c = λ held printed.
       linked = linked_none held c.clear.new.self.items c.clear.ensures.items;
       room = search rules;
       most = search rules;
-      marked = marked_any _ _ (c.go_back.ensures [] t.prints.items refl c.requires.table.1.marked);
+      filtered = filter_any _ _ (c.go_back.ensures [] t.prints.items refl c.requires.table.1.filtered);
     }
