@@ -31,18 +31,16 @@ pub struct Referee<P: Past> {
 }
 
 /// What is kept of the state before an accepted call, besides the past.
-// The flags, which are constants at each call, aren't side by side: with two of them among four bytes LLVM gathers the fields in a vector
-// before it stores them, which takes longer than to store each.
 #[derive(Clone, Copy)]
 struct Earlier {
     /// Whether the call added a colouring to the past.
     grew: bool,
+    /// Whether the call was a turn.
+    turned: bool,
     /// Who had to move; None if either player could.
     player: Option<Colour>,
     /// How many passes in a row were made last, at most 2.
     passes: u8,
-    /// Whether the call was a turn.
-    turned: bool,
 }
 
 impl<P: Past> Model for Referee<P> {
