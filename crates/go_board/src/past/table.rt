@@ -36,7 +36,7 @@ use std::alloc::Global;
 const FIRST_ROOM: usize = 256;
 
 /// How many of the newest colourings are looked at before the trie is asked: the newest, and the one that a simple ko brings back. To work
-/// that one out takes one step.
+/// that one out takes one step. Without this look, fights take 1.3 times as long (the workload `awkward` of docs/PERF.md).
 const NEAR: usize = 2;
 
 /// The most colourings that a table has room for: each number of a node is below 2^32.
