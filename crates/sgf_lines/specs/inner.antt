@@ -3,6 +3,7 @@ pub mod PathTo
 pub mod Standing
 pub mod Seeking
 pub mod Following
+pub mod Sequences
 pub mod Back
 pub mod Gathered
 pub mod Judging

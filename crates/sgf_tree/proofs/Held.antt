@@ -1,5 +1,6 @@
 -- What the flat vectors of a collection say of its nodes.
-use Rattle.std.proofs.Common.{◌≡◌, ℕ, zero, suc, ◌+◌, ◌-◌, ◌<◌, ◌≤◌, Bool, true, false, List, [], ◌∷◌, length, map, get_or, drop, slice_range, All, slice_get, Option, Some, None, option_map, refl, sym, ap, subst, ◌∙◌, arith}
+use Rattle.std.proofs.Common.{◌≡◌, ℕ, zero, suc, ◌+◌, ◌-◌, ◌<◌, ◌≤◌, Bool, true, false, cond, List, [], ◌∷◌, ◌++◌, length, map, get_or, drop, slice_range, All, slice_get, Option, Some, None, option_map, refl, sym, ap, subst, ◌∙◌, arith}
+use Rattle.std.specs.List.{flat_map, range_with_len}
 use Rattle.std.proofs.lemmas.List.{drop-drop, get_or_default, length-map}
 use Rattle.std.proofs.lemmas.Option.{slice_get-get_or, slice_get-map, same_Some}
 use Rattle.sgf_tree.specs.declared.fault.TheConstants.{MAX_LENGTH}
@@ -7,12 +8,16 @@ use Rattle.sgf_tree.specs.Tree.{Node, Games, node_count}
 use Rattle.sgf_tree.specs.Spelling.{Spells, AreProperties}
 use Rattle.sgf_tree.specs.inner.NodeText.{properties_in, ArePropertiesIn, IsNodeIn, IsNodeWritten}
 use Rattle.sgf_tree.specs.Written.{node_text}
-use Rattle.sgf_tree.specs.FileOrder.{OrderedNode, ordered_nodes, node_at, place_at, parent_at, game_of, IsLastBelow, PlacesRise}
+use Rattle.sgf_tree.specs.FileOrder.{OrderedNode, ordered_nodes, node_at, nodes_at, place_at, parent_at, game_of, IsLastBelow, PlacesRise, opening_numbers, sequence_starts, sequence_start, sequence_end}
 use Rattle.sgf_tree.specs.inner.Layout.{games_in, Outline, outline, outline_by, outlines_by, parent_by, IsLaidOut}
+use Rattle.sgf_tree.specs.inner.Sequences.{links_of, first_numbers, end_number, AreBesideWithin}
 use Rattle.sgf_tree.specs.declared.collection.Collection.TheInside.{Inside}
 use Rattle.sgf_tree.specs.declared.layout.Link.{Link}
 use Rattle.sgf_tree.specs.declared.layout.Link.TheVariants.{Root, Next}
 use Rattle.sgf_tree.specs.declared.layout.NodeEntry.{NodeEntry}
+use Rattle.sgf_tree.proofs.Runs.{range-more, texts-more}
+use Rattle.sgf_tree.proofs.Sequences.{all-rise, numbers-at-most, numbers-in-order}
+use Rattle.sgf_tree.proofs.ValueEnds.{span-join}
 use Rattle.sgf_tree.proofs.Flat.{length-outlines_by, outlines_by-at}
 use Rattle.sgf_tree.proofs.NodesSpelled.{IsNodeSpelled, ordered-spelled}
 use Rattle.sgf_tree.proofs.NodeTexts.{properties-in}
@@ -205,4 +210,69 @@ module _ (s : Inside) (held : Holds s) (g : Games) (is : games_in s.text.now ≡
         (node-held i x entry.1 entry.2).0,
         subst (λ k. k < q) place there.rises,
         ap (λ k. slice_range s.text.now k q) (sym place) ∙ there.text,
+      )
+
+  -- where its sequences begin and end
+  starts-held : first_numbers 0 (links_of s.nodes) ≡ sequence_starts g
+  starts-held = sym (numbers-outlines (ordered_nodes g) s.nodes 0 ordered-held)
+    where
+      numbers-outlines : (rs : List OrderedNode) (ns : List NodeEntry) (n : ℕ) → map outline rs ≡ outlines_by n ns → opening_numbers n rs ≡ first_numbers n (links_of ns)
+      numbers-outlines [] [] n e = refl
+      numbers-outlines [] (x ∷ ns) n e = absurd (cc)
+      numbers-outlines (r ∷ rs) [] n e = absurd (cc)
+      numbers-outlines (r ∷ rs) (x ∷ ns) n e =
+          let first : outline r ≡ outline_by n x = cc in
+          let more : map outline rs ≡ outlines_by (n + 1) ns = cc in
+          ap (λ ks. cond r.opens (n ∷ ks) ks) (numbers-outlines rs ns (n + 1) more)
+          ∙ ap (λ b. cond b (n ∷ first_numbers (n + 1) (links_of ns)) (first_numbers (n + 1) (links_of ns))) (ap (λ (o : Outline). o.opens) first)
+
+  pub sequences-held : length (first_numbers 0 (links_of s.nodes)) ≡ length (sequence_starts g)
+  sequences-held = ap length starts-held
+
+  pub start-held : (i : ℕ) → get_or (first_numbers 0 (links_of s.nodes)) i 0 ≡ sequence_start g i
+  start-held i = ap (λ ks. get_or ks i 0) starts-held
+
+  pub end-held : (i : ℕ) → end_number (links_of s.nodes) i ≡ sequence_end g i
+  end-held i =
+      let count : length (links_of s.nodes) ≡ node_count g = omega (arith, count-held, length-map s.nodes (λ (n : NodeEntry). n.link)) in
+      ap (λ ks. get_or ks (i + 1) (length (links_of s.nodes))) starts-held ∙ ap (λ k. get_or (sequence_starts g) (i + 1) k) count
+
+  -- the end of a sequence is that of a node
+  pub end-within : (i : ℕ) → sequence_end g i ≤ node_count g
+  end-within i =
+      let links : List Link = links_of s.nodes in
+      omega (arith, end-held i, count-held, length-map s.nodes (λ (n : NodeEntry). n.link), numbers-at-most 0 (length links) (first_numbers 0 links) (i + 1) (all-rise links))
+
+  pub start-within : (i : ℕ) → i < length (sequence_starts g) → sequence_start g i ≤ sequence_end g i
+  start-within i lt =
+      let links : List Link = links_of s.nodes in
+      omega (arith, end-held i, start-held i, numbers-in-order (first_numbers 0 links) i 0 (length links) (all-rise links) (omega (arith, sequences-held)))
+
+  -- the text of nodes that are beside one another, up to the last one
+  pub run-held : (count first p q : ℕ) → AreBesideWithin (links_of s.nodes) first (first + count + 1) → first + count < node_count g → place_at g first ≡ Some p → place_at g (first + count) ≡ Some q
+      → (p ≤ q) × (slice_range s.text.now p q ≡ flat_map node_text (nodes_at g (range_with_len first count)))
+  run-held zero first p q beside lt begins ends =
+      let at : first + 0 ≡ first = omega arith in
+      let same : p ≡ q = same_Some p q (sym begins ∙ ap (place_at g) (sym at) ∙ ends) in
+      let none : q - p ≡ 0 = omega arith in
+      (omega arith, rw none)
+  run-held (suc count) first p q beside lt begins ends =
+      let none : NodeEntry = record { place = 0; link = Next false; last_below = 0 } in
+      let last : ℕ = first + count in
+      let next : first + suc count ≡ last + 1 = omega arith in
+      let x : NodeEntry = get_or s.nodes last none in
+      let here : x ≡ get_or s.nodes last x = get_or_default s.nodes last none x (omega (arith, count-held)) in
+      let place : place_at g last ≡ Some x.place = place-held last x (omega arith) here in
+      let so_far = run-held count first p x.place (λ number low high. beside number low (omega arith)) (omega arith) begins place in
+      let y : NodeEntry = get_or s.nodes (last + 1) none in
+      let there : y ≡ get_or s.nodes (last + 1) y = get_or_default s.nodes (last + 1) none y (omega (arith, count-held)) in
+      let link : y.link ≡ Next true =
+      same_Some y.link (Next true)
+      (sym (slice_get-map (λ (n : NodeEntry). n.link) s.nodes (last + 1) ∙ ap (option_map (λ (n : NodeEntry). n.link)) (slice_get-get_or s.nodes (last + 1) none (omega (arith, count-held)))) ∙ beside (last + 1) (omega arith) (omega arith)) in
+      let node = beside-held last x.place q y place there link (omega arith) (ap (place_at g) (sym next) ∙ ends) in
+      let more : range_with_len first (suc count) ≡ range_with_len first count ++ last ∷ [] = range-more first count in (
+        omega (arith, so_far.0, node.2),
+        sym (span-join s.text.now p x.place q so_far.0 (omega (arith, node.2)))
+            ∙ ap (λ t. t ++ slice_range s.text.now x.place q) so_far.1 ∙ ap (λ t. flat_map node_text (nodes_at g (range_with_len first count)) ++ t) node.3
+            ∙ sym (ap (λ ks. flat_map node_text (nodes_at g ks)) more ∙ texts-more g (range_with_len first count) last node.0 node.1),
       )

@@ -61,3 +61,4 @@ pub mod ShortBytes
 pub mod ShortProperties
 pub mod Runs
 pub mod Packing
+pub mod Sequences

@@ -1,6 +1,6 @@
 -- The nodes of a collection in file order, numbered from 0.
-use Rattle.std.specs.Prelude.{◌≡◌, ◌≢◌, ℕ, ◌+◌, ◌-◌, ◌<◌, ◌≤◌, Bool, true, false, if◌then◌else◌, nat_lt, List, [], ◌∷◌, ◌++◌, length, slice_get, Option, Some, None, option_map, option_to_list}
-use Rattle.std.specs.List.{flat_map}
+use Rattle.std.specs.Prelude.{◌≡◌, ◌≢◌, ℕ, ◌+◌, ◌-◌, ◌<◌, ◌≤◌, Bool, true, false, if◌then◌else◌, nat_lt, List, [], ◌∷◌, ◌++◌, length, get_or, slice_get, Option, Some, None, option_map, option_to_list}
+use Rattle.std.specs.List.{flat_map, range_with_len}
 use Rattle.sgf_tree.specs.Tree.{Node, Games, no_games, game, node_count}
 
 -- A node, the number of its parent, and whether the node is the first after a `(`. The parent is
@@ -69,3 +69,26 @@ pub record IsLastBelow (games : Games) (number last : ℕ) : Type 0 where
 -- the places rise strictly in file order
 abbrev pub PlacesRise : Games → Type 0
 PlacesRise games = (first second p q : ℕ) → first < second → place_at games first ≡ Some p → place_at games second ≡ Some q → p < q
+
+-- the numbers of the nodes that are the first after a `(`; the first node of the list has the number `number`
+abbrev pub opening_numbers : ℕ → List OrderedNode → List ℕ
+opening_numbers number [] = []
+opening_numbers number (ordered ∷ rest) =
+    if ordered.opens then number ∷ opening_numbers (number + 1) rest else opening_numbers (number + 1) rest
+
+-- A sequence has the nodes between a `(` and the next parenthesis (SGF FF[4], EBNF). Sequences are numbered from 0 in file order. These are
+-- the numbers of their first nodes.
+abbrev pub sequence_starts : Games → List ℕ
+sequence_starts games = opening_numbers 0 (ordered_nodes games)
+
+-- the number of a sequence's first node, and the number after that of its last node
+abbrev pub sequence_start : Games → ℕ → ℕ
+sequence_start games sequence = get_or (sequence_starts games) sequence 0
+
+abbrev pub sequence_end : Games → ℕ → ℕ
+sequence_end games sequence = get_or (sequence_starts games) (sequence + 1) (node_count games)
+
+-- the numbers of a sequence's nodes
+abbrev pub sequence_numbers : Games → ℕ → List ℕ
+sequence_numbers games sequence =
+    range_with_len (sequence_start games sequence) (sequence_end games sequence - sequence_start games sequence)

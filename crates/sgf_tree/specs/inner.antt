@@ -3,6 +3,7 @@ pub mod TreeCode
 pub mod Machine
 pub mod Layout
 pub mod Packing
+pub mod Sequences
 pub mod NodeText
 pub mod Progress
 pub mod Literals

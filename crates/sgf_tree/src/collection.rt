@@ -7,6 +7,7 @@ ghost use Rattle.sgf_tree.specs.Tree.{game_count, node_count};
 ghost use Rattle.sgf_tree.specs.Written.{node_text, ends_from};
 ghost use Rattle.sgf_tree.specs.inner.NodeText.{ArePushed, GoesOn};
 ghost use Rattle.sgf_tree.specs.FileOrder.{node_at, nodes_at, place_at, parent_at, IsLeaf, game_of, IsLastBelow, PlacesRise};
+ghost use Rattle.sgf_tree.specs.FileOrder.{sequence_starts, sequence_start, sequence_end, sequence_numbers};
 
 use crate::fault::MemoryFault;
 use crate::layout::{Link, LongValue};
@@ -18,7 +19,7 @@ use std::marker::Model;
 
 /// The collection that a text spells (SGF FF[4], EBNF).
 /// It refers to the text, and doesn't copy names or values.
-/// Only `push_nodes` takes memory.
+/// Only `push_nodes` and `push_sequence` take memory.
 #[derive(Drop)]
 pub struct Collection<'a> {
     text: &'a [u8],
@@ -177,6 +178,67 @@ impl<'a> Collection<'a> {
         self.node(last).push_to(out)?;
         ends.push(out.len())?;
         Ok(count)
+    }
+
+    /// The number of sequences. A sequence has the nodes between a `(` and the next parenthesis (SGF FF[4], EBNF).
+    pub fn sequences(&self) -> usize
+        ensures { result ≡ length (sequence_starts self.now) }
+    {
+        self.nodes.sequences()
+    }
+
+    /// The number of the first node of sequence `i`, from 0 in file order. `i` must be less than `sequences()`, here and in the two
+    /// calls below.
+    pub fn sequence_start(&self, i: usize) -> usize
+        requires { i < length (sequence_starts self.now) }
+        ensures { result ≡ sequence_start self.now i }
+    {
+        self.nodes.sequence_start(i)
+    }
+
+    /// The number after that of the last node of sequence `i`. It is the number of the first node of the next sequence, or `nodes()`.
+    pub fn sequence_end(&self, i: usize) -> usize
+        requires { i < length (sequence_starts self.now) }
+        ensures { result ≡ sequence_end self.now i }
+    {
+        self.nodes.sequence_end(i)
+    }
+
+    /// Appends the nodes of sequence `i` to `out` as the sgf form writes them. Text that already has that form is copied in one piece.
+    /// If memory is refused, `out` is unchanged.
+    pub fn push_sequence(&self, i: usize, out: &mut Vec<u8>) -> Result<(), MemoryFault>
+        requires { i < length (sequence_starts self.now) }
+        ensures appended { OnOk result (out.new.items
+            ≡ out.old.items ++ flat_map node_text (nodes_at self.now (sequence_numbers self.now i))) }
+        ensures unchanged { OnErr result (out.new.items ≡ out.old.items) }
+    {
+        let before = out.len();
+        let pushed = self.push_runs_of(i, out);
+        if pushed.is_err() {
+            out.truncate(before);
+        }
+        pushed
+    }
+
+    /// The same as `push_sequence`, but a refusal of memory may leave some of the nodes appended.
+    fn push_runs_of(&self, i: usize, out: &mut Vec<u8>) -> Result<(), MemoryFault>
+        requires { i < length (sequence_starts self.now) }
+        ensures appended { OnOk result (out.new.items
+            ≡ out.old.items ++ flat_map node_text (nodes_at self.now (sequence_numbers self.now i))) }
+        ensures goes_on { GoesOn out.old.items out.new.items }
+    {
+        let text = self.text;
+        let end = self.sequence_end(i);
+        let mut start = self.sequence_start(i);
+        'runs: while start < end {
+            let next = self.nodes.run_end(i, start);
+            let first = self.place(start);
+            let last = self.place(next - 1);
+            push_part(text, first, last, out)?;
+            self.node(next - 1).push_to(out)?;
+            start = next;
+        }
+        Ok(())
     }
 
     /// The number of the parent of node `i`, which is the node before it on its line. None if node `i` is the root of a game.

@@ -5,7 +5,7 @@
 //! [`measure`] only counts the games, nodes and leaves, which is faster and takes less memory.
 //!
 //! A [`Collection`] numbers its nodes from 0 in file order. Of each node it keeps the place, the parent and
-//! the last node below it, in 8 bytes. The first node of a game or of a variation takes 8 bytes more. The
+//! the last node below it, in 8 bytes. Each sequence of nodes takes 16 bytes more. The
 //! properties of a node and their raw values are read from the text again when they are asked for, one after
 //! another. Reading them takes no memory.
 //!

@@ -1,16 +1,17 @@
-//! The nodes of a collection in file order, in 8 or 16 bytes a node.
+//! The nodes of a collection in file order, in 8 bytes a node and 16 bytes more a sequence.
 //!
 //! A node's text often has only 6 bytes, as in `;B[pd]`. So the memory of the nodes costs much of the time of reading.
 //!
 //! A place is less than `MAX_LENGTH`, so its top bits are free. They hold the kind of the node. Most nodes follow the node before them, and
-//! need only one number more: `last_below`. The first node of a game or of a variation needs two. These are in a second vector, and the
-//! entry of the node has their index. So a first node takes 16 bytes. Nothing is searched for.
+//! need only one number more: `last_below`. The first node of a game or of a variation begins a sequence. What it needs is in the table of
+//! sequences, and the entry of the node has its index there. Nothing is searched for.
 //!
 //! Contracts see a list of `NodeEntry`, and neither vector.
 
-ghost use Rattle.std.specs.Prelude.{◌≡◌, ◌^◌, ◌<◌, ◌≤◌, ◌++◌, ◌∷◌, [], length, option_map, slice_get, slice_set, IfOk, OnOk, OnErr};
+ghost use Rattle.std.specs.Prelude.{◌≡◌, ◌^◌, ◌<◌, ◌≤◌, ◌++◌, ◌∷◌, [], length, get_or, option_map, slice_get, slice_set, IfOk, OnOk, OnErr};
 ghost use Rattle.sgf_tree.specs.declared.layout.NodeEntry.{NodeEntry};
 ghost use Rattle.sgf_tree.specs.inner.Packing.{link_by};
+ghost use Rattle.sgf_tree.specs.inner.Sequences.{links_of, first_numbers, end_number, AreBesideWithin};
 
 use crate::fault::MemoryFault;
 use crate::layout::Link;
@@ -24,12 +25,12 @@ const ROOM_FOR_NODES: usize = 128;
 /// The bytes of a short node, such as `;B[pd]`. Few nodes have fewer.
 const NODE_BYTES: usize = 6;
 
-/// The most first nodes that there is room for at once. Most texts have one game and few variations, so the vector seldom
+/// The most sequences that there is room for at once. Most texts have one game and few variations, so the table seldom
 /// grows.
-const ROOM_FOR_FIRSTS: usize = 16;
+const ROOM_FOR_SEQUENCES: usize = 16;
 
 /// The bytes of a short game or variation, such as `(;B[pd])`. Few have fewer.
-const FIRST_BYTES: usize = 8;
+const SEQUENCE_BYTES: usize = 8;
 
 /// Places are less than this. A word holds a place plus the node's kind times this.
 const PLACES: u32 = 1 << 30;
@@ -48,25 +49,29 @@ const VARIATION: u32 = 3;
 struct Packed {
     /// The node's place plus its kind times `PLACES`.
     place_and_kind: u32,
-    /// For a first node the index of its numbers in `firsts`. For any other node its `last_below`.
+    /// For a first node the index of its sequence. For any other node its `last_below`.
     value: u32,
 }
 
-/// The numbers of the first node of a game or of a variation.
+/// A sequence: the nodes between a `(` and the next parenthesis.
 #[derive(Clone, Copy)]
-struct First {
-    /// The number of the game if the node is its root, else the number of the node's parent.
+struct Sequence {
+    /// The number of its first node.
+    first: u32,
+    /// The number of the game if the first node is its root, else the number of that node's parent.
     number: u32,
-    /// The greatest number among the node and the nodes below it.
+    /// The greatest number among the first node and the nodes below it.
     last_below: u32,
+    /// Whether each node after the first is beside the node before it (`Link::Next`).
+    all_beside: bool,
 }
 
 /// The nodes of a collection in file order, numbered from 0.
 #[derive(Drop)]
 pub(crate) struct Nodes {
     entries: Vec<Packed>,
-    /// The numbers of the first nodes, in file order.
-    firsts: Vec<First>,
+    /// The sequences, in file order.
+    sequences: Vec<Sequence>,
 }
 
 impl Model for Nodes {
@@ -76,10 +81,12 @@ impl Model for Nodes {
     ghost Value = { List NodeEntry };
 
     ghost use Rattle.sgf_tree.specs.inner.Packing.{node_of, AreFirstsOf};
+    ghost use Rattle.sgf_tree.specs.inner.Sequences.{links_of, AreSequencesOf};
 
-    ghost view = { λ n. map (node_of n.firsts.items) n.entries.items };
+    ghost view = { λ n. map (node_of n.sequences.items) n.entries.items };
 
-    ghost invariant = { λ n. AreFirstsOf n.firsts.items n.entries.items };
+    ghost invariant = { λ n. AreFirstsOf n.sequences.items n.entries.items
+        × AreSequencesOf n.sequences.items (links_of (map (node_of n.sequences.items) n.entries.items)) };
 }
 
 impl Nodes {
@@ -88,10 +95,10 @@ impl Nodes {
         ensures { IfOk result (λ nodes. nodes ≡ []) }
     {
         let nodes = ROOM_FOR_NODES.min(bytes / NODE_BYTES + 1);
-        let firsts = ROOM_FOR_FIRSTS.min(bytes / FIRST_BYTES + 1);
+        let sequences = ROOM_FOR_SEQUENCES.min(bytes / SEQUENCE_BYTES + 1);
         Ok(Nodes {
             entries: Vec::with_capacity(alloc, nodes)?,
-            firsts: Vec::with_capacity(alloc, firsts)?,
+            sequences: Vec::with_capacity(alloc, sequences)?,
         })
     }
 
@@ -130,10 +137,17 @@ impl Nodes {
             place_and_kind: place + kind * PLACES,
             value: 0,
         })?;
+        if beside {
+            return Ok(());
+        }
+        let count = self.sequences.len();
+        if count > 0 {
+            self.sequences[count - 1].all_beside = false;
+        }
         Ok(())
     }
 
-    /// Appends a first node of this kind. If memory is refused, the nodes are unchanged.
+    /// Appends a first node of this kind, which begins a sequence. If memory is refused, the nodes are unchanged.
     fn push_first(&mut self, place: u32, kind: u32, number: u32) -> Result<(), MemoryFault>
         requires low { place < PLACES }
         requires few { length self.old < 2 ^ 32 }
@@ -142,17 +156,19 @@ impl Nodes {
         ensures pushed { OnOk result (self.new ≡ self.old ++ record { place = place; link = link_by kind number; last_below = 0 } ∷ []) }
         ensures unchanged { OnErr result (self.new ≡ self.old) }
     {
-        let index = self.firsts.len();
-        self.firsts.push(First {
+        let index = self.sequences.len();
+        self.sequences.push(Sequence {
+            first: self.entries.len() as u32,
             number,
             last_below: 0,
+            all_beside: true,
         })?;
         let pushed = self.entries.push(Packed {
             place_and_kind: place + kind * PLACES,
             value: index as u32,
         });
         if pushed.is_err() {
-            self.firsts.truncate(index);
+            self.sequences.truncate(index);
             return Err(MemoryFault);
         }
         Ok(())
@@ -177,8 +193,8 @@ impl Nodes {
         match entry.place_and_kind / PLACES {
             NEXT => Link::Next { beside: false },
             BESIDE => Link::Next { beside: true },
-            ROOT => Link::Root(self.firsts[entry.value as usize].number),
-            _ => Link::Variation(self.firsts[entry.value as usize].number),
+            ROOT => Link::Root(self.sequences[entry.value as usize].number),
+            _ => Link::Variation(self.sequences[entry.value as usize].number),
         }
     }
 
@@ -192,7 +208,7 @@ impl Nodes {
         if entry.place_and_kind / PLACES < ROOT {
             entry.value
         } else {
-            self.firsts[entry.value as usize].last_below
+            self.sequences[entry.value as usize].last_below
         }
     }
 
@@ -213,11 +229,63 @@ impl Nodes {
                 beside: kind == BESIDE,
             };
         }
-        let first = self.firsts[entry.value as usize];
-        self.firsts[entry.value as usize].last_below = last;
+        let first = self.sequences[entry.value as usize];
+        self.sequences[entry.value as usize].last_below = last;
         if kind == ROOT {
             return Link::Root(first.number);
         }
         Link::Variation(first.number)
+    }
+
+    /// The number of sequences.
+    pub(crate) fn sequences(&self) -> usize
+        ensures { result ≡ length (first_numbers 0 (links_of self.now)) }
+    {
+        self.sequences.len()
+    }
+
+    /// The number of the first node of sequence `i`. `i` must be less than `sequences()`, here and in the calls below.
+    #[inline(always)]
+    pub(crate) fn sequence_start(&self, i: usize) -> usize
+        requires { i < length (first_numbers 0 (links_of self.now)) }
+        ensures { result ≡ get_or (first_numbers 0 (links_of self.now)) i 0 }
+    {
+        self.sequences[i].first as usize
+    }
+
+    /// The number after that of the last node of sequence `i`.
+    #[inline(always)]
+    pub(crate) fn sequence_end(&self, i: usize) -> usize
+        requires { i < length (first_numbers 0 (links_of self.now)) }
+        ensures { result ≡ end_number (links_of self.now) i }
+    {
+        let count = self.sequences.len();
+        if i + 1 < count {
+            self.sequences[i + 1].first as usize
+        } else {
+            self.entries.len()
+        }
+    }
+
+    /// The end of the run that begins with node `start` of sequence `i`: the number after that of the last node up to which
+    /// each node after `start` is beside the node before it.
+    pub(crate) fn run_end(&self, i: usize, start: usize) -> usize
+        requires sequence { i < length (first_numbers 0 (links_of self.now)) }
+        requires from { get_or (first_numbers 0 (links_of self.now)) i 0 ≤ start }
+        requires before { start < end_number (links_of self.now) i }
+        ensures rises { start < result }
+        ensures within { result ≤ end_number (links_of self.now) i }
+        ensures beside { AreBesideWithin (links_of self.now) start result }
+    {
+        let end = self.sequence_end(i);
+        let sequence = self.sequences[i];
+        if sequence.all_beside {
+            return end;
+        }
+        let mut at = start + 1;
+        'beside: while at < end && self.entries[at].place_and_kind / PLACES == BESIDE {
+            at += 1;
+        }
+        at
     }
 }

@@ -1,0 +1,227 @@
+-- How the table of sequences changes when a node is pushed.
+use Rattle.std.proofs.Common.{◌≡◌, ℕ, zero, suc, ◌+◌, ◌<◌, ◌≤◌, ◌⊎◌, inl, inr, Bool, true, false, cond, List, [], ◌∷◌, ◌++◌, length, get_or, set, map, Some, slice_get, refl, sym, ap, subst, ◌∙◌, arith, append-nil, get_or-set_same, get_or-set_other}
+use Rattle.std.proofs.lemmas.Bool.{false≢true, cases_lt, cases_eq}
+use Rattle.std.proofs.lemmas.List.{length-map, get_or_append_left, get_or_push, get_or_past, get_or_default, map_push, map-set, set-get_or, length_push}
+use Rattle.std.proofs.Math.ListN.{get_or-map}
+use Rattle.std.proofs.lemmas.Option.{slice_get-get_or}
+use Rattle.sgf_tree.specs.declared.layout.Link.{Link}
+use Rattle.sgf_tree.specs.declared.layout.Link.TheVariants.{Next}
+use Rattle.sgf_tree.specs.declared.layout.NodeEntry.{NodeEntry}
+use Rattle.sgf_tree.specs.declared.nodes.Sequence.{Sequence}
+use Rattle.sgf_tree.specs.inner.Layout.{opens_by}
+use Rattle.sgf_tree.specs.inner.Sequences.{links_of, first_numbers, end_number, AreBesideWithin, AreSequencesOf}
+use Rattle.sgf_tree.proofs.Lists.{slice_get-left, slice_get-right}
+use Rattle.sgf_tree.proofs.Rises.{Rises, rises-low, rises-get}
+
+abbrev pub firsts : List Sequence → List ℕ
+firsts table = map (λ (s : Sequence). s.first) table
+
+abbrev pub besides : List Sequence → List Bool
+besides table = map (λ (s : Sequence). s.all_beside) table
+
+-- a part of the records that stays the same where one of them changes
+pub part-same : {A : Type 0} (f : Sequence → A) (table : List Sequence) (k : ℕ) (s new : Sequence) → s ≡ get_or table k s → f new ≡ f s → map f (set table k new) ≡ map f table
+part-same f table k s new here same =
+    map-set f table k new ∙ ap (set (map f table) k) (same ∙ ap f here ∙ sym (get_or-map f table k s)) ∙ set-get_or (map f table) k (f s)
+
+-- the numbers rise, and are those of nodes
+rises-if : (b : Bool) (n high : ℕ) (numbers : List ℕ) → Rises (n + 1) numbers high → Rises n (cond b (n ∷ numbers) numbers) high
+rises-if true n high numbers r = (omega arith, r)
+rises-if false n high numbers r = rises-low n (n + 1) numbers high (omega arith) r
+
+pub numbers-rise : (n : ℕ) (links : List Link) → Rises n (first_numbers n links) (n + length links)
+numbers-rise n [] = omega arith
+numbers-rise n (link ∷ rest) =
+    let e : n + 1 + length rest ≡ n + suc (length rest) = omega arith in
+    rises-if (opens_by link) n (n + suc (length rest)) (first_numbers (n + 1) rest) (subst (Rises (n + 1) (first_numbers (n + 1) rest)) e (numbers-rise (n + 1) rest))
+
+pub all-rise : (links : List Link) → Rises 0 (first_numbers 0 links) (length links)
+all-rise links =
+    let e : 0 + length links ≡ length links = omega arith in subst (Rises 0 (first_numbers 0 links)) e (numbers-rise 0 links)
+
+-- a number of the list, or the default, is at most the default
+pub numbers-at-most : (low high : ℕ) (numbers : List ℕ) (i : ℕ) → Rises low numbers high → get_or numbers i high ≤ high
+numbers-at-most low high [] i r = omega arith
+numbers-at-most low high (n ∷ ns) zero r = let k = rises-get low high (n ∷ ns) 0 n r refl in omega (arith, k.1)
+numbers-at-most low high (n ∷ ns) (suc i) r = numbers-at-most (n + 1) high ns i r.1
+
+-- each number is at most the next one, or the default
+pub numbers-in-order : (numbers : List ℕ) (i low high : ℕ) → Rises low numbers high → i < length numbers → get_or numbers i 0 ≤ get_or numbers (i + 1) high
+numbers-in-order [] i low high r lt = absurd (omega arith)
+numbers-in-order (n ∷ ns) zero low high r lt = omega (arith, at-least ns (n + 1) high r.1)
+  where
+    at-least : (numbers : List ℕ) (low high : ℕ) → Rises low numbers high → low ≤ get_or numbers 0 high
+    at-least [] low high r = omega arith
+    at-least (n ∷ ns) low high r = omega (arith, r.0)
+numbers-in-order (n ∷ ns) (suc i) low high r lt =
+    let e : suc i + 1 ≡ suc (i + 1) = omega arith in rw e (numbers-in-order ns i (n + 1) high r.1 (omega arith))
+
+-- one node more
+push-if : (b : Bool) (n : ℕ) (numbers more : List ℕ) → cond b (n ∷ (numbers ++ more)) (numbers ++ more) ≡ cond b (n ∷ numbers) numbers ++ more
+push-if true n numbers more = refl
+push-if false n numbers more = refl
+
+pub numbers-push : (n : ℕ) (links : List Link) (link : Link) → first_numbers n (links ++ link ∷ []) ≡ first_numbers n links ++ cond (opens_by link) ((n + length links) ∷ []) []
+numbers-push n [] link = let e : n + 0 ≡ n = omega arith in rw e
+numbers-push n (other ∷ rest) link =
+    let e : n + 1 + length rest ≡ n + suc (length rest) = omega arith in
+    ap (λ ns. cond (opens_by other) (n ∷ ns) ns) (numbers-push (n + 1) rest link ∙ ap (λ k. first_numbers (n + 1) rest ++ cond (opens_by link) (k ∷ []) []) e)
+    ∙ push-if (opens_by other) n (first_numbers (n + 1) rest) (cond (opens_by link) ((n + suc (length rest)) ∷ []) [])
+
+first-push : (links : List Link) (link : Link) → opens_by link ≡ true → first_numbers 0 (links ++ link ∷ []) ≡ first_numbers 0 links ++ length links ∷ []
+first-push links link opens =
+    let e : 0 + length links ≡ length links = omega arith in
+    numbers-push 0 links link ∙ ap (λ b. first_numbers 0 links ++ cond b ((0 + length links) ∷ []) []) opens ∙ ap (λ k. first_numbers 0 links ++ k ∷ []) e
+
+next-push : (links : List Link) (b : Bool) → first_numbers 0 (links ++ Next b ∷ []) ≡ first_numbers 0 links
+next-push links b = numbers-push 0 links (Next b) ∙ append-nil (first_numbers 0 links)
+
+-- the end of a list where it has one number more, which is the old default
+end-left : (ns : List ℕ) (i n d : ℕ) → i ≤ length ns → get_or (ns ++ n ∷ []) i d ≡ get_or ns i n
+end-left [] zero n d le = refl
+end-left [] (suc i) n d le = absurd (omega arith)
+end-left (m ∷ ns) zero n d le = refl
+end-left (m ∷ ns) (suc i) n d le = end-left ns i n d (omega arith)
+
+-- a number below the end at one more is one below the end, or the last
+end-less : (ns : List ℕ) (i n k : ℕ) → k < get_or ns i (n + 1) → k < n → k < get_or ns i n
+end-less [] i n k lt less = less
+end-less (m ∷ ns) zero n k lt less = lt
+end-less (m ∷ ns) (suc i) n k lt less = end-less ns i n k lt less
+
+within-bools : (bs : List Bool) (i : ℕ) → get_or bs i false ≡ true → i < length bs
+within-bools [] i h = absurd (false≢true h)
+within-bools (b ∷ bs) zero h = omega arith
+within-bools (b ∷ bs) (suc i) h = omega (arith, within-bools bs i h)
+
+-- the links stay the same where another last node below a node is stored
+pub links-set : (view new : List NodeEntry) (i last : ℕ) → i < length view → ((node : NodeEntry) → slice_get view i ≡ Some node → new ≡ set view i (record node { last_below = last })) → links_of new ≡ links_of view
+links-set view new i last lt changes =
+    let none : NodeEntry = record { place = 0; link = Next false; last_below = 0 } in
+    ap links_of (changes (get_or view i none) (slice_get-get_or view i none lt)) ∙ map-set (λ (n : NodeEntry). n.link) view i _
+    ∙ ap (λ (l : Link). set (links_of view) i l) (sym (get_or-map (λ (n : NodeEntry). n.link) view i none)) ∙ set-get_or (links_of view) i (Next false)
+
+module _ (table : List Sequence) (links : List Link) (old : AreSequencesOf table links) where
+  pub table-count : length table ≡ length (first_numbers 0 links)
+  table-count = sym (length-map table (λ (s : Sequence). s.first)) ∙ ap length old.firsts_are
+
+  pub table-first : (i : ℕ) (s : Sequence) → i < length table → s ≡ get_or table i s → s.first ≡ get_or (first_numbers 0 links) i 0
+  table-first i s lt here =
+      ap (λ (t : Sequence). t.first) here ∙ sym (get_or-map (λ (t : Sequence). t.first) table i s)
+      ∙ get_or_default (firsts table) i s.first 0 (omega (arith, length-map table (λ (t : Sequence). t.first))) ∙ ap (λ ns. get_or ns i 0) old.firsts_are
+
+  pub table-end : (i : ℕ) (s : Sequence) → i + 1 < length table → s ≡ get_or table (i + 1) s → s.first ≡ end_number links i
+  table-end i s lt here =
+      table-first (i + 1) s lt here ∙ get_or_default (first_numbers 0 links) (i + 1) 0 (length links) (omega (arith, table-count))
+
+  pub table-beside : (i start : ℕ) (s : Sequence) → i < length table → s ≡ get_or table i s → s.all_beside ≡ true → get_or (first_numbers 0 links) i 0 ≤ start → AreBesideWithin links start (end_number links i)
+  table-beside i start s lt here is from =
+      let known : get_or (besides table) i false ≡ true =
+      get_or_default (besides table) i false s.all_beside (omega (arith, length-map table (λ (t : Sequence). t.all_beside))) ∙ get_or-map (λ (t : Sequence). t.all_beside) table i s ∙ ap (λ (t : Sequence). t.all_beside) (sym here) ∙ is in
+      λ number low high. old.beside i known number (omega (arith, low, from)) high
+
+  -- records with the same parts
+  pub sequences-same : (new : List Sequence) → firsts new ≡ firsts table → besides new ≡ besides table → AreSequencesOf new links
+  sequences-same new same known =
+      record { firsts_are = same ∙ old.firsts_are; beside = λ i is. old.beside i (ap (λ bs. get_or bs i false) (sym known) ∙ is) }
+
+  -- the first node of a sequence more
+  pub sequences-first : (s : Sequence) (link : Link) → opens_by link ≡ true → s.first ≡ length links → AreSequencesOf (table ++ s ∷ []) (links ++ link ∷ [])
+  sequences-first s link opens is =
+      let n : ℕ = length links in
+      let ns : List ℕ = first_numbers 0 links in
+      let bs : List Bool = besides table in
+      let b : Bool = s.all_beside in
+      let numbers : first_numbers 0 (links ++ link ∷ []) ≡ ns ++ n ∷ [] = first-push links link opens in
+      let pushed : besides (table ++ s ∷ []) ≡ bs ++ b ∷ [] = map_push (λ (t : Sequence). t.all_beside) table s in
+      let count : length bs ≡ length table = length-map table (λ (t : Sequence). t.all_beside) in
+      let same_count : length table ≡ length ns = table-count in
+      let total : length (links ++ link ∷ []) ≡ n + 1 = length_push links link in
+      record {
+        firsts_are = map_push (λ (t : Sequence). t.first) table s ∙ ap (λ k. firsts table ++ k ∷ []) is ∙ ap (λ ks. ks ++ n ∷ []) old.firsts_are ∙ sym numbers;
+        beside = λ i known number low high.
+            let known_new : get_or (bs ++ b ∷ []) i false ≡ true = ap (λ xs. get_or xs i false) (sym pushed) ∙ known in
+            let low_new : get_or (ns ++ n ∷ []) i 0 < number = subst (λ ks. get_or ks i 0 < number) numbers low in
+            let high_new : number < get_or (ns ++ n ∷ []) (i + 1) (length (links ++ link ∷ [])) = subst (λ ks. number < get_or ks (i + 1) (length (links ++ link ∷ []))) numbers high in
+            elim (cases_lt i (length table)) [
+              | inl lt ↦
+                  let end : get_or (ns ++ n ∷ []) (i + 1) (length (links ++ link ∷ [])) ≡ get_or ns (i + 1) n = end-left ns (i + 1) n _ (omega arith) in
+                  let most : get_or ns (i + 1) n ≤ n = numbers-at-most 0 n ns (i + 1) (all-rise links) in
+                  slice_get-left links (link ∷ []) number (omega arith)
+                  ∙ old.beside i (sym (get_or_append_left bs (b ∷ []) false i (omega arith)) ∙ known_new) number
+                  (subst (λ k. k < number) (get_or_append_left ns (n ∷ []) 0 i (omega arith)) low_new) (omega arith)
+              | inr le ↦
+                  let inside : i < length (bs ++ b ∷ []) = within-bools (bs ++ b ∷ []) i known_new in
+                  let at : length ns ≡ i = omega (arith, length_push bs b) in
+                  let first : get_or (ns ++ n ∷ []) i 0 ≡ n = get_or_push ns n 0 i at in
+                  let end : get_or (ns ++ n ∷ []) (i + 1) (length (links ++ link ∷ [])) ≡ length (links ++ link ∷ []) = get_or_past (ns ++ n ∷ []) (i + 1) _ (omega (arith, length_push ns n)) in
+                  absurd (omega arith)
+            ];
+      }
+
+  -- a further node
+  pub sequences-next : (new : List Sequence) (b : Bool) → firsts new ≡ firsts table
+      → ((i : ℕ) → get_or (besides new) i false ≡ true → (get_or (besides table) i false ≡ true) × ((b ≡ true) ⊎ (i + 1 < length table)))
+      → AreSequencesOf new (links ++ Next b ∷ [])
+  sequences-next new b same besides_are =
+      let n : ℕ = length links in
+      let ns : List ℕ = first_numbers 0 links in
+      let numbers : first_numbers 0 (links ++ Next b ∷ []) ≡ ns = next-push links b in
+      let total : length (links ++ Next b ∷ []) ≡ n + 1 = length_push links (Next b) in
+      record {
+        firsts_are = same ∙ old.firsts_are ∙ sym numbers;
+        beside = λ i known number low high.
+            let before = besides_are i known in
+            let low_old : get_or ns i 0 < number = subst (λ ks. get_or ks i 0 < number) numbers low in
+            let high_old : number < get_or ns (i + 1) (n + 1) = subst (λ k. number < get_or ns (i + 1) k) total (subst (λ ks. number < get_or ks (i + 1) (length (links ++ Next b ∷ []))) numbers high) in
+            elim (cases_lt number n) [
+              | inl lt ↦
+                  slice_get-left links (Next b ∷ []) number lt ∙ old.beside i before.0 number low_old (end-less ns (i + 1) n number high_old lt)
+              | inr le ↦
+                  elim before.1 [
+                    | inl is ↦
+                        let most : get_or ns (i + 1) (n + 1) ≤ n + 1 = end-at-most ns (i + 1) n (all-rise links) in
+                        slice_get-right links (Next b ∷ []) number 0 (omega arith) ∙ ap (λ k. Some (Next k)) is
+                    | inr less ↦
+                        let end : get_or ns (i + 1) (n + 1) ≡ get_or ns (i + 1) n = get_or_default ns (i + 1) (n + 1) n (omega (arith, table-count)) in
+                        let most : get_or ns (i + 1) n ≤ n = numbers-at-most 0 n ns (i + 1) (all-rise links) in
+                        absurd (omega arith)
+                  ]
+            ];
+      }
+    where
+      end-at-most : (numbers : List ℕ) (i n : ℕ) → Rises 0 numbers n → get_or numbers i (n + 1) ≤ n + 1
+      end-at-most numbers i n rise =
+          elim (cases_lt i (length numbers)) [
+            | inl lt ↦ omega (arith, get_or_default numbers i (n + 1) n lt, numbers-at-most 0 n numbers i rise)
+            | inr le ↦ omega (arith, get_or_past numbers i (n + 1) le)
+          ]
+
+  -- one that is beside the node before it
+  pub sequences-beside : (b : Bool) → b ≡ true → AreSequencesOf table (links ++ Next b ∷ [])
+  sequences-beside b is = sequences-next table b refl (λ i known. (known, inl is))
+
+  -- one that isn't known to be: the newest sequence is no longer known to have its nodes beside one another
+  pub sequences-apart : (b : Bool) (last : ℕ) (s : Sequence) → last + 1 ≡ length table → s ≡ get_or table last s → AreSequencesOf (set table last (record s { all_beside = false })) (links ++ Next b ∷ [])
+  sequences-apart b last s is here =
+      let bs : List Bool = besides table in
+      let new : List Sequence = set table last (record s { all_beside = false }) in
+      let count : length bs ≡ length table = length-map table (λ (t : Sequence). t.all_beside) in
+      let cleared : besides new ≡ set bs last false = map-set (λ (t : Sequence). t.all_beside) table last (record s { all_beside = false }) in
+      sequences-next new b (part-same (λ (t : Sequence). t.first) table last s (record s { all_beside = false }) here refl)
+      (λ i known.
+      let known_new : get_or (set bs last false) i false ≡ true = ap (λ xs. get_or xs i false) (sym cleared) ∙ known in
+      elim (cases_eq i last) [
+        | inl same ↦
+            absurd (false≢true (sym (get_or-set_same bs last false false (omega arith)) ∙ ap (λ k. get_or (set bs last false) k false) (sym same) ∙ known_new))
+        | inr other ↦
+            let old_known : get_or bs i false ≡ true = sym (get_or-set_other bs last i false false other) ∙ known_new in
+            let inside : i < length bs = within-bools bs i old_known in
+            (old_known, inr (omega (arith, other)))
+      ])
+
+-- without a sequence nothing is known
+pub sequences-none : (table : List Sequence) (links : List Link) (b : Bool) → AreSequencesOf table links → length table ≡ 0 → AreSequencesOf table (links ++ Next b ∷ [])
+sequences-none table links b old none =
+    sequences-next table links old table b refl
+    (λ i known. absurd (omega (arith, within-bools (besides table) i known, length-map table (λ (t : Sequence). t.all_beside))))
