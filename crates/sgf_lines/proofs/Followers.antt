@@ -17,8 +17,8 @@ use Rattle.sgf_lines.specs.declared.verdict.Verdict.{Verdict}
 use Rattle.sgf_lines.specs.inner.Following.{nodes_of, line_before, nodes_before}
 use Rattle.sgf_lines.specs.inner.GoingOn.{index_by, GoesOnBy}
 use Rattle.sgf_lines.specs.inner.Judging.{Judging}
-use Rattle.sgf_lines.specs.inner.Keeping.{PlaysUpTo, fresh_plays, judging_front}
-use Rattle.sgf_lines.specs.inner.Followers.{state_by, judging_alone, IsRow, Follows}
+use Rattle.sgf_lines.specs.inner.Keeping.{HoldsJudgement, PlaysUpTo, fresh_plays}
+use Rattle.sgf_lines.specs.inner.Followers.{state_by, IsRow, Follows}
 use Rattle.sgf_lines.proofs.Keeping.{IsNext, goes_on, some_before, line_is}
 use Rattle.sgf_lines.proofs.LineCounts.{lines_within}
 use Rattle.sgf_lines.proofs.Pages.{get_dropped, get_taken}
@@ -26,8 +26,8 @@ use Rattle.sgf_lines.proofs.PlayCounts.{page_from, few, adds, shares_by, Shares}
 use Rattle.sgf_lines.proofs.RunRecords.{some_line}
 
 module _ (before : Before) (old new : CursorState) (held row : ℕ) (now : Judging) (h : Follows before old now row) (go : GoesOnBy before old new held) where
-  pub next_is : IsNext list_form before old new held (judging_alone now.judgement)
-  next_is = goes_on list_form before old new held (judging_alone now.judgement) h.stands go
+  pub next_is : IsNext before old new held now.judgement
+  next_is = goes_on before old new held now.judgement h.stands go
 
   own : (line : Line) × (line_before new ≡ Some line)
   own = some_line new next_is.some_node
@@ -73,7 +73,7 @@ module _ (before : Before) (old new : CursorState) (held row : ℕ) (now : Judgi
             shares_by old.games rise first (row + 1) row Held old held refl there (λ none. absurd (omega (arith, is.0, none))) (λ _. refl) (subst (λ at. GoesOnBy Held old at held) go.0 go)
 
     -- the next line was played from where it leaves the one before it
-    pub follows_on : {A E : Type 0} (judging : Judging) (u : A) → judging.judgement ≡ judging_front (nodes_before new) (length (nodes_before new))
+    pub follows_on : {A E : Type 0} (judging : Judging) (u : A) → HoldsJudgement (nodes_before new) judging.judgement
         → PlaysUpTo {E = E} now.plays judging.plays (fresh_plays (nodes_before new) held) (Ok u) → Follows Held new judging (row + 1)
     follows_on judging u judged plays =
         let rest = drop first (lines old.games) in

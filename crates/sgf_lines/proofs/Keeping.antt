@@ -13,15 +13,20 @@ use Rattle.sgf_lines.specs.JudgedGames.{game_kind, root_properties}
 use Rattle.sgf_lines.specs.RunPlays.{plays_in}
 use Rattle.sgf_lines.specs.declared.options.Form.{Form}
 use Rattle.sgf_lines.specs.declared.options.Form.TheVariants.{List as list_form, Sgf as sgf_form, Gtp as gtp_form}
+use Rattle.sgf_lines.specs.declared.sequence_cursor.Front.{Front}
 use Rattle.sgf_lines.specs.declared.going_on.Before.{Before}
 use Rattle.sgf_lines.specs.declared.going_on.Before.TheVariants.{Unheld, Held, Refused}
 use Rattle.sgf_lines.specs.inner.Judging.{Judgement, judging, back}
+use Rattle.sgf_lines.specs.inner.Pieces.{cut}
 use Rattle.sgf_lines.specs.inner.Recording.{open_record}
-use Rattle.sgf_lines.specs.inner.Scripting.{script_of, script_back, script_ended}
+use Rattle.sgf_lines.specs.inner.Scripting.{ScriptState, script_of, script_back, script_ended}
 use Rattle.sgf_lines.specs.inner.Following.{Continues, first_after, nodes_of, line_in, line_before, nodes_before, path_before}
-use Rattle.sgf_lines.specs.inner.Keeping.{Kept, judging_front, KeepsBy, HoldsBy, StandsBy, PlaysUpTo, PlaysLine, HasPlays, fresh_plays}
+use Rattle.sgf_lines.specs.inner.Keeping.{Kept, judging_front, script_front, KeepsJudgement, KeepsBy, HoldsJudgement, HoldsBy, StandsBy, PlaysUpTo, PlaysLine, HasPlays, fresh_plays}
+use Rattle.sgf_lines.specs.inner.Sequences.{SequencesState, RiseTo, SharesFront}
+use Rattle.sgf_lines.specs.inner.Fronts.{HasFront, sequences_before, held_by}
 use Rattle.sgf_lines.specs.inner.GoingOn.{index_by, GoesOnBy}
 use Rattle.sgf_lines.proofs.Along.{same_root}
+use Rattle.sgf_lines.proofs.Fronts.{end_of, same_end, alike}
 use Rattle.sgf_lines.proofs.Joins.{as_many}
 use Rattle.sgf_lines.proofs.Judgements.{judging_back}
 use Rattle.sgf_lines.proofs.LineNodes.{named_in}
@@ -52,19 +57,15 @@ module _ (old nodes : List Node) (count : ℕ) (some : 0 < count) (within : coun
   whole : take (length old) old ≡ old
   whole = take_all (length old) old (omega arith)
 
-  judged_same : (judgement : Judgement) → judgement ≡ judging_front old (length old) → back count judgement ≡ judging_front nodes count
+  judged_same : (judgement : Judgement) → HoldsJudgement old judgement → back count judgement ≡ judging_front nodes count
   judged_same judgement h =
       ap (back count) (h ∙ ap (judging (game_kind (root_properties old))) whole) ∙ judging_back (game_kind (root_properties old)) old count within
       ∙ ap (judging (game_kind (root_properties old))) same ∙ ap (λ k. judging k (take count nodes)) kinds
 
-  keeps : (form : Form) (kept : Kept) → HoldsBy form old kept → KeepsBy form nodes count kept
-  keeps list_form kept h = judged_same kept.judgement h
-  keeps sgf_form kept h = rw h (record_back old count ∙ ap (λ ns. open_record ns) same)
-  keeps gtp_form kept h = (
-    judged_same kept.judgement h.0,
-    ap (script_back count) (h.1 ∙ ap (λ ns. script_ended (script_of (game_kind (root_properties old)) ns)) whole) ∙ script_cut (game_kind (root_properties old)) old count within
-        ∙ ap (script_of (game_kind (root_properties old))) same ∙ ap (λ k. script_of k (take count nodes)) kinds,
-  )
+  said_same : (script : ScriptState) → script ≡ script_ended (script_front old (length old)) → script_back count script ≡ script_front nodes count
+  said_same script h =
+      ap (script_back count) (h ∙ ap (λ ns. script_ended (script_of (game_kind (root_properties old)) ns)) whole) ∙ script_cut (game_kind (root_properties old)) old count within
+      ∙ ap (script_of (game_kind (root_properties old))) same ∙ ap (λ k. script_of k (take count nodes)) kinds
 
 -- the cursor went on by a line
 named : (at : CursorState) → map Some (nodes_before at) ≡ map (node_at at.games) (path_before at)
@@ -94,44 +95,97 @@ module _ (old new : CursorState) (shared : ℕ) (moved : new ≡ advanced old) (
   within : shared ≤ length (nodes_before new)
   within = omega (arith, many_new)
 
-  kept_still : (form : Form) (kept : Kept) → HoldsBy form (nodes_before old) kept → 0 < shared → KeepsBy form (nodes_before new) shared kept
-  kept_still form kept h some =
+  within_old : shared ≤ length (nodes_before old)
+  within_old = omega (arith, as_many (node_at old.games) (nodes_before old) (path_before old) (named old), continues.kept_within)
+
+  same_nodes : take shared (nodes_before old) ≡ take shared (nodes_before new)
+  same_nodes =
       let named_new : map Some (nodes_before new) ≡ map (node_at old.games) (path_before new) = named new ∙ ap (λ (p : CursorState). map (node_at p.games) (path_before new)) moved in
-      let many_old = as_many (node_at old.games) (nodes_before old) (path_before old) (named old) in
-      let same : take shared (nodes_before old) ≡ take shared (nodes_before new) =
-      same_front (node_at old.games) (path_before old) (path_before new) (nodes_before old) (nodes_before new) shared (named old) named_new continues in
-      keeps (nodes_before old) (nodes_before new) shared some (omega (arith, many_old, continues.kept_within)) same form kept h
+      same_front (node_at old.games) (path_before old) (path_before new) (nodes_before old) (nodes_before new) shared (named old) named_new continues
+
+  judgement_kept : (judgement : Judgement) → HoldsJudgement (nodes_before old) judgement → KeepsJudgement (nodes_before new) shared judgement
+  judgement_kept judgement h some = judged_same (nodes_before old) (nodes_before new) shared some within_old same_nodes judgement h
 
 -- the next line, before the cursor that went on
-pub record IsNext (form : Form) (before : Before) (old new : CursorState) (held : ℕ) (kept : Kept) : Type 0 where
+pub record IsNext (before : Before) (old new : CursorState) (held : ℕ) (judgement : Judgement) : Type 0 where
   pub some_node : 0 < length (nodes_before new)
   pub within : held ≤ length (nodes_before new)
-  pub keeps : 0 < held → KeepsBy form (nodes_before new) held kept
+  pub keeps : KeepsJudgement (nodes_before new) held judgement
   pub games : new.games ≡ old.games
   pub index : new.index - 1 ≡ index_by before old.index
 
-pub goes_on : (form : Form) (before : Before) (old new : CursorState) (held : ℕ) (kept : Kept) → StandsBy form before old kept → GoesOnBy before old new held → IsNext form before old new held kept
-goes_on form Unheld old new held kept stands go = record {
+pub goes_on : (before : Before) (old new : CursorState) (held : ℕ) (judgement : Judgement) → StandsBy before (nodes_before old) (HoldsJudgement (nodes_before old) judgement)
+    → GoesOnBy before old new held → IsNext before old new held judgement
+goes_on Unheld old new held judgement stands go = record {
   some_node = some_node old new go.2.0 go.0 go.2.1;
   within = omega (arith, go.1);
   keeps = λ some. absurd (omega (arith, go.1));
   games = ap (λ (p : CursorState). p.games) go.0;
   index = omega (arith, ap (λ (p : CursorState). p.index) go.0);
 }
-goes_on form Held old new held kept stands go = record {
+goes_on Held old new held judgement stands go = record {
   some_node = some_node old new held go.0 go.1;
   within = within old new held go.0 go.1;
-  keeps = kept_still old new held go.0 go.1 form kept stands.1;
+  keeps = judgement_kept old new held go.0 go.1 judgement stands.1;
   games = ap (λ (p : CursorState). p.games) go.0;
   index = omega (arith, ap (λ (p : CursorState). p.index) go.0);
 }
-goes_on form Refused old new held kept stands go = record {
+goes_on Refused old new held judgement stands go = record {
   some_node = rw go.0 stands;
   within = omega (arith, go.1);
   keeps = λ some. absurd (omega (arith, go.1));
   games = ap (λ (p : CursorState). p.games) go.0;
   index = ap (λ (p : CursorState). p.index - 1) go.0;
 }
+
+-- the same for a run, whose cursor goes over sequences
+pub record IsNextBy (form : Form) (before : Before) (old new : SequencesState) (held : Front) (kept : Kept) : Type 0 where
+  pub some_node : 0 < length (nodes_before new.at)
+  pub front : HasFront new.ends held
+  pub keeps : KeepsBy form new held kept
+  pub go : GoesOnBy before old.at new.at held.nodes
+
+module _ (old new : SequencesState) (shared : Front) (moved : new.at ≡ advanced old.at) (shares : SharesFront old new shared) (rise : RiseTo 0 new.ends (length (nodes_before new.at))) where
+  has_front : HasFront new.ends shared
+  has_front = record {
+    more = shares.more;
+    count = shares.count ∙ same_end 0 shared.sequences old.ends new.ends shares.within (omega (arith, shares.more)) shares.ends;
+  }
+
+  kept_still : (form : Form) (kept : Kept) → HoldsBy form old kept → KeepsBy form new shared kept
+  kept_still list_form kept h = judgement_kept old.at new.at shared.nodes moved shares.nodes kept.judgement h
+  kept_still sgf_form kept h = λ some.
+      let back = record_back (sequences_before old) shared.sequences in
+      let nodes = same_nodes old.at new.at shared.nodes moved shares.nodes in
+      let count : shared.nodes ≡ end_of 0 new.ends shared.sequences - 0 = omega (arith, has_front.count) in
+      let same : take shared.sequences (sequences_before new) ≡ take shared.sequences (sequences_before old) =
+      alike 0 new.ends old.ends (nodes_before new.at) (nodes_before old.at) (length (nodes_before new.at)) shared.sequences rise (omega (arith, shares.more)) shares.ends (rw (← count) (sym nodes)) in
+      ap (cut (shared.sequences + 1)) h ∙ back ∙ ap (λ ps. open_record ps) (sym same)
+  kept_still gtp_form kept h = (
+    judgement_kept old.at new.at shared.nodes moved shares.nodes kept.judgement h.0,
+    λ some. said_same (nodes_before old.at) (nodes_before new.at) shared.nodes some (within_old old.at new.at shared.nodes moved shares.nodes) (same_nodes old.at new.at shared.nodes moved shares.nodes) kept.script h.1,
+  )
+
+  -- nothing needs to be kept of no nodes
+  kept_none : (form : Form) (kept : Kept) → KeepsBy form new (record { sequences = 0; nodes = 0 }) kept
+  kept_none list_form kept = λ some. absurd (omega arith)
+  kept_none sgf_form kept = λ some. absurd (omega arith)
+  kept_none gtp_form kept = (λ some. absurd (omega arith), λ some. absurd (omega arith))
+
+  pub goes_on_by : (form : Form) (before : Before) (kept : Kept) → StandsBy before (nodes_before old.at) (HoldsBy form old kept) → before ≢ Refused → IsNextBy form before old new (held_by before shared) kept
+  goes_on_by form Unheld kept stands going = record {
+    some_node = some_node old.at new.at shared.nodes moved shares.nodes;
+    front = record { more = omega (arith, shares.more); count = refl };
+    keeps = kept_none form kept;
+    go = (moved, refl, (shared.nodes, shares.nodes));
+  }
+  goes_on_by form Held kept stands going = record {
+    some_node = some_node old.at new.at shared.nodes moved shares.nodes;
+    front = has_front;
+    keeps = kept_still form kept stands.1;
+    go = (moved, shares.nodes);
+  }
+  goes_on_by form Refused kept stands going = absurd (going refl)
 
 pub some_before : (at : CursorState) → 0 < length (nodes_before at) → 0 < at.index
 some_before at some = by at.index refl

@@ -18,6 +18,8 @@ pub mod Gathered
 pub mod Judgements
 pub mod Judged
 pub mod PieceTexts
+pub mod Fronts
+pub mod NodesToCome
 pub mod Recordings
 pub mod Scripts
 pub mod Along
@@ -39,3 +41,10 @@ pub mod LineNodes
 pub mod RunRecords
 pub mod JudgedLines
 pub mod Followers
+pub mod SequenceStarts
+pub mod SequenceParts
+pub mod SequenceWays
+pub mod SequenceSeeking
+pub mod SequenceClimbing
+pub mod SequenceCuts
+pub mod SequenceCursors

@@ -6,7 +6,7 @@ use Rattle.std.proofs.Math.Seq.{take-append_seam, drop-append_seam}
 use Rattle.std.proofs.lemmas.List.{take-append-drop, length-append}
 use Rattle.std.proofs.lemmas.List.Folds.{concat-append}
 use Rattle.sgf_tree.specs.Written.{ends_from}
-use Rattle.sgf_lines.specs.inner.Pieces.{PiecesState, pushed, closed, longer, cut, pieces_from, rest_from, AreEnds}
+use Rattle.sgf_lines.specs.inner.Pieces.{PiecesState, pushed, closed, cut, pieces_from, rest_from, AreEnds}
 
 -- ---- the ends of pieces
 
@@ -93,15 +93,6 @@ module _ (ends text : List ℕ) (h : AreEnds ends text) where
       is_seen (ends ++ last ∷ []) text (ps ++ begun ∷ []) []
       (ap (λ es. es ++ last ∷ []) h ∙ ap (λ k. ends_from 0 ps ++ k ∷ []) end ∙ sym (ends-append 0 ps (begun ∷ [])))
       (parts ∙ ap (λ t. concat ps ++ t) (sym (append-nil begun)) ∙ sym (concat-append ps (begun ∷ [])) ∙ sym (append-nil (concat (ps ++ begun ∷ []))))
-
-  -- texts after the pieces, where nothing is begun
-  pub seen_longer : (texts : List (List ℕ)) → rest_from 0 ends text ≡ [] → IsSeen (ends ++ ends_from (length text) texts) (text ++ concat texts) (longer (seen ends text) texts)
-  seen_longer texts none =
-      let all : text ≡ concat ps = parts ∙ ap (λ t. concat ps ++ t) none ∙ append-nil (concat ps) in
-      let start : length text ≡ 0 + length (concat ps) = omega (arith, ap length all) in
-      is_seen (ends ++ ends_from (length text) texts) (text ++ concat texts) (ps ++ texts) []
-      (ap (λ es. es ++ ends_from (length text) texts) h ∙ ap (λ k. ends_from 0 ps ++ ends_from k texts) start ∙ sym (ends-append 0 ps texts))
-      (ap (λ t. t ++ concat texts) all ∙ sym (concat-append ps texts) ∙ sym (append-nil (concat (ps ++ texts))))
 
   -- only the first pieces are left
   pub seen_cut : (count end : ℕ) → end ≡ unwrap_or (slice_get (take count ends) (length (take count ends) - 1)) 0 → IsSeen (take count ends) (take end text) (cut count (seen ends text))

@@ -1,28 +1,38 @@
--- A record in sgf form goes on by nodes, and back.
-use Rattle.std.proofs.Common.{◌≡◌, ℕ, suc, ◌+◌, List, [], ◌∷◌, ◌++◌, take, drop, map, refl, sym, ap, ◌∙◌, add-one}
+-- A record in sgf form goes on by sequences, and back.
+use Rattle.std.proofs.Common.{◌≡◌, ℕ, suc, ◌+◌, List, [], ◌∷◌, ◌++◌, length, take, map, slice_get, Some, refl, sym, ap, ◌∙◌, add-one, arith}
 use Rattle.std.specs.Prelude.{codes}
 use Rattle.std.specs.List.{concat, flat_map}
-use Rattle.std.proofs.lemmas.List.{take-map, map-append, take-append-drop}
+use Rattle.std.proofs.lemmas.List.{take-map, map-append}
 use Rattle.sgf_tree.specs.Tree.{Node}
 use Rattle.sgf_lines.specs.Record.{node_text, sgf_record}
-use Rattle.sgf_lines.specs.inner.Pieces.{PiecesState, longer, cut}
+use Rattle.sgf_lines.specs.inner.Pieces.{PiecesState, pushed, closed, cut}
 use Rattle.sgf_lines.specs.inner.Recording.{open_record, whole_record}
+use Rattle.sgf_lines.specs.inner.Sequences.{RiseTo, sequences_of}
+use Rattle.sgf_lines.proofs.Fronts.{parts_text}
+use Rattle.sgf_lines.proofs.Lists.{front_more}
 
-pub record_more : (nodes : List Node) (k : ℕ) → longer (open_record (take k nodes)) (map node_text (drop k nodes)) ≡ open_record nodes
-record_more nodes k =
-    let more : map node_text (take k nodes) ++ map node_text (drop k nodes) ≡ map node_text nodes = sym (map-append node_text (take k nodes) (drop k nodes)) ∙ ap (map node_text) (take-append-drop k nodes) in
-    ap (λ ps. let r : PiecesState = record { pieces = codes "(" ∷ ps; begun = [] } in r) more
+-- a record of these pieces after the parenthesis
+abbrev of_pieces : List (List ℕ) → PiecesState
+of_pieces pieces = record { pieces = codes "(" ∷ pieces; begun = [] }
 
--- back to the first nodes of a line
-pub record_back : (nodes : List Node) (k : ℕ) → cut (k + 1) (whole_record nodes) ≡ open_record (take k nodes)
-record_back nodes k =
+-- one sequence more
+pub record_more : (sequences : List (List Node)) (i : ℕ) (nodes : List Node) → slice_get sequences i ≡ Some nodes
+    → closed (pushed (open_record (take i sequences)) (flat_map node_text nodes)) ≡ open_record (take (i + 1) sequences)
+record_more sequences i nodes e =
+    let text = flat_map node_text in
+    ap of_pieces (sym (map-append text (take i sequences) (nodes ∷ [])) ∙ ap (map text) (sym (front_more sequences i nodes e)))
+
+-- back to the first sequences of a line
+pub record_back : (sequences : List (List Node)) (k : ℕ) → cut (k + 1) (whole_record sequences) ≡ open_record (take k sequences)
+record_back sequences k =
     let next : k + 1 ≡ suc k = add-one k in
-    ap (λ n. cut n (whole_record nodes)) next ∙ ap (λ ps. let r : PiecesState = record { pieces = codes "(" ∷ ps; begun = [] } in r) (take-map node_text k nodes)
+    ap (λ n. cut n (whole_record sequences)) next ∙ ap of_pieces (take-map (flat_map node_text) k sequences)
 
 -- its text
 pub joined : {X : Type 0} (f : X → List ℕ) (xs : List X) → concat (map f xs) ≡ flat_map f xs
 joined f [] = refl
 joined f (x ∷ xs) = ap (λ t. f x ++ t) (joined f xs)
 
-pub record_text : (nodes : List Node) → concat (whole_record nodes).pieces ++ (whole_record nodes).begun ≡ sgf_record nodes
-record_text nodes = ap (λ t. (codes "(" ++ t) ++ codes ")\n") (joined node_text nodes)
+pub record_text : (ends : List ℕ) (nodes : List Node) → RiseTo 0 ends (length nodes)
+    → concat (whole_record (sequences_of ends nodes)).pieces ++ (whole_record (sequences_of ends nodes)).begun ≡ sgf_record nodes
+record_text ends nodes rise = ap (λ t. (codes "(" ++ t) ++ codes ")\n") (parts_text node_text 0 ends nodes (length nodes) (omega arith) rise)

@@ -21,7 +21,7 @@ use Rattle.sgf_tree.specs.declared.fault.TheConstants.{MAX_LENGTH}
 use Rattle.sgf_tree.specs.declared.fault.ReadFault.{ReadFault}
 use Rattle.sgf_tree.specs.declared.fault.ReadFault.TheVariants.{TooLong as TextTooLong, NotSgf as TextNotSgf, Memory as TextMemory}
 use Rattle.sgf_lines.specs.Page.{limited}
-use Rattle.sgf_lines.specs.Cursor.{CursorState}
+use Rattle.sgf_lines.specs.inner.Sequences.{SequencesState}
 use Rattle.sgf_lines.specs.RunPlays.{AnswersPlays, IsRunWithPlays}
 use Rattle.sgf_lines.specs.declared.options.Options.{Options}
 
@@ -111,11 +111,11 @@ module _ (o : Options) (source new_source : SourceState) (text : List ℕ) (h : 
   no_start_run c fault spelled start reads writes = run_of sink old (Err fault) 0 (start_says o text new_source.to_come sink sink c fault spelled h.whole start) (omega arith) reads writes
 
   -- the lines of the page were written
-  pub lines_run : (c : Games) (at : CursorState) (new_sink : SinkState) (plays new : ℕ) (result : Result ℕ RunFault) → Spells c text → IsStart c o.after (Ok at)
-      → WritesLines o.form (limited o.limit (drop at.index (lines c))) sink new_sink plays result → new ≡ old + plays
+  pub lines_run : (c : Games) (cursor : SequencesState) (new_sink : SinkState) (plays new : ℕ) (result : Result ℕ RunFault) → Spells c text → IsStart c o.after (Ok cursor)
+      → WritesLines o.form (limited o.limit (drop cursor.at.index (lines c))) sink new_sink plays result → new ≡ old + plays
       → OnOk result (HasDelivered new_sink) → new_sink.failures ≡ sink.failures + write_failures result → IsRunWithPlays o source new_source sink new_sink old new result
-  lines_run c at new_sink plays new result spelled start w rises delivered writes =
-      let ls = limited o.limit (drop at.index (lines c)) in
+  lines_run c cursor new_sink plays new result spelled start w rises delivered writes =
+      let ls = limited o.limit (drop cursor.at.index (lines c)) in
       let good : IsGood o text new_source.to_come ls = record { whole = h.whole; has_page = record { games = c; spelled = spelled; page_is = ap (option_map (limited o.limit)) start } } in
       run_of new_sink new result plays (lines_say o text new_source.to_come sink new_sink ls plays result good w delivered) rises
       (no_read o.form ls sink new_sink plays result w) writes

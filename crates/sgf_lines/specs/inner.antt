@@ -4,6 +4,7 @@ pub mod Standing
 pub mod Seeking
 pub mod Following
 pub mod Sequences
+pub mod Fronts
 pub mod Back
 pub mod Gathered
 pub mod Judging

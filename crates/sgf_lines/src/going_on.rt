@@ -2,9 +2,11 @@
 
 ghost use Rattle.std.specs.Prelude.{◌≡◌, None, slice_get, IfNone, IfOk, IfSome, OnErr};
 ghost use Rattle.sgf_lines.specs.Lines.{lines};
+ghost use Rattle.sgf_lines.specs.inner.Fronts.{held_by};
 ghost use Rattle.sgf_lines.specs.inner.GoingOn.{index_by, GoesOnBy};
 
 use crate::cursor::Cursor;
+use crate::sequence_cursor::Front;
 use sgf_tree::MemoryFault;
 
 /// What is known of the line before a cursor.
@@ -16,6 +18,21 @@ pub(crate) enum Before {
     Held,
     /// Memory was refused while that line was judged, so that line comes again as the next one.
     Refused,
+}
+
+impl Before {
+    /// What is held of the next line, by what it shares with the line before it.
+    pub(crate) fn held(self, shared: Front) -> Front
+        ensures { result ≡ held_by self shared }
+    {
+        match self {
+            Before::Held => shared,
+            _ => Front {
+                sequences: 0,
+                nodes: 0,
+            },
+        }
+    }
 }
 
 /// Goes on to the next line and returns how many of its nodes are held already; None if no line is left.

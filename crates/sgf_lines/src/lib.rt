@@ -30,6 +30,7 @@
 //! | Module | What it has |
 //! |---|---|
 //! | `line`, `cursor`, `seek` | what is shown of a line; going over the lines of a collection; seeking the line with a place |
+//! | `sequence_cursor`, `line_nodes` | going over the lines by their sequences, as a run does; going over the nodes of one line |
 //! | `options`, `fault` | what a run is asked for; how it may fail |
 //! | `verdict`, `judging` | the verdict of a line; judging lines, in the modules below |
 //! | `judging/one_line`, `judging/judge` | one line, by its leaf or its place; a judge that goes along a line's nodes, and back |
@@ -57,11 +58,13 @@ mod going_on;
 mod judging;
 pub mod laws;
 mod line;
+mod line_nodes;
 mod node_values;
 mod options;
 mod plays;
 mod run;
 mod seek;
+mod sequence_cursor;
 mod verdict;
 
 pub use counting::{Counts, count, write_counts};

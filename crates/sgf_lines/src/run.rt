@@ -11,25 +11,26 @@ ghost use Rattle.sgf_lines.specs.Record.{record_of};
 ghost use Rattle.sgf_lines.specs.RunPlays.{IsRunWithPlays, plays_in};
 ghost use Rattle.sgf_lines.specs.declared.going_on.Before.TheVariants.{Held};
 ghost use Rattle.sgf_lines.specs.inner.Following.{line_before, nodes_before};
+ghost use Rattle.sgf_lines.specs.inner.Fronts.{HasFront};
 ghost use Rattle.sgf_lines.specs.inner.Keeping.{Holds, HoldsBy, IsFresh, KeepsBy, PlaysLine, PlaysUpTo, fresh_plays, kept_in, record_by, record_in};
 ghost use Rattle.sgf_lines.specs.inner.Views.{built_text};
 ghost use Rattle.sgf_lines.specs.inner.Running.{AnswersSome, HasRead, HasReadAll, HasRecord, IsReading, IsStart, PutsAll, WritesLines};
 
-use crate::cursor::Cursor;
 use crate::ends::sink::{Sink, SinkFault, put_all};
 use crate::ends::source::Source;
 use crate::fault::RunFault;
-use crate::form::judged::judge_line;
+use crate::form::judged::judge_sequences;
 use crate::form::pieces::Pieces;
-use crate::form::row::Row;
+use crate::form::row::{LineShown, Row};
 use crate::form::script::Script;
 use crate::form::{record, script};
-use crate::going_on::{Before, go_on};
+use crate::going_on::Before;
 use crate::judging::judge::Judge;
 use crate::laws::rise;
 use crate::options::{Form, Options};
 use crate::plays::Plays;
 use crate::seek::SeekFault;
+use crate::sequence_cursor::{Front, SequenceCursor};
 use sgf_tree::{Collection, MAX_LENGTH, MemoryFault, read};
 use std::alloc::Global;
 
@@ -189,15 +190,15 @@ fn cursor_after<'c, 'a>(
     alloc: Global,
     collection: &'c Collection<'a>,
     after: Option<u64>,
-) -> Result<Cursor<'c, 'a>, RunFault>
+) -> Result<SequenceCursor<'c, 'a>, RunFault>
     ensures start { (text : List ℕ) → Spells collection.now text → IsStart collection.now after result }
-    ensures same { IfOk result (λ cursor. cursor.games ≡ collection.now) }
+    ensures same { IfOk result (λ cursor. cursor.at.games ≡ collection.now) }
     ensures no_read { read_failures result ≡ 0 }
     ensures no_write { write_failures result ≡ 0 }
 {
     // Places rise, so at most one line has the place.
     rise();
-    let mut cursor = Cursor::new(alloc, collection);
+    let mut cursor = SequenceCursor::new(alloc, collection);
     let Some(place) = after else {
         return Ok(cursor);
     };
@@ -211,7 +212,7 @@ fn cursor_after<'c, 'a>(
 /// What a run holds from one line to the next.
 #[derive(Drop)]
 pub(crate) struct Run<'c, 'a> {
-    cursor: Cursor<'c, 'a>,
+    cursor: SequenceCursor<'c, 'a>,
 
     form: Form,
 
@@ -233,7 +234,7 @@ pub(crate) struct Run<'c, 'a> {
 
 impl<'c, 'a> Run<'c, 'a> {
     /// A run over the lines after a cursor.
-    fn new(alloc: Global, cursor: Cursor<'c, 'a>, form: Form) -> Run<'c, 'a>
+    fn new(alloc: Global, cursor: SequenceCursor<'c, 'a>, form: Form) -> Run<'c, 'a>
         ensures cursor { result.cursor ≡ cursor.entry }
         ensures form { result.form ≡ form }
         ensures fresh { IsFresh result }
@@ -254,7 +255,7 @@ impl<'c, 'a> Run<'c, 'a> {
     fn write<T: Sink>(&mut self, limit: u64, sink: &mut T) -> Result<u64, RunFault>
         requires fresh { IsFresh self.old }
         requires countable { (T.state sink.old).failures < u64.MAX }
-        ensures answer { WritesLines self.old.form (take limit (drop self.old.cursor.index (lines self.old.cursor.games)))
+        ensures answer { WritesLines self.old.form (take limit (drop self.old.cursor.at.index (lines self.old.cursor.at.games)))
             (T.state sink.old) (T.state sink.new) self.new.judge.plays result }
         ensures delivered { OnOk result (HasDelivered (T.state sink.new)) }
         ensures failures { (T.state sink.new).failures
@@ -274,7 +275,7 @@ impl<'c, 'a> Run<'c, 'a> {
     fn write_lines<T: Sink>(&mut self, limit: u64, sink: &mut T) -> Result<u64, RunFault>
         requires fresh { IsFresh self.old }
         requires countable { (T.state sink.old).failures < u64.MAX }
-        ensures answer { WritesLines self.old.form (take limit (drop self.old.cursor.index (lines self.old.cursor.games)))
+        ensures answer { WritesLines self.old.form (take limit (drop self.old.cursor.at.index (lines self.old.cursor.at.games)))
             (T.state sink.old) (T.state sink.new) self.new.judge.plays result }
         ensures failures { (T.state sink.new).failures
             ≡ (T.state sink.old).failures + write_failures result }
@@ -299,51 +300,55 @@ impl<'c, 'a> Run<'c, 'a> {
     /// Goes on by one line, and makes its record; false if no line is left.
     fn next(&mut self) -> Result<bool, MemoryFault>
         requires holds { Holds self.old }
-        requires countable { self.old.judge.plays + node_count self.old.cursor.games < u64.MAX }
+        requires countable { self.old.judge.plays + node_count self.old.cursor.at.games < u64.MAX }
         ensures made { IfOk result (λ found. MatchBool found
-            (HasRecord self.old.form self.old.cursor self.new.cursor (record_in self.new))
-            (slice_get (lines self.old.cursor.games) self.old.cursor.index ≡ None)) }
+            (HasRecord self.old.form self.old.cursor.at self.new.cursor.at (record_in self.new))
+            (slice_get (lines self.old.cursor.at.games) self.old.cursor.at.index ≡ None)) }
         ensures holds { Holds self.new }
         ensures form { self.new.form ≡ self.old.form }
         ensures before { IfOk result (λ found. MatchBool found (self.new.before ≡ Held) (self.new.before ≡ self.old.before)) }
-        ensures plays { PlaysLine self.old.form self.old.before self.old.cursor self.old.judge.plays self.new.judge.plays result }
+        ensures plays { PlaysLine self.old.form self.old.before self.old.cursor.at self.old.judge.plays self.new.judge.plays result }
     {
-        let Some(held) = go_on(&mut self.cursor, self.before)? else {
+        let Some(shared) = self.cursor.advance()? else {
             return Ok(false);
         };
+        // The ends of the sequences rise to the number of nodes.
+        let _sequences = self.cursor.sequences();
         let _nodes = self.cursor.len();
+        let held = self.before.held(shared);
         self.before = Before::Unheld;
         self.make(held)?;
         self.before = Before::Held;
         Ok(true)
     }
 
-    /// Makes the record of the line before the cursor. What a run keeps of the line's first `held` nodes is there already.
-    fn make(&mut self, held: usize) -> Result<(), MemoryFault>
-        requires some_node { 0 < length (nodes_before self.old.cursor) }
-        requires some_line { 0 < self.old.cursor.index }
-        requires within { held ≤ length (nodes_before self.old.cursor) }
-        requires keeps { 0 < held → KeepsBy self.old.form (nodes_before self.old.cursor) held (kept_in self.old) }
-        requires countable { self.old.judge.plays + length (nodes_before self.old.cursor) < u64.MAX }
-        ensures made { OnOk result (Some (record_by self.old.form (built_text self.new.row) self.new.game self.new.script) ≡ option_map (record_of self.old.form) (line_before self.old.cursor)) }
-        ensures holds { OnOk result (HoldsBy self.old.form (nodes_before self.old.cursor) (kept_in self.new)) }
+    /// Makes the record of the line before the cursor. What a run keeps of this front of the line is there already.
+    fn make(&mut self, held: Front) -> Result<(), MemoryFault>
+        requires front { HasFront self.old.cursor.ends held }
+        requires keeps { KeepsBy self.old.form self.old.cursor held (kept_in self.old) }
+        requires countable { self.old.judge.plays + length (nodes_before self.old.cursor.at) < u64.MAX }
+        ensures made { OnOk result (Some (record_by self.old.form (built_text self.new.row) self.new.game self.new.script) ≡ option_map (record_of self.old.form) (line_before self.old.cursor.at)) }
+        ensures holds { OnOk result (HoldsBy self.old.form self.old.cursor (kept_in self.new)) }
         ensures plays { PlaysUpTo self.old.judge.plays self.new.judge.plays
-            (plays_in self.old.form (fresh_plays (nodes_before self.old.cursor) held)) result }
+            (plays_in self.old.form (fresh_plays (nodes_before self.old.cursor.at) held.nodes)) result }
         ensures cursor { self.new.cursor ≡ self.old.cursor }
         ensures form { self.new.form ≡ self.old.form }
         ensures before { self.new.before ≡ self.old.before }
     {
+        // The texts of the sequences are that of the nodes, since the ends of the sequences rise to the number of nodes.
+        let _sequences = self.cursor.sequences();
         match self.form {
             Form::List => {
-                judge_line(&self.cursor, held, &mut self.judge)?;
-                self.row.lay_out(&self.cursor.line(), self.judge.verdict());
+                judge_sequences(&self.cursor, held, &mut self.judge)?;
+                self.row
+                    .lay_out(LineShown::of(&self.cursor), self.judge.verdict());
                 Ok(())
             }
-            Form::Sgf => record::follow(&self.cursor, held, &mut self.game),
+            Form::Sgf => record::follow(&self.cursor, held.sequences, &mut self.game),
             Form::Gtp => {
                 script::follow(&self.cursor, held, &mut self.judge, &mut self.script)?;
                 self.row
-                    .lay_out_comment(&self.cursor.line(), self.judge.verdict());
+                    .lay_out_comment(LineShown::of(&self.cursor), self.judge.verdict());
                 Ok(())
             }
         }

@@ -3,15 +3,17 @@
 //! A sequence has the nodes between a `(` and the next parenthesis. A line is whole sequences, one after the other, and two lines
 //! part only between sequences. So a cursor goes over a game without variations in one step, however many nodes it has.
 
-ghost use Rattle.std.specs.Prelude.{◌≡◌, ◌<◌, ◌≤◌, ◌++◌, ◌-◌, None, Some, [], length, get_or, slice_get, option_map, IfOk, IfErr, IfSome, IfNone, OnOk, OnErr, MatchOption};
+ghost use Rattle.std.specs.Prelude.{◌≡◌, ◌+◌, ◌-◌, ◌<◌, ◌≤◌, ◌++◌, ◌↔◌, None, Some, [], length, slice_get, vec_len, option_map, IsTrue, IfOk, IfErr, IfSome, IfNone, OnOk, OnErr, MatchOption};
 ghost use Rattle.std.specs.List.{flat_map, range_with_len};
 ghost use Rattle.sgf_tree.specs.Tree.{node_count};
-ghost use Rattle.sgf_tree.specs.FileOrder.{nodes_at};
+ghost use Rattle.sgf_tree.specs.declared.fault.TheConstants.{MAX_LENGTH};
+ghost use Rattle.sgf_tree.specs.FileOrder.{nodes_at, IsLeaf, sequence_starts, sequence_start, sequence_end};
 ghost use Rattle.sgf_tree.specs.Written.{node_text};
 ghost use Rattle.sgf_lines.specs.Lines.{lines, place_of};
 ghost use Rattle.sgf_lines.specs.Cursor.{advanced, IsAfterPlace, IsSeekFault};
-ghost use Rattle.sgf_lines.specs.inner.Following.{line_before, nodes_before};
-ghost use Rattle.sgf_lines.specs.inner.Sequences.{RiseTo, SharesFront, sequences_of};
+ghost use Rattle.sgf_lines.specs.inner.Following.{line_before, nodes_before, path_before};
+ghost use Rattle.sgf_lines.specs.inner.Seeking.{IsLeafAt};
+ghost use Rattle.sgf_lines.specs.inner.Sequences.{RiseTo, SharesFront, sequences_of, parts_from, first_of, nodes_in, part_ends, sequence_length, AreParts, IsEndSearch, IsFrontUpTo, GoesDown, IsAbove, ArePartsTo, MeasuresTo, IsSequenceOf, IsFirstFrom};
 
 use crate::seek::SeekFault;
 use sgf_tree::{Collection, MemoryFault, NodeRef};
@@ -49,13 +51,19 @@ pub(crate) struct SequenceCursor<'c, 'a> {
 }
 
 impl<'c, 'a> Model for SequenceCursor<'c, 'a> {
-    ghost use Rattle.sgf_lines.specs.inner.Sequences.{SequencesState, sequences_state_code};
+    ghost use Rattle.sgf_lines.specs.inner.Standing.{lines_before};
+    ghost use Rattle.sgf_lines.specs.inner.Sequences.{SequencesState, sequences_state_code, first_of, part_ends, IsAfterSequences};
 
     ghost Value = { SequencesState };
 
     ghost coded = { sequences_state_code };
 
-    // TODO: view and invariant, by words of specs/inner/Sequences
+    ghost view = { λ s. record {
+      at = record { games = s.collection.now; index = lines_before s.collection.now (first_of s.collection.now s.next) };
+      ends = part_ends s.path.items;
+    } };
+
+    ghost invariant = { λ s. IsAfterSequences s.collection.now s.next s.path.items };
 }
 
 impl<'c, 'a> SequenceCursor<'c, 'a> {
@@ -76,7 +84,13 @@ impl<'c, 'a> SequenceCursor<'c, 'a> {
         ensures why { IfErr result (IsSeekFault self.old.at.games place) }
         ensures unchanged { OnErr result (self.new ≡ self.old) }
     {
-        // TODO: a binary search for the sequence whose last node has the place (places rise), then its path by parents
+        let Some(leaf) = leaf_at(self.collection, place) else {
+            return Err(SeekFault::NoSuchLine { place });
+        };
+        let sequence = sequence_of(self.collection, leaf);
+        write_path(self.collection, sequence, &mut self.path)?;
+        self.next = sequence + 1;
+        Ok(())
     }
 
     /// Moves on by one line, and returns what this line shares with the line before it; None if no line is left. After a refusal of
@@ -87,7 +101,14 @@ impl<'c, 'a> SequenceCursor<'c, 'a> {
         ensures shared { IfOk result (λ shared. IfSome shared (SharesFront self.old self.new)) }
         ensures unchanged { OnErr result (self.new ≡ self.old) }
     {
-        // TODO
+        let Some(leaf) = next_end(self.collection, self.next) else {
+            return Ok(None);
+        };
+        let first = self.collection.sequence_start(self.next);
+        let front = front_up_to(self.collection, &self.path, self.collection.parent(first));
+        go_down(self.collection, &mut self.path, front, self.next, leaf)?;
+        self.next = leaf + 1;
+        Ok(Some(front))
     }
 
     /// The collection that the cursor goes over.
@@ -111,7 +132,7 @@ impl<'c, 'a> SequenceCursor<'c, 'a> {
         ensures short { result ≤ node_count self.now.at.games }
         ensures small { result < usize.MAX }
     {
-        // TODO: the end of the last part
+        nodes_in(&self.path, self.path.len())
     }
 
     /// The number of the first node of a sequence of that line, and the number after that of its last node. Sequences of the line are counted
@@ -119,10 +140,15 @@ impl<'c, 'a> SequenceCursor<'c, 'a> {
     pub(crate) fn numbers(&self, index: usize) -> (usize, usize)
         requires { index < length self.now.ends }
         ensures nodes { Some (nodes_at self.now.at.games (range_with_len result.0 (result.1 - result.0))) ≡ slice_get (sequences_of self.now.ends (nodes_before self.now.at)) index }
+        ensures path { Some (range_with_len result.0 (result.1 - result.0)) ≡ slice_get (parts_from 0 self.now.ends (path_before self.now.at)) index }
         ensures some { result.0 < result.1 }
         ensures within { result.1 ≤ node_count self.now.at.games }
     {
-        // TODO
+        let sequence = self.path[index].sequence as usize;
+        (
+            self.collection.sequence_start(sequence),
+            self.collection.sequence_end(sequence),
+        )
     }
 
     /// Appends the nodes of a sequence of that line as the sgf form writes them. If memory is refused, `out` is unchanged.
@@ -132,7 +158,8 @@ impl<'c, 'a> SequenceCursor<'c, 'a> {
             (λ nodes. out.new.items ≡ out.old.items ++ flat_map node_text nodes)) }
         ensures unchanged { OnErr result (out.new.items ≡ out.old.items) }
     {
-        // TODO: Collection::push_sequence
+        self.collection
+            .push_sequence(self.path[index].sequence as usize, out)
     }
 
     /// The root of that line.
@@ -140,7 +167,10 @@ impl<'c, 'a> SequenceCursor<'c, 'a> {
         requires { 0 < length self.now.ends }
         ensures { slice_get (nodes_before self.now.at) 0 ≡ Some result }
     {
-        // TODO
+        let first = self
+            .collection
+            .sequence_start(self.path[0].sequence as usize);
+        self.collection.node(first)
     }
 
     /// The number of that line's game, from 1.
@@ -148,7 +178,10 @@ impl<'c, 'a> SequenceCursor<'c, 'a> {
         requires { 0 < length self.now.ends }
         ensures { option_map (λ line. line.game_number) (line_before self.now.at) ≡ Some result }
     {
-        // TODO
+        let first = self
+            .collection
+            .sequence_start(self.path[0].sequence as usize);
+        self.collection.game_of(first)
     }
 
     /// Its place: the offset in bytes, from 0, of the `;` of its last node.
@@ -156,6 +189,255 @@ impl<'c, 'a> SequenceCursor<'c, 'a> {
         requires { 0 < length self.now.ends }
         ensures { option_map place_of (line_before self.now.at) ≡ Some result }
     {
-        // TODO
+        let last = last_node(self.collection, self.next - 1);
+        self.collection.place(last) as u64
+    }
+}
+
+/// The number of the last node of a sequence.
+fn last_node(collection: &Collection<'_>, sequence: usize) -> usize
+    requires { sequence < length (sequence_starts collection.now) }
+    ensures last { result + 1 ≡ sequence_end collection.now sequence }
+    ensures within { result < node_count collection.now }
+{
+    collection.sequence_end(sequence) - 1
+}
+
+/// How many nodes a sequence has.
+fn sequence_length(collection: &Collection<'_>, sequence: usize) -> usize
+    requires { sequence < length (sequence_starts collection.now) }
+    ensures { result ≡ sequence_length collection.now sequence }
+{
+    collection.sequence_end(sequence) - collection.sequence_start(sequence)
+}
+
+/// How many nodes the first `kept` parts of a line have.
+fn nodes_in(path: &[Part], kept: usize) -> usize
+    requires { kept ≤ length path.now }
+    ensures count { result ≡ nodes_in (part_ends path.now) kept }
+    ensures small { result < usize.MAX }
+{
+    if kept == 0 {
+        0
+    } else {
+        path[kept - 1].end as usize
+    }
+}
+
+/// Whether a line ends with this sequence. It does unless the next node in file order goes on from the sequence's last node.
+fn ends_line(collection: &Collection<'_>, sequence: usize) -> bool
+    requires { sequence < length (sequence_starts collection.now) }
+    ensures leaf { IsTrue result ↔ IsLeaf collection.now (sequence_end collection.now sequence - 1) }
+    ensures few { node_count collection.now ≤ MAX_LENGTH }
+{
+    let end = collection.sequence_end(sequence);
+    if end == collection.nodes() {
+        return true;
+    }
+    collection.parent(end) != Some(end - 1)
+}
+
+/// The first sequence from the sequence `from` on with which a line ends; None if there is none.
+fn next_end(collection: &Collection<'_>, from: usize) -> Option<usize>
+    ensures first { IsEndSearch collection.now from result }
+    ensures small { IfSome result (λ sequence. sequence < usize.MAX) }
+    ensures few { IfSome result (λ sequence. node_count collection.now ≤ MAX_LENGTH) }
+{
+    for sequence in from..collection.sequences() {
+        if ends_line(collection, sequence) {
+            return Some(sequence);
+        }
+    }
+    None
+}
+
+/// The first parts of a path, up to and including the one whose last node is `parent`; none if there is no parent. The search begins at the
+/// path's end.
+fn front_up_to(collection: &Collection<'_>, path: &[Part], parent: Option<usize>) -> Front
+    requires { AreParts collection.now 0 path.now }
+    ensures { IsFrontUpTo collection.now path.now parent result }
+{
+    let Some(parent) = parent else {
+        return Front {
+            sequences: 0,
+            nodes: 0,
+        };
+    };
+    let mut kept = path.len();
+    while kept > 0 && last_node(collection, path[kept - 1].sequence as usize) != parent {
+        kept -= 1;
+    }
+    Front {
+        sequences: kept,
+        nodes: nodes_in(path, kept),
+    }
+}
+
+/// A sequence as a part of a line, where `skipped` nodes before the sequence's end aren't on the line.
+fn part_of(collection: &Collection<'_>, sequence: usize, skipped: usize) -> Part
+    requires within { sequence < length (sequence_starts collection.now) }
+    requires skipped { skipped ≤ sequence_start collection.now sequence }
+    requires few { node_count collection.now ≤ MAX_LENGTH }
+    ensures sequence { result.sequence ≡ sequence }
+    ensures end { result.end + skipped ≡ sequence_end collection.now sequence }
+{
+    let end = collection.sequence_end(sequence) - skipped;
+    Part {
+        sequence: sequence as u32,
+        end: end as u32,
+    }
+}
+
+/// Cuts a path back to a front of it, and appends the sequences from `first` to `leaf`. After a refusal of memory the path is unchanged.
+fn go_down(
+    collection: &Collection<'_>,
+    path: &mut Vec<Part>,
+    front: Front,
+    first: usize,
+    leaf: usize,
+) -> Result<(), MemoryFault>
+    requires kept { front.sequences ≤ vec_len path.old }
+    requires count { front.nodes ≡ nodes_in (part_ends path.old.items) front.sequences }
+    requires before { front.nodes ≤ first_of collection.now first }
+    requires down { first ≤ leaf }
+    requires within { leaf < length (sequence_starts collection.now) }
+    requires few { node_count collection.now ≤ MAX_LENGTH }
+    requires parts { AreParts collection.now 0 path.old.items }
+    ensures ok { OnOk result (GoesDown collection.now path.old.items front.sequences first (leaf + 1) path.new.items) }
+    ensures unchanged { OnErr result (path.new.items ≡ path.old.items) }
+{
+    let end = leaf + 1;
+    let room = (front.sequences + (end - first)).saturating_sub(path.len());
+    path.reserve(room)?;
+    path.truncate(front.sequences);
+    let skipped = collection.sequence_start(first) - front.nodes;
+    for sequence in first..end {
+        path.push(part_of(collection, sequence, skipped)).unwrap();
+    }
+    Ok(())
+}
+
+/// The leaf with this place, if there is one.
+fn leaf_at(collection: &Collection<'_>, place: u64) -> Option<usize>
+    ensures leaf { IsLeafAt collection.now place result }
+    ensures few { IfSome result (λ leaf. node_count collection.now ≤ MAX_LENGTH) }
+{
+    let node = first_from(collection, place);
+    if node < collection.nodes()
+        && collection.place(node) as u64 == place
+        && collection.is_leaf(node)
+    {
+        Some(node)
+    } else {
+        None
+    }
+}
+
+/// The first node that isn't before a place; the number of nodes, if all are before it.
+fn first_from(collection: &Collection<'_>, place: u64) -> usize
+    ensures { IsFirstFrom collection.now place result }
+{
+    let mut low = 0;
+    let mut high = collection.nodes();
+    while low < high {
+        let middle = low + (high - low) / 2;
+        if (collection.place(middle) as u64) < place {
+            low = middle + 1;
+        } else {
+            high = middle;
+        }
+    }
+    low
+}
+
+/// The sequence that has this node.
+fn sequence_of(collection: &Collection<'_>, node: usize) -> usize
+    requires { node < node_count collection.now }
+    ensures of { IsSequenceOf collection.now node result }
+    ensures small { result < usize.MAX }
+{
+    let mut low = 0;
+    let mut high = collection.sequences();
+    while high - low > 1 {
+        let middle = low + (high - low) / 2;
+        if collection.sequence_start(middle) <= node {
+            low = middle;
+        } else {
+            high = middle;
+        }
+    }
+    low
+}
+
+/// Replaces a path by the one from the root to the end of a sequence. After a refusal of memory `path` is unchanged.
+fn write_path(
+    collection: &Collection<'_>,
+    sequence: usize,
+    path: &mut Vec<Part>,
+) -> Result<(), MemoryFault>
+    requires within { sequence < length (sequence_starts collection.now) }
+    requires few { node_count collection.now ≤ MAX_LENGTH }
+    ensures ok { OnOk result (ArePartsTo collection.now (Some sequence) path.new.items) }
+    ensures unchanged { OnErr result (path.new.items ≡ path.old.items) }
+{
+    let line = measure(collection, sequence);
+    path.resize(
+        line.sequences,
+        Part {
+            sequence: 0,
+            end: 0,
+        },
+    )?;
+    fill_path(collection, sequence, line.nodes, path);
+    Ok(())
+}
+
+/// The sequence that this one goes on from; None if this one begins a game of the collection.
+fn sequence_above(collection: &Collection<'_>, sequence: usize) -> Option<usize>
+    requires { sequence < length (sequence_starts collection.now) }
+    ensures { IsAbove collection.now sequence result }
+{
+    let first = collection.sequence_start(sequence);
+    match collection.parent(first) {
+        Some(parent) => Some(sequence_of(collection, parent)),
+        None => None,
+    }
+}
+
+/// How many sequences and nodes stand from the root to the end of a sequence.
+fn measure(collection: &Collection<'_>, last: usize) -> Front
+    requires within { last < length (sequence_starts collection.now) }
+    requires few { node_count collection.now ≤ MAX_LENGTH }
+    ensures { MeasuresTo collection.now last result }
+{
+    let mut sequences = 0;
+    let mut nodes = 0;
+    let mut sequence = Some(last);
+    while let Some(number) = sequence {
+        sequences += 1;
+        nodes += sequence_length(collection, number);
+        sequence = sequence_above(collection, number);
+    }
+    Front { sequences, nodes }
+}
+
+/// Writes the parts from the root to the end of a sequence, which have that many nodes. `path` must have room for exactly these parts.
+fn fill_path(collection: &Collection<'_>, last: usize, nodes: usize, path: &mut [Part])
+    requires within { last < length (sequence_starts collection.now) }
+    requires few { node_count collection.now ≤ MAX_LENGTH }
+    requires room { MeasuresTo collection.now last (record { sequences = length path.old; nodes = nodes }) }
+    ensures { ArePartsTo collection.now (Some last) path.new }
+{
+    let mut room = path.len();
+    let mut end = nodes;
+    let mut sequence = Some(last);
+    while let Some(number) = sequence {
+        room -= 1;
+        path[room] = Part {
+            sequence: number as u32,
+            end: end as u32,
+        };
+        end -= sequence_length(collection, number);
+        sequence = sequence_above(collection, number);
     }
 }

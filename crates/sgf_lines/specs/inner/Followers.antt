@@ -6,21 +6,15 @@ use Rattle.sgf_tree.specs.inner.TreeCode.{games_code}
 use Rattle.sgf_lines.specs.Cursor.{CursorState}
 use Rattle.sgf_lines.specs.Follower.{FollowerState, lines_judged}
 use Rattle.sgf_lines.specs.Plays.{all_judged_places}
-use Rattle.sgf_lines.specs.declared.options.Form.TheVariants.{List as list_form}
 use Rattle.sgf_lines.specs.declared.going_on.Before.{Before}
 use Rattle.sgf_lines.specs.declared.going_on.Before.TheVariants.{Unheld, Held, Refused}
 use Rattle.sgf_lines.specs.inner.GoingOn.{index_by}
-use Rattle.sgf_lines.specs.inner.Judging.{Judgement, Judging}
-use Rattle.sgf_lines.specs.inner.Keeping.{Kept, StandsBy}
-use Rattle.sgf_lines.specs.inner.Pieces.{no_pieces}
-use Rattle.sgf_lines.specs.inner.Scripting.{no_script}
+use Rattle.sgf_lines.specs.inner.Following.{nodes_before}
+use Rattle.sgf_lines.specs.inner.Judging.{Judging}
+use Rattle.sgf_lines.specs.inner.Keeping.{HoldsJudgement, StandsBy}
 
 abbrev pub state_by : Before → CursorState → ℕ → FollowerState
 state_by before cursor row = record { games = cursor.games; index = index_by before cursor.index; row = row }
-
--- a follower keeps the judgement alone, as the list form does
-abbrev pub judging_alone : Judgement → Kept
-judging_alone judgement = record { judgement = judgement; game = no_pieces; script = no_script }
 
 -- the row goes on if the line before the cursor is held
 abbrev pub IsRow : Before → ℕ → ℕ → Type 0
@@ -30,7 +24,7 @@ IsRow Refused index row = row ≡ 0
 
 -- what a follower holds
 pub record Follows (before : Before) (cursor : CursorState) (judging : Judging) (row : ℕ) : Type 0 where
-  pub stands : StandsBy list_form before cursor (judging_alone judging.judgement)
+  pub stands : StandsBy before (nodes_before cursor) (HoldsJudgement (nodes_before cursor) judging.judgement)
   pub is_row : IsRow before cursor.index row
   pub plays_are : judging.plays ≡ length (all_judged_places (lines_judged (state_by before cursor row)))
 

@@ -12,11 +12,14 @@ use Rattle.sgf_lines.specs.declared.options.Form.TheVariants.{List as list_form,
 use Rattle.sgf_lines.specs.declared.going_on.Before.{Before}
 use Rattle.sgf_lines.specs.declared.going_on.Before.TheVariants.{Unheld, Held, Refused}
 use Rattle.sgf_lines.specs.declared.run.Run.{Run}
+use Rattle.sgf_lines.specs.declared.sequence_cursor.Front.{Front}
 use Rattle.sgf_lines.specs.inner.Pieces.{PiecesState, cut}
 use Rattle.sgf_lines.specs.inner.Recording.{open_record, whole_record}
 use Rattle.sgf_lines.specs.inner.Scripting.{ScriptState, script_of, script_back, script_ended, script_text}
 use Rattle.sgf_lines.specs.inner.Judging.{Judgement, judging, back}
 use Rattle.sgf_lines.specs.inner.Following.{nodes_before}
+use Rattle.sgf_lines.specs.inner.Sequences.{SequencesState}
+use Rattle.sgf_lines.specs.inner.Fronts.{sequences_before}
 use Rattle.sgf_lines.specs.inner.GoingOn.{GoesOnBy}
 use Rattle.sgf_lines.specs.inner.Views.{built_text}
 
@@ -36,27 +39,44 @@ pub record Kept : Type 0 where
 abbrev pub kept_in : Run → Kept
 kept_in run = record { judgement = run.judge.judgement; game = run.game; script = run.script }
 
--- what a run keeps of a line can be cut back to the first `count` of these nodes
-abbrev pub KeepsBy : Form → List Node → ℕ → Kept → Type 0
-KeepsBy list_form nodes count kept = back count kept.judgement ≡ judging_front nodes count
-KeepsBy sgf_form nodes count kept = cut (count + 1) kept.game ≡ open_record (take count nodes)
-KeepsBy gtp_form nodes count kept = (back count kept.judgement ≡ judging_front nodes count) × (script_back count kept.script ≡ script_front nodes count)
+-- a judgement, or a script, can be cut back to the first `count` of a line's nodes; if `count` is 0, nothing is known
+abbrev pub KeepsJudgement : List Node → ℕ → Judgement → Type 0
+KeepsJudgement nodes count judgement = 0 < count → back count judgement ≡ judging_front nodes count
 
--- what a run keeps is that of a line with these nodes, whose record was made
-abbrev pub HoldsBy : Form → List Node → Kept → Type 0
-HoldsBy list_form nodes kept = kept.judgement ≡ judging_front nodes (length nodes)
-HoldsBy sgf_form nodes kept = kept.game ≡ whole_record nodes
-HoldsBy gtp_form nodes kept = (kept.judgement ≡ judging_front nodes (length nodes)) × (kept.script ≡ script_ended (script_front nodes (length nodes)))
+abbrev pub KeepsScript : List Node → ℕ → ScriptState → Type 0
+KeepsScript nodes count script = 0 < count → script_back count script ≡ script_front nodes count
 
--- what is known of the line before a cursor, and of what is kept of it
-abbrev pub StandsBy : Form → Before → CursorState → Kept → Type 0
-StandsBy form Unheld cursor kept = Unit {0}
-StandsBy form Held cursor kept = (0 < length (nodes_before cursor)) × HoldsBy form (nodes_before cursor) kept
-StandsBy form Refused cursor kept = 0 < length (nodes_before cursor)
+-- the same of the record of a line's sequences
+abbrev pub KeepsRecord : List (List Node) → ℕ → PiecesState → Type 0
+KeepsRecord sequences count game = 0 < count → cut (count + 1) game ≡ open_record (take count sequences)
+
+-- what a run keeps can be cut back to this front of the line before the cursor
+abbrev pub KeepsBy : Form → SequencesState → Front → Kept → Type 0
+KeepsBy list_form cursor front kept = KeepsJudgement (nodes_before cursor.at) front.nodes kept.judgement
+KeepsBy sgf_form cursor front kept = KeepsRecord (sequences_before cursor) front.sequences kept.game
+KeepsBy gtp_form cursor front kept = KeepsJudgement (nodes_before cursor.at) front.nodes kept.judgement × KeepsScript (nodes_before cursor.at) front.nodes kept.script
+
+-- the judgement is that on a line with these nodes
+abbrev pub HoldsJudgement : List Node → Judgement → Type 0
+HoldsJudgement nodes judgement = judgement ≡ judging_front nodes (length nodes)
+
+-- what a run keeps is that of the line before the cursor, whose record was made
+abbrev pub HoldsBy : Form → SequencesState → Kept → Type 0
+HoldsBy list_form cursor kept = HoldsJudgement (nodes_before cursor.at) kept.judgement
+HoldsBy sgf_form cursor kept = kept.game ≡ whole_record (sequences_before cursor)
+HoldsBy gtp_form cursor kept =
+    HoldsJudgement (nodes_before cursor.at) kept.judgement
+    × (kept.script ≡ script_ended (script_front (nodes_before cursor.at) (length (nodes_before cursor.at))))
+
+-- what is known of the line before a cursor, which has these nodes; `holds` says what is held of it
+abbrev pub StandsBy : Before → List Node → Type 0 → Type 0
+StandsBy Unheld nodes holds = Unit {0}
+StandsBy Held nodes holds = (0 < length nodes) × holds
+StandsBy Refused nodes holds = 0 < length nodes
 
 -- A run never goes back to a line for which memory was refused.
 abbrev pub Holds : Run → Type 0
-Holds run = StandsBy run.form run.before run.cursor (kept_in run) × (run.before ≢ Refused)
+Holds run = StandsBy run.before (nodes_before run.cursor.at) (HoldsBy run.form run.cursor (kept_in run)) × (run.before ≢ Refused)
 
 -- a run that has written no line
 pub record IsFresh (run : Run) : Type 0 where

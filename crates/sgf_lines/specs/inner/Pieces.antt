@@ -18,10 +18,6 @@ pushed old more = record { pieces = old.pieces; begun = old.begun ++ more }
 abbrev pub closed : PiecesState → PiecesState
 closed old = record { pieces = old.pieces ++ old.begun ∷ []; begun = [] }
 
--- whole pieces are appended, and the unfinished one is empty
-abbrev pub longer : PiecesState → List (List ℕ) → PiecesState
-longer old more = record { pieces = old.pieces ++ more; begun = [] }
-
 -- only the first `count` pieces are left
 abbrev pub cut : ℕ → PiecesState → PiecesState
 cut count old = record { pieces = take count old.pieces; begun = [] }

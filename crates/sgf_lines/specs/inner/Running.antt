@@ -11,6 +11,7 @@ use Rattle.sgf_lines.specs.Record.{output, record_of}
 use Rattle.sgf_lines.specs.Ends.{SourceState, SinkState}
 use Rattle.sgf_lines.specs.Cursor.{CursorState, advanced}
 use Rattle.sgf_lines.specs.Answer.{IsWhole, IsCutShort}
+use Rattle.sgf_lines.specs.inner.Sequences.{SequencesState}
 use Rattle.sgf_lines.specs.RunPlays.{plays_of, ArePlaysFor}
 use Rattle.sgf_lines.specs.declared.options.Form.{Form}
 use Rattle.sgf_lines.specs.declared.fault.RunFault.{RunFault}
@@ -53,8 +54,8 @@ unread (TextNotSgf at) len = NotSgf at len
 unread TextMemory len = Memory 0
 
 -- where a cursor stands before the page, or why there is no page
-abbrev pub IsStart : Games → Option ℕ → Result CursorState RunFault → Type 0
-IsStart games after (Ok cursor) = lines_asked (lines games) after ≡ Some (drop cursor.index (lines games))
+abbrev pub IsStart : Games → Option ℕ → Result SequencesState RunFault → Type 0
+IsStart games after (Ok cursor) = lines_asked (lines games) after ≡ Some (drop cursor.at.index (lines games))
 IsStart games after (Err (NoSuchLine place)) = (after ≡ Some place) × HasNoLineAt games place
 IsStart games after (Err (Memory count)) = count ≡ 0
 IsStart games after (Err _) = ⊥

@@ -1,11 +1,17 @@
 -- Where a cursor by sequences stands, and what its calls say of the line before it.
-use Rattle.std.specs.Prelude.{◌≡◌, ℕ, ◌-◌, ◌<◌, ◌≤◌, List, [], ◌∷◌, length, get_or, take, drop, refl}
+use Rattle.std.specs.Prelude.{◌≡◌, ◌≢◌, ℕ, ◌+◌, ◌-◌, ◌<◌, ◌≤◌, List, [], ◌∷◌, ◌++◌, length, get_or, slice_get, map, take, drop, Option, Some, None, MatchOption, refl}
+use Rattle.std.specs.List.{flat_map, range_with_len}
 use Rattle.std.specs.Coded.{Coded, code_by, coded×, coded_ℕ, coded_list}
-use Rattle.sgf_tree.specs.Tree.{Node, Games}
+use Rattle.sgf_tree.specs.Tree.{Node, Games, node_count}
+use Rattle.sgf_tree.specs.FileOrder.{place_at, parent_at, IsLeaf, sequence_starts, sequence_start, sequence_end, sequence_numbers}
 use Rattle.sgf_tree.specs.inner.TreeCode.{games_code}
 use Rattle.sgf_lines.specs.Cursor.{CursorState}
 use Rattle.sgf_lines.specs.inner.Following.{Continues, path_before}
+use Rattle.sgf_lines.specs.inner.PathTo.{HasNoLeaf}
+use Rattle.sgf_lines.specs.inner.Seeking.{AllBefore}
+use Rattle.sgf_lines.specs.inner.Standing.{IsAfterLeaf}
 use Rattle.sgf_lines.specs.declared.sequence_cursor.Front.{Front}
+use Rattle.sgf_lines.specs.declared.sequence_cursor.Part.{Part}
 
 -- a cursor, and for each sequence of the line before it how many nodes the line has up to the end of that sequence
 pub record SequencesState : Type 0 where
@@ -15,8 +21,8 @@ pub record SequencesState : Type 0 where
 -- the state is stored as its parts
 abbrev pub sequences_state_code : Coded SequencesState
 sequences_state_code =
-    code_by (Games × ℕ × List ℕ) (coded× games_code (coded× coded_ℕ (coded_list coded_ℕ)))
-    (λ state. (state.at.games, state.at.index, state.ends)) (λ p. record { at = record { games = p.0; index = p.1 }; ends = p.2 }) (λ _. refl)
+    code_by (Games × (ℕ × List ℕ)) (coded× games_code (coded× coded_ℕ (coded_list coded_ℕ)))
+    (λ state. (state.at.games, (state.at.index, state.ends))) (λ p. record { at = record { games = p.0; index = p.1.0 }; ends = p.1.1 }) (λ _. refl)
 
 -- how many nodes a line has in its first sequences
 abbrev pub nodes_in : List ℕ → ℕ → ℕ
@@ -43,3 +49,88 @@ pub record SharesFront (old new : SequencesState) (front : Front) : Type 0 where
   pub ends : take front.sequences new.ends ≡ take front.sequences old.ends
   pub more : front.sequences < length new.ends
   pub count : front.nodes ≡ nodes_in old.ends front.sequences
+
+-- the number of the first node of a sequence; the node count, if there are no more than that many sequences
+abbrev pub first_of : Games → ℕ → ℕ
+first_of games sequence = get_or (sequence_starts games) sequence (node_count games)
+
+-- how many nodes a sequence has
+abbrev pub sequence_length : Games → ℕ → ℕ
+sequence_length games sequence = sequence_end games sequence - sequence_start games sequence
+
+-- the numbers of the nodes of parts of a line, one part after the other
+abbrev pub part_numbers : Games → List Part → List ℕ
+part_numbers games parts = flat_map (λ part. sequence_numbers games part.sequence) parts
+
+abbrev pub part_ends : List Part → List ℕ
+part_ends parts = map (λ part. part.end) parts
+
+-- Sequences of a collection, one after the other. Each part ends where its nodes end on the line; `start` nodes stand before the first part.
+abbrev pub AreParts : Games → ℕ → List Part → Type 0
+AreParts games start [] = Unit {0}
+AreParts games start (part ∷ parts) =
+    (part.sequence < length (sequence_starts games)) × (part.end ≡ start + sequence_length games part.sequence) × AreParts games part.end parts
+
+-- Where a cursor stands. It goes on from the sequence `next`, and the parts are the line before the first node of that sequence.
+pub record IsAfterSequences (games : Games) (next : ℕ) (parts : List Part) : Type 0 where
+  pub within : next ≤ length (sequence_starts games)
+  pub stands : IsAfterLeaf games (first_of games next) (part_numbers games parts)
+  pub are : AreParts games 0 parts
+
+-- the first sequence from `from` on that ends in a leaf
+pub record IsNextEnd (games : Games) (from sequence : ℕ) : Type 0 where
+  pub from_there : from ≤ sequence
+  pub within : sequence < length (sequence_starts games)
+  pub is_leaf : IsLeaf games (sequence_end games sequence - 1)
+  pub first : HasNoLeaf games (first_of games from) (sequence_end games sequence - 1)
+
+-- the next sequence that ends in a leaf; None if there is none
+abbrev pub IsEndSearch : Games → ℕ → Option ℕ → Type 0
+IsEndSearch games from found = MatchOption found (HasNoLeaf games (first_of games from) (node_count games)) (IsNextEnd games from)
+
+-- The first parts, up to and including the last one whose last node is `parent`. No part, if there is no parent or no part ends so.
+pub record IsUpTo (games : Games) (parts : List Part) (parent : ℕ) (front : Front) : Type 0 where
+  pub within : front.sequences ≤ length parts
+  pub count : front.nodes ≡ nodes_in (part_ends parts) front.sequences
+  pub others : (i : ℕ) (part : Part) → front.sequences ≤ i → slice_get parts i ≡ Some part → sequence_end games part.sequence ≢ parent + 1
+  pub last : (i : ℕ) (part : Part) → front.sequences ≡ i + 1 → slice_get parts i ≡ Some part → sequence_end games part.sequence ≡ parent + 1
+
+abbrev pub IsFrontUpTo : Games → List Part → Option ℕ → Front → Type 0
+IsFrontUpTo games parts None front = front ≡ record { sequences = 0; nodes = 0 }
+IsFrontUpTo games parts (Some parent) front = IsUpTo games parts parent front
+
+-- The new parts are the first `kept` old ones, and then the sequences from `first` on and before `end`.
+pub record GoesDown (games : Games) (old : List Part) (kept first end : ℕ) (new : List Part) : Type 0 where
+  pub kept_is : take kept new ≡ take kept old
+  pub count : length new ≡ kept + (end - first)
+  pub numbers : part_numbers games new ≡ part_numbers games (take kept old) ++ range_with_len (first_of games first) (first_of games end - first_of games first)
+  pub parts : AreParts games 0 new
+
+-- the sequence that this one goes on from, which ends with the parent of its first node; None if it begins a game of the collection
+abbrev pub IsAbove : Games → ℕ → Option ℕ → Type 0
+IsAbove games sequence None = parent_at games (sequence_start games sequence) ≡ Some None
+IsAbove games sequence (Some above) = (above < sequence) × (parent_at games (sequence_start games sequence) ≡ Some (Some (sequence_end games above - 1)))
+
+-- the parts from the root to the end of a sequence, each going on from the one before it; above the first there are none
+pub data ArePartsTo (games : Games) : Option ℕ → List Part → Type 0 where
+  top : ArePartsTo games None []
+  step : {sequence : ℕ} {above : Option ℕ} {front parts : List Part} → sequence < length (sequence_starts games) → IsAbove games sequence above → ArePartsTo games above front
+      → parts ≡ front ++ record { sequence = sequence; end = length (part_numbers games front) + sequence_length games sequence } ∷ []
+      → ArePartsTo games (Some sequence) parts
+
+-- how many sequences and nodes the line to the end of a sequence has
+abbrev pub MeasuresTo : Games → ℕ → Front → Type 0
+MeasuresTo games sequence line =
+    (parts : List Part) → ArePartsTo games (Some sequence) parts → (line.sequences ≡ length parts) × (line.nodes ≡ length (part_numbers games parts))
+
+-- the sequence that has this node
+pub record IsSequenceOf (games : Games) (number sequence : ℕ) : Type 0 where
+  pub within : sequence < length (sequence_starts games)
+  pub start : sequence_start games sequence ≤ number
+  pub end : number < sequence_end games sequence
+
+-- The first node that isn't before a place; the node count, if all are before it.
+pub record IsFirstFrom (games : Games) (place number : ℕ) : Type 0 where
+  pub within : number ≤ node_count games
+  pub before : AllBefore games place number
+  pub after : (here : ℕ) → place_at games number ≡ Some here → place ≤ here

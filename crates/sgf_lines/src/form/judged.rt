@@ -1,13 +1,16 @@
 //! Judging a line from the first node that it doesn't share with the line before it.
 
-ghost use Rattle.std.specs.Prelude.{◌≡◌, ◌+◌, ◌<◌, ◌≤◌, length, OnOk};
+ghost use Rattle.std.specs.Prelude.{◌≡◌, ◌+◌, ◌<◌, ◌≤◌, List, Some, length, slice_get, OnOk};
+ghost use Rattle.sgf_tree.specs.Tree.{Node};
 ghost use Rattle.sgf_lines.specs.inner.Following.{nodes_before};
-ghost use Rattle.sgf_lines.specs.inner.Judging.{back};
-ghost use Rattle.sgf_lines.specs.inner.Keeping.{judging_front, fresh_plays, PlaysUpTo};
+ghost use Rattle.sgf_lines.specs.inner.Fronts.{HasFront};
+ghost use Rattle.sgf_lines.specs.inner.Keeping.{HoldsJudgement, KeepsJudgement, PlaysUpTo, fresh_plays, judging_front};
 
 use crate::cursor::Cursor;
 use crate::judging::judge::Judge;
-use sgf_tree::MemoryFault;
+use crate::line_nodes::LineNodes;
+use crate::sequence_cursor::{Front, SequenceCursor};
+use sgf_tree::{MemoryFault, NodeRef};
 
 /// Judges the line before the cursor. The first `held` of its nodes are judged
 /// already. After a refusal of memory nothing is known of the judgement.
@@ -18,32 +21,52 @@ pub(crate) fn judge_line(
 ) -> Result<(), MemoryFault>
     requires some_node { 0 < length (nodes_before cursor.now) }
     requires within { held ≤ length (nodes_before cursor.now) }
-    requires judged { 0 < held → back held judge.old.judgement ≡ judging_front (nodes_before cursor.now) held }
+    requires judged { KeepsJudgement (nodes_before cursor.now) held judge.old.judgement }
     requires countable { judge.old.plays + length (nodes_before cursor.now) < u64.MAX }
-    ensures judged { OnOk result (judge.new.judgement ≡ judging_front (nodes_before cursor.now) (length (nodes_before cursor.now))) }
+    ensures judged { OnOk result (HoldsJudgement (nodes_before cursor.now) judge.new.judgement) }
     ensures plays { PlaysUpTo judge.old.plays judge.new.plays (fresh_plays (nodes_before cursor.now) held) result }
 {
     let end = cursor.len();
-    begin_or_go_back(cursor, held, judge)?;
+    begin_or_go_back(&cursor.node(0), held, judge)?;
     for index in held..end {
         judge.take(&cursor.node(index))?;
     }
     Ok(())
 }
 
-/// Goes back to the first `held` nodes of the line before the cursor. If `held` is 0, begins the line's game.
+/// The same with a cursor by sequences, and a front of the line that is judged already.
+pub(crate) fn judge_sequences(
+    cursor: &SequenceCursor<'_, '_>,
+    held: Front,
+    judge: &mut Judge,
+) -> Result<(), MemoryFault>
+    requires front { HasFront cursor.now.ends held }
+    requires judged { KeepsJudgement (nodes_before cursor.now.at) held.nodes judge.old.judgement }
+    requires countable { judge.old.plays + length (nodes_before cursor.now.at) < u64.MAX }
+    ensures judged { OnOk result (HoldsJudgement (nodes_before cursor.now.at) judge.new.judgement) }
+    ensures plays { PlaysUpTo judge.old.plays judge.new.plays (fresh_plays (nodes_before cursor.now.at) held.nodes) result }
+{
+    let end = cursor.len();
+    begin_or_go_back(&cursor.root(), held.nodes, judge)?;
+    let mut nodes = LineNodes::after(cursor, held);
+    for index in held.nodes..end {
+        judge.take(&nodes.next())?;
+    }
+    Ok(())
+}
+
+/// Goes back to the first `held` nodes of a line with this root. If `held` is 0, begins the line's game.
 pub(crate) fn begin_or_go_back(
-    cursor: &Cursor<'_, '_>,
+    root: &NodeRef<'_, '_>,
     held: usize,
     judge: &mut Judge,
 ) -> Result<(), MemoryFault>
-    requires some_node { 0 < length (nodes_before cursor.now) }
-    requires judged { 0 < held → back held judge.old.judgement ≡ judging_front (nodes_before cursor.now) held }
-    ensures judged { OnOk result (judge.new.judgement ≡ judging_front (nodes_before cursor.now) held) }
+    ensures judged { (nodes : List Node) → slice_get nodes 0 ≡ Some root.now → KeepsJudgement nodes held judge.old.judgement
+        → OnOk result (judge.new.judgement ≡ judging_front nodes held) }
     ensures plays { judge.new.plays ≡ judge.old.plays }
 {
     if held == 0 {
-        return judge.begin(&cursor.node(0));
+        return judge.begin(root);
     }
     judge.cut_back(held);
     Ok(())

@@ -1,15 +1,15 @@
 //! A text in pieces. It is kept because the next line shares some of the pieces.
 
-ghost use Rattle.std.specs.Prelude.{◌≡◌, ◌≤◌, ◌++◌, [], length, map, drop, OnOk, OnErr};
-ghost use Rattle.std.specs.List.{concat};
+ghost use Rattle.std.specs.Prelude.{◌≡◌, ◌<◌, ◌≤◌, ◌++◌, length, slice_get, IfSome, OnOk, OnErr};
+ghost use Rattle.std.specs.List.{concat, flat_map};
 ghost use Rattle.sgf_lines.specs.Record.{node_text};
 ghost use Rattle.sgf_lines.specs.inner.Scripting.{IsPlayable, step_script};
-ghost use Rattle.sgf_lines.specs.inner.Following.{nodes_before};
-ghost use Rattle.sgf_lines.specs.inner.Pieces.{no_pieces, pushed, closed, longer, cut};
+ghost use Rattle.sgf_lines.specs.inner.Fronts.{sequences_before};
+ghost use Rattle.sgf_lines.specs.inner.Pieces.{no_pieces, pushed, closed, cut};
 
-use crate::cursor::Cursor;
 use crate::form::commands::push_step;
 use crate::judging::step::TakenStep;
+use crate::sequence_cursor::SequenceCursor;
 use go_board::{Board, MAX_VERTEX_SIDE};
 use sgf_tree::MemoryFault;
 use std::alloc::Global;
@@ -68,19 +68,18 @@ impl Pieces {
         self.ends.len()
     }
 
-    /// Appends a piece for each node, from an index on, of the line before a cursor: the node as the sgf form writes it.
-    pub(crate) fn push_nodes(
+    /// Appends to the unfinished piece a sequence of the line before a cursor, as the sgf form writes it, and finishes the piece.
+    pub(crate) fn push_sequence(
         &mut self,
-        cursor: &Cursor<'_, '_>,
-        from: usize,
+        cursor: &SequenceCursor<'_, '_>,
+        index: usize,
     ) -> Result<(), MemoryFault>
-        requires within { from ≤ length (nodes_before cursor.now) }
-        requires nothing_begun { self.old.begun ≡ [] }
-        ensures pushed { OnOk result (self.new ≡ longer self.old (map node_text (drop from (nodes_before cursor.now)))) }
-        ensures unchanged { OnErr result (self.new ≡ self.old) }
+        requires { index < length cursor.now.ends }
+        ensures { OnOk result (IfSome (slice_get (sequences_before cursor.now) index)
+            (λ nodes. self.new ≡ closed (pushed self.old (flat_map node_text nodes)))) }
     {
-        cursor.push_nodes(from, &mut self.text, &mut self.ends)?;
-        Ok(())
+        cursor.push_sequence(index, &mut self.text)?;
+        self.close()
     }
 
     /// Appends to the unfinished piece.

@@ -2,15 +2,17 @@
 
 ghost use Rattle.std.specs.Prelude.{◌≡◌, ◌==◌, ◌+◌, ◌<◌, ◌≤◌, false, length, OnOk};
 ghost use Rattle.sgf_lines.specs.inner.Following.{nodes_before};
-ghost use Rattle.sgf_lines.specs.inner.Judging.{back, after, next_plays, board_in};
-ghost use Rattle.sgf_lines.specs.inner.Keeping.{judging_front, script_front, fresh_plays, PlaysUpTo};
+ghost use Rattle.sgf_lines.specs.inner.Fronts.{HasFront};
+ghost use Rattle.sgf_lines.specs.inner.Judging.{after, next_plays, board_in};
+ghost use Rattle.sgf_lines.specs.inner.Keeping.{HoldsJudgement, KeepsJudgement, KeepsScript, PlaysUpTo, fresh_plays, script_front};
 ghost use Rattle.sgf_lines.specs.inner.Scripting.{IsLettered, IsPlayable, is_unreaching, no_script, said_after, said_on, script_back, script_begun, script_ended, script_on, script_text, step_script};
 
-use crate::cursor::Cursor;
 use crate::form::judged::begin_or_go_back;
 use crate::form::pieces::Pieces;
 use crate::judging::judge::Judge;
 use crate::judging::step::{Effect, TakenStep};
+use crate::line_nodes::LineNodes;
+use crate::sequence_cursor::{Front, SequenceCursor};
 use go_board::{Board, MAX_VERTEX_SIDE, Size};
 use itoa::Buffer;
 use sgf_tree::{MemoryFault, NodeRef};
@@ -139,28 +141,30 @@ impl Script {
     }
 }
 
-/// Changes `script` to the script of the line before the cursor, and judges that line. The script and the judge have the first
-/// `held` nodes of that line already. After a refusal of memory nothing is known of the script and of the judgement.
+/// Changes `script` to the script of the line before the cursor, and judges that line. The script and the judge have the front
+/// `held` of that line already. After a refusal of memory nothing is known of the script and of the judgement.
 pub(crate) fn follow(
-    cursor: &Cursor<'_, '_>,
-    held: usize,
+    cursor: &SequenceCursor<'_, '_>,
+    held: Front,
     judge: &mut Judge,
     script: &mut Script,
 ) -> Result<(), MemoryFault>
-    requires some_node { 0 < length (nodes_before cursor.now) }
-    requires within { held ≤ length (nodes_before cursor.now) }
-    requires judged { 0 < held → back held judge.old.judgement ≡ judging_front (nodes_before cursor.now) held }
-    requires said { 0 < held → script_back held script.old ≡ script_front (nodes_before cursor.now) held }
-    requires countable { judge.old.plays + length (nodes_before cursor.now) < u64.MAX }
-    ensures judged { OnOk result (judge.new.judgement ≡ judging_front (nodes_before cursor.now) (length (nodes_before cursor.now))) }
-    ensures said { OnOk result (script.new ≡ script_ended (script_front (nodes_before cursor.now) (length (nodes_before cursor.now)))) }
-    ensures plays { PlaysUpTo judge.old.plays judge.new.plays (fresh_plays (nodes_before cursor.now) held) result }
+    requires front { HasFront cursor.now.ends held }
+    requires judged { KeepsJudgement (nodes_before cursor.now.at) held.nodes judge.old.judgement }
+    requires said { KeepsScript (nodes_before cursor.now.at) held.nodes script.old }
+    requires countable { judge.old.plays + length (nodes_before cursor.now.at) < u64.MAX }
+    ensures judged { OnOk result (HoldsJudgement (nodes_before cursor.now.at) judge.new.judgement) }
+    ensures said { OnOk result (script.new ≡ script_ended (script_front (nodes_before cursor.now.at) (length (nodes_before cursor.now.at)))) }
+    ensures plays { PlaysUpTo judge.old.plays judge.new.plays (fresh_plays (nodes_before cursor.now.at) held.nodes) result }
 {
     let end = cursor.len();
-    begin_or_go_back(cursor, held, judge)?;
-    keep(held, judge, script)?;
-    for index in held..end {
-        script.take(&cursor.node(index), judge)?;
+    begin_or_go_back(&cursor.root(), held.nodes, judge)?;
+    // A front has no more nodes than the line, since the ends of the sequences rise.
+    let _sequences = cursor.sequences();
+    keep(held.nodes, judge, script)?;
+    let mut nodes = LineNodes::after(cursor, held);
+    for index in held.nodes..end {
+        script.take(&nodes.next(), judge)?;
     }
     script.end()
 }

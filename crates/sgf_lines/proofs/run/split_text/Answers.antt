@@ -6,7 +6,7 @@ use Rattle.sgf_tree.specs.FileOrder.{PlacesRise}
 use Rattle.sgf_tree.specs.Spelling.{Spells}
 use Rattle.sgf_tree.specs.declared.fault.TheConstants.{MAX_LENGTH}
 use Rattle.sgf_lines.specs.Lines.{lines}
-use Rattle.sgf_lines.specs.Cursor.{CursorState}
+use Rattle.sgf_lines.specs.inner.Sequences.{SequencesState}
 use Rattle.sgf_lines.specs.inner.Running.{WritesLines}
 use Rattle.sgf_lines.proofs.PlayCounts.{for_options, few_played}
 use Rattle.sgf_lines.proofs.Running.{unread_run, no_start_run, lines_run}
@@ -16,9 +16,9 @@ use Rattle.sgf_lines.proofs.run.split_text.Goals as goal
 pub add-requires : goal.add-requires
 add-requires g c =
     let run = c.new-run.result in
-    let same : run.cursor.games ≡ c.in-Ok.collection = ap (λ (p : CursorState). p.games) c.new-run.ensures.cursor ∙ c.in-Ok-cursor_after.ensures.same in
-    let rise : PlacesRise run.cursor.games = rw same c.nodes.ensures.places_rise in
-    let fewer = few_played run.cursor.games rise run.cursor.index c.unwrap_or-limit.result run.form (g.T.Sink.state c.args.sink.now) (g.T.Sink.state c.write-result.new.sink) c.write-result.new.self.judge.plays c.write-result.result c.write-result.ensures.answer in
+    let same : run.cursor.at.games ≡ c.in-Ok.collection = ap (λ (p : SequencesState). p.at.games) c.new-run.ensures.cursor ∙ c.in-Ok-cursor_after.ensures.same in
+    let rise : PlacesRise run.cursor.at.games = rw same c.nodes.ensures.places_rise in
+    let fewer = few_played run.cursor.at.games rise run.cursor.at.index c.unwrap_or-limit.result run.form (g.T.Sink.state c.args.sink.now) (g.T.Sink.state c.write-result.new.sink) c.write-result.new.self.judge.plays c.write-result.result c.write-result.ensures.answer in
     let nodes = nodes_within c.in-Ok.collection c.nodes.ensures.places_rise MAX_LENGTH c.nodes.ensures.places_within in
     omega (arith, c.requires.plays_countable, fewer, nodes, ap node_count same, c.plays.ensures)
 
@@ -46,9 +46,9 @@ returns g c source new_source read =
     let spelled : Spells games text = c.in-Ok.ensures.spelled in
     let limit : c.unwrap_or-limit.result ≡ unwrap_or c.args.options.now.limit (node_count c.in-Ok.collection) =
     c.unwrap_or-limit.ensures ∙ ap (unwrap_or c.args.options.now.limit) c.nodes.ensures.count in
-    let wrote : WritesLines o.form (take c.unwrap_or-limit.result (drop cursor.index (lines games))) sink new_sink n result =
+    let wrote : WritesLines o.form (take c.unwrap_or-limit.result (drop cursor.at.index (lines games))) sink new_sink n result =
     rw (c.new-run.ensures.form, c.new-run.ensures.cursor, c.in-Ok-cursor_after.ensures.same) at c.write-result.ensures.answer in
     lines_run o source new_source text read sink c.args.plays.now
     games cursor new_sink n c.add.new.self result spelled (c.in-Ok-cursor_after.ensures.start text spelled)
-    (for_options o.form games cursor.index o.limit c.unwrap_or-limit.result sink new_sink n result limit wrote)
+    (for_options o.form games cursor.at.index o.limit c.unwrap_or-limit.result sink new_sink n result limit wrote)
     (omega (arith, c.add.ensures, c.plays.ensures)) c.write-result.ensures.delivered c.write-result.ensures.failures

@@ -3,10 +3,8 @@ use Rattle.std.proofs.Common.{◌≤◌, refl, ap, arith}
 use Rattle.sgf_tree.specs.Tree.{node_count}
 use Rattle.sgf_tree.specs.FileOrder.{PlacesRise}
 use Rattle.sgf_tree.specs.declared.fault.TheConstants.{MAX_LENGTH}
-use Rattle.sgf_lines.specs.declared.options.Form.TheVariants.{List as list_form}
 use Rattle.sgf_lines.specs.inner.Following.{nodes_before}
 use Rattle.sgf_lines.specs.inner.GoingOn.{GoesOnBy}
-use Rattle.sgf_lines.specs.inner.Followers.{judging_alone}
 use Rattle.sgf_lines.proofs.Keeping.{IsNext}
 use Rattle.sgf_lines.proofs.Touched.{nodes_within}
 use Rattle.sgf_lines.proofs.Followers.{next_is as next_so, given, row_countable, few_played, follows_on}
@@ -18,7 +16,7 @@ module _ (c : After-nodes-nodes) where
   goes : GoesOnBy c.self.inside.before c.self.inside.cursor c.go_on.new.cursor c.in-Some.held
   goes = rw c.in-Some.is at c.in_ok-held.ensures.found
 
-  next_is : IsNext list_form c.self.inside.before c.self.inside.cursor c.go_on.new.cursor c.in-Some.held (judging_alone c.self.inside.judge.judgement)
+  next_is : IsNext c.self.inside.before c.self.inside.cursor c.go_on.new.cursor c.in-Some.held c.self.inside.judge.judgement
   next_is = next_so c.self.inside.before c.self.inside.cursor c.go_on.new.cursor c.in-Some.held c.self.inside.row c.self.inside.judge c.self.invariant goes
 
   rise : PlacesRise c.self.inside.cursor.games

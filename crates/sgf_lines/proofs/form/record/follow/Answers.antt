@@ -1,23 +1,43 @@
--- The nodes that the line has more are pieces, and then its end is begun.
-use Rattle.std.proofs.Common.{◌≡◌, map, take, drop, sym, ap, ◌∙◌, arith}
+-- One sequence more is a piece, until all are. Then the end is begun.
+use Rattle.std.proofs.Common.{◌≡◌, take, inl, inr, sym, ap, ◌∙◌, arith}
 use Rattle.std.specs.Prelude.{codes}
+use Rattle.std.specs.List.{flat_map}
+use Rattle.std.proofs.lemmas.Bool.{cases_lt}
+use Rattle.std.proofs.lemmas.List.{take_all}
 use Rattle.std.proofs.lemmas.Result.{on_ok_weaker}
 use Rattle.sgf_lines.specs.Record.{node_text}
 use Rattle.sgf_lines.specs.inner.Following.{nodes_before}
-use Rattle.sgf_lines.specs.inner.Pieces.{pushed, longer}
+use Rattle.sgf_lines.specs.inner.Fronts.{sequences_before}
+use Rattle.sgf_lines.specs.inner.Pieces.{pushed, closed}
 use Rattle.sgf_lines.specs.inner.Recording.{open_record}
+use Rattle.sgf_lines.proofs.Fronts.{as_many_parts}
+use Rattle.sgf_lines.proofs.Lists.{element}
 use Rattle.sgf_lines.proofs.Recordings.{record_more}
 use Rattle.sgf_lines.proofs.form.record.follow.Goals as goal
-use Rattle.sgf_lines.proofs.form.record.follow.Goals.{then-held-eq0+in_ok-begin, else-held-eq0}
+
+pub loop-index-init : goal.loop-index-init
+loop-index-init c =
+    let sequences = sequences_before c.args.cursor.now in
+    elim (cases_lt 0 c.args.held) [
+      | inl some ↦ c.in_ok-keep.ensures.some some ∙ c.requires.keeps some
+      | inr none ↦
+          let zero : c.args.held ≡ 0 = omega arith in
+          c.in_ok-keep.ensures.none zero ∙ ap (λ k. open_record (take k sequences)) (sym zero)
+    ]
+
+pub loop-index-preserved : goal.loop-index-preserved
+loop-index-preserved c =
+    let cursor = c.args.cursor.now in
+    let sequences = sequences_before cursor in
+    let count = as_many_parts 0 cursor.ends (nodes_before cursor.at) in
+    let f = element sequences c.loop-index.index (omega (arith, count, c.loop-index-test.true, c.sequences-end.ensures.count)) in
+    let pushed_is : c.push_sequence.new.self ≡ closed (pushed c.loop-index.kept (flat_map node_text f.0)) = rw f.1 at c.in_ok-push_sequence.ensures in
+    pushed_is ∙ ap (λ r. closed (pushed r (flat_map node_text f.0))) c.loop-index.invariant ∙ record_more sequences c.loop-index.index f.0 f.1
 
 pub returns : goal.returns
 returns c =
-    let nodes = nodes_before c.args.cursor.now in
-    let held = c.args.held in
-    let kept : c.if-held-eq0.kept ≡ open_record (take held nodes) = elim c.if-held-eq0.branch [
-      | then-held-eq0+in_ok-begin w ↦ w.kept-is ∙ w.in_ok-begin.ensures ∙ ap (λ k. open_record (take k nodes)) (sym w.if-held-eq0.true)
-      | else-held-eq0 w ↦ w.kept-is ∙ w.cut_back.ensures ∙ c.requires.keeps (omega (arith, w.if-held-eq0.false))
-    ] in
-    let all : c.push_nodes.new.self ≡ open_record nodes =
-    c.in_ok-push_nodes.ensures.pushed ∙ ap (λ r. longer r (map node_text (drop held nodes))) kept ∙ record_more nodes held in
-    on_ok_weaker c.push.result (λ is. is ∙ ap (λ r. pushed r (codes ")\n")) all) c.push.ensures.pushed
+    let cursor = c.args.cursor.now in
+    let sequences = sequences_before cursor in
+    let count = as_many_parts 0 cursor.ends (nodes_before cursor.at) in
+    let all = take_all c.loop-index.index sequences (omega (arith, count, c.loop-index-test.false, c.sequences-end.ensures.count)) in
+    on_ok_weaker c.push.result (λ is. is ∙ ap (λ r. pushed r (codes ")\n")) (c.loop-index.invariant ∙ ap (λ ns. open_record ns) all)) c.push.ensures.pushed

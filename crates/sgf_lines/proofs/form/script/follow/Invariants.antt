@@ -1,5 +1,5 @@
--- The judge and the script stand after the nodes before the index.
-use Rattle.std.proofs.Common.{◌≡◌}
+-- The judge and the script stand after the nodes before the index, and the others are still to come.
+use Rattle.std.proofs.Common.{◌≡◌, drop}
 use Rattle.sgf_lines.specs.inner.Following.{nodes_before}
 use Rattle.sgf_lines.specs.inner.Keeping.{script_front}
 use Rattle.sgf_lines.proofs.JudgedLines.{JudgesTo}
@@ -7,6 +7,7 @@ use Rattle.sgf_lines.proofs.form.script.follow.Given as goal
 
 abbrev pub invariant-loop-index : goal.invariant-loop-index
 invariant-loop-index l = record {
-  judges : JudgesTo (nodes_before l.cursor) l.held l.fn.judge.plays l.index l.judge;
-  says : l.script ≡ script_front (nodes_before l.cursor) l.index;
+  judges : JudgesTo (nodes_before l.cursor.at) l.fn.held.nodes l.fn.judge.plays l.index l.judge;
+  says : l.script ≡ script_front (nodes_before l.cursor.at) l.index;
+  comes : l.nodes ≡ drop l.index (nodes_before l.cursor.at);
 }

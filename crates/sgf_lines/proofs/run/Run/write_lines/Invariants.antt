@@ -8,12 +8,12 @@ use Rattle.sgf_lines.proofs.run.Run.write_lines.Given as goal
 
 abbrev pub invariant-page : goal.invariant-page
 invariant-page g l = record {
-  written : IsSoFar l.fn.self.form l.fn.self.cursor.games l.fn.self.cursor.index l.limit (g.T.Sink.state l.fn.sink) l.lines l.self.cursor (g.T.Sink.state l.sink);
+  written : IsSoFar l.fn.self.form l.fn.self.cursor.at.games l.fn.self.cursor.at.index l.limit (g.T.Sink.state l.fn.sink) l.lines l.self.cursor.at (g.T.Sink.state l.sink);
   form : l.self.form ≡ l.fn.self.form;
   first : l.lines ≡ 0 → l.self.before ≡ Unheld;
   later : 0 < l.lines → l.self.before ≡ Held;
   holds : Holds l.self;
-  plays : l.self.judge.plays ≡ plays_of l.fn.self.form (take l.lines (page_from l.fn.self.cursor.games l.fn.self.cursor.index l.limit));
+  plays : l.self.judge.plays ≡ plays_of l.fn.self.form (take l.lines (page_from l.fn.self.cursor.at.games l.fn.self.cursor.at.index l.limit));
 }
 
 abbrev pub decreases-page : goal.decreases-page

@@ -1,0 +1,156 @@
+-- The loops that climb from a sequence to the root of its game.
+use Rattle.std.proofs.Common.{◌≡◌, ℕ, ◌+◌, ◌-◌, ◌<◌, ◌≤◌, List, [], ◌∷◌, ◌++◌, length, set, drop, Option, Some, None, refl, sym, ap, ◌∙◌, subst, arith, append_assoc, append-nil, length-append, length-set}
+use Rattle.std.proofs.lemmas.List.{drop_all}
+use Rattle.std.proofs.lemmas.Grind.{drop-set_at}
+use Rattle.sgf_tree.specs.Tree.{Games, node_count}
+use Rattle.sgf_tree.specs.FileOrder.{sequence_starts, sequence_numbers}
+use Rattle.sgf_lines.specs.inner.Sequences.{first_of, sequence_length, part_numbers, IsAbove, ArePartsTo, top, step, MeasuresTo}
+use Rattle.sgf_lines.specs.declared.sequence_cursor.Part.{Part}
+use Rattle.sgf_lines.proofs.SequenceStarts.{first_no_less, length_is, first_within}
+use Rattle.sgf_lines.proofs.SequenceParts.{numbers_more, sequence_long}
+use Rattle.sgf_lines.proofs.SequenceWays.{part_after, front_of, one_way, way_of, parts_few}
+
+-- one more than a sequence's number, and 0 above a root's
+abbrev pub height : Option ℕ → ℕ
+height None = 0
+height (Some k) = k + 1
+
+module _ (c : Games) where
+  -- the number of the node after a sequence, and 0 above a root's
+  abbrev pub reach : Option ℕ → ℕ
+  reach None = 0
+  reach (Some k) = first_of c (k + 1)
+
+  -- a sequence of the collection
+  abbrev pub IsThere : Option ℕ → Type 0
+  IsThere current = (k : ℕ) → current ≡ Some k → k < length (sequence_starts c)
+
+  pub height_falls : (k : ℕ) (current above : Option ℕ) → current ≡ Some k → IsAbove c k above → height above < height current
+  height_falls k current None e is = rw e (omega arith)
+  height_falls k current (Some a) e is = rw e (omega (arith, is.0))
+
+  reach_falls : (k : ℕ) (above : Option ℕ) → k < length (sequence_starts c) → IsAbove c k above → reach above ≤ first_of c k
+  reach_falls k None lt is = omega arith
+  reach_falls k (Some a) lt is = first_no_less c (a + 1) k (omega (arith, is.0)) (omega (arith, is.0))
+
+  above_there : (k : ℕ) (above : Option ℕ) → k < length (sequence_starts c) → IsAbove c k above → IsThere above
+  above_there k None lt is j e = absurd cc
+  above_there k (Some a) lt is j e = let same : a ≡ j = cc in omega (arith, is.0)
+
+  -- the nodes of parts and one sequence more
+  nodes_more : (front : List Part) (k : ℕ) → length (part_numbers c (front ++ part_after c front k ∷ [])) ≡ length (part_numbers c front) + sequence_length c k
+  nodes_more front k = ap length (numbers_more c front (part_after c front k)) ∙ length-append (part_numbers c front) (sequence_numbers c k) ∙ ap (λ n. length (part_numbers c front) + n) (sequence_long c k)
+
+  -- the sequences and nodes of the way that the loop has passed are counted
+  pub record IsMeasured (last : ℕ) (current : Option ℕ) (sequences nodes : ℕ) : Type 0 where
+    pub there : IsThere current
+    pub few : sequences + height current ≤ last + 1
+    pub short : reach current + nodes ≤ node_count c
+    pub count : (above parts : List Part) → ArePartsTo c current above → ArePartsTo c (Some last) parts
+        → (length parts ≡ length above + sequences) × (length (part_numbers c parts) ≡ length (part_numbers c above) + nodes)
+
+  pub measure_begins : (last : ℕ) → last < length (sequence_starts c) → IsMeasured last (Some last) 0 0
+  measure_begins last lt = record {
+    there = λ k e. let same : last ≡ k = cc in omega arith;
+    few = omega arith;
+    short = omega (arith, first_within c (last + 1));
+    count = λ above parts way whole. let same = one_way c way whole in (omega (arith, ap length same), omega (arith, ap (λ (ps : List Part). length (part_numbers c ps)) same));
+  }
+
+  pub measures : (last k sequences nodes : ℕ) (current above : Option ℕ) → IsMeasured last current sequences nodes → current ≡ Some k → IsAbove c k above
+      → IsMeasured last above (sequences + 1) (nodes + sequence_length c k)
+  measures last k sequences nodes current above h e is =
+      let lt = h.there k e in
+      record {
+        there = above_there k above lt is;
+        few = omega (arith, h.few, height_falls k current above e is);
+        short = omega (arith, h.short, ap reach e, reach_falls k above lt is, length_is c k lt);
+        count = λ front parts way whole.
+            let here : ArePartsTo c current (front ++ part_after c front k ∷ []) = rw e (step lt is way refl) in
+            let n = h.count (front ++ part_after c front k ∷ []) parts here whole in
+            (omega (arith, n.0, length-append front (part_after c front k ∷ [])), omega (arith, n.1, nodes_more front k));
+      }
+
+  -- the counts fit
+  pub measure_fits : (last k sequences nodes : ℕ) (current : Option ℕ) → IsMeasured last current sequences nodes → current ≡ Some k
+      → (sequences ≤ last) × (nodes + sequence_length c k ≤ node_count c)
+  measure_fits last k sequences nodes current h e =
+      let lt = h.there k e in
+      (omega (arith, h.few, ap height e), omega (arith, h.short, ap reach e, length_is c k lt))
+
+  pub measured : (last sequences nodes : ℕ) (current : Option ℕ) → IsMeasured last current sequences nodes → current ≡ None → MeasuresTo c last (record { sequences = sequences; nodes = nodes })
+  measured last sequences nodes current h e = λ parts way. let n = h.count [] parts (rw e top) way in (omega (arith, n.0), omega (arith, n.1))
+
+  -- the parts that the loop has passed are written
+  pub record IsFilled (last : ℕ) (current : Option ℕ) (room end : ℕ) (path : List Part) : Type 0 where
+    pub there : IsThere current
+    pub front : List Part
+    pub way : ArePartsTo c current front
+    pub room_is : room ≡ length front
+    pub within : room ≤ length path
+    pub end_is : end ≡ length (part_numbers c front)
+    pub filled : ArePartsTo c (Some last) (front ++ drop room path)
+
+  pub fill_begins : (last nodes : ℕ) (path : List Part) → last < length (sequence_starts c) → MeasuresTo c last (record { sequences = length path; nodes = nodes })
+      → IsFilled last (Some last) (length path) nodes path
+  fill_begins last nodes path lt room =
+      let f = way_of c last lt in
+      let n = room f.0 f.1 in
+      let none : f.0 ++ drop (length path) path ≡ f.0 = ap (λ (ps : List Part). f.0 ++ ps) (drop_all (length path) path (omega arith)) ∙ append-nil f.0 in
+      record {
+        there = λ k e. let same : last ≡ k = cc in omega arith;
+        front = f.0;
+        way = f.1;
+        room_is = n.0;
+        within = omega arith;
+        end_is = n.1;
+        filled = rw none f.1;
+      }
+
+  -- what the loop can count on at a sequence
+  pub record IsRoomFor (room end k : ℕ) : Type 0 where
+    pub there : k < length (sequence_starts c)
+    pub some_room : 0 < room
+    pub long : sequence_length c k ≤ end
+    pub short : end ≤ node_count c
+
+  some_above : {k : ℕ} {parts : List Part} → ArePartsTo c (Some k) parts → (above : Option ℕ) × IsAbove c k above
+  some_above (step {above = above} lt is up e) = (above, is)
+
+  pub room_for : (last k room end : ℕ) (path : List Part) (current : Option ℕ) → IsFilled last current room end path → current ≡ Some k → IsRoomFor room end k
+  room_for last k room end path current h e =
+      let lt = h.there k e in
+      let way = rw e at h.way in
+      let up = front_of c way (some_above way).1 in
+      record {
+        there = lt;
+        some_room = omega (arith, h.room_is, ap length up.2, length-append up.0 (part_after c up.0 k ∷ []));
+        long = omega (arith, h.end_is, ap (λ (ps : List Part). length (part_numbers c ps)) up.2, nodes_more up.0 k);
+        short = omega (arith, h.end_is, parts_few c way lt, first_within c (k + 1));
+      }
+
+  pub fills : (last k room end : ℕ) (path : List Part) (current above : Option ℕ) → IsFilled last current room end path → current ≡ Some k → IsAbove c k above
+      → IsFilled last above (room - 1) (end - sequence_length c k) (set path (room - 1) (record { sequence = k; end = end }))
+  fills last k room end path current above h e is =
+      let lt = h.there k e in
+      let up = front_of c (rw e at h.way) is in
+      let part : Part = record { sequence = k; end = end } in
+      let nodes : length (part_numbers c h.front) ≡ length (part_numbers c up.0) + sequence_length c k = ap (λ (ps : List Part). length (part_numbers c ps)) up.2 ∙ nodes_more up.0 k in
+      let end_is : length (part_numbers c up.0) + sequence_length c k ≡ end = omega (arith, h.end_is) in
+      let same_part : part_after c up.0 k ≡ part = ap (λ (n : ℕ). record { sequence = k; end = n }) end_is in
+      let shorter : room ≡ length up.0 + 1 = h.room_is ∙ ap length up.2 ∙ length-append up.0 (part_after c up.0 k ∷ []) in
+      let back : room - 1 + 1 ≡ room = omega arith in
+      let tail : drop (room - 1) (set path (room - 1) part) ≡ part ∷ drop room path =
+      drop-set_at path (room - 1) (room - 1) part refl (omega (arith, h.within)) ∙ ap (λ n. part ∷ drop n path) back in
+      let same : h.front ++ drop room path ≡ up.0 ++ drop (room - 1) (set path (room - 1) part) =
+      ap (λ (ps : List Part). ps ++ drop room path) (up.2 ∙ ap (λ (p : Part). up.0 ++ p ∷ []) same_part) ∙ append_assoc up.0 (part ∷ []) (drop room path)
+      ∙ ap (λ (ps : List Part). up.0 ++ ps) (sym tail) in
+      record {
+        there = above_there k above lt is;
+        front = up.0;
+        way = up.1;
+        room_is = omega arith;
+        within = omega (arith, length-set path (room - 1) part, h.within);
+        end_is = omega (arith, h.end_is);
+        filled = subst (ArePartsTo c (Some last)) same h.filled;
+      }

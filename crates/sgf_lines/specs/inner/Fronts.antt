@@ -1,0 +1,30 @@
+-- The sequences of the line before a cursor, and the first of them that are held already.
+use Rattle.std.specs.Prelude.{◌≡◌, ◌<◌, ◌-◌, ℕ, List, ◌++◌, length, drop}
+use Rattle.std.specs.List.{range_with_len}
+use Rattle.sgf_tree.specs.Tree.{Node}
+use Rattle.sgf_tree.specs.FileOrder.{nodes_at}
+use Rattle.sgf_lines.specs.declared.sequence_cursor.Front.{Front}
+use Rattle.sgf_lines.specs.declared.going_on.Before.{Before}
+use Rattle.sgf_lines.specs.declared.going_on.Before.TheVariants.{Unheld, Held, Refused}
+use Rattle.sgf_lines.specs.inner.Following.{nodes_before}
+use Rattle.sgf_lines.specs.inner.Sequences.{SequencesState, sequences_of, nodes_in}
+
+-- the line before a cursor, in sequences
+abbrev pub sequences_before : SequencesState → List (List Node)
+sequences_before cursor = sequences_of cursor.ends (nodes_before cursor.at)
+
+-- a line with sequences that end so has this front, and more after it
+pub record HasFront (ends : List ℕ) (front : Front) : Type 0 where
+  pub more : front.sequences < length ends
+  pub count : front.nodes ≡ nodes_in ends front.sequences
+
+-- what is held of the next line, by what it shares with the line before it
+abbrev pub held_by : Before → Front → Front
+held_by Unheld shared = record { sequences = 0; nodes = 0 }
+held_by Held shared = shared
+held_by Refused shared = record { sequences = 0; nodes = 0 }
+
+-- the nodes with the numbers from `next` on and before `end`, and then those of the line's sequences from the index `sequence` on
+abbrev pub nodes_to_come : SequencesState → ℕ → ℕ → ℕ → List Node
+nodes_to_come cursor sequence next end =
+    nodes_at cursor.at.games (range_with_len next (end - next)) ++ drop (nodes_in cursor.ends sequence) (nodes_before cursor.at)
