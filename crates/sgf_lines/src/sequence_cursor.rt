@@ -356,8 +356,36 @@ fn sequence_of(collection: &Collection<'_>, node: usize) -> usize
     ensures of { IsSequenceOf collection.now node result }
     ensures small { result < usize.MAX }
 {
-    let mut low = 0;
-    let mut high = collection.sequences();
+    sequence_between(collection, 0, collection.sequences(), node)
+}
+
+/// The sequence that has this node, which stands before the sequence `from`. The search goes back from there in steps that double. So a
+/// climb from a sequence to the root looks at a few times as many sequences as there are, at most, and mostly at far fewer.
+fn sequence_before(collection: &Collection<'_>, from: usize, node: usize) -> usize
+    requires within { from ≤ length (sequence_starts collection.now) }
+    requires before { node < first_of collection.now from }
+    ensures of { IsSequenceOf collection.now node result }
+{
+    let mut low = from - 1;
+    let mut high = from;
+    while collection.sequence_start(low) > node {
+        high = low;
+        low = low.saturating_sub(from - low);
+    }
+    sequence_between(collection, low, high, node)
+}
+
+/// The sequence that has this node, from the sequence `low` on and before the sequence `high`.
+fn sequence_between(collection: &Collection<'_>, low: usize, high: usize, node: usize) -> usize
+    requires order { low < high }
+    requires within { high ≤ length (sequence_starts collection.now) }
+    requires start { first_of collection.now low ≤ node }
+    requires end { node < first_of collection.now high }
+    ensures of { IsSequenceOf collection.now node result }
+    ensures small { result < usize.MAX }
+{
+    let mut low = low;
+    let mut high = high;
     while high - low > 1 {
         let middle = low + (high - low) / 2;
         if collection.sequence_start(middle) <= node {
@@ -399,7 +427,7 @@ fn sequence_above(collection: &Collection<'_>, sequence: usize) -> Option<usize>
 {
     let first = collection.sequence_start(sequence);
     match collection.parent(first) {
-        Some(parent) => Some(sequence_of(collection, parent)),
+        Some(parent) => Some(sequence_before(collection, sequence, parent)),
         None => None,
     }
 }

@@ -8,8 +8,8 @@ use Rattle.sgf_lines.proofs.sequence_cursor.sequence_above.Goals as goal
 pub parent-requires : goal.parent-requires
 parent-requires c = omega (arith, start_is c.args.collection.now c.args.sequence c.requires, start_within c.args.collection.now c.args.sequence c.requires, c.sequence_start-first.ensures)
 
-pub sequence_of-requires : goal.sequence_of-requires
-sequence_of-requires c =
+pub sequence_before-requires : goal.sequence_before-requires
+sequence_before-requires c =
     let e = c.parent.ensures in
     let is = c.in-Some.is in
     omega (
@@ -25,4 +25,4 @@ returns-in-Some c =
     let e = c.parent.ensures in
     let is = c.in-Some.is in
     let first = c.sequence_start-first.ensures in
-    above_is c.args.collection.now c.args.sequence c.in-Some.parent c.sequence_of.result c.requires (cc) c.sequence_of.ensures.of
+    above_is c.args.collection.now c.args.sequence c.in-Some.parent c.sequence_before.result c.requires (cc) c.sequence_before.ensures.of

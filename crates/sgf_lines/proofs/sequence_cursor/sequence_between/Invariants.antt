@@ -2,7 +2,7 @@
 use Rattle.std.proofs.Common.{◌-◌, ◌<◌, ◌≤◌, length}
 use Rattle.sgf_tree.specs.FileOrder.{sequence_starts}
 use Rattle.sgf_lines.specs.inner.Sequences.{first_of}
-use Rattle.sgf_lines.proofs.sequence_cursor.sequence_of.Given as goal
+use Rattle.sgf_lines.proofs.sequence_cursor.sequence_between.Given as goal
 
 abbrev pub invariant-loop-high : goal.invariant-loop-high
 invariant-loop-high l = record {
