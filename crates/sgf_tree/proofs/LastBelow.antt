@@ -1,18 +1,20 @@
 -- The last node below each node, in file order.
-use Rattle.std.proofs.Common.{◌≡◌, ℕ, zero, suc, ◌+◌, ◌-◌, ◌<◌, ◌≤◌, ◌⊎◌, inl, inr, true, List, [], ◌∷◌, ◌++◌, length, replicate, slice_get, Option, Some, None, refl, sym, ap, subst, ◌∙◌, arith, append_assoc, append-nil, length-append}
+use Rattle.std.proofs.Common.{◌≡◌, ℕ, zero, suc, ◌+◌, ◌-◌, ◌<◌, ◌≤◌, ◌⊎◌, inl, inr, true, List, [], ◌∷◌, ◌++◌, length, get_or, slice_get, Option, Some, None, refl, sym, ap, subst, ◌∙◌, arith, append_assoc, append-nil, length-append}
 use Rattle.std.proofs.lemmas.Bool.{cases_lt}
-use Rattle.std.proofs.lemmas.List.{length-replicate}
+use Rattle.std.proofs.lemmas.List.{get_or_append_left, get_or-append_right}
 use Rattle.sgf_tree.specs.Tree.{Node, Games, no_games, game, node_count}
 use Rattle.sgf_tree.specs.FileOrder.{OrderedNode, further_nodes, nodes_from, ordered_nodes, IsAtOrBelow, itself, below, IsLastBelow}
 use Rattle.sgf_tree.specs.inner.GamesRead.{lasts}
 use Rattle.sgf_tree.proofs.Lists.{slice_get-left, slice_get-right}
 use Rattle.sgf_tree.proofs.OrderedNodes.{parent_in, parent_in-left, parent_in-right, parent_in-further, length-further_nodes, length-nodes_from, length-ordered_nodes, parent-within, parent_at-lt, parent_at-within}
-use Rattle.sgf_tree.proofs.Stacks.{length-lasts}
+use Rattle.sgf_tree.proofs.Starts.{starts_from, length-lasts, first-start}
 
-slice_get-replicate : {A : Type 0} (n : ℕ) (x : A) (i : ℕ) → i < n → slice_get (replicate n x) i ≡ Some x
-slice_get-replicate zero x i h = absurd (omega arith)
-slice_get-replicate (suc n) x zero h = refl
-slice_get-replicate (suc n) x (suc i) h = slice_get-replicate n x i (omega arith)
+-- an element of a list, where another one may follow it
+get_or-joined : (xs ys : List ℕ) (i d e : ℕ) → i ≤ length xs → get_or ys 0 d ≡ e → get_or (xs ++ ys) i d ≡ get_or xs i e
+get_or-joined [] ys zero d e le first = first
+get_or-joined [] ys (suc i) d e le first = absurd (omega arith)
+get_or-joined (x ∷ xs) ys zero d e le first = refl
+get_or-joined (x ∷ xs) ys (suc i) d e le first = get_or-joined xs ys i d e (omega arith) first
 
 -- the nodes from n to last, with n the parent of those after it or over their parents, and no later node below them
 pub record IsSpanBelow (flat : List OrderedNode) (n last : ℕ) : Type 0 where
@@ -169,36 +171,46 @@ module _ (flat : List OrderedNode) where
       apart-after j q le h =
           elim (apart j q (omega arith) h) [ inl lo ↦ inl (omega arith) | inr hi ↦ inr (omega arith) ]
 
-  -- the last one below each node
+  -- the last one below each node of a sequence
   lasts-span : (at : ℕ) (p : Option ℕ) (g : Games) → Stands at p g → ((q : ℕ) → p ≡ Some q → q < at) → Apart at (at + node_count g)
-      → (i l n : ℕ) → n ≡ at + i → slice_get (lasts at g) i ≡ Some l → IsSpanBelow flat n l
-  lasts-span at p no_games stands before apart i l n e h = absurd (cc)
-  lasts-span at p (game first more low high) stands before apart i l n e h =
-      let m : ℕ = length more in
-      let own : List ℕ = replicate (1 + m) (at + m + node_count low) in
-      let under : List ℕ = lasts (at + 1 + m) low in
-      let next : List ℕ = lasts (at + 1 + m + node_count low) high in
-      let owns : length own ≡ 1 + m = length-replicate (1 + m) (at + m + node_count low) in
-      let both : length (own ++ under) ≡ 1 + m + node_count low = omega (arith, length-append own under, length-lasts (at + 1 + m) low) in
-      let f : at + 1 + m ≡ at + m + 1 = omega arith in
-      let g : at + 1 + m + node_count low ≡ at + m + 1 + node_count low = omega arith in
-      elim (cases_lt i (1 + m)) [
-        | inl in_own ↦
-            let is : Some (at + m + node_count low) ≡ Some l =
-            sym (slice_get-left (own ++ under) next i (omega arith) ∙ slice_get-left own under i (omega arith) ∙ slice_get-replicate (1 + m) (at + m + node_count low) i in_own) ∙ h in
-            let same : at + m + node_count low ≡ l = cc in
-            subst (IsSpanBelow flat n) same (own-span at p first more low high stands before apart n (omega arith) (omega arith))
-        | inr past ↦
-            elim (cases_lt i (1 + m + node_count low)) [
-              | inl in_under ↦
-                  let j : ℕ = i - (1 + m) in
-                  lasts-span (at + m + 1) (Some (at + m)) low (stands-below at p first more low high stands) (λ q same. let is : at + m ≡ q = cc in omega arith) (apart-below at p first more low high stands before apart) j l n (omega arith)
-                  (ap (λ k. slice_get (lasts k low) j) (sym f) ∙ sym (slice_get-left (own ++ under) next i (omega arith) ∙ slice_get-right own under i j (omega arith)) ∙ h)
-              | inr in_next ↦
-                  let j : ℕ = i - (1 + m + node_count low) in
-                  lasts-span (at + m + 1 + node_count low) p high (stands-after at p first more low high stands) (λ q same. omega (arith, before q same)) (apart-after at p first more low high stands before apart) j l n (omega arith)
-                  (ap (λ k. slice_get (lasts k high) j) (sym g) ∙ sym (slice_get-right (own ++ under) next i j (omega arith)) ∙ h)
-            ]
+      → (k l n : ℕ) → get_or (starts_from at g) k 0 ≤ n → n < get_or (starts_from at g) (k + 1) (at + node_count g) → slice_get (lasts at g) k ≡ Some l → IsSpanBelow flat n l
+  lasts-span at p no_games stands before apart k l n from to h = absurd (cc)
+  lasts-span at p (game first more low high) stands before apart zero l n from to h =
+      let last : ℕ = at + length more in
+      let end : ℕ = at + node_count (game first more low high) in
+      let same : last + node_count low ≡ l = cc in
+      let next : get_or (starts_from (last + 1) low ++ starts_from (last + 1 + node_count low) high) 0 end ≡ get_or (starts_from (last + 1) low) 0 (last + 1 + node_count low) =
+      get_or-joined (starts_from (last + 1) low) (starts_from (last + 1 + node_count low) high) 0 end (last + 1 + node_count low) (omega arith) (first-start (last + 1 + node_count low) end high (omega arith)) in
+      subst (IsSpanBelow flat n) same (own-span at p first more low high stands before apart n from (omega (arith, next, first-start (last + 1) (last + 1 + node_count low) low refl)))
+  lasts-span at p (game first more low high) stands before apart (suc k) l n from to h =
+      let last : ℕ = at + length more in
+      let end : ℕ = at + node_count (game first more low high) in
+      let under : List ℕ = starts_from (last + 1) low in
+      let next : List ℕ = starts_from (last + 1 + node_count low) high in
+      let lows : List ℕ = lasts (at + 1 + length more) low in
+      let highs : List ℕ = lasts (at + 1 + length more + node_count low) high in
+      let count : length lows ≡ length under = length-lasts (at + 1 + length more) (last + 1) low in
+      let e : suc k + 1 ≡ suc (k + 1) = omega arith in
+      let f : at + 1 + length more ≡ last + 1 = omega arith in
+      let g : at + 1 + length more + node_count low ≡ last + 1 + node_count low = omega arith in
+      let before_end : n < get_or (under ++ next) (k + 1) end = subst (λ i. n < get_or (at ∷ (under ++ next)) i end) e to in
+      elim (cases_lt k (length under)) [
+        | inl in_under ↦
+            let ends : get_or (under ++ next) (k + 1) end ≡ get_or under (k + 1) (last + 1 + node_count low) =
+            get_or-joined under next (k + 1) end (last + 1 + node_count low) (omega arith) (first-start (last + 1 + node_count low) end high (omega arith)) in
+            lasts-span (last + 1) (Some last) low (stands-below at p first more low high stands) (λ q same. let is : last ≡ q = cc in omega arith) (apart-below at p first more low high stands before apart) k l n
+            (omega (arith, from, get_or_append_left under next 0 k in_under)) (omega (arith, before_end, ends))
+            (ap (λ i. slice_get (lasts i low) k) (sym f) ∙ sym (slice_get-left lows highs k (omega arith)) ∙ h)
+        | inr in_next ↦
+            let j : ℕ = k - length under in
+            let begins : get_or (under ++ next) k 0 ≡ get_or next j 0 = get_or-append_right under next (length under) k 0 refl in_next in
+            let m : k + 1 - length under ≡ j + 1 = omega arith in
+            let ends : get_or (under ++ next) (k + 1) end ≡ get_or next (k + 1 - length under) end = get_or-append_right under next (length under) (k + 1) end refl (omega arith) in
+            let whole : end ≡ last + 1 + node_count low + node_count high = omega arith in
+            let to_next : n < get_or next (j + 1) (last + 1 + node_count low + node_count high) = subst (λ x. n < get_or next (j + 1) x) whole (subst (λ i. n < get_or next i end) m (omega (arith, before_end, ends))) in
+            lasts-span (last + 1 + node_count low) p high (stands-after at p first more low high stands) (λ q same. omega (arith, before q same)) (apart-after at p first more low high stands before apart) j l n
+            (omega (arith, from, begins)) to_next
+            (ap (λ i. slice_get (lasts i high) j) (sym g) ∙ sym (slice_get-right lows highs k j (omega arith)) ∙ h)
       ]
 
 -- the nodes of a span are under the first one
@@ -227,11 +239,12 @@ stands-whole : (c : Games) → Stands (ordered_nodes c) 0 None c
 unfolding Stands
 stands-whole c = ([], [], sym (append-nil (ordered_nodes c)), refl)
 
-pub lasts-below : (c : Games) (i l : ℕ) → slice_get (lasts 0 c) i ≡ Some l → IsLastBelow c i l
-lasts-below c i l h =
+pub lasts-below : (c : Games) (k l n : ℕ) → get_or (starts_from 0 c) k 0 ≤ n → n < get_or (starts_from 0 c) (k + 1) (node_count c) → slice_get (lasts 0 c) k ≡ Some l → IsLastBelow c n l
+lasts-below c k l n from to h =
+    let all : node_count c ≡ 0 + node_count c = omega arith in
     let apart : (j q : ℕ) → 0 + node_count c ≤ j → parent_in (ordered_nodes c) j ≡ Some (Some q) → (q < 0) ⊎ (0 + node_count c ≤ q) = λ j q le e. absurd (omega (arith, parent_at-within c j (Some q) e, length-ordered_nodes c)) in
-    let span : IsSpanBelow (ordered_nodes c) i l = lasts-span (ordered_nodes c) 0 None c (stands-whole c) (λ q same. absurd (cc)) apart i l i (omega arith) h in
+    let span : IsSpanBelow (ordered_nodes c) n l = lasts-span (ordered_nodes c) 0 None c (stands-whole c) (λ q same. absurd (cc)) apart k l n from (subst (λ e. n < get_or (starts_from 0 c) (k + 1) e) all to) h in
     record {
-      under = span-under c i l span (l - i) l (omega (arith, span.rises)) span.rises (omega arith);
-      greatest = λ j under. (span-greatest c i l j span under).1;
+      under = span-under c n l span (l - n) l (omega (arith, span.rises)) span.rises (omega arith);
+      greatest = λ j under. (span-greatest c n l j span under).1;
     }

@@ -21,11 +21,10 @@ pub mod ValuesRead
 pub mod NameEnds
 pub mod NodeEnds
 pub mod Stacks
-pub mod OwnNodes
-pub mod Closing
 pub mod NodesRead
 pub mod SequencesRead
 pub mod GameEnds
+pub mod Starts
 pub mod LastBelow
 pub mod GamesLoop
 pub mod Counting

@@ -1,20 +1,21 @@
 -- How the table of sequences changes when a node is pushed.
-use Rattle.std.proofs.Common.{◌≡◌, ℕ, zero, suc, ◌+◌, ◌<◌, ◌≤◌, ◌⊎◌, inl, inr, Bool, true, false, cond, List, [], ◌∷◌, ◌++◌, length, get_or, set, map, Some, slice_get, refl, sym, ap, subst, ◌∙◌, arith, append-nil, get_or-set_same, get_or-set_other}
+use Rattle.std.proofs.Common.{◌≡◌, ℕ, zero, suc, ◌+◌, ◌-◌, ◌<◌, ◌≤◌, ◌⊎◌, inl, inr, Bool, true, false, cond, List, [], ◌∷◌, ◌++◌, length, get_or, set, map, All, Some, slice_get, refl, sym, ap, subst, ◌∙◌, arith, append-nil, get_or-set_same, get_or-set_other}
 use Rattle.std.proofs.lemmas.Bool.{false≢true, cases_lt, cases_eq}
 use Rattle.std.proofs.lemmas.List.{length-map, get_or_append_left, get_or_push, get_or_past, get_or_default, map_push, map-set, set-get_or, length_push}
 use Rattle.std.proofs.Math.ListN.{get_or-map}
+use Rattle.std.proofs.lemmas.List.Elements.{All-append}
 use Rattle.std.proofs.lemmas.Option.{slice_get-get_or}
 use Rattle.sgf_tree.specs.declared.layout.Link.{Link}
 use Rattle.sgf_tree.specs.declared.layout.Link.TheVariants.{Next}
-use Rattle.sgf_tree.specs.declared.layout.NodeEntry.{NodeEntry}
 use Rattle.sgf_tree.specs.declared.nodes.Sequence.{Sequence}
-use Rattle.sgf_tree.specs.inner.Layout.{opens_by}
-use Rattle.sgf_tree.specs.inner.Sequences.{links_of, first_numbers, end_number, AreBesideWithin, AreSequencesOf}
+use Rattle.sgf_tree.specs.inner.Sequences.{opens_by, first_numbers, end_number, AreBesideWithin, AreUpTo}
+use Rattle.sgf_tree.specs.inner.Packing.{opening, AreSequencesOf}
+use Rattle.sgf_tree.proofs.Packing.{numbers_of}
 use Rattle.sgf_tree.proofs.Lists.{slice_get-left, slice_get-right}
-use Rattle.sgf_tree.proofs.Rises.{Rises, rises-low, rises-get}
+use Rattle.sgf_tree.proofs.Rises.{Rises, rises-low, rises-get, rises-pair}
 
 abbrev pub firsts : List Sequence → List ℕ
-firsts table = map (λ (s : Sequence). s.first) table
+firsts table = numbers_of (map opening table)
 
 abbrev pub besides : List Sequence → List Bool
 besides table = map (λ (s : Sequence). s.all_beside) table
@@ -94,21 +95,30 @@ within-bools [] i h = absurd (false≢true h)
 within-bools (b ∷ bs) zero h = omega arith
 within-bools (b ∷ bs) (suc i) h = omega (arith, within-bools bs i h)
 
--- the links stay the same where another last node below a node is stored
-pub links-set : (view new : List NodeEntry) (i last : ℕ) → i < length view → ((node : NodeEntry) → slice_get view i ≡ Some node → new ≡ set view i (record node { last_below = last })) → links_of new ≡ links_of view
-links-set view new i last lt changes =
-    let none : NodeEntry = record { place = 0; link = Next false; last_below = 0 } in
-    ap links_of (changes (get_or view i none) (slice_get-get_or view i none lt)) ∙ map-set (λ (n : NodeEntry). n.link) view i _
-    ∙ ap (λ (l : Link). set (links_of view) i l) (sym (get_or-map (λ (n : NodeEntry). n.link) view i none)) ∙ set-get_or (links_of view) i (Next false)
+abbrev Opens : ℕ × Link → Type 0
+Opens o = opens_by o.1 ≡ true
+
+-- what holds of one element holds of each one of a list of it
+all-one : {A : Type 0} (P : A → Type 0) (x : A) → P x → All P (x ∷ [])
+all-one P x h zero d lt = h
+all-one P x h (suc k) d lt = absurd (omega arith)
 
 module _ (table : List Sequence) (links : List Link) (old : AreSequencesOf table links) where
   pub table-count : length table ≡ length (first_numbers 0 links)
-  table-count = sym (length-map table (λ (s : Sequence). s.first)) ∙ ap length old.firsts_are
+  table-count =
+      sym (length-map (map opening table) (λ (o : ℕ × Link). o.0) ∙ length-map table opening) ∙ ap length old.firsts_are
+
+  pub table-few : length table ≤ length links
+  table-few = omega (arith, table-count, count 0 (length links) (first_numbers 0 links) (all-rise links))
+    where
+      count : (low high : ℕ) (ns : List ℕ) → Rises low ns high → low + length ns ≤ high
+      count low high [] r = omega arith
+      count low high (n ∷ ns) r = omega (arith, r.0, count (n + 1) high ns r.1)
 
   pub table-first : (i : ℕ) (s : Sequence) → i < length table → s ≡ get_or table i s → s.first ≡ get_or (first_numbers 0 links) i 0
   table-first i s lt here =
-      ap (λ (t : Sequence). t.first) here ∙ sym (get_or-map (λ (t : Sequence). t.first) table i s)
-      ∙ get_or_default (firsts table) i s.first 0 (omega (arith, length-map table (λ (t : Sequence). t.first))) ∙ ap (λ ns. get_or ns i 0) old.firsts_are
+      ap (λ (t : Sequence). t.first) here ∙ sym (get_or-map (λ (o : ℕ × Link). o.0) (map opening table) i (opening s) ∙ ap (λ (o : ℕ × Link). o.0) (get_or-map opening table i s))
+      ∙ ap (λ ns. get_or ns i s.first) old.firsts_are ∙ get_or_default (first_numbers 0 links) i s.first 0 (omega (arith, table-count))
 
   pub table-end : (i : ℕ) (s : Sequence) → i + 1 < length table → s ≡ get_or table (i + 1) s → s.first ≡ end_number links i
   table-end i s lt here =
@@ -121,13 +131,17 @@ module _ (table : List Sequence) (links : List Link) (old : AreSequencesOf table
       λ number low high. old.beside i known number (omega (arith, low, from)) high
 
   -- records with the same parts
-  pub sequences-same : (new : List Sequence) → firsts new ≡ firsts table → besides new ≡ besides table → AreSequencesOf new links
-  sequences-same new same known =
-      record { firsts_are = same ∙ old.firsts_are; beside = λ i is. old.beside i (ap (λ bs. get_or bs i false) (sym known) ∙ is) }
+  pub sequences-same : (new : List Sequence) → map opening new ≡ map opening table → besides new ≡ besides table → AreSequencesOf new links
+  sequences-same new same known = record {
+    firsts_are = ap numbers_of same ∙ old.firsts_are;
+    opens = subst (All Opens) (sym same) old.opens;
+    beside = λ i is. old.beside i (ap (λ bs. get_or bs i false) (sym known) ∙ is);
+  }
 
   -- the first node of a sequence more
-  pub sequences-first : (s : Sequence) (link : Link) → opens_by link ≡ true → s.first ≡ length links → AreSequencesOf (table ++ s ∷ []) (links ++ link ∷ [])
-  sequences-first s link opens is =
+  pub sequences-first : (s : Sequence) → opens_by s.link ≡ true → s.first ≡ length links → AreSequencesOf (table ++ s ∷ []) (links ++ s.link ∷ [])
+  sequences-first s opens is =
+      let link : Link = s.link in
       let n : ℕ = length links in
       let ns : List ℕ = first_numbers 0 links in
       let bs : List Bool = besides table in
@@ -138,7 +152,10 @@ module _ (table : List Sequence) (links : List Link) (old : AreSequencesOf table
       let same_count : length table ≡ length ns = table-count in
       let total : length (links ++ link ∷ []) ≡ n + 1 = length_push links link in
       record {
-        firsts_are = map_push (λ (t : Sequence). t.first) table s ∙ ap (λ k. firsts table ++ k ∷ []) is ∙ ap (λ ks. ks ++ n ∷ []) old.firsts_are ∙ sym numbers;
+        firsts_are =
+            ap numbers_of (map_push opening table s) ∙ map_push (λ (o : ℕ × Link). o.0) (map opening table) (opening s)
+            ∙ ap (λ k. firsts table ++ k ∷ []) is ∙ ap (λ ks. ks ++ n ∷ []) old.firsts_are ∙ sym numbers;
+        opens = subst (All Opens) (sym (map_push opening table s)) (All-append Opens (map opening table) (opening s ∷ []) old.opens (all-one Opens (opening s) opens));
         beside = λ i known number low high.
             let known_new : get_or (bs ++ b ∷ []) i false ≡ true = ap (λ xs. get_or xs i false) (sym pushed) ∙ known in
             let low_new : get_or (ns ++ n ∷ []) i 0 < number = subst (λ ks. get_or ks i 0 < number) numbers low in
@@ -160,7 +177,7 @@ module _ (table : List Sequence) (links : List Link) (old : AreSequencesOf table
       }
 
   -- a further node
-  pub sequences-next : (new : List Sequence) (b : Bool) → firsts new ≡ firsts table
+  pub sequences-next : (new : List Sequence) (b : Bool) → map opening new ≡ map opening table
       → ((i : ℕ) → get_or (besides new) i false ≡ true → (get_or (besides table) i false ≡ true) × ((b ≡ true) ⊎ (i + 1 < length table)))
       → AreSequencesOf new (links ++ Next b ∷ [])
   sequences-next new b same besides_are =
@@ -169,7 +186,8 @@ module _ (table : List Sequence) (links : List Link) (old : AreSequencesOf table
       let numbers : first_numbers 0 (links ++ Next b ∷ []) ≡ ns = next-push links b in
       let total : length (links ++ Next b ∷ []) ≡ n + 1 = length_push links (Next b) in
       record {
-        firsts_are = same ∙ old.firsts_are ∙ sym numbers;
+        firsts_are = ap numbers_of same ∙ old.firsts_are ∙ sym numbers;
+        opens = subst (All Opens) (sym same) old.opens;
         beside = λ i known number low high.
             let before = besides_are i known in
             let low_old : get_or ns i 0 < number = subst (λ ks. get_or ks i 0 < number) numbers low in
@@ -208,7 +226,7 @@ module _ (table : List Sequence) (links : List Link) (old : AreSequencesOf table
       let new : List Sequence = set table last (record s { all_beside = false }) in
       let count : length bs ≡ length table = length-map table (λ (t : Sequence). t.all_beside) in
       let cleared : besides new ≡ set bs last false = map-set (λ (t : Sequence). t.all_beside) table last (record s { all_beside = false }) in
-      sequences-next new b (part-same (λ (t : Sequence). t.first) table last s (record s { all_beside = false }) here refl)
+      sequences-next new b (part-same opening table last s (record s { all_beside = false }) here refl)
       (λ i known.
       let known_new : get_or (set bs last false) i false ≡ true = ap (λ xs. get_or xs i false) (sym cleared) ∙ known in
       elim (cases_eq i last) [
@@ -225,3 +243,61 @@ pub sequences-none : (table : List Sequence) (links : List Link) (b : Bool) → 
 sequences-none table links b old none =
     sequences-next table links old table b refl
     (λ i known. absurd (omega (arith, within-bools (besides table) i known, length-map table (λ (t : Sequence). t.all_beside))))
+
+-- a first node's number is one of the list
+pub first-member : (n : ℕ) (links : List Link) (i : ℕ) (link : Link) → slice_get links i ≡ Some link → opens_by link ≡ true
+    → (k : ℕ) × (k < length (first_numbers n links)) × (get_or (first_numbers n links) k 0 ≡ n + i)
+first-member n [] i link here opens = absurd (cc)
+first-member n (this ∷ rest) zero link here opens =
+    let same : this ≡ link = cc in
+    let is : opens_by this ≡ true = ap opens_by same ∙ opens in
+    let at : n ≡ n + 0 = omega arith in
+    rw is (0, omega arith, at)
+first-member n (this ∷ rest) (suc i) link here opens =
+    let later = first-member (n + 1) rest i link here opens in
+    let at : n + 1 + i ≡ n + suc i = omega arith in
+    after-if (opens_by this) (first_numbers (n + 1) rest) later.0 (n + suc i) later.1 (later.2 ∙ at)
+  where
+    after-if : (b : Bool) (ns : List ℕ) (k m : ℕ) → k < length ns → get_or ns k 0 ≡ m → (j : ℕ) × (j < length (cond b (n ∷ ns) ns)) × (get_or (cond b (n ∷ ns) ns) j 0 ≡ m)
+    after-if true ns k m lt is = (suc k, omega arith, is)
+    after-if false ns k m lt is = (k, lt, is)
+
+-- a number is less than a later one
+pub numbers-less : (low high : ℕ) (numbers : List ℕ) (i j : ℕ) → Rises low numbers high → i < j → j < length numbers → get_or numbers i 0 < get_or numbers j 0
+numbers-less low high numbers i j rise lt within =
+    rises-pair low high numbers i j _ _ rise lt (slice_get-get_or numbers i 0 (omega arith)) (slice_get-get_or numbers j 0 within)
+
+pub numbers-most : (low high : ℕ) (numbers : List ℕ) (i j : ℕ) → Rises low numbers high → i ≤ j → j < length numbers → get_or numbers i 0 ≤ get_or numbers j 0
+numbers-most low high numbers i j rise le within =
+    elim (cases_lt i j) [
+      | inl lt ↦ omega (arith, numbers-less low high numbers i j rise lt within)
+      | inr ge ↦ let same : i ≡ j = omega arith in omega (arith, ap (λ k. get_or numbers k 0) same)
+    ]
+
+-- so many are at most one of the numbers
+pub up-to-member : (low high : ℕ) (numbers : List ℕ) (number count k : ℕ) → Rises low numbers high → AreUpTo numbers number count → k < length numbers → get_or numbers k 0 ≡ number
+    → count ≡ k + 1
+up-to-member low high numbers number count k rise up within is =
+    elim (cases_lt k count) [
+      | inr past ↦ absurd (omega (arith, up.high k past within))
+      | inl before ↦
+          elim (cases_lt (k + 1) count) [
+            | inl more ↦ absurd (omega (arith, up.within, up.low (k + 1) more, numbers-less low high numbers k (k + 1) rise (omega arith) (omega (arith, up.within))))
+            | inr none ↦ omega arith
+          ]
+    ]
+
+-- at least one is, where the first one is
+pub up-to-some : (numbers : List ℕ) (number count end : ℕ) → AreUpTo numbers number count → number < end → get_or numbers 0 end ≤ number → 0 < count
+up-to-some [] number count end up lt le = absurd (omega arith)
+up-to-some (n ∷ ns) number count end up lt le =
+    elim (cases_lt 0 count) [ inl some ↦ some | inr none ↦ absurd (omega (arith, up.high 0 none (omega arith))) ]
+
+-- the next one is greater, or there is none
+pub up-to-end : (numbers : List ℕ) (number count end : ℕ) → AreUpTo numbers number count → number < end → 0 < count → number < get_or numbers (count - 1 + 1) end
+up-to-end numbers number count end up lt some =
+    let e : count - 1 + 1 ≡ count = omega arith in
+    rw e (elim (cases_lt count (length numbers)) [
+      | inl more ↦ omega (arith, up.high count (omega arith) more, get_or_default numbers count end 0 more)
+      | inr none ↦ omega (arith, get_or_past numbers count end none)
+    ])

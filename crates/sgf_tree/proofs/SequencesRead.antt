@@ -10,6 +10,7 @@ use Rattle.sgf_tree.specs.inner.NodeText.{AreWritten}
 use Rattle.sgf_tree.specs.inner.Progress.{ComesTo, IsSpan}
 use Rattle.sgf_tree.specs.inner.PropertiesRead.{StandsAfterNode, ArePropertiesRead, with_properties}
 use Rattle.sgf_tree.specs.inner.GamesRead.{HoldStack, IsOpening, StandsBetween, IsNodeRead, IsSequenceRead}
+use Rattle.sgf_tree.specs.inner.Sequences.{KeptNodes}
 use Rattle.sgf_tree.specs.declared.layout.Link.{Link}
 use Rattle.sgf_tree.specs.declared.layout.Link.TheVariants.{Next}
 use Rattle.sgf_tree.specs.declared.layout.NodeEntry.{NodeEntry}
@@ -134,49 +135,49 @@ module _ (t : List ℕ) where
   )
 
   -- the same, and the entries hold the nodes
-  pub record SequenceSoFar (end : ℕ) (is_written : Bool) (k : Stack) (ns : List NodeEntry) : Type 0 where
+  pub record SequenceSoFar (end : ℕ) (is_written : Bool) (k : Stack) (kept : KeptNodes) : Type 0 where
     pub last : OpenGame
     pub nodes : NodesSoFar end k last
-    pub held : HoldStack t (record { closed = k.closed; unclosed = last ∷ k.unclosed }) ns
-    pub written : IsTrue is_written → (d : NodeEntry) → let place = (get_or ns (length ns - 1) d).place in (get_or t place 0 ≡ 59) × AreWritten t (place + 1) end
+    pub held : HoldStack t (record { closed = k.closed; unclosed = last ∷ k.unclosed }) kept
+    pub written : IsTrue is_written → (d : NodeEntry) → let place = (get_or kept.nodes (length kept.nodes - 1) d).place in (get_or t place 0 ≡ 59) × AreWritten t (place + 1) end
 
   -- the node that was pushed last is written, if it is
-  last-written : (place end : ℕ) (is_written : Bool) (link : Link) (ns ns' : List NodeEntry) → get_or t place 0 ≡ 59 → IsNodeRead t place end link ns ns'
+  last-written : (place end : ℕ) (is_written : Bool) (link : Link) (kept kept' : KeptNodes) → get_or t place 0 ≡ 59 → IsNodeRead t place end link kept kept'
       → (IsTrue is_written → AreWritten t (place + 1) end) → IsTrue is_written → (d : NodeEntry)
-      → let last = (get_or ns' (length ns' - 1) d).place in (get_or t last 0 ≡ 59) × AreWritten t (last + 1) end
-  last-written place end is_written link ns ns' e read written is d =
-      let n : NodeEntry = record { place = place; link = link; last_below = 0 } in
-      let at : length ns ≡ length ns' - 1 = omega (arith, ap length read.pushed, length-append ns (n ∷ [])) in
-      let here : get_or ns' (length ns' - 1) d ≡ n = ap (λ ms. get_or ms (length ns' - 1) d) read.pushed ∙ get_or_push ns n d (length ns' - 1) at in
+      → let last = (get_or kept'.nodes (length kept'.nodes - 1) d).place in (get_or t last 0 ≡ 59) × AreWritten t (last + 1) end
+  last-written place end is_written link kept kept' e read written is d =
+      let n : NodeEntry = record { place = place; link = link } in
+      let at : length kept.nodes ≡ length kept'.nodes - 1 = omega (arith, ap (λ (v : KeptNodes). length v.nodes) read.pushed, length-append kept.nodes (n ∷ [])) in
+      let here : get_or kept'.nodes (length kept'.nodes - 1) d ≡ n = ap (λ (v : KeptNodes). get_or v.nodes (length kept'.nodes - 1) d) read.pushed ∙ get_or_push kept.nodes n d (length kept'.nodes - 1) at in
       rw here (e, written is)
 
-  pub sequence-first : (at place end : ℕ) (is_written : Bool) (k : Stack) (link : Link) (ns ns' : List NodeEntry)
-      → IsSpan is_white_space t at place → ComesTo t at (opened k) → HoldStack t k ns → IsOpening k link → place < length t → get_or t place 0 ≡ 59
-      → IsNodeRead t place end link ns ns' → (IsTrue is_written → AreWritten t (place + 1) end) → SequenceSoFar end is_written k ns'
-  sequence-first at place end is_written k link ns ns' white after held opening lt e read written =
+  pub sequence-first : (at place end : ℕ) (is_written : Bool) (k : Stack) (link : Link) (kept kept' : KeptNodes)
+      → IsSpan is_white_space t at place → ComesTo t at (opened k) → HoldStack t k kept → IsOpening k link → place < length t → get_or t place 0 ≡ 59
+      → IsNodeRead t place end link kept kept' → (IsTrue is_written → AreWritten t (place + 1) end) → SequenceSoFar end is_written k kept'
+  sequence-first at place end is_written k link kept kept' white after held opening lt e read written =
       let own = nodes-first at place end k white after lt e read.properties in
       record {
         last = new_game (record { place = place; properties = own.0 });
         nodes = own.1;
-        held = first-held t k place end own.0 link ns ns' held opening read lt;
-        written = last-written place end is_written link ns ns' e read written;
+        held = first-held t k place end own.0 link kept kept' held opening read lt;
+        written = last-written place end is_written link kept kept' e read written;
       }
 
-  pub sequence-next : (place end : ℕ) (beside is_written : Bool) (k : Stack) (ns ns' : List NodeEntry)
-      → SequenceSoFar place beside k ns → place < length t → get_or t place 0 ≡ 59 → IsNodeRead t place end (Next beside) ns ns'
-      → (IsTrue is_written → AreWritten t (place + 1) end) → SequenceSoFar end is_written k ns'
-  sequence-next place end beside is_written k ns ns' so_far lt e read written =
+  pub sequence-next : (place end : ℕ) (beside is_written : Bool) (k : Stack) (kept kept' : KeptNodes)
+      → SequenceSoFar place beside k kept → place < length t → get_or t place 0 ≡ 59 → IsNodeRead t place end (Next beside) kept kept'
+      → (IsTrue is_written → AreWritten t (place + 1) end) → SequenceSoFar end is_written k kept'
+  sequence-next place end beside is_written k kept kept' so_far lt e read written =
       let own = nodes-next place end k so_far.last so_far.nodes lt e read.properties in
       record {
         last = with_node so_far.last (record { place = place; properties = own.0 });
         nodes = own.1;
-        held = next-held t k.closed so_far.last k.unclosed place end own.0 ns ns' beside so_far.held so_far.nodes.nothing_below read lt
-            (λ is d. let before = so_far.written is d in node-written t (get_or ns (length ns - 1) d).place place before.0 lt e before.1);
-        written = last-written place end is_written (Next beside) ns ns' e read written;
+        held = next-held t k.closed so_far.last k.unclosed place end own.0 kept kept' beside so_far.held so_far.nodes.nothing_below read lt
+            (λ is d. let before = so_far.written is d in node-written t (get_or kept.nodes (length kept.nodes - 1) d).place place before.0 lt e before.1);
+        written = last-written place end is_written (Next beside) kept kept' e read written;
       }
 
-  pub sequence-done : (end : ℕ) (is_written : Bool) (k : Stack) (ns : List NodeEntry) → SequenceSoFar end is_written k ns → (end < length t → get_or t end 0 ≢ 59) → IsSequenceRead t end k ns
-  sequence-done end is_written k ns so_far other =
+  pub sequence-done : (end : ℕ) (is_written : Bool) (k : Stack) (kept : KeptNodes) → SequenceSoFar end is_written k kept → (end < length t → get_or t end 0 ≢ 59) → IsSequenceRead t end k kept
+  sequence-done end is_written k kept so_far other =
       record {
         last = so_far.last;
         stands = nodes-done end k so_far.last so_far.nodes other;
@@ -185,7 +186,7 @@ module _ (t : List ℕ) where
       }
 
   -- there are no more nodes than bytes
-  pub node-room : (place end : ℕ) (link : Link) (ns ns' : List NodeEntry) → length ns ≤ place → IsNodeRead t place end link ns ns' → length ns' ≤ end
-  node-room place end link ns ns' room read =
-      let n : NodeEntry = record { place = place; link = link; last_below = 0 } in
-      omega (arith, room, read.properties.rises, ap length read.pushed, length-append ns (n ∷ []))
+  pub node-room : (place end : ℕ) (link : Link) (kept kept' : KeptNodes) → length kept.nodes ≤ place → IsNodeRead t place end link kept kept' → length kept'.nodes ≤ end
+  node-room place end link kept kept' room read =
+      let n : NodeEntry = record { place = place; link = link } in
+      omega (arith, room, read.properties.rises, ap (λ (v : KeptNodes). length v.nodes) read.pushed, length-append kept.nodes (n ∷ []))

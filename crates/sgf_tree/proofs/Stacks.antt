@@ -1,9 +1,8 @@
 -- The ordered nodes of whole and open games: games side by side, one more node, and a game that ends.
-use Rattle.std.proofs.Common.{◌≡◌, ℕ, ◌+◌, true, false, List, [], ◌∷◌, ◌++◌, length, replicate, Option, Some, None, refl, sym, ap, ◌∙◌, arith, append_assoc, append-nil, length-append}
-use Rattle.std.proofs.lemmas.List.{length-replicate, replicate_more}
+use Rattle.std.proofs.Common.{◌≡◌, ℕ, ◌+◌, true, false, List, [], ◌∷◌, ◌++◌, length, Option, Some, None, sym, ap, ◌∙◌, arith, append_assoc, append-nil, length-append}
 use Rattle.sgf_tree.specs.Tree.{Node, Games, no_games, game, joined, game_count, node_count}
 use Rattle.sgf_tree.specs.FileOrder.{OrderedNode, further_nodes, nodes_from}
-use Rattle.sgf_tree.specs.inner.Machine.{OpenGame, new_game, whole_game}
+use Rattle.sgf_tree.specs.inner.Machine.{OpenGame, whole_game}
 use Rattle.sgf_tree.specs.inner.GamesRead.{open_count, tip, own_nodes, open_nodes, lasts, open_lasts}
 use Rattle.sgf_tree.proofs.Completion.{add_games}
 use Rattle.sgf_tree.proofs.OrderedNodes.{length-further_nodes, length-nodes_from}
@@ -28,18 +27,11 @@ ordered-followed at parent (game first more below after) b =
     ∙ sym (append_assoc own (nodes_from next parent after) (nodes_from (next + node_count after) parent b))
     ∙ ap (λ k. own ++ nodes_from next parent after ++ nodes_from k parent b) e
 
-pub length-lasts : (at : ℕ) (g : Games) → length (lasts at g) ≡ node_count g
-length-lasts at no_games = refl
-length-lasts at (game first more below after) =
-    let next : ℕ = at + 1 + length more in
-    let own : List ℕ = replicate (1 + length more) (at + length more + node_count below) in
-    omega (arith, length-append (own ++ lasts next below) (lasts (next + node_count below) after), length-append own (lasts next below), length-replicate (1 + length more) (at + length more + node_count below), length-lasts next below, length-lasts (next + node_count below) after)
-
 pub lasts-followed : (at : ℕ) (a b : Games) → lasts at (joined a b) ≡ lasts at a ++ lasts (at + node_count a) b
 lasts-followed at no_games b = let e : at + 0 ≡ at = omega arith in rw e
 lasts-followed at (game first more below after) b =
     let next : ℕ = at + 1 + length more in
-    let own : List ℕ = replicate (1 + length more) (at + length more + node_count below) ++ lasts next below in
+    let own : List ℕ = (at + length more + node_count below) ∷ lasts next below in
     let e : next + node_count below + node_count after ≡ at + node_count (game first more below after) = omega arith in
     ap (λ ls. own ++ ls) (lasts-followed (next + node_count below) after b)
     ∙ sym (append_assoc own (lasts (next + node_count below) after) (lasts (next + node_count below + node_count after) b))
@@ -54,13 +46,6 @@ pub length-open_nodes : (closed : Games) (gs : List OpenGame) → length (open_n
 length-open_nodes closed [] = length-nodes_from 0 None closed
 length-open_nodes closed (g ∷ gs) =
     omega (arith, length-append (open_nodes closed gs) (own_nodes (open_count closed gs) (tip closed gs) g), length-open_nodes closed gs, length-own_nodes (open_count closed gs) (tip closed gs) g)
-
-pub length-open_lasts : (closed : Games) (gs : List OpenGame) → length (open_lasts closed gs) ≡ open_count closed gs
-length-open_lasts closed [] = length-lasts 0 closed
-length-open_lasts closed (g ∷ gs) =
-    let own : List ℕ = replicate (1 + length g.more) 0 in
-    let next : ℕ = open_count closed gs + 1 + length g.more in
-    omega (arith, length-append (open_lasts closed gs ++ own) (lasts next g.below), length-append (open_lasts closed gs) own, length-replicate {A = ℕ} (1 + length g.more) 0, length-open_lasts closed gs, length-lasts next g.below)
 
 -- an open game has the nodes that it has as a whole one
 own_nodes-whole : (at : ℕ) (parent : Option ℕ) (g : OpenGame) → nodes_from at parent (whole_game g) ≡ own_nodes at parent g
@@ -85,29 +70,21 @@ open_nodes-closed closed g (h ∷ hs) =
     ∙ ap (λ rs. before ++ rs) (sym (append_assoc own (nodes_from (last + 1) (Some last) h.below) (own_nodes (at + 1 + length h.more + node_count h.below) (Some last) g)))
     ∙ sym (append_assoc before (own ++ nodes_from (last + 1) (Some last) h.below) (own_nodes (at + 1 + length h.more + node_count h.below) (Some last) g))
 
-lasts-whole : (at : ℕ) (g : OpenGame) → lasts at (whole_game g) ≡ replicate (1 + length g.more) (at + length g.more + node_count g.below) ++ lasts (at + 1 + length g.more) g.below
-lasts-whole at g =
-    append-nil (replicate (1 + length g.more) (at + length g.more + node_count g.below) ++ lasts (at + 1 + length g.more) g.below)
+lasts-whole : (at : ℕ) (g : OpenGame) → lasts at (whole_game g) ≡ (at + length g.more + node_count g.below) ∷ lasts (at + 1 + length g.more) g.below
+lasts-whole at g = append-nil ((at + length g.more + node_count g.below) ∷ lasts (at + 1 + length g.more) g.below)
 
--- the last nodes below, once a game's own nodes got them
+-- the last nodes below, once a game is closed
 pub open_lasts-closed : (closed : Games) (g : OpenGame) (gs : List OpenGame)
     → open_lasts (add_games closed gs (whole_game g)).closed (add_games closed gs (whole_game g)).unclosed
-    ≡ open_lasts closed gs ++ replicate (1 + length g.more) (open_count closed gs + length g.more + node_count g.below) ++ lasts (open_count closed gs + 1 + length g.more) g.below
+    ≡ open_lasts closed gs ++ (open_count closed gs + length g.more + node_count g.below) ∷ lasts (open_count closed gs + 1 + length g.more) g.below
 open_lasts-closed closed g [] =
-    let m : ℕ = length g.more in
-    let n : ℕ = node_count closed in
-    let e : 0 + n ≡ n = omega arith in
-    lasts-followed 0 closed (whole_game g) ∙ ap (λ k. lasts 0 closed ++ lasts k (whole_game g)) e
-    ∙ ap (λ ls. lasts 0 closed ++ ls) (lasts-whole n g)
-    ∙ sym (append_assoc (lasts 0 closed) (replicate (1 + m) (n + m + node_count g.below)) (lasts (n + 1 + m) g.below))
+    let e : 0 + node_count closed ≡ node_count closed = omega arith in
+    lasts-followed 0 closed (whole_game g) ∙ ap (λ k. lasts 0 closed ++ lasts k (whole_game g)) e ∙ ap (λ ls. lasts 0 closed ++ ls) (lasts-whole (node_count closed) g)
 open_lasts-closed closed g (h ∷ hs) =
-    let m : ℕ = length g.more in
     let next : ℕ = open_count closed hs + 1 + length h.more in
     let n : ℕ = next + node_count h.below in
-    let before : List ℕ = open_lasts closed hs ++ replicate (1 + length h.more) 0 in
-    ap (λ ls. before ++ ls) (lasts-followed next h.below (whole_game g) ∙ ap (λ ls. lasts next h.below ++ ls) (lasts-whole n g))
-    ∙ sym (append_assoc before (lasts next h.below) (replicate (1 + m) (n + m + node_count g.below) ++ lasts (n + 1 + m) g.below))
-    ∙ sym (append_assoc (before ++ lasts next h.below) (replicate (1 + m) (n + m + node_count g.below)) (lasts (n + 1 + m) g.below))
+    ap (λ ls. open_lasts closed hs ++ 0 ∷ ls) (lasts-followed next h.below (whole_game g) ∙ ap (λ ls. lasts next h.below ++ ls) (lasts-whole n g))
+    ∙ sym (append_assoc (open_lasts closed hs) (0 ∷ lasts next h.below) ((n + length g.more + node_count g.below) ∷ lasts (n + 1 + length g.more) g.below))
 
 -- one more node of a game
 further_nodes-more : (last : ℕ) (ns : List Node) (n : Node) → further_nodes last (ns ++ n ∷ []) ≡ further_nodes last ns ++ record { node = n; parent = Some (last + length ns); opens = false } ∷ []
@@ -115,9 +92,6 @@ further_nodes-more last [] n = let e : last + 0 ≡ last = omega arith in rw e
 further_nodes-more last (m ∷ ns) n =
     let e : last + 1 + length ns ≡ last + length (m ∷ ns) = omega arith in
     ap (λ rs. record { node = m; parent = Some last; opens = false } ∷ rs) (further_nodes-more (last + 1) ns n ∙ ap (λ k. further_nodes (last + 1) ns ++ record { node = n; parent = Some k; opens = false } ∷ []) e)
-
-pub open_lasts-new_game : (closed : Games) (gs : List OpenGame) (n : Node) → open_lasts closed (new_game n ∷ gs) ≡ open_lasts closed gs ++ 0 ∷ []
-open_lasts-new_game closed gs n = append-nil (open_lasts closed gs ++ 0 ∷ [])
 
 pub open_nodes-more : (closed : Games) (g : OpenGame) (gs : List OpenGame) (n : Node) → g.below ≡ no_games
     → open_nodes closed (record { first = g.first; more = g.more ++ n ∷ []; below = g.below } ∷ gs)
@@ -133,13 +107,5 @@ open_nodes-more closed g gs n none =
     ∙ ap (λ rs. open_nodes closed gs ++ rs ++ new ∷ []) (sym (append-nil (r ∷ further_nodes at g.more))))
 
 pub open_lasts-more : (closed : Games) (g : OpenGame) (gs : List OpenGame) (n : Node) → g.below ≡ no_games
-    → open_lasts closed (record { first = g.first; more = g.more ++ n ∷ []; below = g.below } ∷ gs) ≡ open_lasts closed (g ∷ gs) ++ 0 ∷ []
-open_lasts-more closed g gs n none =
-    let e : 1 + length (g.more ++ n ∷ []) ≡ (1 + length g.more) + 1 = omega (arith, length-append g.more (n ∷ [])) in
-    let before : List ℕ = open_lasts closed gs in
-    rw none
-    (append-nil (before ++ replicate (1 + length (g.more ++ n ∷ [])) 0)
-    ∙ ap (λ k. before ++ replicate k 0) e
-    ∙ ap (λ ls. before ++ ls) (sym (replicate_more (1 + length g.more) 0))
-    ∙ sym (append_assoc before (replicate (1 + length g.more) 0) (0 ∷ []))
-    ∙ ap (λ ls. ls ++ 0 ∷ []) (sym (append-nil (before ++ replicate (1 + length g.more) 0))))
+    → open_lasts closed (record { first = g.first; more = g.more ++ n ∷ []; below = g.below } ∷ gs) ≡ open_lasts closed (g ∷ gs)
+open_lasts-more closed g gs n none = rw none

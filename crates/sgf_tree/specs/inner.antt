@@ -2,8 +2,8 @@
 pub mod TreeCode
 pub mod Machine
 pub mod Layout
-pub mod Packing
 pub mod Sequences
+pub mod Packing
 pub mod NodeText
 pub mod Progress
 pub mod Literals

@@ -248,7 +248,7 @@ impl<'a> Collection<'a> {
     {
         match self.nodes.link(i) {
             Link::Root(_) => None,
-            Link::Variation(parent) => Some(parent as usize),
+            Link::Variation(tip) => Some(tip.node as usize),
             Link::Next { .. } => Some(i - 1),
         }
     }
@@ -278,7 +278,7 @@ impl<'a> Collection<'a> {
         'climb: loop {
             match self.nodes.link(at) {
                 Link::Root(game) => return game as usize,
-                Link::Variation(parent) => at = parent as usize,
+                Link::Variation(tip) => at = tip.node as usize,
                 Link::Next { .. } => at -= 1,
             }
         }

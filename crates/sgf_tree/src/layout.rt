@@ -1,15 +1,24 @@
-//! What a collection knows of a node, and of a long value. `nodes` says how a node is kept in 8 bytes.
+//! What a collection knows of a node, and of a long value. `nodes` says how a node is kept in 4 bytes.
 
 ghost use Rattle.std.specs.Prelude.{◌≡◌, true, IsTrue};
 ghost use Rattle.sgf_tree.specs.declared.layout.Link.TheVariants.{Next};
+
+/// The last own node of a game. A game that begins below it is a variation.
+#[derive(Clone, Copy)]
+pub(crate) struct Tip {
+    /// The number of the sequence that it ends.
+    pub sequence: u32,
+    /// Its own number.
+    pub node: u32,
+}
 
 /// How a node follows the nodes before it.
 #[derive(Clone, Copy)]
 pub(crate) enum Link {
     /// It is the root of the game with this number, from 1.
     Root(u32),
-    /// It is the first node after a `(`, and the node with this number is its parent.
-    Variation(u32),
+    /// It is the first node after a `(`, and this node is its parent.
+    Variation(Tip),
     /// The node before it in the file is its parent. If `beside` is true, the text from the
     /// parent's `;` up to this node's `;` already has the sgf form.
     Next { beside: bool },
@@ -33,8 +42,6 @@ pub(crate) struct NodeEntry {
     /// The offset of its `;` in bytes, from 0.
     pub place: u32,
     pub link: Link,
-    /// The greatest number among the node and the nodes below it.
-    pub last_below: u32,
 }
 
 /// A long raw value, in 8 bytes. Its length is kept, so that the value's end isn't searched for again.

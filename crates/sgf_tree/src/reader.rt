@@ -7,6 +7,7 @@ ghost use Rattle.std.specs.Prelude.{◌≡◌, ◌<◌, ◌≤◌, ◌↔◌, []
 ghost use Rattle.sgf_tree.specs.Spelling.{Spells};
 ghost use Rattle.sgf_tree.specs.Refusal.{IsFaultyWhereNotSgf};
 ghost use Rattle.sgf_tree.specs.inner.Progress.{IsTrueFault};
+ghost use Rattle.sgf_tree.specs.inner.Sequences.{no_nodes};
 ghost use Rattle.sgf_tree.specs.inner.KeptEnds.{AreKeptEnds};
 ghost use Rattle.sgf_tree.specs.inner.GamesRead.{ReadsWhole};
 
@@ -57,7 +58,7 @@ pub fn read<'a>(alloc: Global, text: &'a [u8]) -> Result<Collection<'a>, ReadFau
 /// Reads a whole text. Returns the number of its games.
 fn read_whole(text: &[u8], nodes: &mut Nodes, long: &mut Vec<LongValue>) -> Result<u32, PartFault>
     requires short { length text.now ≤ MAX_LENGTH }
-    requires nothing_read { nodes.old ≡ [] }
+    requires nothing_read { nodes.old ≡ no_nodes }
     requires nothing_kept { long.old.items ≡ [] }
     ensures read { IfOk result (ReadsWhole text.now nodes.new) }
     ensures fault { IfErr result (IsTrueFault text.now) }

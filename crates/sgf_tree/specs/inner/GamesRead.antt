@@ -1,17 +1,19 @@
 -- How the nodes and games of a text were read: words of the contracts in `reader::games`.
-use Rattle.std.specs.Prelude.{◌≡◌, ℕ, ◌+◌, ◌-◌, ◌<◌, ◌≤◌, ◌⊎◌, Bool, true, false, List, [], ◌∷◌, ◌++◌, length, map, take, drop, replicate, All, slice_get, slice_index, Option, Some, None, option_map}
+use Rattle.std.specs.Prelude.{◌≡◌, ℕ, ◌+◌, ◌<◌, ◌≤◌, ◌⊎◌, true, false, List, [], ◌∷◌, ◌++◌, length, map, All, slice_get, slice_index, Option, Some, None, option_map}
 use Rattle.sgf_tree.specs.Bytes.{semicolon}
 use Rattle.sgf_tree.specs.Tree.{Games, no_games, game, game_count, node_count}
 use Rattle.sgf_tree.specs.Spelling.{is_white_space}
 use Rattle.sgf_tree.specs.FileOrder.{OrderedNode, further_nodes, nodes_from, game_of}
 use Rattle.sgf_tree.specs.inner.Machine.{OpenGame, Stack, MachineState, opened, after_game, between_games, next_state, accepted}
-use Rattle.sgf_tree.specs.inner.Layout.{parent_by, opens_by, outline, outlines_by, AreBeside}
+use Rattle.sgf_tree.specs.inner.Layout.{outline, outlines_by, AreBeside}
+use Rattle.sgf_tree.specs.inner.Sequences.{tip_by, KeptNodes, with_node}
 use Rattle.sgf_tree.specs.inner.NodeText.{AreWritten}
 use Rattle.sgf_tree.specs.inner.Progress.{ComesTo, IsTrueFault}
 use Rattle.sgf_tree.specs.inner.PropertiesRead.{ArePropertiesRead}
 use Rattle.sgf_tree.specs.declared.layout.Link.{Link}
 use Rattle.sgf_tree.specs.declared.layout.Link.TheVariants.{Root, Variation, Next}
 use Rattle.sgf_tree.specs.declared.layout.NodeEntry.{NodeEntry}
+use Rattle.sgf_tree.specs.declared.layout.Tip.{Tip}
 use Rattle.sgf_tree.specs.declared.reader.fault.PartFault.{PartFault}
 
 -- how many nodes the closed and the open games have
@@ -35,36 +37,50 @@ abbrev pub open_nodes : Games → List OpenGame → List OrderedNode
 open_nodes closed [] = nodes_from 0 None closed
 open_nodes closed (inmost ∷ outer) = open_nodes closed outer ++ own_nodes (open_count closed outer) (tip closed outer) inmost
 
--- for each node in file order, the last node below it; the first node has the number `number`
+-- for each sequence in file order, the last of its nodes and those below them; the first node has the number `number`
 abbrev pub lasts : ℕ → Games → List ℕ
 lasts number no_games = []
 lasts number (game first more below after) =
     let next = number + 1 + length more in
-    replicate (1 + length more) (number + length more + node_count below) ++ lasts next below ++ lasts (next + node_count below) after
+    (number + length more + node_count below) ∷ lasts next below ++ lasts (next + node_count below) after
 
--- the same for the closed and the open games, but each own node of an open game has 0
+-- the same for the closed and the open games, but that of an open game has 0
 abbrev pub open_lasts : Games → List OpenGame → List ℕ
 open_lasts closed [] = lasts 0 closed
 open_lasts closed (inmost ∷ outer) =
-    open_lasts closed outer ++ replicate (1 + length inmost.more) 0 ++ lasts (open_count closed outer + 1 + length inmost.more) inmost.below
+    open_lasts closed outer ++ 0 ∷ lasts (open_count closed outer + 1 + length inmost.more) inmost.below
+
+-- the last own node of the innermost open game, and its sequence
+abbrev pub innermost : Games → List OpenGame → Option Tip
+innermost closed [] = None
+innermost closed (inmost ∷ outer) =
+    Some (record { sequence = length (open_lasts closed outer); node = open_count closed outer + length inmost.more })
+
+-- the first node of each open game has its link
+abbrev pub AreOpen : Games → List OpenGame → List Link → Type 0
+AreOpen closed [] openings = Unit
+AreOpen closed (inmost ∷ outer) openings =
+    (option_map tip_by (slice_get openings (length (open_lasts closed outer))) ≡ Some (innermost closed outer)) × AreOpen closed outer openings
 
 -- the node is the root of the game with this number, which is a closed game or the next one after the closed games
 abbrev pub IsRootOf : Games → ℕ → ℕ → Type 0
 IsRootOf closed node_number game_number =
     ((node_number < node_count closed) × (game_of closed node_number ≡ game_number)) ⊎ ((node_number ≡ node_count closed) × (game_number ≡ game_count closed + 1))
 
--- the entries hold the games of the stack
-pub record HoldStack (text : List ℕ) (stack : Stack) (nodes : List NodeEntry) : Type 0 where
-  pub same_order : map outline (open_nodes stack.closed stack.unclosed) ≡ outlines_by 0 nodes
-  pub same_lasts : open_lasts stack.closed stack.unclosed ≡ map (λ (n : NodeEntry). n.last_below) nodes
-  pub places_within : All (λ (n : NodeEntry). n.place < length text) nodes
-  pub beside : AreBeside text nodes
-  pub roots : (node_number : ℕ) (entry : NodeEntry) (game_number : ℕ) → slice_get nodes node_number ≡ Some entry → entry.link ≡ Root game_number → IsRootOf stack.closed node_number game_number
+-- the kept nodes are those of the games of the stack
+pub record HoldStack (text : List ℕ) (stack : Stack) (kept : KeptNodes) : Type 0 where
+  pub same_order : map outline (open_nodes stack.closed stack.unclosed) ≡ outlines_by 0 kept.nodes
+  pub same_lasts : open_lasts stack.closed stack.unclosed ≡ kept.lasts
+  pub same_count : length kept.openings ≡ length kept.lasts
+  pub opens : AreOpen stack.closed stack.unclosed kept.openings
+  pub places_within : All (λ (n : NodeEntry). n.place < length text) kept.nodes
+  pub beside : AreBeside text kept.nodes
+  pub roots : (node_number : ℕ) (entry : NodeEntry) (game_number : ℕ) → slice_get kept.nodes node_number ≡ Some entry → entry.link ≡ Root game_number → IsRootOf stack.closed node_number game_number
 
 -- the link of the first node of a game that begins when the machine has this stack
 abbrev pub IsOpening : Stack → Link → Type 0
 IsOpening stack (Root game_number) = (stack.unclosed ≡ []) × (game_number ≡ game_count stack.closed + 1)
-IsOpening stack (Variation parent) = tip stack.closed stack.unclosed ≡ Some parent
+IsOpening stack (Variation tip) = innermost stack.closed stack.unclosed ≡ Some tip
 IsOpening stack (Next beside) = ⊥
 
 -- the machine has the games of the stack, and a `(`, a `)` or the end of the text may come next
@@ -76,48 +92,26 @@ pub record StandsBetween (text : List ℕ) (at : ℕ) (stack : Stack) : Type 0 w
   pub not_white_space : at < length text → is_white_space (slice_index text at) ≡ false
 
 -- the node whose `;` is at `place` was read up to `end`
-pub record IsNodeRead (text : List ℕ) (place end : ℕ) (link : Link) (old new : List NodeEntry) : Type 0 where
+pub record IsNodeRead (text : List ℕ) (place end : ℕ) (link : Link) (old new : KeptNodes) : Type 0 where
   pub properties : ArePropertiesRead text (place + 1) end
-  pub pushed : new ≡ old ++ record { place = place; link = link; last_below = 0 } ∷ []
+  pub pushed : new ≡ with_node old place link
 
 -- Nodes that follow one another were read from `at` to `end`. Each of them is beside the one before it, and the last one has the sgf
 -- form too.
-pub data AreBesideRead : List ℕ → ℕ → ℕ → List NodeEntry → List NodeEntry → Type 0 where
-  none_read : {text : List ℕ} {at : ℕ} {nodes : List NodeEntry} → AreBesideRead text at at nodes nodes
-  one_more : {text : List ℕ} {at place end : ℕ} {old nodes new : List NodeEntry} → AreBesideRead text at place old nodes → place < length text
+pub data AreBesideRead : List ℕ → ℕ → ℕ → KeptNodes → KeptNodes → Type 0 where
+  none_read : {text : List ℕ} {at : ℕ} {nodes : KeptNodes} → AreBesideRead text at at nodes nodes
+  one_more : {text : List ℕ} {at place end : ℕ} {old nodes new : KeptNodes} → AreBesideRead text at place old nodes → place < length text
       → slice_index text place ≡ semicolon → IsNodeRead text place end (Next true) nodes new → AreWritten text (place + 1) end → AreBesideRead text at end old new
 
 -- after a `(` at this stack, the own nodes of a game were read up to `end`
-pub record IsSequenceRead (text : List ℕ) (end : ℕ) (stack : Stack) (nodes : List NodeEntry) : Type 0 where
+pub record IsSequenceRead (text : List ℕ) (end : ℕ) (stack : Stack) (nodes : KeptNodes) : Type 0 where
   pub last : OpenGame
   pub stands : StandsBetween text end (record { closed = stack.closed; unclosed = last ∷ stack.unclosed })
   pub held : HoldStack text (record { closed = stack.closed; unclosed = last ∷ stack.unclosed }) nodes
   pub nothing_below : last.below ≡ no_games
 
--- whether the node with this number is the first after a `(`
-abbrev pub opens_at : List NodeEntry → ℕ → Option Bool
-opens_at nodes number = option_map (λ (n : NodeEntry). opens_by n.link) (slice_get nodes number)
-
--- the nodes from `first` to `last` are the own nodes of a game
-pub record AreOwnNodes (nodes : List NodeEntry) (first last : ℕ) : Type 0 where
-  pub rises : first ≤ last
-  pub begins : opens_at nodes first ≡ Some true
-  pub goes_on : (number : ℕ) → first < number → number ≤ last → opens_at nodes number ≡ Some false
-
--- the entry without the number of the last node below it
-abbrev pub without_last : NodeEntry → NodeEntry
-without_last entry = record { place = entry.place; link = entry.link; last_below = 0 }
-
--- The nodes from `first` to `last` now have the number of the newest node as their `last_below`.
--- Nothing else changed. `parent` is the parent of the node `first`.
-pub record ClosesGame (old new : List NodeEntry) (first last : ℕ) (parent : Option ℕ) : Type 0 where
-  pub same : map without_last new ≡ map without_last old
-  pub lasts_are : map (λ (n : NodeEntry). n.last_below) new
-      ≡ take first (map (λ (n : NodeEntry). n.last_below) old) ++ replicate (last + 1 - first) (length old - 1) ++ drop (last + 1) (map (λ (n : NodeEntry). n.last_below) old)
-  pub parent_is : option_map (λ (n : NodeEntry). parent_by n.link first) (slice_get old first) ≡ Some parent
-
 -- a text that spells the collection `games` was read, and the entries hold it
-pub record IsRead (text : List ℕ) (games : Games) (nodes : List NodeEntry) : Type 0 where
+pub record IsRead (text : List ℕ) (games : Games) (nodes : KeptNodes) : Type 0 where
   pub reached : MachineState
   pub whole : ComesTo text (length text) reached
   pub accepts : accepted reached ≡ Some games
@@ -133,15 +127,15 @@ pub record IsMarkRead (text : List ℕ) (at : ℕ) : Type 0 where
   pub end : accepted state ≡ accepted (after_game (record { closed = no_games; unclosed = [] }))
 
 -- If the machine has the games of a stack and `at` is just after a `(`, the own nodes of this new game were read up to `end`.
-abbrev pub ReadsSequence : List ℕ → ℕ → ℕ → Link → List NodeEntry → List NodeEntry → Type 0
+abbrev pub ReadsSequence : List ℕ → ℕ → ℕ → Link → KeptNodes → KeptNodes → Type 0
 ReadsSequence text at end link old new =
     (stack : Stack) → ComesTo text at (opened stack) → HoldStack text stack old → IsOpening stack link → IsSequenceRead text end stack new
 
 -- in the same case, the fault is the first one of the text
-abbrev pub IsFaultInSequence : List ℕ → ℕ → Link → List NodeEntry → PartFault → Type 0
+abbrev pub IsFaultInSequence : List ℕ → ℕ → Link → KeptNodes → PartFault → Type 0
 IsFaultInSequence text at link old fault =
     (stack : Stack) → ComesTo text at (opened stack) → HoldStack text stack old → IsOpening stack link → IsTrueFault text fault
 
 -- a whole text was read, and has this many games
-abbrev pub ReadsWhole : List ℕ → List NodeEntry → ℕ → Type 0
+abbrev pub ReadsWhole : List ℕ → KeptNodes → ℕ → Type 0
 ReadsWhole text new count = (games : Games) × (count ≡ game_count games) × IsRead text games new

@@ -1,10 +1,11 @@
 -- How a list of entries holds the collection that a text spells. The properties of a node are read from the text again.
-use Rattle.std.specs.Prelude.{◌≡◌, ℕ, ◌+◌, ◌-◌, ◌<◌, ◌≤◌, Bool, true, false, List, [], ◌∷◌, length, map, All, get_or, slice_get, Option, Some, None, unwrap_or}
+use Rattle.std.specs.Prelude.{◌≡◌, ℕ, ◌+◌, ◌-◌, ◌<◌, ◌≤◌, Bool, true, List, [], ◌∷◌, length, map, All, get_or, slice_get, Option, Some, None, unwrap_or}
 use Rattle.sgf_tree.specs.Tree.{Games, no_games, game_count}
-use Rattle.sgf_tree.specs.FileOrder.{OrderedNode, ordered_nodes, game_of, IsLastBelow}
+use Rattle.sgf_tree.specs.FileOrder.{OrderedNode, ordered_nodes, game_of, IsLastBelow, sequence_starts, sequence_start, sequence_end}
 use Rattle.sgf_tree.specs.Spelling.{Spells}
 use Rattle.sgf_tree.specs.inner.Machine.{collection_of}
 use Rattle.sgf_tree.specs.inner.NodeText.{IsNodeWritten}
+use Rattle.sgf_tree.specs.inner.Sequences.{opens_by, KeptNodes}
 use Rattle.sgf_tree.specs.declared.fault.TheConstants.{MAX_LENGTH}
 use Rattle.sgf_tree.specs.declared.layout.Link.{Link}
 use Rattle.sgf_tree.specs.declared.layout.Link.TheVariants.{Root, Variation, Next}
@@ -17,14 +18,8 @@ games_in text = unwrap_or (collection_of text) no_games
 -- the parent of the node with this number, by its link
 abbrev pub parent_by : Link → ℕ → Option ℕ
 parent_by (Root game) number = None
-parent_by (Variation parent) number = Some parent
+parent_by (Variation tip) number = Some tip.node
 parent_by (Next beside) number = Some (number - 1)
-
--- whether a node with this link is the first after a `(`
-abbrev pub opens_by : Link → Bool
-opens_by (Root game) = true
-opens_by (Variation parent) = true
-opens_by (Next beside) = false
 
 -- an ordered node without its properties
 pub record Outline : Type 0 where
@@ -51,13 +46,15 @@ AreBeside text nodes =
     (number : ℕ) (default : NodeEntry) → number + 1 < length nodes → (get_or nodes (number + 1) default).link ≡ Next true
     → IsNodeWritten text (get_or nodes number default).place (get_or nodes (number + 1) default).place
 
--- the entries hold the collection that the text spells
-pub record IsLaidOut (text : List ℕ) (games : ℕ) (nodes : List NodeEntry) : Type 0 where
+-- the kept nodes are those of the collection that the text spells
+pub record IsLaidOut (text : List ℕ) (games : ℕ) (kept : KeptNodes) : Type 0 where
   pub short : length text ≤ MAX_LENGTH
   pub spelled : Spells (games_in text) text
   pub games_counted : games ≡ game_count (games_in text)
-  pub same_order : map outline (ordered_nodes (games_in text)) ≡ outlines_by 0 nodes
-  pub games_numbered : (number : ℕ) (entry : NodeEntry) (game_number : ℕ) → slice_get nodes number ≡ Some entry → entry.link ≡ Root game_number → game_of (games_in text) number ≡ game_number
-  pub last_known : (number : ℕ) (entry : NodeEntry) → slice_get nodes number ≡ Some entry → IsLastBelow (games_in text) number entry.last_below
-  pub places_within : All (λ (n : NodeEntry). n.place < length text) nodes
-  pub beside : AreBeside text nodes
+  pub same_order : map outline (ordered_nodes (games_in text)) ≡ outlines_by 0 kept.nodes
+  pub games_numbered : (number : ℕ) (entry : NodeEntry) (game_number : ℕ) → slice_get kept.nodes number ≡ Some entry → entry.link ≡ Root game_number → game_of (games_in text) number ≡ game_number
+  pub last_known : (sequence number last : ℕ) → sequence_start (games_in text) sequence ≤ number → number < sequence_end (games_in text) sequence
+      → slice_get kept.lasts sequence ≡ Some last → IsLastBelow (games_in text) number last
+  pub sequences_counted : length kept.lasts ≡ length (sequence_starts (games_in text))
+  pub places_within : All (λ (n : NodeEntry). n.place < length text) kept.nodes
+  pub beside : AreBeside text kept.nodes

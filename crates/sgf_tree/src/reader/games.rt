@@ -1,17 +1,18 @@
 //! Reading nodes and games.
 
-ghost use Rattle.std.specs.Prelude.{◌≡◌, ◌<◌, ◌≤◌, ◌+◌, ℕ, [], length, IsTrue, IfOk, IfErr, OnOk};
+ghost use Rattle.std.specs.Prelude.{◌≡◌, ◌<◌, ◌≤◌, ◌+◌, [], length, IsTrue, IfOk, IfErr, OnOk};
 ghost use Rattle.sgf_tree.specs.Tree.{no_games, game_count};
 ghost use Rattle.sgf_tree.specs.inner.Machine.{Stack};
 ghost use Rattle.sgf_tree.specs.inner.Progress.{IsTrueFault};
 ghost use Rattle.sgf_tree.specs.inner.KeptEnds.{AreKeptEnds};
 ghost use Rattle.sgf_tree.specs.inner.NodeText.{AreWritten};
+ghost use Rattle.sgf_tree.specs.inner.Sequences.{no_nodes};
 ghost use Rattle.sgf_tree.specs.inner.PropertiesRead.{IsFaultInNode};
-ghost use Rattle.sgf_tree.specs.inner.GamesRead.{tip, IsOpening, AreOwnNodes, ClosesGame};
+ghost use Rattle.sgf_tree.specs.inner.GamesRead.{innermost, IsOpening};
 ghost use Rattle.sgf_tree.specs.inner.GamesRead.{StandsBetween, IsNodeRead, AreBesideRead, ReadsSequence, ReadsWhole, IsFaultInSequence};
 
 use crate::fault::{MAX_LENGTH, MemoryFault};
-use crate::layout::{Link, LongValue};
+use crate::layout::{Link, LongValue, Tip};
 use crate::nodes::Nodes;
 use crate::reader::fault::PartFault;
 use crate::reader::properties::{
@@ -30,7 +31,7 @@ pub(crate) fn read_games(
     requires short { length text.now ≤ MAX_LENGTH }
     requires within { at ≤ length text.now }
     requires begins { StandsBetween text.now at (record { closed = no_games; unclosed = [] }) }
-    requires nothing_read { nodes.old ≡ [] }
+    requires nothing_read { nodes.old ≡ no_nodes }
     requires kept { AreKeptEnds text.now long.old.items }
     ensures read { IfOk result (ReadsWhole text.now nodes.new) }
     ensures fault { IfErr result (IsTrueFault text.now) }
@@ -42,14 +43,18 @@ pub(crate) fn read_games(
     'games: while at < text.len() {
         match text[at] {
             b'(' => {
+                let sequence = nodes.sequences() as u32;
                 at = read_sequence(text, at + 1, opening_link(games, tip), nodes, long)?;
-                tip = Some((nodes.len() - 1) as u32);
+                tip = Some(Tip {
+                    sequence,
+                    node: (nodes.len() - 1) as u32,
+                });
             }
             b')' => {
                 let Some(last) = tip else {
                     return Err(PartFault::NotSgf(at));
                 };
-                tip = close_game(nodes, last);
+                tip = nodes.close(last.sequence);
                 if tip.is_none() {
                     games += 1;
                 }
@@ -64,14 +69,14 @@ pub(crate) fn read_games(
     Ok(games)
 }
 
-/// The link of a game's first node, after `games` finished games. `innermost` is the last node of the innermost open game, or
+/// The link of a game's first node, after `games` finished games. `tip` is the last own node of the innermost open game, or
 /// None if no game is open.
-fn opening_link(games: u32, innermost: Option<u32>) -> Link
+fn opening_link(games: u32, tip: Option<Tip>) -> Link
     requires { games < MAX_LENGTH }
-    ensures { (k : Stack) → tip k.closed k.unclosed ≡ innermost → game_count k.closed ≡ games
+    ensures { (k : Stack) → innermost k.closed k.unclosed ≡ tip → game_count k.closed ≡ games
         → IsOpening k result }
 {
-    match innermost {
+    match tip {
         None => Link::Root(games + 1),
         Some(parent) => Link::Variation(parent),
     }
@@ -89,10 +94,10 @@ fn read_sequence(
 ) -> Result<usize, PartFault>
     requires short { length text.now ≤ MAX_LENGTH }
     requires within { at ≤ length text.now }
-    requires room { length nodes.old ≤ at }
+    requires room { length nodes.old.nodes ≤ at }
     requires kept { AreKeptEnds text.now long.old.items }
     ensures read { IfOk result (λ end. ReadsSequence text.now at end link nodes.old nodes.new) }
-    ensures room { IfOk result (λ end. length nodes.new ≤ end) }
+    ensures room { IfOk result (λ end. length nodes.new.nodes ≤ end) }
     ensures rises { IfOk result (λ end. at ≤ end) }
     ensures within { IfOk result (λ end. end ≤ length text.now) }
     ensures fault { IfErr result (IsFaultInSequence text.now at link nodes.old) }
@@ -137,11 +142,11 @@ fn read_sequence(
 fn read_moves(text: &[u8], at: usize, nodes: &mut Nodes) -> Result<usize, MemoryFault>
     requires short { length text.now ≤ MAX_LENGTH }
     requires within { at ≤ length text.now }
-    requires room { length nodes.old ≤ at }
+    requires room { length nodes.old.nodes ≤ at }
     ensures read { IfOk result (λ end. AreBesideRead text.now at end nodes.old nodes.new) }
     ensures rises { IfOk result (λ end. at ≤ end) }
     ensures within { IfOk result (λ end. end ≤ length text.now) }
-    ensures room { IfOk result (λ end. length nodes.new ≤ end) }
+    ensures room { IfOk result (λ end. length nodes.new.nodes ≤ end) }
 {
     if text.len() - at > NEAR && text[at] == b';' && text[at + 6] == b';' {
         read_more_moves(text, at, nodes)
@@ -155,11 +160,11 @@ fn read_moves(text: &[u8], at: usize, nodes: &mut Nodes) -> Result<usize, Memory
 fn read_more_moves(text: &[u8], at: usize, nodes: &mut Nodes) -> Result<usize, MemoryFault>
     requires short { length text.now ≤ MAX_LENGTH }
     requires within { at ≤ length text.now }
-    requires room { length nodes.old ≤ at }
+    requires room { length nodes.old.nodes ≤ at }
     ensures read { IfOk result (λ end. AreBesideRead text.now at end nodes.old nodes.new) }
     ensures rises { IfOk result (λ end. at ≤ end) }
     ensures within { IfOk result (λ end. end ≤ length text.now) }
-    ensures room { IfOk result (λ end. length nodes.new ≤ end) }
+    ensures room { IfOk result (λ end. length nodes.new.nodes ≤ end) }
 {
     let mut end = at;
     'pairs: while text.len() - end > NEAR
@@ -185,7 +190,7 @@ fn read_node(
 ) -> Result<PartRead, PartFault>
     requires short { length text.now ≤ MAX_LENGTH }
     requires within { place < length text.now }
-    requires room { length nodes.old ≤ place }
+    requires room { length nodes.old.nodes ≤ place }
     requires kept { AreKeptEnds text.now long.old.items }
     ensures read { IfOk result (λ read. IsNodeRead text.now place read.end link nodes.old nodes.new) }
     ensures written { IfOk result (λ read. IsTrue read.as_written → AreWritten text.now (place + 1) read.end) }
@@ -199,24 +204,4 @@ fn read_node(
     };
     nodes.push(place as u32, link)?;
     Ok(read)
-}
-
-/// Stores the number of the newest node as `last_below` in each own node of a game.
-/// `tip` is the last own node. Returns the parent of the first own node.
-fn close_game(nodes: &mut Nodes, tip: u32) -> Option<u32>
-    requires few { length nodes.old ≤ MAX_LENGTH }
-    requires within { tip < length nodes.old }
-    requires own { (first : ℕ) × AreOwnNodes nodes.old first tip }
-    ensures { (first : ℕ) → AreOwnNodes nodes.old first tip
-        → ClosesGame nodes.old nodes.new first tip result }
-{
-    let last = (nodes.len() - 1) as u32;
-    let mut at = tip as usize;
-    'own: loop {
-        match nodes.set_last_below(at, last) {
-            Link::Root(_) => return None,
-            Link::Variation(parent) => return Some(parent),
-            Link::Next { .. } => at -= 1,
-        }
-    }
 }

@@ -15,13 +15,13 @@ returns-in-Root c =
 pub climb-smaller-in-Variation : goal.climb-smaller-in-Variation
 climb-smaller-in-Variation c =
     let x = entry-with c.self.inside c.self.invariant.0 _ c.self.view_is (λ (n : NodeEntry). n.link) c.climb.at _ c.climb.invariant.in_range c.in-Variation.ensures in
-    let up = game-held c.self.inside c.self.invariant.0 _ c.self.view_is c.climb.at c.in-Variation.parent x.0 _ c.climb.invariant.in_range x.1 x.2 refl in
+    let up = game-held c.self.inside c.self.invariant.0 _ c.self.view_is c.climb.at c.in-Variation.tip.node x.0 _ c.climb.invariant.in_range x.1 x.2 refl in
     up.0
 
 pub climb-preserved-in-Variation : goal.climb-preserved-in-Variation
 climb-preserved-in-Variation c =
     let x = entry-with c.self.inside c.self.invariant.0 _ c.self.view_is (λ (n : NodeEntry). n.link) c.climb.at _ c.climb.invariant.in_range c.in-Variation.ensures in
-    let up = game-held c.self.inside c.self.invariant.0 _ c.self.view_is c.climb.at c.in-Variation.parent x.0 _ c.climb.invariant.in_range x.1 x.2 refl in
+    let up = game-held c.self.inside c.self.invariant.0 _ c.self.view_is c.climb.at c.in-Variation.tip.node x.0 _ c.climb.invariant.in_range x.1 x.2 refl in
     record { in_range = omega (arith, up.0); same_game = up.1 ∙ c.climb.invariant.same_game }
 
 pub overflow_sub-at : goal.overflow_sub-at

@@ -1,41 +1,57 @@
-use Rattle.std.proofs.Common.{◌≡◌, ◌∷◌, ◌++◌, [], true, not, is_ok, length, map, refl, sym, ap, subst, ◌∙◌, arith, length-append}
+use Rattle.std.proofs.Common.{◌≡◌, ◌+◌, ◌∷◌, ◌++◌, [], true, not, is_ok, length, map, sym, ap, subst, ◌∙◌, arith}
 use Rattle.std.proofs.lemmas.List.{length-map, map_push}
 use Rattle.sgf_tree.specs.declared.layout.NodeEntry.{NodeEntry}
 use Rattle.sgf_tree.specs.declared.nodes.Sequence.{Sequence}
-use Rattle.sgf_tree.specs.inner.Packing.{node_of, link_by}
-use Rattle.sgf_tree.specs.inner.Sequences.{links_of, AreSequencesOf}
-use Rattle.sgf_tree.proofs.Packing.{packed_by, firsts-push, nodes-push, first-opens}
-use Rattle.sgf_tree.proofs.Sequences.{sequences-first}
+use Rattle.sgf_tree.specs.inner.Packing.{opening, entries_of, AreSequencesOf}
+use Rattle.sgf_tree.specs.inner.Sequences.{links_of}
+use Rattle.sgf_tree.proofs.Packing.{numbers_of, kept-same, kept-length, entries-length, entries-first}
+use Rattle.sgf_tree.proofs.Rises.{Rises}
+use Rattle.sgf_tree.proofs.Sequences.{all-rise, sequences-first}
 use Rattle.sgf_tree.proofs.nodes.Nodes.push_first.Goals as goal
 use Rattle.sgf_tree.proofs.nodes.Nodes.push_first.Goals.{Else-is_err}
 
 -- the new sequence
 abbrev sequence : Else-is_err → Sequence
-sequence c = record { first = c.len.result; number = c.args.number; last_below = 0; all_beside = true }
+sequence c = record { first = c.len.result; link = c.args.link; last_below = 0; all_beside = true }
 
--- both were pushed
-entry-pushed : (c : Else-is_err) → c.push-pushed.new.self.items ≡ c.self.inside.entries.items ++ packed_by c.args.kind c.args.place (length c.self.inside.sequences.items) ∷ []
+entry-pushed : (c : Else-is_err) → c.push-pushed.new.self.items ≡ c.self.inside.entries.items ++ (c.args.place + 2147483648) ∷ []
 entry-pushed c =
     let ok : is_ok c.push-pushed.result ≡ true = c.is_err.ensures.negation ∙ ap not c.if-is_err.false in
-    let index : c.len-index.result ≡ length c.self.inside.sequences.items = omega (arith, c.len-index.ensures, c.self.inside.sequences.ok.0) in
-    (rw ok at c.push-pushed.ensures.items) ∙ ap (λ i. c.self.inside.entries.items ++ packed_by c.args.kind c.args.place i ∷ []) index
+    rw ok at c.push-pushed.ensures.items
+
+links-count : (c : Else-is_err) → length (links_of (entries_of (map opening c.self.inside.sequences.items) 0 c.self.inside.entries.items)) ≡ length c.self.inside.entries.items
+links-count c =
+    let os = map opening c.self.inside.sequences.items in
+    length-map (entries_of os 0 c.self.inside.entries.items) (λ (n : NodeEntry). n.link) ∙ entries-length os 0 c.self.inside.entries.items
+
+-- the nodes with the new one
+nodes-pushed : (c : Else-is_err) → entries_of (map opening (c.self.inside.sequences.items ++ sequence c ∷ [])) 0 (c.self.inside.entries.items ++ (c.args.place + 2147483648) ∷ [])
+    ≡ entries_of (map opening c.self.inside.sequences.items) 0 c.self.inside.entries.items ++ record { place = c.args.place; link = c.args.link } ∷ []
+nodes-pushed c =
+    let table = c.self.inside.sequences.items in
+    let entries = c.self.inside.entries.items in
+    let first : c.len.result ≡ length entries = omega (arith, c.len.ensures, c.self.inside.entries.ok.0) in
+    let links = links_of (entries_of (map opening table) 0 entries) in
+    let rise : Rises 0 (numbers_of (map opening table)) (length entries) =
+    subst (λ k. Rises 0 (numbers_of (map opening table)) k) (links-count c) (subst (λ ns. Rises 0 ns (length links)) (sym c.self.invariant.firsts_are) (all-rise links)) in
+    ap (λ os. entries_of os 0 (entries ++ (c.args.place + 2147483648) ∷ [])) (map_push opening table (sequence c) ∙ ap (λ k. map opening table ++ (k, c.args.link) ∷ []) first)
+    ∙ entries-first (map opening table) entries c.args.link c.args.place (omega (arith, c.requires.low)) rise
 
 pub invariant_of-self-else-is_err : goal.invariant_of-self-else-is_err
 invariant_of-self-else-is_err c =
+    let s = sequence (goal.at.invariant_of-self-else-is_err c).Else-is_err in
     let table = c.self.inside.sequences.items in
-    let entries = c.self.inside.entries.items in
-    let new = table ++ sequence (goal.at.invariant_of-self-else-is_err c).Else-is_err ∷ [] in
-    let links = links_of (map (node_of table) entries) in
-    let pushed = nodes-push table (sequence (goal.at.invariant_of-self-else-is_err c).Else-is_err) entries c.args.kind c.args.place c.self.invariant.0 (omega (arith, c.requires.low)) (omega (arith, c.requires.first)) in
-    rw (c.in_ok-push.ensures.items, entry-pushed (goal.at.invariant_of-self-else-is_err c).Else-is_err) (
-      firsts-push table new entries _ c.self.invariant.0 (omega (arith, length-append table (sequence (goal.at.invariant_of-self-else-is_err c).Else-is_err ∷ []))) (omega (arith, length-append table (sequence (goal.at.invariant_of-self-else-is_err c).Else-is_err ∷ [])))
-          (λ _. (refl, omega (arith, length-append table (sequence (goal.at.invariant_of-self-else-is_err c).Else-is_err ∷ [])))),
-      subst (AreSequencesOf new) (sym (ap links_of pushed ∙ map_push (λ (n : NodeEntry). n.link) (map (node_of table) entries) _))
-          (sequences-first table links c.self.invariant.1 _ (link_by c.args.kind c.args.number) (first-opens c.args.kind c.args.number c.requires.first)
-          (omega (arith, c.len.ensures, c.self.inside.entries.ok.0, length-map entries (node_of table), length-map (map (node_of table) entries) (λ (n : NodeEntry). n.link)))),
-    )
+    let nodes = entries_of (map opening table) 0 c.self.inside.entries.items in
+    rw (c.in_ok-push.ensures.items, entry-pushed (goal.at.invariant_of-self-else-is_err c).Else-is_err)
+    (subst (AreSequencesOf (table ++ s ∷ [])) (sym (ap links_of (nodes-pushed (goal.at.invariant_of-self-else-is_err c).Else-is_err) ∙ map_push (λ (n : NodeEntry). n.link) nodes _))
+    (sequences-first table (links_of nodes) c.self.invariant s c.requires.opens
+    (omega (arith, c.len.ensures, c.self.inside.entries.ok.0, links-count (goal.at.invariant_of-self-else-is_err c).Else-is_err))))
 
 pub returns-clause-pushed : goal.returns-clause-pushed
 returns-clause-pushed c =
-    rw (c.in_ok-push.ensures.items, entry-pushed c, ← c.self.view_is)
-    (nodes-push c.self.inside.sequences.items (sequence c) c.self.inside.entries.items c.args.kind c.args.place c.self.invariant.0 (omega (arith, c.requires.low)) (omega (arith, c.requires.first)))
+    let table = c.self.inside.sequences.items in
+    rw (c.in_ok-push.ensures.items, entry-pushed c, ← c.self.view_is, c.requires.opens)
+    (kept-same _ _ _ _ _ _ (nodes-pushed c) (map_push (λ (s : Sequence). s.last_below) table (sequence c)) (map_push (λ (s : Sequence). s.link) table (sequence c)))
+
+pub overflow_cast-len : goal.overflow_cast-len
+overflow_cast-len c = omega (arith, c.len.ensures, c.self.inside.entries.ok.0, c.requires.few, kept-length c.self.inside.sequences.items c.self.inside.entries.items _ c.self.view_is)

@@ -2,7 +2,8 @@ use Rattle.std.proofs.Common.{◌-◌, [], ◌∷◌, ◌≡◌, ◌⊎◌, ◌�
 use Rattle.std.proofs.lemmas.Bool.{true≢false, false≢true}
 use Rattle.std.proofs.lemmas.Result.{err_from_is_err_and}
 use Rattle.sgf_tree.specs.inner.GamesRead.{IsSequenceRead}
-use Rattle.sgf_tree.proofs.GamesLoop.{GamesSoFar, games-open, games-faulty, close-faulty, games-sequence, close-own, close-within, close-count, games-close, games-unfinished, games-finished, no-tip, unfinished}
+use Rattle.sgf_tree.specs.inner.Sequences.{KeptNodes}
+use Rattle.sgf_tree.proofs.GamesLoop.{GamesSoFar, games-open, games-faulty, close-faulty, games-sequence, close-within, close-some, games-close, games-unfinished, games-finished, no-tip, unfinished}
 use Rattle.sgf_tree.proofs.NodesRead.{nodes-held}
 use Rattle.sgf_tree.proofs.reader.games.read_games.Goals as goal
 use Rattle.sgf_tree.proofs.reader.games.read_games.Goals.{In_ok-at-in-40, then-is_none, else-is_none, then-is_some-via-then-is_some, then-is_some-via-else-is_some+then-games-eq0}
@@ -29,14 +30,15 @@ overflow_sub-tip c =
 pub games-preserved-in-40 : goal.games-preserved-in-40
 games-preserved-in-40 c =
     let so_far = c.games.invariant.so_far in
-    let count : length c.read_sequence.new.nodes ≡ c.len.result = omega (arith, c.len.ensures) in
+    let count : length c.read_sequence.new.nodes.nodes ≡ c.len.result = omega (arith, c.len.ensures) in
     record {
       within = c.in_ok-at-in-40.ensures.within;
       few = omega (arith, c.games.invariant.few, c.in_ok-at-in-40.ensures.rises);
       room = c.in_ok-at-in-40.ensures.room;
       so_far =
-          subst (λ n. GamesSoFar c.args.text.now c.in_ok-at-in-40.at c.games.games (Some (n - 1)) c.read_sequence.new.nodes) count
-          (games-sequence c.args.text.now c.in_ok-at-in-40.at c.games.games so_far.stack _ (sequence (goal.at.games-preserved-in-40 c).In_ok-at-in-40) so_far.games_are);
+          subst (λ n. GamesSoFar c.args.text.now c.in_ok-at-in-40.at c.games.games (Some (record { sequence = c.sequences-sequence.result; node = n - 1 })) c.read_sequence.new.nodes) count
+          (subst (λ s. GamesSoFar c.args.text.now c.in_ok-at-in-40.at c.games.games (Some (record { sequence = s; node = length c.read_sequence.new.nodes.nodes - 1 })) c.read_sequence.new.nodes) (sym c.sequences-sequence.ensures.count)
+          (games-sequence c.args.text.now c.in_ok-at-in-40.at c.games.games so_far.stack c.games.nodes _ so_far.held (sequence (goal.at.games-preserved-in-40 c).In_ok-at-in-40) so_far.games_are));
       kept = c.in_ok-at-in-40.ensures.kept;
     }
 
@@ -46,21 +48,21 @@ returns-in_default-tip-clause-fault c =
     let none : so_far.stack.unclosed ≡ [] = no-tip so_far.stack.closed so_far.stack.unclosed (so_far.tip_is ∙ c.in_default-tip.is) in
     close-faulty c.args.text.now c.games.at so_far.stack so_far.stands c.games-test.true c.in-41.is none
 
-pub close_game-tip-requires-clause-within : goal.close_game-tip-requires-clause-within
-close_game-tip-requires-clause-within c = close-within c.args.text.now c.games.at c.games.games c.in-Some.last _ (rw c.in-Some.is at c.games.invariant.so_far)
+pub close-tip-requires-clause-within : goal.close-tip-requires-clause-within
+close-tip-requires-clause-within c = close-within c.args.text.now c.games.at c.games.games c.in-Some.last _ (rw c.in-Some.is at c.games.invariant.so_far)
 
-pub close_game-tip-requires-clause-own : goal.close_game-tip-requires-clause-own
-close_game-tip-requires-clause-own c = (_, close-own c.args.text.now c.games.at c.games.games c.in-Some.last _ (rw c.in-Some.is at c.games.invariant.so_far))
+pub close-tip-requires-clause-some : goal.close-tip-requires-clause-some
+close-tip-requires-clause-some c = close-some c.args.text.now c.games.at c.games.games c.in-Some.last _ (rw c.in-Some.is at c.games.invariant.so_far)
 
 pub games-preserved : goal.games-preserved
 games-preserved c =
     let so_far = rw c.in-Some.is at c.games.invariant.so_far in
     let next = c.skip_white_space-at.result in
-    let if_none : is_some c.close_game-tip.result ≡ false → c.if-is_none.games ≡ c.games.games + 1 = elim c.if-is_none.branch [
+    let if_none : is_some c.close-tip.result ≡ false → c.if-is_none.games ≡ c.games.games + 1 = elim c.if-is_none.branch [
       | then-is_none w ↦ λ e. w.games-is
       | else-is_none w ↦ λ e. absurd (false≢true (sym e ∙ c.is_none.ensures ∙ ap not w.if-is_none.false))
     ] in
-    let if_some : is_some c.close_game-tip.result ≡ true → c.if-is_none.games ≡ c.games.games = elim c.if-is_none.branch [
+    let if_some : is_some c.close-tip.result ≡ true → c.if-is_none.games ≡ c.games.games = elim c.if-is_none.branch [
       | then-is_none w ↦ λ e. absurd (true≢false (sym e ∙ c.is_none.ensures ∙ ap not w.if-is_none.true))
       | else-is_none w ↦ λ e. w.games-is
     ] in
@@ -68,12 +70,12 @@ games-preserved c =
       | then-is_none w ↦ omega (arith, w.games-is)
       | else-is_none w ↦ omega (arith, w.games-is)
     ] in
-    let same : length c.close_game-tip.new.nodes ≡ length c.games.nodes = close-count c.args.text.now c.games.at c.games.games c.in-Some.last _ so_far _ _ c.close_game-tip.ensures in
+    let same : length c.close-tip.new.self.nodes ≡ length c.games.nodes.nodes = ap (λ (v : KeptNodes). length v.nodes) c.close-tip.ensures.stored in
     record {
       within = c.skip_white_space-at.ensures.within;
       few = omega (arith, at_most, c.games.invariant.few, c.skip_white_space-at.ensures.rises);
       room = omega (arith, c.games.invariant.room, c.skip_white_space-at.ensures.rises, same);
-      so_far = games-close c.args.text.now c.games.at c.games.games c.in-Some.last _ so_far next c.if-is_none.games _ _ c.games-test.true c.in-41.is c.close_game-tip.ensures c.skip_white_space-at.ensures if_none if_some;
+      so_far = games-close c.args.text.now c.games.at c.games.games c.in-Some.last _ so_far next c.if-is_none.games _ _ c.games-test.true c.in-41.is c.close-tip.ensures.stored c.close-tip.ensures.tip c.skip_white_space-at.ensures if_none if_some;
       kept = c.games.invariant.kept;
     }
 

@@ -7,7 +7,7 @@ abbrev pub invariant-games : goal.invariant-games
 invariant-games l = record {
   within : l.at ≤ length l.text;
   few : l.games ≤ l.at;
-  room : length l.nodes ≤ l.at;
+  room : length l.nodes.nodes ≤ l.at;
   so_far : GamesSoFar l.text l.at l.games l.tip l.nodes;
   kept : AreKeptEnds l.text l.long.items;
 }

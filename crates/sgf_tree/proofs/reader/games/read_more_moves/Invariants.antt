@@ -6,7 +6,7 @@ abbrev pub invariant-pairs : goal.invariant-pairs
 invariant-pairs l = record {
   rises : l.at ≤ l.end;
   within : l.end ≤ length l.text;
-  room : length l.nodes ≤ l.end;
+  room : length l.nodes.nodes ≤ l.end;
   read : AreBesideRead l.text l.at l.end l.fn.nodes l.nodes;
 }
 

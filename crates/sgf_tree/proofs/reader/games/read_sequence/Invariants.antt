@@ -10,7 +10,7 @@ abbrev pub invariant-nodes : goal.invariant-nodes
 invariant-nodes l = record {
   rises : l.at ≤ l.read.end;
   within : l.read.end ≤ length l.text;
-  room : length l.nodes ≤ l.read.end;
+  room : length l.nodes.nodes ≤ l.read.end;
   so_far : (k : Stack) → ComesTo l.text l.at (opened k) → HoldStack l.text k l.fn.nodes → IsOpening k l.fn.link
       → SequenceSoFar l.text l.read.end l.read.as_written k l.nodes;
   kept : AreKeptEnds l.text l.long.items;

@@ -1,0 +1,57 @@
+-- Where the sequences of games begin.
+use Rattle.std.proofs.Common.{◌≡◌, ℕ, suc, ◌+◌, List, [], ◌∷◌, ◌++◌, Bool, true, false, None, cond, length, get_or, Option, Some, refl, ap, ◌∙◌, arith, length-append}
+use Rattle.sgf_tree.specs.Tree.{Node, Games, no_games, game, node_count}
+use Rattle.sgf_tree.specs.FileOrder.{OrderedNode, further_nodes, nodes_from, opening_numbers, sequence_starts}
+use Rattle.sgf_tree.specs.inner.GamesRead.{lasts}
+use Rattle.sgf_tree.proofs.OrderedNodes.{length-further_nodes, length-nodes_from}
+
+abbrev pub starts_from : ℕ → Games → List ℕ
+starts_from at no_games = []
+starts_from at (game first more below after) =
+    at ∷ starts_from (at + length more + 1) below ++ starts_from (at + length more + 1 + node_count below) after
+
+opening-append : (n : ℕ) (rs qs : List OrderedNode) → opening_numbers n (rs ++ qs) ≡ opening_numbers n rs ++ opening_numbers (n + length rs) qs
+opening-append n [] qs = let e : n + 0 ≡ n = omega arith in rw e
+opening-append n (r ∷ rs) qs =
+    let e : n + 1 + length rs ≡ n + suc (length rs) = omega arith in
+    rw (opening-append (n + 1) rs qs, e) (joined-if _ _ r.opens)
+  where
+    joined-if : (xs ys : List ℕ) (b : Bool) → cond b (n ∷ (xs ++ ys)) (xs ++ ys) ≡ cond b (n ∷ xs) xs ++ ys
+    joined-if xs ys true = refl
+    joined-if xs ys false = refl
+
+further-opens : (n last : ℕ) (ns : List Node) → opening_numbers n (further_nodes last ns) ≡ []
+further-opens n last [] = refl
+further-opens n last (m ∷ ns) = further-opens (n + 1) (last + 1) ns
+
+starts-of : (at : ℕ) (parent : Option ℕ) (g : Games) → opening_numbers at (nodes_from at parent g) ≡ starts_from at g
+starts-of at parent no_games = refl
+starts-of at parent (game first more below after) =
+    let last : ℕ = at + length more in
+    let own : List OrderedNode = record { node = first; parent = parent; opens = true } ∷ further_nodes at more in
+    let under : List OrderedNode = nodes_from (last + 1) (Some last) below in
+    let next : List OrderedNode = nodes_from (last + 1 + node_count below) parent after in
+    let e : at + length own ≡ last + 1 = omega (arith, length-further_nodes at more) in
+    let f : at + length (own ++ under) ≡ last + 1 + node_count below = omega (arith, length-append own under, length-further_nodes at more, length-nodes_from (last + 1) (Some last) below) in
+    opening-append at (own ++ under) next
+    ∙ ap (λ k. opening_numbers at (own ++ under) ++ opening_numbers k next) f
+    ∙ ap (λ ns. opening_numbers at (own ++ under) ++ ns) (starts-of (last + 1 + node_count below) parent after)
+    ∙ ap (λ ns. ns ++ starts_from (last + 1 + node_count below) after)
+    (opening-append at own under ∙ ap (λ k. opening_numbers at own ++ opening_numbers k under) e
+    ∙ ap (λ ns. (at ∷ ns) ++ opening_numbers (last + 1) under) (further-opens (at + 1) at more) ∙ ap (λ ns. at ∷ ns) (starts-of (last + 1) (Some last) below))
+
+pub starts-are : (c : Games) → sequence_starts c ≡ starts_from 0 c
+starts-are c = starts-of 0 None c
+
+-- there is a last node for each
+pub length-lasts : (n at : ℕ) (g : Games) → length (lasts n g) ≡ length (starts_from at g)
+length-lasts n at no_games = refl
+length-lasts n at (game first more below after) =
+    let next : ℕ = n + 1 + length more in
+    let last : ℕ = at + length more in
+    omega (arith, length-append (lasts next below) (lasts (next + node_count below) after), length-append (starts_from (last + 1) below) (starts_from (last + 1 + node_count below) after), length-lasts next (last + 1) below, length-lasts (next + node_count below) (last + 1 + node_count below) after)
+
+-- games begin with their first sequence
+pub first-start : (at end : ℕ) (g : Games) → end ≡ at + node_count g → get_or (starts_from at g) 0 end ≡ at
+first-start at end no_games e = omega (arith, e)
+first-start at end (game first more below after) e = refl
