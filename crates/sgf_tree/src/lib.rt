@@ -4,10 +4,9 @@
 //! spells, or the first byte that no text of the grammar can have there.
 //! [`measure`] only counts the games, nodes and leaves, which is faster and takes less memory.
 //!
-//! A [`Collection`] numbers its nodes from 0 in file order. Of each node it keeps the place, the parent and
-//! the last node below it, in 8 bytes. Each sequence of nodes takes 16 bytes more. The
-//! properties of a node and their raw values are read from the text again when they are asked for, one after
-//! another. Reading them takes no memory.
+//! A [`Collection`] numbers its nodes from 0 in file order. Of each node it keeps the place, in 4 bytes. Of each sequence (the nodes between
+//! a `(` and the next parenthesis) it keeps the parent of the first node and the last node below it, in 24 bytes. The properties of a node
+//! and their raw values are read from the text again when they are asked for, one after another. Reading them takes no memory.
 //!
 //! ```text
 //! let collection = read(alloc, text)?;
