@@ -1,5 +1,5 @@
 -- What the table and the entries hold, node by node, and with one node more.
-use Rattle.std.proofs.Common.{◌≡◌, ℕ, zero, suc, ◌+◌, ◌*◌, ◌/◌, ◌%◌, ◌<◌, ◌≤◌, Bool, true, false, cond, eqb, List, [], ◌∷◌, ◌++◌, length, get_or, map, All, Some, slice_get, option_map, refl, sym, ap, subst, ◌∙◌, arith, ne_eqb, eq-eqb}
+use Rattle.std.proofs.Common.{◌≡◌, ℕ, zero, suc, ◌+◌, ◌*◌, ◌/◌, ◌%◌, ◌<◌, ◌≤◌, Bool, true, false, cond, eqb, List, [], ◌∷◌, ◌++◌, length, get_or, map, Some, slice_get, option_map, refl, sym, ap, subst, ◌∙◌, arith, ne_eqb, eq-eqb}
 use Rattle.std.proofs.lemmas.List.{length-map}
 use Rattle.std.proofs.lemmas.Option.{slice_get-map}
 use Rattle.sgf_tree.specs.declared.layout.Link.{Link}
@@ -7,7 +7,7 @@ use Rattle.sgf_tree.specs.declared.layout.Link.TheVariants.{Next}
 use Rattle.sgf_tree.specs.declared.layout.NodeEntry.{NodeEntry}
 use Rattle.sgf_tree.specs.declared.nodes.Sequence.{Sequence}
 use Rattle.sgf_tree.specs.inner.Sequences.{opens_by, KeptNodes, links_of}
-use Rattle.sgf_tree.specs.inner.Packing.{opening, opening_at, link_by, entries_of, kept_of, AreSequencesOf}
+use Rattle.sgf_tree.specs.inner.Packing.{link_of, opening, opening_at, link_by, entries_of, kept_of, AreSequencesOf}
 use Rattle.sgf_tree.proofs.Rises.{Rises, rises-ends, rises-get}
 
 abbrev pub numbers_of : List (ℕ × Link) → List ℕ
@@ -32,10 +32,14 @@ opening_at-found (this ∷ rest) o (suc i) low high r here =
     rw (ne_eqb this.0 o.0 (λ e. omega (arith, later))) (opening_at-found rest o i (this.0 + 1) high r.1 here)
 
 -- it is the link of a first node
-pub opening_at-opens : (os : List (ℕ × Link)) (k : ℕ) → All (λ (o : ℕ × Link). opens_by o.1 ≡ true) os → opens_by (opening_at os k) ≡ true
-opening_at-opens [] k all = refl
-opening_at-opens (this ∷ rest) k all =
-    either (eqb this.0 k) this.1 (opening_at rest k) (all 0 this (omega arith)) (opening_at-opens rest k (λ i d lt. all (suc i) d (omega arith)))
+pub first-opens : (is_root : Bool) (number outer : ℕ) → opens_by (link_of is_root number outer) ≡ true
+first-opens true number outer = refl
+first-opens false number outer = refl
+
+pub opening_at-opens : (table : List Sequence) (k : ℕ) → opens_by (opening_at (map opening table) k) ≡ true
+opening_at-opens [] k = refl
+opening_at-opens (s ∷ rest) k =
+    either (eqb s.first k) (link_of s.is_root s.number s.outer) (opening_at (map opening rest) k) (first-opens s.is_root s.number s.outer) (opening_at-opens rest k)
   where
     either : (b : Bool) (l m : Link) → opens_by l ≡ true → opens_by m ≡ true → opens_by (cond b l m) ≡ true
     either true l m e f = e

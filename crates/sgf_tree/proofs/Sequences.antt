@@ -1,16 +1,15 @@
 -- How the table of sequences changes when a node is pushed.
-use Rattle.std.proofs.Common.{◌≡◌, ℕ, zero, suc, ◌+◌, ◌-◌, ◌<◌, ◌≤◌, ◌⊎◌, inl, inr, Bool, true, false, cond, List, [], ◌∷◌, ◌++◌, length, get_or, set, map, All, Some, slice_get, refl, sym, ap, subst, ◌∙◌, arith, append-nil, get_or-set_same, get_or-set_other}
+use Rattle.std.proofs.Common.{◌≡◌, ℕ, zero, suc, ◌+◌, ◌-◌, ◌<◌, ◌≤◌, ◌⊎◌, inl, inr, Bool, true, false, cond, List, [], ◌∷◌, ◌++◌, length, get_or, set, map, Some, slice_get, refl, sym, ap, subst, ◌∙◌, arith, append-nil, get_or-set_same, get_or-set_other}
 use Rattle.std.proofs.lemmas.Bool.{false≢true, cases_lt, cases_eq}
 use Rattle.std.proofs.lemmas.List.{length-map, get_or_append_left, get_or_push, get_or_past, get_or_default, map_push, map-set, set-get_or, length_push}
 use Rattle.std.proofs.Math.ListN.{get_or-map}
-use Rattle.std.proofs.lemmas.List.Elements.{All-append}
 use Rattle.std.proofs.lemmas.Option.{slice_get-get_or}
 use Rattle.sgf_tree.specs.declared.layout.Link.{Link}
 use Rattle.sgf_tree.specs.declared.layout.Link.TheVariants.{Next}
 use Rattle.sgf_tree.specs.declared.nodes.Sequence.{Sequence}
 use Rattle.sgf_tree.specs.inner.Sequences.{opens_by, first_numbers, end_number, AreBesideWithin, AreUpTo}
-use Rattle.sgf_tree.specs.inner.Packing.{opening, AreSequencesOf}
-use Rattle.sgf_tree.proofs.Packing.{numbers_of}
+use Rattle.sgf_tree.specs.inner.Packing.{link_of, opening, AreSequencesOf}
+use Rattle.sgf_tree.proofs.Packing.{numbers_of, first-opens}
 use Rattle.sgf_tree.proofs.Lists.{slice_get-left, slice_get-right}
 use Rattle.sgf_tree.proofs.Rises.{Rises, rises-low, rises-get, rises-pair}
 
@@ -95,14 +94,6 @@ within-bools [] i h = absurd (false≢true h)
 within-bools (b ∷ bs) zero h = omega arith
 within-bools (b ∷ bs) (suc i) h = omega (arith, within-bools bs i h)
 
-abbrev Opens : ℕ × Link → Type 0
-Opens o = opens_by o.1 ≡ true
-
--- what holds of one element holds of each one of a list of it
-all-one : {A : Type 0} (P : A → Type 0) (x : A) → P x → All P (x ∷ [])
-all-one P x h zero d lt = h
-all-one P x h (suc k) d lt = absurd (omega arith)
-
 module _ (table : List Sequence) (links : List Link) (old : AreSequencesOf table links) where
   pub table-count : length table ≡ length (first_numbers 0 links)
   table-count =
@@ -134,14 +125,14 @@ module _ (table : List Sequence) (links : List Link) (old : AreSequencesOf table
   pub sequences-same : (new : List Sequence) → map opening new ≡ map opening table → besides new ≡ besides table → AreSequencesOf new links
   sequences-same new same known = record {
     firsts_are = ap numbers_of same ∙ old.firsts_are;
-    opens = subst (All Opens) (sym same) old.opens;
     beside = λ i is. old.beside i (ap (λ bs. get_or bs i false) (sym known) ∙ is);
   }
 
   -- the first node of a sequence more
-  pub sequences-first : (s : Sequence) → opens_by s.link ≡ true → s.first ≡ length links → AreSequencesOf (table ++ s ∷ []) (links ++ s.link ∷ [])
-  sequences-first s opens is =
-      let link : Link = s.link in
+  pub sequences-first : (s : Sequence) → s.first ≡ length links → AreSequencesOf (table ++ s ∷ []) (links ++ link_of s.is_root s.number s.outer ∷ [])
+  sequences-first s is =
+      let link : Link = link_of s.is_root s.number s.outer in
+      let opens : opens_by link ≡ true = first-opens s.is_root s.number s.outer in
       let n : ℕ = length links in
       let ns : List ℕ = first_numbers 0 links in
       let bs : List Bool = besides table in
@@ -155,7 +146,6 @@ module _ (table : List Sequence) (links : List Link) (old : AreSequencesOf table
         firsts_are =
             ap numbers_of (map_push opening table s) ∙ map_push (λ (o : ℕ × Link). o.0) (map opening table) (opening s)
             ∙ ap (λ k. firsts table ++ k ∷ []) is ∙ ap (λ ks. ks ++ n ∷ []) old.firsts_are ∙ sym numbers;
-        opens = subst (All Opens) (sym (map_push opening table s)) (All-append Opens (map opening table) (opening s ∷ []) old.opens (all-one Opens (opening s) opens));
         beside = λ i known number low high.
             let known_new : get_or (bs ++ b ∷ []) i false ≡ true = ap (λ xs. get_or xs i false) (sym pushed) ∙ known in
             let low_new : get_or (ns ++ n ∷ []) i 0 < number = subst (λ ks. get_or ks i 0 < number) numbers low in
@@ -187,7 +177,6 @@ module _ (table : List Sequence) (links : List Link) (old : AreSequencesOf table
       let total : length (links ++ Next b ∷ []) ≡ n + 1 = length_push links (Next b) in
       record {
         firsts_are = ap numbers_of same ∙ old.firsts_are ∙ sym numbers;
-        opens = subst (All Opens) (sym same) old.opens;
         beside = λ i known number low high.
             let before = besides_are i known in
             let low_old : get_or ns i 0 < number = subst (λ ks. get_or ks i 0 < number) numbers low in

@@ -1,4 +1,4 @@
-//! The nodes of a collection in file order, in 4 bytes a node and 24 bytes more a sequence.
+//! The nodes of a collection in file order, in 4 bytes a node and 20 bytes more a sequence.
 //!
 //! A node's text often has only 6 bytes, as in `;B[pd]`. So the memory of the nodes costs much of the time of reading.
 //!
@@ -8,10 +8,11 @@
 //!
 //! Contracts see `KeptNodes`, and neither vector.
 
-ghost use Rattle.std.specs.Prelude.{◌≡◌, ℕ, ◌+◌, ◌-◌, ◌^◌, ◌<◌, ◌≤◌, true, length, get_or, option_map, slice_get, slice_set, IfOk, OnOk, OnErr};
+ghost use Rattle.std.specs.Prelude.{◌≡◌, ℕ, ◌+◌, ◌-◌, ◌^◌, ◌<◌, ◌≤◌, length, get_or, option_map, slice_get, slice_set, IfOk, OnOk, OnErr};
 ghost use Rattle.sgf_tree.specs.declared.layout.NodeEntry.{NodeEntry};
 ghost use Rattle.sgf_tree.specs.declared.layout.Link.TheVariants.{Next};
-ghost use Rattle.sgf_tree.specs.inner.Sequences.{opens_by, no_nodes, with_node, tip_by, links_of, first_numbers, end_number, AreBesideWithin, IsLastOf, AreUpTo};
+ghost use Rattle.sgf_tree.specs.inner.Packing.{link_of};
+ghost use Rattle.sgf_tree.specs.inner.Sequences.{no_nodes, with_node, tip_by, links_of, first_numbers, end_number, AreBesideWithin, IsLastOf, AreUpTo};
 
 use crate::fault::MemoryFault;
 use crate::layout::{Link, Tip};
@@ -47,12 +48,33 @@ const FIRST: u32 = 2;
 struct Sequence {
     /// The number of its first node.
     first: u32,
-    /// How its first node follows the nodes before it.
-    link: Link,
+    /// The number of the game if the first node is its root, else the number of that node's parent.
+    number: u32,
+    /// The number of the sequence that ends with the parent; 0 if there is none.
+    outer: u32,
     /// The greatest number among its nodes and the nodes below them; 0 as long as it isn't closed.
     last_below: u32,
+    /// Whether its first node is the root of a game.
+    is_root: bool,
     /// Whether each node after the first is beside the node before it (`Link::Next`).
     all_beside: bool,
+}
+
+impl Sequence {
+    /// How its first node follows the nodes before it. As a field, a `Link` would take 4 bytes more.
+    #[inline(always)]
+    fn link(&self) -> Link
+        ensures { result ≡ link_of self.now.is_root self.now.number self.now.outer }
+    {
+        if self.is_root {
+            Link::Root(self.number)
+        } else {
+            Link::Variation(Tip {
+                sequence: self.outer,
+                node: self.number,
+            })
+        }
+    }
 }
 
 /// The nodes of a collection in file order, numbered from 0.
@@ -114,7 +136,8 @@ impl Nodes {
     {
         match link {
             Link::Next { beside } => self.push_next(place, beside),
-            Link::Root(_) | Link::Variation(_) => self.push_first(place, link),
+            Link::Root(game) => self.push_first(place, true, game, 0),
+            Link::Variation(tip) => self.push_first(place, false, tip.node, tip.sequence),
         }
     }
 
@@ -138,18 +161,25 @@ impl Nodes {
     }
 
     /// Appends a first node, which begins a sequence. If memory is refused, the nodes are unchanged.
-    fn push_first(&mut self, place: u32, link: Link) -> Result<(), MemoryFault>
+    fn push_first(
+        &mut self,
+        place: u32,
+        is_root: bool,
+        number: u32,
+        outer: u32,
+    ) -> Result<(), MemoryFault>
         requires low { place < PLACES }
         requires few { length self.old.nodes < 2 ^ 32 }
-        requires opens { opens_by link ≡ true }
-        ensures pushed { OnOk result (self.new ≡ with_node self.old place link) }
+        ensures pushed { OnOk result (self.new ≡ with_node self.old place (link_of is_root number outer)) }
         ensures unchanged { OnErr result (self.new ≡ self.old) }
     {
         let count = self.sequences.len();
         self.sequences.push(Sequence {
             first: self.entries.len() as u32,
-            link,
+            number,
+            outer,
             last_below: 0,
+            is_root,
             all_beside: true,
         })?;
         let pushed = self.entries.push(place + FIRST * PLACES);
@@ -172,7 +202,7 @@ impl Nodes {
         let last = (self.entries.len() - 1) as u32;
         let sequence = self.sequences[i as usize];
         self.sequences[i as usize].last_below = last;
-        match sequence.link {
+        match sequence.link() {
             Link::Variation(tip) => Some(tip),
             Link::Root(_) | Link::Next { .. } => None,
         }
@@ -200,7 +230,8 @@ impl Nodes {
                 beside: kind == BESIDE,
             };
         }
-        self.sequences[self.sequences_up_to(i) - 1].link
+        let sequence = self.sequences[self.sequences_up_to(i) - 1];
+        sequence.link()
     }
 
     /// The greatest number among node `i` and the nodes below it. A sequence must begin with node 0.

@@ -1,15 +1,20 @@
 -- How a node is kept in four bytes, and a sequence in a record of a table.
-use Rattle.std.specs.Prelude.{◌≡◌, ℕ, zero, suc, ◌+◌, ◌/◌, ◌%◌, if◌then◌else◌, ◌==◌, true, false, List, [], ◌∷◌, map, get_or, All}
+use Rattle.std.specs.Prelude.{◌≡◌, ℕ, zero, suc, ◌+◌, ◌/◌, ◌%◌, if◌then◌else◌, ◌==◌, Bool, true, false, List, [], ◌∷◌, map, get_or}
 use Rattle.sgf_tree.specs.declared.layout.Link.{Link}
-use Rattle.sgf_tree.specs.declared.layout.Link.TheVariants.{Root, Next}
+use Rattle.sgf_tree.specs.declared.layout.Link.TheVariants.{Root, Variation, Next}
 use Rattle.sgf_tree.specs.declared.layout.NodeEntry.{NodeEntry}
 use Rattle.sgf_tree.specs.declared.nodes.Sequence.{Sequence}
 use Rattle.sgf_tree.specs.declared.nodes.TheConstants.{PLACES}
-use Rattle.sgf_tree.specs.inner.Sequences.{opens_by, KeptNodes, first_numbers, end_number, AreBesideWithin}
+use Rattle.sgf_tree.specs.inner.Sequences.{KeptNodes, first_numbers, end_number, AreBesideWithin}
 
--- the first node of a sequence, and how it follows the nodes before it
+-- how a first node follows the nodes before it; `outer` is the number of the sequence that ends with its parent
+abbrev pub link_of : (is_root : Bool) (number outer : ℕ) → Link
+link_of true number outer = Root number
+link_of false number outer = Variation (record { sequence = outer; node = number })
+
+-- the first node of a sequence, and its link
 abbrev pub opening : Sequence → ℕ × Link
-opening sequence = (sequence.first, sequence.link)
+opening sequence = (sequence.first, link_of sequence.is_root sequence.number sequence.outer)
 
 -- how the first node with this number follows the nodes before it
 abbrev pub opening_at : List (ℕ × Link) → ℕ → Link
@@ -33,12 +38,11 @@ abbrev pub kept_of : List Sequence → List ℕ → KeptNodes
 kept_of table entries = record {
   nodes = entries_of (map opening table) 0 entries;
   lasts = map (λ (s : Sequence). s.last_below) table;
-  openings = map (λ (s : Sequence). s.link) table;
+  openings = map (λ (s : Sequence). link_of s.is_root s.number s.outer) table;
 }
 
 -- the table has a record for each sequence, which knows its first node, and may know that its nodes are beside one another
 pub record AreSequencesOf (table : List Sequence) (links : List Link) : Type 0 where
   pub firsts_are : map (λ (o : ℕ × Link). o.0) (map opening table) ≡ first_numbers 0 links
-  pub opens : All (λ (o : ℕ × Link). opens_by o.1 ≡ true) (map opening table)
   pub beside : (i : ℕ) → get_or (map (λ (s : Sequence). s.all_beside) table) i false ≡ true
       → AreBesideWithin links (get_or (first_numbers 0 links) i 0) (end_number links i)

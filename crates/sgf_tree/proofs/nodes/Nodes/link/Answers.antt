@@ -31,7 +31,7 @@ begins : (c : After-sequences_up_to) → (k : ℕ) × (k < length (first_numbers
 begins c =
     let os = map opening c.self.inside.sequences.items in
     let links = links_of c.args.self.now.nodes in
-    let member = first-member 0 links c.args.i (opening_at os c.args.i) (slice_get-map (λ (n : NodeEntry). n.link) c.args.self.now.nodes c.args.i ∙ first-is c) (opening_at-opens os c.args.i c.self.invariant.opens) in
+    let member = first-member 0 links c.args.i (opening_at os c.args.i) (slice_get-map (λ (n : NodeEntry). n.link) c.args.self.now.nodes c.args.i ∙ first-is c) (opening_at-opens c.self.inside.sequences.items c.args.i) in
     let is : get_or (first_numbers 0 links) member.0 0 ≡ c.args.i = omega (arith, member.2) in
     (member.0, member.1, is, up-to-member 0 _ (first_numbers 0 links) c.args.i c.sequences_up_to.result member.0 (all-rise links) c.sequences_up_to.ensures member.1 is)
 
@@ -58,4 +58,4 @@ returns c =
     let number : s.first ≡ c.args.i = table-first table links known place s within c.index.ensures ∙ ap (λ k. get_or (first_numbers 0 links) k 0) same ∙ at.2 in
     let found = opening_at-found os (opening s) place 0 _ (subst (λ ns. Rises 0 ns (length links)) (sym known.firsts_are) (all-rise links))
     (slice_get-map opening table place ∙ ap (option_map opening) (slice_get_read table (length table) place s refl within c.index.ensures)) in
-    first-is (goal.at.returns c).After-sequences_up_to ∙ ap (λ k. Some (opening_at os k)) (sym number) ∙ ap Some found
+    first-is (goal.at.returns c).After-sequences_up_to ∙ ap (λ k. Some (opening_at os k)) (sym number) ∙ ap Some (found ∙ sym c.link.ensures)

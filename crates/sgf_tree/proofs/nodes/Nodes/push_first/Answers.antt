@@ -1,10 +1,11 @@
 use Rattle.std.proofs.Common.{◌≡◌, ◌+◌, ◌∷◌, ◌++◌, [], true, not, is_ok, length, map, sym, ap, subst, ◌∙◌, arith}
 use Rattle.std.proofs.lemmas.List.{length-map, map_push}
+use Rattle.sgf_tree.specs.declared.layout.Link.{Link}
 use Rattle.sgf_tree.specs.declared.layout.NodeEntry.{NodeEntry}
 use Rattle.sgf_tree.specs.declared.nodes.Sequence.{Sequence}
-use Rattle.sgf_tree.specs.inner.Packing.{opening, entries_of, AreSequencesOf}
+use Rattle.sgf_tree.specs.inner.Packing.{link_of, opening, entries_of, AreSequencesOf}
 use Rattle.sgf_tree.specs.inner.Sequences.{links_of}
-use Rattle.sgf_tree.proofs.Packing.{numbers_of, kept-same, kept-length, entries-length, entries-first}
+use Rattle.sgf_tree.proofs.Packing.{numbers_of, first-opens, kept-same, kept-length, entries-length, entries-first}
 use Rattle.sgf_tree.proofs.Rises.{Rises}
 use Rattle.sgf_tree.proofs.Sequences.{all-rise, sequences-first}
 use Rattle.sgf_tree.proofs.nodes.Nodes.push_first.Goals as goal
@@ -12,7 +13,18 @@ use Rattle.sgf_tree.proofs.nodes.Nodes.push_first.Goals.{Else-is_err}
 
 -- the new sequence
 abbrev sequence : Else-is_err → Sequence
-sequence c = record { first = c.len.result; link = c.args.link; last_below = 0; all_beside = true }
+sequence c = record {
+  first = c.len.result;
+  number = c.args.number;
+  outer = c.args.outer;
+  last_below = 0;
+  is_root = c.args.is_root;
+  all_beside = true;
+}
+
+-- and its link
+abbrev link : Else-is_err → Link
+link c = link_of c.args.is_root c.args.number c.args.outer
 
 entry-pushed : (c : Else-is_err) → c.push-pushed.new.self.items ≡ c.self.inside.entries.items ++ (c.args.place + 2147483648) ∷ []
 entry-pushed c =
@@ -26,7 +38,7 @@ links-count c =
 
 -- the nodes with the new one
 nodes-pushed : (c : Else-is_err) → entries_of (map opening (c.self.inside.sequences.items ++ sequence c ∷ [])) 0 (c.self.inside.entries.items ++ (c.args.place + 2147483648) ∷ [])
-    ≡ entries_of (map opening c.self.inside.sequences.items) 0 c.self.inside.entries.items ++ record { place = c.args.place; link = c.args.link } ∷ []
+    ≡ entries_of (map opening c.self.inside.sequences.items) 0 c.self.inside.entries.items ++ record { place = c.args.place; link = (link c) } ∷ []
 nodes-pushed c =
     let table = c.self.inside.sequences.items in
     let entries = c.self.inside.entries.items in
@@ -34,8 +46,8 @@ nodes-pushed c =
     let links = links_of (entries_of (map opening table) 0 entries) in
     let rise : Rises 0 (numbers_of (map opening table)) (length entries) =
     subst (λ k. Rises 0 (numbers_of (map opening table)) k) (links-count c) (subst (λ ns. Rises 0 ns (length links)) (sym c.self.invariant.firsts_are) (all-rise links)) in
-    ap (λ os. entries_of os 0 (entries ++ (c.args.place + 2147483648) ∷ [])) (map_push opening table (sequence c) ∙ ap (λ k. map opening table ++ (k, c.args.link) ∷ []) first)
-    ∙ entries-first (map opening table) entries c.args.link c.args.place (omega (arith, c.requires.low)) rise
+    ap (λ os. entries_of os 0 (entries ++ (c.args.place + 2147483648) ∷ [])) (map_push opening table (sequence c) ∙ ap (λ k. map opening table ++ (k, (link c)) ∷ []) first)
+    ∙ entries-first (map opening table) entries (link c) c.args.place (omega (arith, c.requires.low)) rise
 
 pub invariant_of-self-else-is_err : goal.invariant_of-self-else-is_err
 invariant_of-self-else-is_err c =
@@ -44,14 +56,14 @@ invariant_of-self-else-is_err c =
     let nodes = entries_of (map opening table) 0 c.self.inside.entries.items in
     rw (c.in_ok-push.ensures.items, entry-pushed (goal.at.invariant_of-self-else-is_err c).Else-is_err)
     (subst (AreSequencesOf (table ++ s ∷ [])) (sym (ap links_of (nodes-pushed (goal.at.invariant_of-self-else-is_err c).Else-is_err) ∙ map_push (λ (n : NodeEntry). n.link) nodes _))
-    (sequences-first table (links_of nodes) c.self.invariant s c.requires.opens
+    (sequences-first table (links_of nodes) c.self.invariant s
     (omega (arith, c.len.ensures, c.self.inside.entries.ok.0, links-count (goal.at.invariant_of-self-else-is_err c).Else-is_err))))
 
 pub returns-clause-pushed : goal.returns-clause-pushed
 returns-clause-pushed c =
     let table = c.self.inside.sequences.items in
-    rw (c.in_ok-push.ensures.items, entry-pushed c, ← c.self.view_is, c.requires.opens)
-    (kept-same _ _ _ _ _ _ (nodes-pushed c) (map_push (λ (s : Sequence). s.last_below) table (sequence c)) (map_push (λ (s : Sequence). s.link) table (sequence c)))
+    rw (c.in_ok-push.ensures.items, entry-pushed c, ← c.self.view_is, first-opens c.args.is_root c.args.number c.args.outer)
+    (kept-same _ _ _ _ _ _ (nodes-pushed c) (map_push (λ (s : Sequence). s.last_below) table (sequence c)) (map_push (λ (s : Sequence). link_of s.is_root s.number s.outer) table (sequence c)))
 
 pub overflow_cast-len : goal.overflow_cast-len
 overflow_cast-len c = omega (arith, c.len.ensures, c.self.inside.entries.ok.0, c.requires.few, kept-length c.self.inside.sequences.items c.self.inside.entries.items _ c.self.view_is)

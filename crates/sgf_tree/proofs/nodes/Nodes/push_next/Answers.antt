@@ -3,7 +3,7 @@ use Rattle.std.proofs.lemmas.List.{map_push}
 use Rattle.sgf_tree.specs.declared.layout.Link.TheVariants.{Next}
 use Rattle.sgf_tree.specs.declared.layout.NodeEntry.{NodeEntry}
 use Rattle.sgf_tree.specs.declared.nodes.Sequence.{Sequence}
-use Rattle.sgf_tree.specs.inner.Packing.{opening, entries_of, AreSequencesOf}
+use Rattle.sgf_tree.specs.inner.Packing.{link_of, opening, entries_of, AreSequencesOf}
 use Rattle.sgf_tree.specs.inner.Sequences.{links_of}
 use Rattle.sgf_tree.proofs.Packing.{kept-same, entries-next}
 use Rattle.sgf_tree.proofs.Sequences.{part-same, sequences-beside, sequences-apart, sequences-none}
@@ -71,7 +71,7 @@ returns-then-count-gt0-clause-pushed c =
     (kept-same _ _ _ _ _ _
     (ap (λ os. entries_of os 0 (entries ++ (c.args.place + c.if-beside.kind * 1073741824) ∷ [])) (part-same opening table last s new here refl)
     ∙ pushed (goal.at.returns-then-count-gt0-clause-pushed c).Joined-beside table entries)
-    (part-same (λ (t : Sequence). t.last_below) table last s new here refl) (part-same (λ (t : Sequence). t.link) table last s new here refl))
+    (part-same (λ (t : Sequence). t.last_below) table last s new here refl) (part-same (λ (t : Sequence). link_of t.is_root t.number t.outer) table last s new here refl))
 
 pub returns-else-count-gt0-clause-pushed : goal.returns-else-count-gt0-clause-pushed
 returns-else-count-gt0-clause-pushed c =
