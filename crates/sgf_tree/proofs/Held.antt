@@ -29,7 +29,7 @@ use Rattle.sgf_tree.proofs.OrderedNodes.{length-ordered_nodes, parent_at-lt, gam
 abbrev Holds : Inside → Type 0
 Holds s = IsLaidOut s.text.now s.games s.nodes
 
-option_map-within : {A B : Type 0} (f : A → B) (xs : List A) (i : ℕ) (y : B) → option_map f (slice_get xs i) ≡ Some y → i < length xs
+pub option_map-within : {A B : Type 0} (f : A → B) (xs : List A) (i : ℕ) (y : B) → option_map f (slice_get xs i) ≡ Some y → i < length xs
 option_map-within f [] i y h = absurd (cc)
 option_map-within f (x ∷ xs) zero y h = omega arith
 option_map-within f (x ∷ xs) (suc i) y h = omega (arith, option_map-within f xs i y h)

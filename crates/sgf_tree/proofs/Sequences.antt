@@ -251,6 +251,23 @@ first-member n (this ∷ rest) (suc i) link here opens =
     after-if true ns k m lt is = (suc k, omega arith, is)
     after-if false ns k m lt is = (k, lt, is)
 
+-- and a number of the list is that of a first node
+pub opens-at : (n : ℕ) (links : List Link) (k : ℕ) → k < length (first_numbers n links)
+    → (i : ℕ) × (link : Link) × (get_or (first_numbers n links) k 0 ≡ n + i) × (slice_get links i ≡ Some link) × (opens_by link ≡ true)
+opens-at n [] k lt = absurd (omega arith)
+opens-at n (this ∷ rest) k lt = after-if (opens_by this) refl (λ j less. opens-at (n + 1) rest j less) k lt
+  where
+    after-if : (b : Bool) → opens_by this ≡ b
+        → ((j : ℕ) → j < length (first_numbers (n + 1) rest)
+        → (i : ℕ) × (link : Link) × (get_or (first_numbers (n + 1) rest) j 0 ≡ n + 1 + i) × (slice_get rest i ≡ Some link) × (opens_by link ≡ true))
+        → (k : ℕ) → k < length (cond b (n ∷ first_numbers (n + 1) rest) (first_numbers (n + 1) rest))
+        → (i : ℕ) × (link : Link) × (get_or (cond b (n ∷ first_numbers (n + 1) rest) (first_numbers (n + 1) rest)) k 0 ≡ n + i) × (slice_get (this ∷ rest) i ≡ Some link) × (opens_by link ≡ true)
+    after-if true opens later zero lt = (0, this, omega arith, refl, opens)
+    after-if true opens later (suc k) lt =
+        let f = later k (omega arith) in (suc f.0, f.1, omega (arith, f.2), f.3, f.4)
+    after-if false opens later k lt =
+        let f = later k lt in (suc f.0, f.1, omega (arith, f.2), f.3, f.4)
+
 -- a number is less than a later one
 pub numbers-less : (low high : ℕ) (numbers : List ℕ) (i j : ℕ) → Rises low numbers high → i < j → j < length numbers → get_or numbers i 0 < get_or numbers j 0
 numbers-less low high numbers i j rise lt within =

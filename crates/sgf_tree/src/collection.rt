@@ -10,7 +10,7 @@ ghost use Rattle.sgf_tree.specs.FileOrder.{node_at, nodes_at, place_at, parent_a
 ghost use Rattle.sgf_tree.specs.FileOrder.{sequence_starts, sequence_start, sequence_end, sequence_numbers};
 
 use crate::fault::MemoryFault;
-use crate::layout::{Link, LongValue};
+use crate::layout::{Link, LongValue, Tip};
 use crate::node::NodeRef;
 use crate::nodes::Nodes;
 use crate::reader::scan::rest_from;
@@ -187,8 +187,8 @@ impl<'a> Collection<'a> {
         self.nodes.sequences()
     }
 
-    /// The number of the first node of sequence `i`, from 0 in file order. `i` must be less than `sequences()`, here and in the two
-    /// calls below.
+    /// The number of the first node of sequence `i`, from 0 in file order. `i` must be less than `sequences()`, here and in the
+    /// three calls below.
     pub fn sequence_start(&self, i: usize) -> usize
         requires { i < length (sequence_starts self.now) }
         ensures { result ≡ sequence_start self.now i }
@@ -202,6 +202,17 @@ impl<'a> Collection<'a> {
         ensures { result ≡ sequence_end self.now i }
     {
         self.nodes.sequence_end(i)
+    }
+
+    /// The number of the parent of the first node of sequence `i`. None if that node is the root of a game.
+    pub fn sequence_parent(&self, i: usize) -> Option<usize>
+        requires { i < length (sequence_starts self.now) }
+        ensures { parent_at self.now (sequence_start self.now i) ≡ Some result }
+    {
+        match self.nodes.sequence_link(i) {
+            Link::Variation(Tip { node, .. }) => Some(node as usize),
+            Link::Root(_) | Link::Next { .. } => None,
+        }
     }
 
     /// Appends the nodes of sequence `i` to `out` as the sgf form writes them. Text that already has that form is copied in one piece.

@@ -8,11 +8,11 @@
 //!
 //! Contracts see `KeptNodes`, and neither vector.
 
-ghost use Rattle.std.specs.Prelude.{◌≡◌, ℕ, ◌+◌, ◌-◌, ◌^◌, ◌<◌, ◌≤◌, length, get_or, option_map, slice_get, slice_set, IfOk, OnOk, OnErr};
+ghost use Rattle.std.specs.Prelude.{◌≡◌, ℕ, ◌+◌, ◌-◌, ◌^◌, ◌<◌, ◌≤◌, length, get_or, option_map, slice_get, slice_set, IsTrue, IfOk, OnOk, OnErr};
 ghost use Rattle.sgf_tree.specs.declared.layout.NodeEntry.{NodeEntry};
 ghost use Rattle.sgf_tree.specs.declared.layout.Link.TheVariants.{Next};
 ghost use Rattle.sgf_tree.specs.inner.Packing.{link_of};
-ghost use Rattle.sgf_tree.specs.inner.Sequences.{no_nodes, with_node, tip_by, links_of, first_numbers, end_number, AreBesideWithin, IsLastOf, AreUpTo};
+ghost use Rattle.sgf_tree.specs.inner.Sequences.{opens_by, no_nodes, with_node, tip_by, links_of, first_numbers, end_number, AreBesideWithin, IsLastOf, AreUpTo};
 
 use crate::fault::MemoryFault;
 use crate::layout::{Link, Tip};
@@ -281,6 +281,18 @@ impl Nodes {
         } else {
             self.entries.len()
         }
+    }
+
+    /// How the first node of sequence `i` follows the nodes before it. Nothing is searched for.
+    #[inline(always)]
+    pub(crate) fn sequence_link(&self, i: usize) -> Link
+        requires { i < length (first_numbers 0 (links_of self.now.nodes)) }
+        ensures link { option_map (λ (n : NodeEntry). n.link)
+            (slice_get self.now.nodes (get_or (first_numbers 0 (links_of self.now.nodes)) i 0)) ≡ Some result }
+        ensures opens { IsTrue (opens_by result) }
+    {
+        let sequence = self.sequences[i];
+        sequence.link()
     }
 
     /// The end of the run that begins with node `start` of sequence `i`: the number after that of the last node up to which
