@@ -104,8 +104,8 @@ impl<'c, 'a> SequenceCursor<'c, 'a> {
         let Some(leaf) = next_end(self.collection, self.next) else {
             return Ok(None);
         };
-        let first = self.collection.sequence_start(self.next);
-        let front = front_up_to(self.collection, &self.path, self.collection.parent(first));
+        let parent = self.collection.sequence_parent(self.next);
+        let front = front_up_to(self.collection, &self.path, parent);
         go_down(self.collection, &mut self.path, front, self.next, leaf)?;
         self.next = leaf + 1;
         Ok(Some(front))
@@ -234,7 +234,7 @@ fn ends_line(collection: &Collection<'_>, sequence: usize) -> bool
     if end == collection.nodes() {
         return true;
     }
-    collection.parent(end) != Some(end - 1)
+    collection.sequence_parent(sequence + 1) != Some(end - 1)
 }
 
 /// The first sequence from the sequence `from` on with which a line ends; None if there is none.
@@ -425,8 +425,7 @@ fn sequence_above(collection: &Collection<'_>, sequence: usize) -> Option<usize>
     requires { sequence < length (sequence_starts collection.now) }
     ensures { IsAbove collection.now sequence result }
 {
-    let first = collection.sequence_start(sequence);
-    match collection.parent(first) {
+    match collection.sequence_parent(sequence) {
         Some(parent) => Some(sequence_before(collection, sequence, parent)),
         None => None,
     }

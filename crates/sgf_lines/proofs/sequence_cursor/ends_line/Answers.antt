@@ -1,11 +1,11 @@
 -- A sequence's last node is a leaf if the next node doesn't go on from it.
-use Rattle.std.proofs.Common.{◌≡◌, ◌≢◌, ◌↔◌, ◌+◌, ◌-◌, ◌<◌, ℕ, Bool, not, true, false, eqb, Option, Some, None, length, refl, ap, ◌∙◌, inl, inr, arith}
-use Rattle.std.proofs.lemmas.Bool.{cases_eq, eq-eqb, ne_eqb, both_ways}
+use Rattle.std.proofs.Common.{◌≡◌, ◌≢◌, ◌↔◌, ◌+◌, ◌-◌, ◌<◌, ℕ, Bool, not, true, false, eqb, Option, Some, None, length, refl, sym, ap, ◌∙◌, inl, inr, arith}
+use Rattle.std.proofs.lemmas.Bool.{cases_eq, cases_lt, eq-eqb, ne_eqb, both_ways}
 use Rattle.std.specs.Bool.{IsTrue}
 use Rattle.std.specs.Option.{option_eq}
-use Rattle.sgf_tree.specs.Tree.{Games}
-use Rattle.sgf_tree.specs.FileOrder.{parent_at, IsLeaf, sequence_starts, sequence_end}
-use Rattle.sgf_lines.proofs.SequenceStarts.{never_empty, first_within, no_node_next, leaf_if_next}
+use Rattle.sgf_tree.specs.Tree.{Games, node_count}
+use Rattle.sgf_tree.specs.FileOrder.{parent_at, IsLeaf, sequence_starts, sequence_start, sequence_end}
+use Rattle.sgf_lines.proofs.SequenceStarts.{fewer, start_is, past_all, never_empty, no_node_next, leaf_if_next}
 use Rattle.sgf_tree.specs.declared.fault.TheConstants.{MAX_LENGTH}
 use Rattle.sgf_lines.proofs.Touched.{nodes_within}
 use Rattle.sgf_lines.proofs.sequence_cursor.ends_line.Goals as goal
@@ -32,15 +32,25 @@ returns-then-end-nodes-clause-leaf c =
 pub returns-then-end-nodes-clause-few : goal.returns-then-end-nodes-clause-few
 returns-then-end-nodes-clause-few c = nodes_within c.args.collection.now c.nodes.ensures.places_rise MAX_LENGTH c.nodes.ensures.places_within
 
-pub parent-requires : goal.parent-requires
-parent-requires c = omega (arith, first_within c.args.collection.now (c.args.sequence + 1), c.sequence_end-end.ensures, c.nodes.ensures.count, c.if-end-nodes.false)
+-- a sequence follows
+next_within : (c : Games) (k end : ℕ) → end ≡ sequence_end c k → end ≢ node_count c → k + 1 < length (sequence_starts c)
+next_within c k end is other = elim (cases_lt (k + 1) (length (sequence_starts c))) [ inl lt ↦ lt | inr past ↦ absurd (other (is ∙ past_all c (k + 1) past)) ]
+
+pub overflow_add-sequence : goal.overflow_add-sequence
+overflow_add-sequence c = omega (arith, c.requires, fewer c.args.collection.now, c.nodes.ensures.count)
+
+pub sequence_parent-requires : goal.sequence_parent-requires
+sequence_parent-requires c = next_within c.args.collection.now c.args.sequence c.sequence_end-end.result c.sequence_end-end.ensures (λ e. c.if-end-nodes.false (e ∙ sym c.nodes.ensures.count))
 
 pub overflow_sub-end : goal.overflow_sub-end
 overflow_sub-end c = omega (arith, never_empty c.args.collection.now c.args.sequence c.requires, c.sequence_end-end.ensures)
 
 pub returns-clause-leaf : goal.returns-clause-leaf
 returns-clause-leaf c =
-    decides c.args.collection.now c.args.sequence c.sequence_end-end.result c.parent.result c.ne.result c.requires c.sequence_end-end.ensures c.parent.ensures c.ne.ensures
+    let games = c.args.collection.now in
+    let next = next_within games c.args.sequence c.sequence_end-end.result c.sequence_end-end.ensures (λ e. c.if-end-nodes.false (e ∙ sym c.nodes.ensures.count)) in
+    let at : sequence_start games (c.args.sequence + 1) ≡ c.sequence_end-end.result = start_is games (c.args.sequence + 1) next ∙ sym c.sequence_end-end.ensures in
+    decides games c.args.sequence c.sequence_end-end.result c.sequence_parent.result c.ne.result c.requires c.sequence_end-end.ensures (rw at at c.sequence_parent.ensures) c.ne.ensures
 
 pub returns-clause-few : goal.returns-clause-few
 returns-clause-few c = nodes_within c.args.collection.now c.nodes.ensures.places_rise MAX_LENGTH c.nodes.ensures.places_within

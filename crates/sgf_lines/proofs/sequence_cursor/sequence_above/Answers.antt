@@ -1,28 +1,24 @@
 -- The parent of a sequence's first node ends a sequence before it.
 use Rattle.std.proofs.Common.{arith}
 use Rattle.sgf_tree.proofs.OrderedNodes.{parent_at-lt}
+use Rattle.sgf_tree.specs.FileOrder.{sequence_start}
 use Rattle.sgf_lines.proofs.SequenceStarts.{start_is, start_within}
 use Rattle.sgf_lines.proofs.SequenceWays.{above_is}
 use Rattle.sgf_lines.proofs.sequence_cursor.sequence_above.Goals as goal
 
-pub parent-requires : goal.parent-requires
-parent-requires c = omega (arith, start_is c.args.collection.now c.args.sequence c.requires, start_within c.args.collection.now c.args.sequence c.requires, c.sequence_start-first.ensures)
-
 pub sequence_before-requires : goal.sequence_before-requires
 sequence_before-requires c =
-    let e = c.parent.ensures in
+    let e = c.sequence_parent.ensures in
     let is = c.in-Some.is in
     omega (
       arith,
-      parent_at-lt c.args.collection.now c.sequence_start-first.result c.in-Some.parent (cc),
+      parent_at-lt c.args.collection.now (sequence_start c.args.collection.now c.args.sequence) c.in-Some.parent (cc),
       start_is c.args.collection.now c.args.sequence c.requires,
       start_within c.args.collection.now c.args.sequence c.requires,
-      c.sequence_start-first.ensures,
     )
 
 pub returns-in-Some : goal.returns-in-Some
 returns-in-Some c =
-    let e = c.parent.ensures in
+    let e = c.sequence_parent.ensures in
     let is = c.in-Some.is in
-    let first = c.sequence_start-first.ensures in
     above_is c.args.collection.now c.args.sequence c.in-Some.parent c.sequence_before.result c.requires (cc) c.sequence_before.ensures.of
