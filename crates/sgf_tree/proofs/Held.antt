@@ -248,7 +248,7 @@ module _ (s : Inside) (held : Holds s) (g : Games) (is : games_in s.text.now ≡
       let links : List Link = links_of s.nodes.nodes in
       omega (arith, end-held i, count-held, length-map s.nodes.nodes (λ (n : NodeEntry). n.link), numbers-at-most 0 (length links) (first_numbers 0 links) (i + 1) (all-rise links))
 
-  pub start-within : (i : ℕ) → i < length (sequence_starts g) → sequence_start g i ≤ sequence_end g i
+  pub start-within : (i : ℕ) → i < length (sequence_starts g) → sequence_start g i < sequence_end g i
   start-within i lt =
       let links : List Link = links_of s.nodes.nodes in
       omega (arith, end-held i, start-held i, numbers-in-order (first_numbers 0 links) i 0 (length links) (all-rise links) (omega (arith, sequences-held)))

@@ -45,8 +45,8 @@ numbers-at-most low high [] i r = omega arith
 numbers-at-most low high (n ∷ ns) zero r = let k = rises-get low high (n ∷ ns) 0 n r refl in omega (arith, k.1)
 numbers-at-most low high (n ∷ ns) (suc i) r = numbers-at-most (n + 1) high ns i r.1
 
--- each number is at most the next one, or the default
-pub numbers-in-order : (numbers : List ℕ) (i low high : ℕ) → Rises low numbers high → i < length numbers → get_or numbers i 0 ≤ get_or numbers (i + 1) high
+-- each number is less than the next one, or the default
+pub numbers-in-order : (numbers : List ℕ) (i low high : ℕ) → Rises low numbers high → i < length numbers → get_or numbers i 0 < get_or numbers (i + 1) high
 numbers-in-order [] i low high r lt = absurd (omega arith)
 numbers-in-order (n ∷ ns) zero low high r lt = omega (arith, at-least ns (n + 1) high r.1)
   where

@@ -1,6 +1,6 @@
 //! A collection that was read: its nodes in file order, numbered from 0.
 
-ghost use Rattle.std.specs.Prelude.{◌≡◌, ◌<◌, ◌≤◌, ◌++◌, ◌↔◌, ℕ, length, take, map, All, IsTrue, IfOk, OnOk, OnErr};
+ghost use Rattle.std.specs.Prelude.{◌≡◌, ◌-◌, ◌<◌, ◌≤◌, ◌++◌, ◌↔◌, ℕ, length, take, map, All, IsTrue, IfOk, OnOk, OnErr};
 ghost use Rattle.std.specs.List.{flat_map};
 ghost use Rattle.sgf_tree.specs.declared.fault.TheConstants.{MAX_LENGTH};
 ghost use Rattle.sgf_tree.specs.Tree.{game_count, node_count};
@@ -188,7 +188,7 @@ impl<'a> Collection<'a> {
     }
 
     /// The number of the first node of sequence `i`, from 0 in file order. `i` must be less than `sequences()`, here and in the
-    /// three calls below.
+    /// four calls below.
     pub fn sequence_start(&self, i: usize) -> usize
         requires { i < length (sequence_starts self.now) }
         ensures { result ≡ sequence_start self.now i }
@@ -213,6 +213,15 @@ impl<'a> Collection<'a> {
             Link::Variation(Tip { node, .. }) => Some(node as usize),
             Link::Root(_) | Link::Next { .. } => None,
         }
+    }
+
+    /// Whether the last node of sequence `i` is a leaf.
+    pub fn ends_in_leaf(&self, i: usize) -> bool
+        requires { i < length (sequence_starts self.now) }
+        ensures { IsTrue result ↔ IsLeaf self.now (sequence_end self.now i - 1) }
+    {
+        let last = self.nodes.sequence_end(i) - 1;
+        self.nodes.sequence_last_below(i) as usize == last
     }
 
     /// Appends the nodes of sequence `i` to `out` as the sgf form writes them. Text that already has that form is copied in one piece.

@@ -283,6 +283,15 @@ impl Nodes {
         }
     }
 
+    /// The greatest number among the nodes of sequence `i` and the nodes below them; 0 as long as it isn't closed.
+    #[inline(always)]
+    pub(crate) fn sequence_last_below(&self, i: usize) -> u32
+        requires { i < length self.now.lasts }
+        ensures { slice_get self.now.lasts i ≡ Some result }
+    {
+        self.sequences[i].last_below
+    }
+
     /// How the first node of sequence `i` follows the nodes before it. Nothing is searched for.
     #[inline(always)]
     pub(crate) fn sequence_link(&self, i: usize) -> Link
