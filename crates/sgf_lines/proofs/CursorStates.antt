@@ -1,5 +1,5 @@
 -- How many lines end before a node, which line ends at it, and what a cursor that stands after it shows.
-use Rattle.std.proofs.Common.{◌≡◌, ℕ, ◌+◌, ◌-◌, ◌<◌, ◌≤◌, List, [], length, map, slice_get, Option, Some, None, option_map, refl, sym, ap, ◌∙◌, inl, inr, arith, zero, suc, ◌∷◌, get_or}
+use Rattle.std.proofs.Common.{◌≡◌, ℕ, ◌+◌, ◌-◌, ◌<◌, ◌≤◌, List, [], length, map, slice_get, Option, Some, None, option_map, refl, sym, ap, ◌∙◌, inl, inr, arith, zero, suc, get_or}
 use Rattle.std.specs.Prelude.{nat_lt}
 use Rattle.std.proofs.lemmas.Bool.{lt-ltb, le-ltb, cases_lt}
 use Rattle.std.proofs.lemmas.List.Sums.{prefix_len_is}
@@ -10,9 +10,10 @@ use Rattle.sgf_lines.specs.Paths.{Path, paths, leaf_of}
 use Rattle.sgf_lines.specs.inner.PathTo.{IsPathTo, HasNoLeaf, IsNextLeaf}
 use Rattle.sgf_lines.specs.inner.Standing.{lines_before, IsAfterLeaf}
 use Rattle.sgf_tree.proofs.Rises.{rises-pair}
-use Rattle.sgf_lines.proofs.Lists.{element, Each, each_get}
-use Rattle.sgf_lines.proofs.Visits.{one_way, way_within, last-way, some_node, within_way, leads, leaves_in_order, covered}
-use Rattle.sgf_lines.specs.Lines.{lines, place_of, last_number}
+use Rattle.sgf_lines.proofs.Lists.{element, each_get}
+use Rattle.sgf_lines.proofs.Visits.{one_way, way_within, last-way, some_node, leads, leaves_in_order, covered}
+use Rattle.sgf_lines.specs.Lines.{Line, lines, place_of, last_number}
+use Rattle.sgf_lines.specs.inner.Following.{numbers_of, numbers_before, path_before, line_in, line_before}
 use Rattle.sgf_lines.proofs.Named.{game_of_root, line_at, length-paths}
 use Rattle.sgf_lines.specs.Cursor.{CursorState, advanced, IsLine}
 use Rattle.sgf_lines.specs.declared.line.LineRef.{LineRef}
@@ -84,16 +85,10 @@ module _ (c : Games) where
       let same : lines_before c (i + 1) - 1 ≡ lines_before c i = omega arith in
       (f.0, rw same f.1.found, one_way f.1.up up, omega arith)
 
-each_head : (P : ℕ → Type 0) (ns : List ℕ) (d : ℕ) → 0 < length ns → Each P ns → P (get_or ns 0 d)
-each_head P [] d lt h = absurd (omega arith)
-each_head P (n ∷ ns) d lt h = h.0
-
 -- what it shows
 pub record IsShown (c : Games) (next : ℕ) (numbers : List ℕ) : Type 0 where
   pub some_node : 0 < length numbers
-  pub root_within : (d : ℕ) → get_or numbers 0 d < node_count c
   pub after : 0 < next
-  pub last_within : next - 1 < node_count c
   pub path_is : (d : ℕ) → slice_get (paths c) (lines_before c next - 1) ≡ Some (record { game_number = game_of c (get_or numbers 0 d); numbers = numbers })
   pub place_is : (place : ℕ) → place_at c (next - 1) ≡ Some place → option_map place_of (slice_get (lines c) (lines_before c next - 1)) ≡ Some place
 
@@ -107,12 +102,9 @@ shown_at c i numbers lt leaf way =
     let f = given_line c i numbers lt leaf way in
     let k = lines_before c (suc i) - 1 in
     let found : slice_get (paths c) k ≡ Some f.0 = rw more f.1 in
-    let longer = some_node way in
     record {
-      some_node = longer;
-      root_within = λ d. each_head (λ n. n < node_count c) numbers d longer (within_way way);
+      some_node = some_node way;
       after = omega arith;
-      last_within = omega (arith, lt);
       path_is = λ d.
           let root = each_get (λ path. (d : ℕ) → game_of c (get_or path.numbers 0 d) ≡ path.game_number) (paths c) k f.0 (game_of_root c) found d in
           found ∙ ap Some (same_path f.0 (game_of c (get_or numbers 0 d)) numbers (sym (rw f.2 at root)) f.2);
@@ -148,17 +140,32 @@ module _ (c : Games) (next : ℕ) (at : CursorState) (is : before c next ≡ at)
   pub shows_line : (numbers : List ℕ) → IsAfterLeaf c next numbers → 0 < at.index → IsShown c next numbers
   shows_line numbers h lt = shows c next numbers h (rw (← is) at lt)
 
-  pub line_is : (numbers : List ℕ) (line : LineRef) (root : ℕ) → IsAfterLeaf c next numbers → 0 < at.index → line.path.now ≡ numbers → root ≡ get_or numbers 0 root
-      → line.game ≡ game_of c root → place_at c (next - 1) ≡ Some line.place → IsLine at.games (at.index - 1) line
-  line_is numbers line root h lt path_is root_is game_is place_is =
-      let shown = shows_line numbers h lt in
-      rw (← is) (record {
-        path = rw (path_is, game_is, root_is) (shown.path_is root);
-        place = shown.place_is line.place place_is;
-      })
-
   pub none_is_left : HasNoLeaf c next (node_count c) → slice_get (lines at.games) at.index ≡ None
   none_is_left none = rw (← is) (none_left c next none)
 
   pub advances : (i : ℕ) → IsNextLeaf c next i → before c (i + 1) ≡ advanced at
   advances i h = rw (← is) (ap (λ n. record { games = c; index = n }) (one_later c next i h))
+
+-- a line is shown by its path, and by the number of its game and its place
+shows_path : (games : Games) (index : ℕ) (line : LineRef) → 0 < length line.path.now → line.path.now ≡ numbers_of (slice_get (paths games) index)
+    → option_map (λ (l : Line). l.game_number) (slice_get (lines games) index) ≡ Some line.game → option_map place_of (slice_get (lines games) index) ≡ Some line.place → IsLine games index line
+shows_path games index line some path game place = by (slice_get (paths games) index) refl path
+  where
+    by : (o : Option Path) → slice_get (paths games) index ≡ o → line.path.now ≡ numbers_of o → IsLine games index line
+    by None found is = absurd (omega (arith, some, ap length is))
+    by (Some p) found is =
+        let own = line_at games index p found in
+        let number : option_map (λ (l : Line). l.game_number) (Some own.0) ≡ Some line.game = rw own.1.found at game in
+        let same : p.game_number ≡ line.game = cc in
+        record { path = found ∙ ap Some (same_path p line.game line.path.now same (sym is)); place = place }
+
+pub line_is : (at : CursorState) (line : LineRef) → 0 < at.index → 0 < length line.path.now → line.path.now ≡ path_before at
+    → option_map (λ (l : Line). l.game_number) (line_before at) ≡ Some line.game → option_map place_of (line_before at) ≡ Some line.place → IsLine at.games (at.index - 1) line
+line_is at line lt some path game place = by at.index refl lt
+  where
+    by : (index : ℕ) → at.index ≡ index → 0 < index → IsLine at.games (at.index - 1) line
+    by zero e less = absurd (omega arith)
+    by (suc index) e less =
+        let one : at.index - 1 ≡ index = omega arith in
+        rw one (shows_path at.games index line some (path ∙ ap (numbers_before at.games) e) (ap (λ i. option_map (λ (l : Line). l.game_number) (line_in at.games i)) (sym e) ∙ game)
+        (ap (λ i. option_map place_of (line_in at.games i)) (sym e) ∙ place))

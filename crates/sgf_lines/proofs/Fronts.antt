@@ -1,9 +1,13 @@
 -- Nodes in sequences, by the indices where these end.
 use Rattle.std.proofs.Common.{◌≡◌, ℕ, zero, suc, ◌+◌, ◌-◌, ◌<◌, ◌≤◌, List, [], ◌∷◌, ◌++◌, length, get_or, take, drop, map, slice_get, Some, refl, sym, ap, ◌∙◌, arith}
-use Rattle.std.specs.List.{concat, flat_map}
-use Rattle.std.proofs.lemmas.List.{take-append-drop, length-drop, drop-take, drop-drop}
+use Rattle.std.specs.List.{concat, flat_map, range_with_len}
+use Rattle.std.proofs.Math.Seq.{take-append_seam}
+use Rattle.std.proofs.lemmas.List.{take-append-drop, length-drop, length-take-le, drop-take, drop-drop}
 use Rattle.std.proofs.lemmas.Grind.{flat_map-append}
-use Rattle.sgf_lines.specs.inner.Sequences.{RiseTo, parts_from}
+use Rattle.sgf_lines.specs.declared.sequence_cursor.Front.{Front}
+use Rattle.sgf_lines.specs.inner.Following.{Continues, first_after}
+use Rattle.sgf_lines.specs.inner.Fronts.{HasFront}
+use Rattle.sgf_lines.specs.inner.Sequences.{SequencesState, SharesFront, RiseTo, parts_from}
 
 -- where the first `k` parts end
 abbrev pub end_of : ℕ → List ℕ → ℕ → ℕ
@@ -96,3 +100,15 @@ parts_text f start (end ∷ ends) xs count is h =
     let rest = parts_text f end ends (drop (end - start) xs) count (omega (arith, is, length-drop (end - start) xs, over, h.0)) h.1 in
     ap (λ t. flat_map f (take (end - start) xs) ++ t) rest ∙ sym (flat_map-append f (take (end - start) xs) (drop (end - start) xs))
     ∙ ap (flat_map f) (take-append-drop (end - start) xs)
+
+-- the front that a line shares with the line before it
+pub has_front : (old new : SequencesState) (shared : Front) → SharesFront old new shared → HasFront new.ends shared
+has_front old new shared h = record {
+  more = h.more;
+  count = h.count ∙ same_end 0 shared.sequences old.ends new.ends h.within (omega (arith, h.more)) h.ends;
+}
+
+pub front_kept : (old : List ℕ) (kept : ℕ) (new : List ℕ) → Continues old kept new → take kept new ≡ take kept old
+front_kept old kept new h =
+    let range = range_with_len (first_after old) (h.more + 1) in
+    ap (take kept) h.new_is ∙ ap (λ k. take k (take kept old ++ range)) (sym (length-take-le kept old h.kept_within)) ∙ take-append_seam (take kept old) range

@@ -1,5 +1,5 @@
 -- A line's judgement goes on by a node, and back to its first nodes.
-use Rattle.std.proofs.Common.{◌≡◌, ℕ, ◌<◌, ◌≤◌, List, [], ◌∷◌, length, refl, ap, ◌∙◌, arith, suc, ◌+◌, ◌++◌, take, drop, slice_get, Option, Some, None, Result, Ok, Err, sym, subst, length-append, append-nil}
+use Rattle.std.proofs.Common.{◌≡◌, ℕ, ◌<◌, ◌≤◌, List, [], ◌∷◌, length, refl, ap, ◌∙◌, arith, suc, ◌+◌, ◌++◌, take, drop, Option, Some, None, Result, Ok, Err, sym, subst, length-append, append-nil}
 use Rattle.std.proofs.lemmas.Bool.{le-leb, lt-leb}
 use Rattle.go_board.specs.State.{State, States, followed_by}
 use Rattle.sgf_lines.specs.inner.Back.{back_from, back_to}
@@ -10,7 +10,7 @@ use Rattle.sgf_tree.specs.Tree.{Node}
 use Rattle.go_board.specs.declared.reason.Reason.{Reason}
 use Rattle.sgf_lines.specs.declared.verdict.Verdict.{Verdict}
 use Rattle.sgf_lines.specs.declared.verdict.Verdict.TheVariants.{Illegal, NotGo, BadSize}
-use Rattle.sgf_lines.specs.JudgedGames.{GameKind, not_go, bad_size, board, root_properties}
+use Rattle.sgf_lines.specs.JudgedGames.{GameKind, not_go, bad_size, board}
 use Rattle.sgf_lines.specs.Step.{step}
 use Rattle.sgf_lines.specs.Walk.{TakenNode, IllegalNode, Walk, before_root, next_by, next, walk, judged_by}
 use Rattle.sgf_lines.specs.Verdict.{verdict_at, verdict_by, judged_on}
@@ -232,9 +232,6 @@ one_at_most (unjudged told) = omega arith
 one_at_most (judged states None) = omega arith
 one_at_most (judged states (Some told)) = omega arith
 
-pub one_more_play : (j : Judgement) (old now new count : ℕ) → now ≤ old + count → new ≡ now + next_plays j → new ≤ old + (count + 1)
-one_more_play j old now new count le is = omega (arith, one_at_most j)
-
 module _ (ended : Option Verdict) (referee : Option States) (r : States) (plays : ℕ) (now : Judging) (view : record { judgement = judgement_of ended referee; plays = plays } ≡ now) (is : referee ≡ Some r) where
   stood : now.judgement ≡ judged r ended
   stood = sym (ap (λ (j : Judging). j.judgement) view) ∙ ap (judgement_of ended) is
@@ -244,7 +241,3 @@ module _ (ended : Option Verdict) (referee : Option States) (r : States) (plays 
 
   pub leads_to : (node : Node) (s : State) → ended ≡ None → step r.present node ≡ Ok s → state_after now.judgement node ≡ Some s
   leads_to node s none took = ap (λ j. state_after j node) (stood ∙ ap (judged r) none) ∙ ap state_of took
-
-pub root_is : (nodes : List Node) (root : Node) → slice_get nodes 0 ≡ Some root → root_properties nodes ≡ root.properties
-root_is [] root e = absurd cc
-root_is (n ∷ ns) root e = let same : n ≡ root = cc in ap (λ (m : Node). m.properties) same

@@ -1,8 +1,7 @@
 -- One line more of a run.
-use Rattle.std.proofs.Common.{◌≡◌, ◌≢◌, ℕ, zero, suc, ◌+◌, ◌-◌, ◌<◌, ◌≤◌, Bool, List, [], ◌∷◌, ◌++◌, length, take, map, slice_get, Option, Some, Result, Ok, Err, inr, refl, sym, ap, subst, ◌∙◌, arith, add-one, length-append}
+use Rattle.std.proofs.Common.{◌≡◌, ◌≢◌, ℕ, zero, suc, ◌+◌, ◌-◌, ◌<◌, ◌≤◌, Bool, List, [], ◌∷◌, length, take, map, slice_get, Option, Some, Result, Ok, Err, inr, refl, sym, ap, subst, ◌∙◌, arith, add-one, length-append}
 use Rattle.std.specs.List.{range_with_len}
 use Rattle.std.specs.Result.{IsErr}
-use Rattle.std.proofs.Math.Seq.{take-append_seam}
 use Rattle.std.proofs.lemmas.List.{take-map, take_all, length-take-le}
 use Rattle.std.proofs.lemmas.List.FromFn.{length-range_with_len}
 use Rattle.sgf_tree.specs.Tree.{Node}
@@ -26,7 +25,7 @@ use Rattle.sgf_lines.specs.inner.Sequences.{SequencesState, RiseTo, SharesFront}
 use Rattle.sgf_lines.specs.inner.Fronts.{HasFront, sequences_before, held_by}
 use Rattle.sgf_lines.specs.inner.GoingOn.{index_by, GoesOnBy}
 use Rattle.sgf_lines.proofs.Along.{same_root}
-use Rattle.sgf_lines.proofs.Fronts.{end_of, same_end, alike}
+use Rattle.sgf_lines.proofs.Fronts.{end_of, alike, has_front, front_kept}
 use Rattle.sgf_lines.proofs.Joins.{as_many}
 use Rattle.sgf_lines.proofs.Judgements.{judging_back}
 use Rattle.sgf_lines.proofs.LineNodes.{named_in}
@@ -43,9 +42,7 @@ some_inj (x ∷ xs) (y ∷ ys) e = let head : x ≡ y = cc in let rest = some_in
 pub same_front : (f : ℕ → Option Node) (old new : List ℕ) (was nodes : List Node) (kept : ℕ) → map Some was ≡ map f old → map Some nodes ≡ map f new → Continues old kept new
     → take kept was ≡ take kept nodes
 same_front f old new was nodes kept e g h =
-    let count = length-take-le kept old h.kept_within in
-    let front : take kept new ≡ take kept old =
-    ap (take kept) h.new_is ∙ ap (λ k. take k (take kept old ++ range_with_len (first_after old) (h.more + 1))) (sym count) ∙ take-append_seam (take kept old) (range_with_len (first_after old) (h.more + 1)) in
+    let front : take kept new ≡ take kept old = front_kept old kept new h in
     some_inj (take kept was) (take kept nodes)
     (sym (take-map Some kept was) ∙ ap (take kept) e ∙ take-map f kept old ∙ ap (map f) (sym front) ∙ sym (take-map f kept new) ∙ ap (take kept) (sym g) ∙ take-map Some kept nodes)
 
@@ -146,18 +143,12 @@ pub record IsNextBy (form : Form) (before : Before) (old new : SequencesState) (
   pub go : GoesOnBy before old.at new.at held.nodes
 
 module _ (old new : SequencesState) (shared : Front) (moved : new.at ≡ advanced old.at) (shares : SharesFront old new shared) (rise : RiseTo 0 new.ends (length (nodes_before new.at))) where
-  has_front : HasFront new.ends shared
-  has_front = record {
-    more = shares.more;
-    count = shares.count ∙ same_end 0 shared.sequences old.ends new.ends shares.within (omega (arith, shares.more)) shares.ends;
-  }
-
   kept_still : (form : Form) (kept : Kept) → HoldsBy form old kept → KeepsBy form new shared kept
   kept_still list_form kept h = judgement_kept old.at new.at shared.nodes moved shares.nodes kept.judgement h
   kept_still sgf_form kept h = λ some.
       let back = record_back (sequences_before old) shared.sequences in
       let nodes = same_nodes old.at new.at shared.nodes moved shares.nodes in
-      let count : shared.nodes ≡ end_of 0 new.ends shared.sequences - 0 = omega (arith, has_front.count) in
+      let count : shared.nodes ≡ end_of 0 new.ends shared.sequences - 0 = omega (arith, (has_front old new shared shares).count) in
       let same : take shared.sequences (sequences_before new) ≡ take shared.sequences (sequences_before old) =
       alike 0 new.ends old.ends (nodes_before new.at) (nodes_before old.at) (length (nodes_before new.at)) shared.sequences rise (omega (arith, shares.more)) shares.ends (rw (← count) (sym nodes)) in
       ap (cut (shared.sequences + 1)) h ∙ back ∙ ap (λ ps. open_record ps) (sym same)
@@ -181,7 +172,7 @@ module _ (old new : SequencesState) (shared : Front) (moved : new.at ≡ advance
   }
   goes_on_by form Held kept stands going = record {
     some_node = some_node old.at new.at shared.nodes moved shares.nodes;
-    front = has_front;
+    front = has_front old new shared shares;
     keeps = kept_still form kept stands.1;
     go = (moved, shares.nodes);
   }

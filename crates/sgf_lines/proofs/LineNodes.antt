@@ -1,20 +1,19 @@
 -- The nodes of the line before a cursor, by its path.
-use Rattle.std.proofs.Common.{◌≡◌, ℕ, zero, suc, ◌+◌, ◌<◌, List, [], ◌∷◌, length, map, drop, get_or, get_or-drop, length-drop, slice_get, Option, Some, None, refl, sym, ap, ◌∙◌, inl, inr, arith}
-use Rattle.std.proofs.lemmas.Option.{slice_get_within, slice_get_past}
+use Rattle.std.proofs.Common.{◌≡◌, ℕ, zero, suc, ◌<◌, List, [], ◌∷◌, length, map, drop, get_or, slice_get, Option, Some, None, refl, sym, ap, ◌∙◌, inl, inr, arith}
+use Rattle.std.proofs.lemmas.Option.{slice_get_past}
 use Rattle.std.proofs.lemmas.Bool.{cases_lt}
-use Rattle.std.specs.Prelude.{option_map, option_to_list}
+use Rattle.std.specs.Prelude.{option_to_list}
 use Rattle.std.specs.List.{flat_map, drop-map}
-use Rattle.sgf_tree.specs.Tree.{Node, Games, node_count}
-use Rattle.sgf_tree.specs.FileOrder.{OrderedNode, ordered_nodes, node_at, nodes_at, place_at}
-use Rattle.sgf_tree.proofs.OrderedNodes.{length-nodes_from}
+use Rattle.sgf_tree.specs.Tree.{Node, Games}
+use Rattle.sgf_tree.specs.FileOrder.{node_at, nodes_at}
 use Rattle.sgf_lines.specs.Lines.{lines}
 use Rattle.sgf_lines.specs.Paths.{paths}
 use Rattle.sgf_lines.specs.Cursor.{CursorState}
 use Rattle.sgf_lines.specs.inner.Following.{nodes_of, line_in, nodes_before, numbers_of, numbers_before}
 use Rattle.sgf_lines.specs.inner.Standing.{IsAfterLeaf, lines_before}
 use Rattle.sgf_lines.proofs.Lists.{element}
-use Rattle.sgf_lines.proofs.Named.{line_at, length-paths, place_of_node}
-use Rattle.sgf_lines.proofs.Joins.{as_many, named_at, node_named}
+use Rattle.sgf_lines.proofs.Named.{line_at, length-paths}
+use Rattle.sgf_lines.proofs.Joins.{as_many, node_named}
 use Rattle.sgf_lines.proofs.CursorStates.{before}
 use Rattle.sgf_lines.proofs.Descending.{path_is}
 
@@ -52,28 +51,6 @@ module _ (c : Games) (next : ℕ) (at : CursorState) (is : before c next ≡ at)
   pub node_is : (i d : ℕ) (n : Node) → i < length (nodes_before at) → node_at c (get_or path i d) ≡ Some n → slice_get (nodes_before at) i ≡ Some n
   node_is i d n lt e = node_named (node_at c) (nodes_before at) path i d n path_named (omega (arith, as_many_nodes)) e
 
-  named_within : (i : ℕ) (n : Node) → node_at c i ≡ Some n → i < node_count c
-  named_within i n e = by (slice_get (ordered_nodes c) i) refl e
-    where
-      by : (o : Option OrderedNode) → slice_get (ordered_nodes c) i ≡ o → option_map (λ r. r.node) o ≡ Some n → i < node_count c
-      by None there f = absurd cc
-      by (Some r) there f = omega (arith, slice_get_within (ordered_nodes c) i r there, length-nodes_from 0 None c)
-
-  pub node_within : (i d : ℕ) → i < length (nodes_before at) → get_or path i d < node_count c
-  node_within i d lt =
-      let f = named_at (node_at c) (nodes_before at) path i d path_named (omega (arith, as_many_nodes)) in
-      named_within (get_or path i d) f.0 f.2
-
-  pub place_is : (i d place : ℕ) (n : Node) → i < length (nodes_before at) → slice_get (nodes_before at) i ≡ Some n → place_at c (get_or path i d) ≡ Some place → place ≡ n.place
-  place_is i d place n lt e there =
-      let f = named_at (node_at c) (nodes_before at) path i d path_named (omega (arith, as_many_nodes)) in
-      let same : f.0 ≡ n = cc in
-      let here : place_at c (get_or path i d) ≡ Some f.0.place = place_of_node c (get_or path i d) f.0 (sym f.2) in
-      cc
-
   -- those that the path names from an index on
   pub nodes_after : (i : ℕ) → nodes_at c (drop i path) ≡ drop i (nodes_before at)
   nodes_after i = named_nodes (node_at c) (drop i (nodes_before at)) (drop i path) (sym (drop-map Some i (nodes_before at)) ∙ ap (drop i) path_named ∙ drop-map (node_at c) i path)
-
-  pub path_within : (i k d : ℕ) → k < length (drop i path) → get_or (drop i path) k d < node_count c
-  path_within i k d lt = rw get_or-drop (node_within (i + k) d (omega (arith, as_many_nodes, length-drop i path)))

@@ -1,8 +1,8 @@
 -- What a cursor by sequences shows of the line before it, and where it stands after the next leaf.
-use Rattle.std.proofs.Common.{◌≡◌, ◌≢◌, ℕ, zero, suc, ◌+◌, ◌-◌, ◌<◌, ◌≤◌, inl, inr, List, [], ◌∷◌, ◌++◌, length, get_or, take, drop, slice_get, Option, Some, None, option_map, refl, sym, ap, ◌∙◌, subst, arith}
+use Rattle.std.proofs.Common.{◌≡◌, ◌≢◌, ℕ, zero, suc, ◌+◌, ◌-◌, ◌<◌, ◌≤◌, inl, inr, List, [], ◌∷◌, ◌++◌, length, get_or, take, drop, slice_get, Option, Some, None, option_map, refl, sym, ap, ◌∙◌, subst, arith, add-one, length-append}
 use Rattle.std.specs.List.{range_with_len}
 use Rattle.std.proofs.lemmas.Bool.{cases_lt}
-use Rattle.std.proofs.lemmas.List.{length-map, take-map}
+use Rattle.std.proofs.lemmas.List.{length-map, take-map, length-take-le}
 use Rattle.std.proofs.lemmas.Option.{slice_get-get_or}
 use Rattle.std.proofs.lemmas.List.FromFn.{get_or-range_with_len, length-range_with_len}
 use Rattle.std.proofs.Math.ListN.{get_or-append}
@@ -66,13 +66,17 @@ first_number c (p ∷ ps) d part are e =
     get_or-append (sequence_numbers c p.sequence) (part_numbers c ps) d 0 (omega (arith, length-range_with_len (sequence_start c p.sequence) (sequence_length c p.sequence)))
     ∙ get_or-range_with_len (sequence_start c p.sequence) (sequence_length c p.sequence) 0 d (omega arith) ∙ omega arith ∙ ap (λ (q : Part). sequence_start c q.sequence) same
 
-some_end : (ends : List ℕ) (count : ℕ) → RiseTo 0 ends count → 0 < length ends → 0 < count
+pub some_end : (ends : List ℕ) (count : ℕ) → RiseTo 0 ends count → 0 < length ends → 0 < count
 some_end [] count rise some = absurd (omega arith)
 some_end (end ∷ ends) count rise some = omega (arith, rise.0, no_less end ends count rise.1)
   where
     no_less : (start : ℕ) (ends : List ℕ) (count : ℕ) → RiseTo start ends count → start ≤ count
     no_less start [] count rise = omega (arith, rise)
     no_less start (end ∷ ends) count rise = omega (arith, rise.0, no_less end ends count rise.1)
+
+pub some_ends : (ends : List ℕ) (count : ℕ) → RiseTo 0 ends count → 0 < count → 0 < length ends
+some_ends [] count rise some = absurd (omega (arith, rise))
+some_ends (end ∷ ends) count rise some = omega arith
 
 module _ (c : Games) (next : ℕ) (parts : List Part) (h : IsAfterSequences c next parts) (state : SequencesState) (is : seen c next parts ≡ state) where
   at_is : before c (first_of c next) ≡ state.at
@@ -101,6 +105,12 @@ module _ (c : Games) (next : ℕ) (parts : List Part) (h : IsAfterSequences c ne
 
   pub few_nodes : length (nodes_before state.at) ≤ node_count state.at.games
   few_nodes = omega (arith, nodes_long, short c (first_of c next) (part_numbers c parts) h.stands, first_within c next, ap node_count games_are)
+
+  -- a line has a part
+  pub some_part : 0 < state.at.index → 0 < length state.ends
+  some_part lt =
+      let shown = shows_line c (first_of c next) state.at at_is (part_numbers c parts) h.stands lt in
+      some_ends state.ends (length (nodes_before state.at)) divided (omega (arith, nodes_long, shown.some_node))
 
   -- the nodes of a part
   pub sequence_nodes : (i : ℕ) (part : Part) → slice_get parts i ≡ Some part
@@ -174,6 +184,9 @@ module _ (c : Games) (next : ℕ) (parts : List Part) (h : IsAfterSequences c ne
   pub no_more : HasNoLeaf c (first_of c next) (node_count c) → slice_get (lines state.at.games) state.at.index ≡ None
   no_more none = none_is_left c (first_of c next) state.at at_is none
 
+  pub no_nodes : HasNoLeaf c (first_of c next) (node_count c) → 0 ≡ length (nodes_before (advanced state.at))
+  no_nodes none = let one : state.at.index + 1 ≡ suc state.at.index = add-one state.at.index in sym (ap (λ i. length (nodes_of (line_in state.at.games i))) one ∙ ap (λ o. length (nodes_of o)) (no_more none))
+
   module _ (leaf : ℕ) (parent : Option ℕ) (front : Front) (n : IsNextEnd c next leaf) (parent_is : parent_at c (sequence_start c next) ≡ Some parent) (cut : IsFrontUpTo c parts parent front) where
     next_there : next < length (sequence_starts c)
     next_there = omega (arith, n.from_there, n.within)
@@ -205,6 +218,29 @@ module _ (c : Games) (next : ℕ) (parts : List Part) (h : IsAfterSequences c ne
           kept_within c (first_of c next) (part_numbers c parts) h.stands leaf_node parent front.nodes next_leaf parent_there node_cut,
           short c (first_of c next) (part_numbers c parts) h.stands,
         )
+
+    -- how many nodes it has
+    pub next_long : (first end : ℕ) → first ≡ sequence_start c next → end ≡ sequence_end c leaf → front.nodes + (end - first) ≡ length (nodes_before (advanced state.at))
+    next_long first end first_is end_is =
+        let range = range_with_len (first_of c next) (leaf_node + 1 - first_of c next) in
+        let numbers = take front.nodes (part_numbers c parts) ++ range in
+        let after = stands_next c (first_of c next) (part_numbers c parts) h.stands leaf_node parent front.nodes next_leaf parent_there node_cut numbers refl in
+        let within = kept_within c (first_of c next) (part_numbers c parts) h.stands leaf_node parent front.nodes next_leaf parent_there node_cut in
+        omega (
+          arith,
+          first_is,
+          end_is,
+          start_is c next next_there,
+          never_empty c leaf n.within,
+          as_many_nodes c (leaf_node + 1) (advanced state.at) (advances c (first_of c next) state.at at_is leaf_node next_leaf) numbers after,
+          length-append (take front.nodes (part_numbers c parts)) range,
+          length-take-le front.nodes (part_numbers c parts) within,
+          length-range_with_len (first_of c next) (leaf_node + 1 - first_of c next),
+        )
+
+    -- its nodes end after the first one
+    pub next_rises : sequence_start c next ≤ sequence_end c leaf
+    next_rises = omega (arith, start_is c next next_there, next_leaf.from_there, never_empty c leaf n.within)
 
     module _ (new : List Part) (down : GoesDown c parts front.sequences next (leaf + 1) new) where
       numbers_made : part_numbers c new ≡ take front.nodes (part_numbers c parts) ++ range_with_len (first_of c next) (leaf_node + 1 - first_of c next)
@@ -248,15 +284,23 @@ module _ (c : Games) (next : ℕ) (parts : List Part) (h : IsAfterSequences c ne
             count = within.1 ∙ ap (λ ends. nodes_in ends front.sequences) ends_are;
           }
 
-  -- ---- The line with a place.
+  -- ---- The line that ends in a leaf.
 
   pub no_such_line : (place : ℕ) → ((leaf : ℕ) → IsLeaf c leaf → place_at c leaf ≢ Some place) → HasNoLineAt state.at.games place
   no_such_line place none = no_line_there c (first_of c next) place state.at at_is none
 
-  module _ (leaf place sequence : ℕ) (new : List Part) (lt : leaf < node_count c) (is_leaf : IsLeaf c leaf) (placed : place_at c leaf ≡ Some place) (of : IsSequenceOf c leaf sequence)
-      (way : ArePartsTo c (Some sequence) new) where
+  pub found : (leaf place : ℕ) → leaf < node_count c → IsLeaf c leaf → place_at c leaf ≡ Some place → IsAfterPlace place state.at (before state.at.games (leaf + 1))
+  found leaf place lt is_leaf placed = subst (IsAfterPlace place state.at) (ap (λ games. before games (leaf + 1)) games_are) (sought c leaf place state.at (sym games_are) lt is_leaf placed)
+
+  module _ (leaf sequence : ℕ) (new : List Part) (lt : leaf < node_count state.at.games) (is_leaf : IsLeaf state.at.games leaf) (of : IsSequenceOf c leaf sequence) (way : ArePartsTo c (Some sequence) new) where
+    leaf_here : IsLeaf c leaf
+    leaf_here = subst (λ games. IsLeaf games leaf) (sym games_are) is_leaf
+
+    there : leaf < node_count c
+    there = omega (arith, lt, ap node_count games_are)
+
     leaf_last : leaf + 1 ≡ first_of c (sequence + 1)
-    leaf_last = closes_last c leaf sequence (leaf_closes c leaf lt is_leaf) of
+    leaf_last = closes_last c leaf sequence (leaf_closes c leaf there leaf_here) of
 
     path_there : IsPathTo c (Some leaf) (part_numbers c new)
     path_there = let same : sequence_end c sequence - 1 ≡ leaf = omega (arith, leaf_last) in subst (λ m. IsPathTo c (Some m) (part_numbers c new)) same (parts_path c way)
@@ -264,11 +308,9 @@ module _ (c : Games) (next : ℕ) (parts : List Part) (h : IsAfterSequences c ne
     pub stands_sought : IsAfterSequences c (sequence + 1) new
     stands_sought = record {
       within = omega (arith, of.within);
-      stands = subst (λ m. IsAfterLeaf c m (part_numbers c new)) leaf_last (stands_after c leaf (part_numbers c new) lt is_leaf path_there);
+      stands = subst (λ m. IsAfterLeaf c m (part_numbers c new)) leaf_last (stands_after c leaf (part_numbers c new) there leaf_here path_there);
       are = parts_are c way;
     }
 
-    pub found : IsAfterPlace place state.at (before c (first_of c (sequence + 1)))
-    found =
-        subst (λ m. IsAfterPlace place state.at (before c m)) leaf_last
-        (sought c (first_of c next) leaf place state.at (part_numbers c new) at_is lt is_leaf placed path_there)
+    pub after_leaf_is : before c (first_of c (sequence + 1)) ≡ before state.at.games (leaf + 1)
+    after_leaf_is = ap (before c) (sym leaf_last) ∙ ap (λ games. before games (leaf + 1)) games_are

@@ -1,21 +1,13 @@
 -- The search for the node with a place.
-use Rattle.std.proofs.Common.{◌≡◌, ℕ, ◌+◌, ◌<◌, Some, option_map, ap, inl, inr, arith}
+use Rattle.std.proofs.Common.{◌≡◌, ℕ, ◌<◌, Some, option_map, ap, inl, inr, arith}
 use Rattle.std.proofs.lemmas.Bool.{cases_lt, cases_eq}
 use Rattle.sgf_tree.specs.Tree.{Games, node_count}
 use Rattle.sgf_tree.specs.FileOrder.{OrderedNode, place_at, PlacesRise}
-use Rattle.sgf_lines.specs.inner.Seeking.{AllBefore}
 use Rattle.sgf_lines.specs.inner.Sequences.{IsFirstFrom}
 use Rattle.sgf_lines.proofs.SequenceStarts.{ordered_there}
 use Rattle.sgf_lines.proofs.Seeking.{place_within}
 
 module _ (c : Games) (place : ℕ) where
-  -- what is before a node that is before the place
-  pub before_too : (node here : ℕ) → PlacesRise c → place_at c node ≡ Some here → here < place → AllBefore c place (node + 1)
-  before_too node here rise is lt number there before e = elim (cases_lt number node) [
-    | inl earlier ↦ omega (arith, rise number node there here earlier e is)
-    | inr ge ↦ let same : number ≡ node = omega arith in let at_node : place_at c node ≡ Some there = rw same at e in let equal : here ≡ there = cc in omega arith
-  ]
-
   placed : (i : ℕ) → i < node_count c → (p : ℕ) × (place_at c i ≡ Some p)
   placed i lt = let f = ordered_there c i lt in (f.0.node.place, ap (option_map (λ (r : OrderedNode). r.node.place)) f.1)
 

@@ -256,15 +256,6 @@ module _ (c : Games) where
     | inr ge ↦ omega (arith, is.end)
   ]
 
-  pub end_closes : (k : ℕ) → k < length starts → Closes (sequence_end c k - 1)
-  unfolding Closes
-  end_closes k lt =
-      let back : sequence_end c k - 1 + 1 ≡ sequence_end c k = omega (arith, never_empty k lt) in
-      elim (cases_lt (k + 1) (length starts)) [
-        | inl within ↦ inr (rw back (start_opens (k + 1) within))
-        | inr ge ↦ inl (omega (arith, past_all (k + 1) ge))
-      ]
-
   -- a leaf ends its sequence
   pub leaf_closes : (n : ℕ) → n < node_count c → IsLeaf c n → Closes n
   unfolding Closes

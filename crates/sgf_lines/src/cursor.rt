@@ -1,17 +1,16 @@
 //! Going over the lines of play of a collection.
 
-ghost use Rattle.std.specs.Prelude.{◌≡◌, ◌+◌, ◌-◌, ◌<◌, ◌≤◌, ◌++◌, None, Some, length, map, take, drop, vec_len, slice_get, OnOk, OnErr, IfOk, IfErr, IfSome, IfNone, MatchOption};
-ghost use Rattle.std.specs.List.{flat_map, range_with_len};
-ghost use Rattle.sgf_tree.specs.Tree.{Node, node_count};
-ghost use Rattle.sgf_tree.specs.Written.{node_text, ends_from};
+ghost use Rattle.std.specs.Prelude.{◌≡◌, ◌+◌, ◌-◌, ◌<◌, ◌≤◌, ◌++◌, length, take, slice_get, vec_len, vec_capacity, IfOk, IfErr, IfSome, IfNone, OnOk, OnErr, MatchOption};
+ghost use Rattle.std.specs.List.{range_with_len};
 ghost use Rattle.sgf_lines.specs.Lines.{lines};
 ghost use Rattle.sgf_lines.specs.Cursor.{advanced, IsLine};
-ghost use Rattle.sgf_lines.specs.inner.PathTo.{IsLeafSearch};
-ghost use Rattle.sgf_lines.specs.inner.Following.{Continues, path_before, nodes_before, IsCutBack};
+ghost use Rattle.sgf_lines.specs.inner.Following.{nodes_before, path_before};
+ghost use Rattle.sgf_lines.specs.inner.Sequences.{SharesFront, nodes_in};
 
 use crate::line::LineRef;
-use crate::seek::{SeekFault, leaf_at, write_path};
-use sgf_tree::{Collection, MemoryFault, NodeRef};
+use crate::seek::SeekFault;
+use crate::sequence_cursor::{Front, SequenceCursor};
+use sgf_tree::{Collection, MemoryFault};
 use std::alloc::Global;
 use std::marker::Model;
 
@@ -19,26 +18,25 @@ use std::marker::Model;
 /// Contracts see it as the collection and the index of its next line, from 0.
 #[derive(Drop)]
 pub struct Cursor<'c, 'a> {
-    collection: &'c Collection<'a>,
+    pub(crate) sequences: SequenceCursor<'c, 'a>,
 
-    /// The node at which the search for the next leaf begins.
-    next: usize,
-
-    /// The nodes from the root to the last leaf before the node `next`; none before the first line.
-    path: Vec<usize>,
+    /// The numbers of the nodes of the line before the cursor, the root's first; none before the first line.
+    pub(crate) path: Vec<usize>,
 }
 
 impl<'c, 'a> Model for Cursor<'c, 'a> {
+    ghost use Rattle.std.specs.Prelude.{◌≡◌};
     ghost use Rattle.sgf_lines.specs.Cursor.{CursorState};
-    ghost use Rattle.sgf_lines.specs.inner.Standing.{cursor_state_code, lines_before, IsAfterLeaf};
+    ghost use Rattle.sgf_lines.specs.inner.Following.{path_before};
+    ghost use Rattle.sgf_lines.specs.inner.Standing.{cursor_state_code};
 
     ghost Value = { CursorState };
 
     ghost coded = { cursor_state_code };
 
-    ghost view = { λ s. record { games = s.collection.now; index = lines_before s.collection.now s.next } };
+    ghost view = { λ s. s.sequences.at };
 
-    ghost invariant = { λ s. IsAfterLeaf s.collection.now s.next s.path.items };
+    ghost invariant = { λ s. s.path.items ≡ path_before s.sequences.at };
 }
 
 impl<'c, 'a> Cursor<'c, 'a> {
@@ -51,8 +49,7 @@ impl<'c, 'a> Cursor<'c, 'a> {
         ensures { result ≡ record { games = collection.now; index = 0 } }
     {
         Cursor {
-            collection,
-            next: 0,
+            sequences: SequenceCursor::new(alloc, collection),
             path: Vec::new(alloc),
         }
     }
@@ -63,8 +60,8 @@ impl<'c, 'a> Cursor<'c, 'a> {
         ensures* goes_on { sem 𝓛 (OnceReturned self.entry (LeavesCursor self.entry.now result)) }
         ensures line { IfOk result (GivesLine self.old) }
     {
-        match self.advance()? {
-            Some(_) => Ok(Some(self.line())),
+        match advance(&mut self.sequences, &mut self.path)? {
+            Some(_) => Ok(Some(line(&self.sequences, &self.path))),
             None => Ok(None),
         }
     }
@@ -78,141 +75,86 @@ impl<'c, 'a> Cursor<'c, 'a> {
         ensures why { IfErr result (IsSeekFault self.old.games place) }
         ensures unchanged { OnErr result (self.new ≡ self.old) }
     {
-        let Some(leaf) = leaf_at(self.collection, place) else {
-            return Err(SeekFault::NoSuchLine { place });
+        let alloc = *self.path.allocator();
+        let mut sequences = SequenceCursor::new(alloc, self.sequences.collection());
+        sequences.seek_after(place)?;
+        let Ok(()) = self.path.reserve(sequences.len()) else {
+            return Err(SeekFault::Memory);
         };
-        write_path(self.collection, leaf, &mut self.path)?;
-        self.next = leaf + 1;
+        write_path(
+            &sequences,
+            Front {
+                sequences: 0,
+                nodes: 0,
+            },
+            &mut self.path,
+        );
+        self.sequences = sequences;
         Ok(())
     }
-
-    /// Moves on by one line, and returns how many nodes this line shares with the line before it;
-    /// None if no line is left. After a refusal of memory the cursor is unchanged.
-    pub(crate) fn advance(&mut self) -> Result<Option<usize>, MemoryFault>
-        ensures moved { IfOk result (λ shared. MatchOption shared (self.new ≡ self.old) (λ _. self.new ≡ advanced self.old)) }
-        ensures none_left { IfOk result (λ shared. IfNone shared (slice_get (lines self.old.games) self.old.index ≡ None)) }
-        ensures shared { IfOk result (λ shared. IfSome shared (λ n. Continues (path_before self.old) n (path_before self.new))) }
-        ensures unchanged { OnErr result (self.new ≡ self.old) }
-    {
-        let Some(leaf) = next_leaf(self.collection, self.next) else {
-            return Ok(None);
-        };
-        let shared = cut_back(&self.path, self.collection.parent(self.next));
-        go_down(&mut self.path, shared, self.next, leaf)?;
-        self.next = leaf + 1;
-        Ok(Some(shared))
-    }
-
-    /// The collection that the cursor goes over.
-    pub(crate) fn collection(&self) -> &'c Collection<'a>
-        ensures { result.now ≡ self.now.games }
-    {
-        self.collection
-    }
-
-    /// The number of nodes of the line before the cursor; 0 before the first line.
-    pub(crate) fn len(&self) -> usize
-        ensures nodes { result ≡ length (nodes_before self.now) }
-        ensures short { result ≤ node_count self.now.games }
-        ensures small { result < usize.MAX }
-    {
-        self.path.len()
-    }
-
-    /// A node of the line before the cursor, by its index from 0. The root comes first.
-    pub(crate) fn node(&self, index: usize) -> NodeRef<'_, 'a>
-        requires { index < length (nodes_before self.now) }
-        ensures { slice_get (nodes_before self.now) index ≡ Some result }
-    {
-        self.collection.node(self.path[index])
-    }
-
-    /// Appends to `out` the nodes of that line from an index on, as the sgf form writes them. For each node it appends to `ends`
-    /// the offset in `out` where that node ends. If memory is refused, `out` and `ends` are unchanged.
-    pub(crate) fn push_nodes(
-        &self,
-        from: usize,
-        out: &mut Vec<u8>,
-        ends: &mut Vec<usize>,
-    ) -> Result<(), MemoryFault>
-        requires { from ≤ length (nodes_before self.now) }
-        ensures appended { OnOk result (out.new.items ≡ out.old.items ++ flat_map node_text (drop from (nodes_before self.now))) }
-        ensures ends { OnOk result (ends.new.items
-            ≡ ends.old.items ++ ends_from (length out.old.items) (map node_text (drop from (nodes_before self.now)))) }
-        ensures unchanged { OnErr result (out.new.items ≡ out.old.items) }
-        ensures ends_unchanged { OnErr result (ends.new.items ≡ ends.old.items) }
-    {
-        self.collection
-            .push_nodes(numbers_from(&self.path, from), out, ends)
-    }
-
-    /// The line before the cursor.
-    pub(crate) fn line(&self) -> LineRef<'_>
-        requires { 0 < self.now.index }
-        ensures { IsLine self.now.games (self.now.index - 1) result }
-    {
-        LineRef {
-            path: &self.path,
-            game: self.collection.game_of(self.path[0]),
-            place: self.collection.place(self.next - 1) as u64,
-        }
-    }
 }
 
-/// The first leaf from the node `from` on; None if there is none.
-fn next_leaf(collection: &Collection<'_>, from: usize) -> Option<usize>
-    ensures first { IsLeafSearch collection.now from result }
-    ensures small { IfSome result (λ leaf. leaf < usize.MAX) }
+/// Moves a cursor on by one line, and with it the path of the line before it. Returns what this line shares with the line
+/// before it; None if no line is left. After a refusal of memory both are unchanged.
+pub(crate) fn advance(
+    sequences: &mut SequenceCursor<'_, '_>,
+    path: &mut Vec<usize>,
+) -> Result<Option<Front>, MemoryFault>
+    requires path { path.old.items ≡ path_before sequences.old.at }
+    ensures moved { IfOk result (λ shared. MatchOption shared (sequences.new ≡ sequences.old) (λ _. sequences.new.at ≡ advanced sequences.old.at)) }
+    ensures none_left { IfOk result (λ shared. IfNone shared (slice_get (lines sequences.old.at.games) sequences.old.at.index ≡ None)) }
+    ensures shared { IfOk result (λ shared. IfSome shared (SharesFront sequences.old sequences.new)) }
+    ensures unchanged { OnErr result (sequences.new ≡ sequences.old) }
+    ensures path { path.new.items ≡ path_before sequences.new.at }
 {
-    for node in from..collection.nodes() {
-        if collection.is_leaf(node) {
-            return Some(node);
-        }
-    }
-    None
-}
-
-/// The number of nodes of a path up to and including `parent`; 0 if there is no parent. The search begins at the path's end.
-fn cut_back(path: &[usize], parent: Option<usize>) -> usize
-    ensures { IsCutBack path.now parent result }
-{
-    let Some(parent) = parent else {
-        return 0;
-    };
-    let mut kept = path.len();
-    while kept > 0 {
-        if path[kept - 1] == parent {
-            return kept;
-        }
-        kept -= 1;
-    }
-    kept
-}
-
-/// The numbers of a path from an index on.
-fn numbers_from(path: &[usize], from: usize) -> &[usize]
-    requires { from ≤ length path.now }
-    ensures { result.now ≡ drop from path.now }
-{
-    &path[from..]
-}
-
-/// Cuts a path back to its first `kept` nodes, and appends the nodes from
-/// `first` to `leaf`. After a refusal of memory the path is unchanged.
-fn go_down(path: &mut Vec<usize>, kept: usize, first: usize, leaf: usize) -> Result<(), MemoryFault>
-    requires within { kept ≤ vec_len path.old }
-    requires before { kept ≤ first }
-    requires down { first ≤ leaf }
-    requires small { leaf < usize.MAX }
-    ensures ok { OnOk result (path.new.items ≡ take kept path.old.items ++ range_with_len first (leaf + 1 - first)) }
-    ensures unchanged { OnErr result (path.new.items ≡ path.old.items) }
-{
-    let end = leaf + 1;
-    let room = (kept + (end - first)).saturating_sub(path.len());
+    let room = sequences.next_len().saturating_sub(path.len());
     path.reserve(room)?;
-    path.truncate(kept);
-    for node in first..end {
-        path.push(node).unwrap();
+    let Some(shared) = sequences.advance()? else {
+        return Ok(None);
+    };
+    write_path(sequences, shared, path);
+    Ok(Some(shared))
+}
+
+/// The line before a cursor, with this path.
+pub(crate) fn line<'l>(sequences: &SequenceCursor<'_, '_>, path: &'l [usize]) -> LineRef<'l>
+    requires some { 0 < sequences.now.at.index }
+    requires path { path.now ≡ path_before sequences.now.at }
+    ensures { IsLine sequences.now.at.games (sequences.now.at.index - 1) result }
+{
+    // The line has a sequence, and a sequence has a node.
+    let _sequences = sequences.sequences();
+    LineRef {
+        path,
+        game: sequences.game(),
+        place: sequences.place(),
     }
-    Ok(())
+}
+
+/// Cuts a path back to a front of the line before a cursor, and appends the nodes after it. There must be room for all nodes.
+fn write_path(sequences: &SequenceCursor<'_, '_>, front: Front, path: &mut Vec<usize>)
+    requires within { front.sequences ≤ length sequences.now.ends }
+    requires count { front.nodes ≡ nodes_in sequences.now.ends front.sequences }
+    requires held { take front.nodes path.old.items ≡ take front.nodes (path_before sequences.now.at) }
+    requires room { length (nodes_before sequences.now.at) ≤ vec_capacity path.old }
+    ensures { path.new.items ≡ path_before sequences.now.at }
+{
+    path.truncate(front.nodes);
+    let count = sequences.sequences();
+    for index in front.sequences..count {
+        let (first, end) = sequences.numbers(index);
+        push_range(path, first, end);
+    }
+}
+
+/// Appends the numbers from `first` on and before `end`. There must be room for them.
+fn push_range(path: &mut Vec<usize>, first: usize, end: usize)
+    requires up { first ≤ end }
+    requires room { vec_len path.old + (end - first) ≤ vec_capacity path.old }
+    ensures appended { path.new.items ≡ path.old.items ++ range_with_len first (end - first) }
+    ensures room { vec_capacity path.old ≤ vec_capacity path.new }
+{
+    for number in first..end {
+        path.push(number).unwrap();
+    }
 }

@@ -3,11 +3,12 @@
 ghost use Rattle.std.specs.Prelude.{◌≡◌, ◌<◌, ◌-◌, length, IfOk};
 ghost use Rattle.sgf_lines.specs.Plays.{all_judged_places};
 
-use crate::cursor::Cursor;
+use crate::cursor::{Cursor, line};
 use crate::form::judged::judge_line;
 use crate::going_on::{Before, go_on};
 use crate::judging::judge::Judge;
 use crate::line::LineRef;
+use crate::sequence_cursor::SequenceCursor;
 use crate::verdict::Verdict;
 use sgf_tree::MemoryFault;
 use std::alloc::Global;
@@ -18,7 +19,10 @@ use std::marker::Model;
 /// index (from 0) of its next line, and how many lines directly before that one were judged in a row.
 #[derive(Drop)]
 pub struct Follower<'c, 'a> {
-    cursor: Cursor<'c, 'a>,
+    sequences: SequenceCursor<'c, 'a>,
+
+    /// The numbers of the nodes of the line before the cursor.
+    path: Vec<usize>,
 
     judge: Judge,
 
@@ -29,16 +33,18 @@ pub struct Follower<'c, 'a> {
 }
 
 impl<'c, 'a> Model for Follower<'c, 'a> {
+    ghost use Rattle.std.specs.Prelude.{◌≡◌};
     ghost use Rattle.sgf_lines.specs.Follower.{FollowerState};
+    ghost use Rattle.sgf_lines.specs.inner.Following.{path_before};
     ghost use Rattle.sgf_lines.specs.inner.Followers.{follower_state_code, state_by, Follows};
 
     ghost Value = { FollowerState };
 
     ghost coded = { follower_state_code };
 
-    ghost view = { λ f. state_by f.before f.cursor f.row };
+    ghost view = { λ f. state_by f.before f.sequences.at f.row };
 
-    ghost invariant = { λ f. Follows f.before f.cursor f.judge f.row };
+    ghost invariant = { λ f. Follows f.before f.sequences.at f.judge f.row × (f.path.items ≡ path_before f.sequences.at) };
 }
 
 impl<'c, 'a> Follower<'c, 'a> {
@@ -50,7 +56,8 @@ impl<'c, 'a> Follower<'c, 'a> {
         ensures { result ≡ record { games = cursor.entry.games; index = cursor.entry.index; row = 0 } }
     {
         Follower {
-            cursor,
+            sequences: cursor.sequences,
+            path: cursor.path,
             judge: Judge::new(alloc),
             before: Before::Unheld,
             row: 0,
@@ -63,16 +70,17 @@ impl<'c, 'a> Follower<'c, 'a> {
         ensures verdict { IfOk result (GivesVerdict self.old) }
         ensures left { LeavesFollower self.old self.new result }
     {
-        let Some(held) = go_on(&mut self.cursor, self.before)? else {
+        let Some(held) = go_on(&mut self.sequences, &mut self.path, self.before)? else {
             return Ok(None);
         };
-        // There are no more lines than nodes, and no more nodes than bytes.
-        let _nodes = self.cursor.collection().nodes();
-        let _len = self.cursor.len();
+        // There are no more lines than nodes, and no more nodes than bytes. Each sequence has a node.
+        let _nodes = self.sequences.collection().nodes();
+        let _sequences = self.sequences.sequences();
+        let _len = self.sequences.len();
         let row = self.row;
         self.row = 0;
         self.before = Before::Refused;
-        let Ok(()) = judge_line(&self.cursor, held, &mut self.judge) else {
+        let Ok(()) = judge_line(&self.sequences, held, &mut self.judge) else {
             self.judge.count_anew();
             return Err(MemoryFault);
         };
@@ -86,7 +94,7 @@ impl<'c, 'a> Follower<'c, 'a> {
         requires { 0 < self.now.row }
         ensures { IsLine self.now.games (self.now.index - 1) result }
     {
-        self.cursor.line()
+        line(&self.sequences, &self.path)
     }
 
     /// The number of nodes that were played for the lines judged in a row: each node that is judged on at least one of them,

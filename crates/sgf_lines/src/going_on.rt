@@ -1,12 +1,13 @@
 //! Going on to the next line, and how much of it is held already.
 
-ghost use Rattle.std.specs.Prelude.{◌≡◌, None, slice_get, IfNone, IfOk, IfSome, OnErr};
+ghost use Rattle.std.specs.Prelude.{◌≡◌, ◌<◌, None, length, slice_get, IfNone, IfOk, IfSome, OnErr};
 ghost use Rattle.sgf_lines.specs.Lines.{lines};
-ghost use Rattle.sgf_lines.specs.inner.Fronts.{held_by};
+ghost use Rattle.sgf_lines.specs.inner.Following.{path_before};
+ghost use Rattle.sgf_lines.specs.inner.Fronts.{HasFront, held_by};
 ghost use Rattle.sgf_lines.specs.inner.GoingOn.{index_by, GoesOnBy};
 
-use crate::cursor::Cursor;
-use crate::sequence_cursor::Front;
+use crate::cursor::advance;
+use crate::sequence_cursor::{Front, SequenceCursor};
 use sgf_tree::MemoryFault;
 
 /// What is known of the line before a cursor.
@@ -35,26 +36,29 @@ impl Before {
     }
 }
 
-/// Goes on to the next line and returns how many of its nodes are held already; None if no line is left.
-/// After `Before::Refused` the cursor stays where it is, and 0 is returned.
-/// After a refusal of memory the cursor is unchanged.
+/// Goes on to the next line, with its path, and returns the front of it that is held already; None if no line is left.
+/// After `Before::Refused` the cursor stays where it is, and nothing is held. After a refusal of memory the cursor is unchanged.
 pub(crate) fn go_on(
-    cursor: &mut Cursor<'_, '_>,
+    sequences: &mut SequenceCursor<'_, '_>,
+    path: &mut Vec<usize>,
     before: Before,
-) -> Result<Option<usize>, MemoryFault>
-    ensures found { IfOk result (λ held. IfSome held (GoesOnBy before cursor.old cursor.new)) }
-    ensures none_left { IfOk result (λ held. IfNone held (slice_get (lines cursor.old.games) (index_by before cursor.old.index) ≡ None)) }
-    ensures none_moved { IfOk result (λ held. IfNone held (cursor.new ≡ cursor.old)) }
-    ensures unchanged { OnErr result (cursor.new ≡ cursor.old) }
+) -> Result<Option<Front>, MemoryFault>
+    requires path { path.old.items ≡ path_before sequences.old.at }
+    ensures found { IfOk result (λ held. IfSome held (λ front. GoesOnBy before sequences.old.at sequences.new.at front.nodes)) }
+    ensures front { IfOk result (λ held. IfSome held (λ front. 0 < length sequences.new.ends → HasFront sequences.new.ends front)) }
+    ensures none_left { IfOk result (λ held. IfNone held (slice_get (lines sequences.old.at.games) (index_by before sequences.old.at.index) ≡ None)) }
+    ensures none_moved { IfOk result (λ held. IfNone held (sequences.new ≡ sequences.old)) }
+    ensures unchanged { OnErr result (sequences.new ≡ sequences.old) }
+    ensures path { path.new.items ≡ path_before sequences.new.at }
 {
     if let Before::Refused = before {
-        return Ok(Some(0));
+        return Ok(Some(Front {
+            sequences: 0,
+            nodes: 0,
+        }));
     }
-    let Some(shared) = cursor.advance()? else {
+    let Some(shared) = advance(sequences, path)? else {
         return Ok(None);
     };
-    match before {
-        Before::Held => Ok(Some(shared)),
-        _ => Ok(Some(0)),
-    }
+    Ok(Some(before.held(shared)))
 }

@@ -29,8 +29,8 @@
 //!
 //! | Module | What it has |
 //! |---|---|
-//! | `line`, `cursor`, `seek` | what is shown of a line; going over the lines of a collection; seeking the line with a place |
-//! | `sequence_cursor`, `line_nodes` | going over the lines by their sequences, as a run does; going over the nodes of one line |
+//! | `line`, `cursor`, `seek` | what is shown of a line; going over the lines of a collection; why a line may not be found |
+//! | `sequence_cursor`, `line_nodes` | going over the lines by their sequences; going over the nodes of one line |
 //! | `options`, `fault` | what a run is asked for; how it may fail |
 //! | `verdict`, `judging` | the verdict of a line; judging lines, in the modules below |
 //! | `judging/one_line`, `judging/judge` | one line, by its leaf or its place; a judge that goes along a line's nodes, and back |

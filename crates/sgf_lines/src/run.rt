@@ -19,7 +19,7 @@ ghost use Rattle.sgf_lines.specs.inner.Running.{AnswersSome, HasRead, HasReadAll
 use crate::ends::sink::{Sink, SinkFault, put_all};
 use crate::ends::source::Source;
 use crate::fault::RunFault;
-use crate::form::judged::judge_sequences;
+use crate::form::judged::judge_line;
 use crate::form::pieces::Pieces;
 use crate::form::row::{LineShown, Row};
 use crate::form::script::Script;
@@ -339,7 +339,7 @@ impl<'c, 'a> Run<'c, 'a> {
         let _sequences = self.cursor.sequences();
         match self.form {
             Form::List => {
-                judge_sequences(&self.cursor, held, &mut self.judge)?;
+                judge_line(&self.cursor, held, &mut self.judge)?;
                 self.row
                     .lay_out(LineShown::of(&self.cursor), self.judge.verdict());
                 Ok(())

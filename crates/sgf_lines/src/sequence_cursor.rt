@@ -13,6 +13,7 @@ ghost use Rattle.sgf_lines.specs.Lines.{lines, place_of};
 ghost use Rattle.sgf_lines.specs.Cursor.{advanced, IsAfterPlace, IsSeekFault};
 ghost use Rattle.sgf_lines.specs.inner.Following.{line_before, nodes_before, path_before};
 ghost use Rattle.sgf_lines.specs.inner.Seeking.{IsLeafAt};
+ghost use Rattle.sgf_lines.specs.inner.Standing.{lines_before};
 ghost use Rattle.sgf_lines.specs.inner.Sequences.{RiseTo, SharesFront, sequences_of, parts_from, first_of, nodes_in, part_ends, sequence_length, AreParts, IsEndSearch, IsFrontUpTo, GoesDown, IsAbove, ArePartsTo, MeasuresTo, IsSequenceOf, IsFirstFrom};
 
 use crate::seek::SeekFault;
@@ -87,6 +88,18 @@ impl<'c, 'a> SequenceCursor<'c, 'a> {
         let Some(leaf) = leaf_at(self.collection, place) else {
             return Err(SeekFault::NoSuchLine { place });
         };
+        self.seek_leaf(leaf)?;
+        Ok(())
+    }
+
+    /// Moves the cursor to just after the line that ends in a leaf. After a refusal of memory the cursor is unchanged.
+    pub(crate) fn seek_leaf(&mut self, leaf: usize) -> Result<(), MemoryFault>
+        requires within { leaf < node_count self.old.at.games }
+        requires is_leaf { IsLeaf self.old.at.games leaf }
+        requires few { node_count self.old.at.games ≤ MAX_LENGTH }
+        ensures sought { OnOk result (self.new.at ≡ record { games = self.old.at.games; index = lines_before self.old.at.games (leaf + 1) }) }
+        ensures unchanged { OnErr result (self.new ≡ self.old) }
+    {
         let sequence = sequence_of(self.collection, leaf);
         write_path(self.collection, sequence, &mut self.path)?;
         self.next = sequence + 1;
@@ -111,6 +124,18 @@ impl<'c, 'a> SequenceCursor<'c, 'a> {
         Ok(Some(front))
     }
 
+    /// The number of nodes of the next line; 0 if no line is left.
+    pub(crate) fn next_len(&self) -> usize
+        ensures { result ≡ length (nodes_before (advanced self.now.at)) }
+    {
+        let Some(leaf) = next_end(self.collection, self.next) else {
+            return 0;
+        };
+        let first = self.collection.sequence_start(self.next);
+        let front = front_up_to(self.collection, &self.path, self.collection.parent(first));
+        front.nodes + (self.collection.sequence_end(leaf) - first)
+    }
+
     /// The collection that the cursor goes over.
     pub(crate) fn collection(&self) -> &'c Collection<'a>
         ensures { result.now ≡ self.now.at.games }
@@ -122,6 +147,7 @@ impl<'c, 'a> SequenceCursor<'c, 'a> {
     pub(crate) fn sequences(&self) -> usize
         ensures count { result ≡ length self.now.ends }
         ensures divided { RiseTo 0 self.now.ends (length (nodes_before self.now.at)) }
+        ensures some { 0 < self.now.at.index → 0 < result }
     {
         self.path.len()
     }
@@ -318,7 +344,7 @@ fn go_down(
 }
 
 /// The leaf with this place, if there is one.
-fn leaf_at(collection: &Collection<'_>, place: u64) -> Option<usize>
+pub(crate) fn leaf_at(collection: &Collection<'_>, place: u64) -> Option<usize>
     ensures leaf { IsLeafAt collection.now place result }
     ensures few { IfSome result (λ leaf. node_count collection.now ≤ MAX_LENGTH) }
 {

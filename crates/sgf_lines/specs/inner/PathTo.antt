@@ -1,5 +1,5 @@
 -- The path from the root of a game down to a node, and the leaves that a cursor seeks.
-use Rattle.std.specs.Prelude.{◌≡◌, ℕ, ◌<◌, ◌≤◌, List, [], ◌∷◌, ◌++◌, Option, Some, None, MatchOption}
+use Rattle.std.specs.Prelude.{◌≡◌, ℕ, ◌<◌, ◌≤◌, List, [], ◌∷◌, ◌++◌, Option, Some, None}
 use Rattle.sgf_tree.specs.Tree.{Games, node_count}
 use Rattle.sgf_tree.specs.FileOrder.{parent_at, IsLeaf}
 
@@ -19,7 +19,3 @@ pub record IsNextLeaf (games : Games) (from number : ℕ) : Type 0 where
   pub within : number < node_count games
   pub is_leaf : IsLeaf games number
   pub first : HasNoLeaf games from number
-
--- the next leaf; None if there is none
-abbrev pub IsLeafSearch : Games → ℕ → Option ℕ → Type 0
-IsLeafSearch games from found = MatchOption found (HasNoLeaf games from (node_count games)) (IsNextLeaf games from)

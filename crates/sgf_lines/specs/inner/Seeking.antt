@@ -1,5 +1,5 @@
 -- What a search for the leaf with a place finds.
-use Rattle.std.specs.Prelude.{◌≡◌, ◌≢◌, ℕ, ◌<◌, ◌≤◌, Option, Some, None}
+use Rattle.std.specs.Prelude.{◌≡◌, ◌≢◌, ℕ, ◌<◌, Option, Some, None}
 use Rattle.sgf_tree.specs.Tree.{Games, node_count}
 use Rattle.sgf_tree.specs.FileOrder.{place_at, IsLeaf}
 
@@ -11,9 +11,3 @@ IsLeafAt games place None = (leaf : ℕ) → IsLeaf games leaf → place_at game
 -- the places of all nodes before this one are less than the place
 abbrev pub AllBefore : Games → ℕ → ℕ → Type 0
 AllBefore games place node = (number here : ℕ) → number < node → place_at games number ≡ Some here → here < place
-
--- After a node before the place, a search may go on from a later node. All nodes before that one must be before the place.
-pub record GoesOnFrom (games : Games) (place node next : ℕ) : Type 0 where
-  pub later : node < next
-  pub within : next ≤ node_count games
-  pub before : AllBefore games place next

@@ -6,36 +6,14 @@ ghost use Rattle.sgf_lines.specs.inner.Following.{nodes_before};
 ghost use Rattle.sgf_lines.specs.inner.Fronts.{HasFront};
 ghost use Rattle.sgf_lines.specs.inner.Keeping.{HoldsJudgement, KeepsJudgement, PlaysUpTo, fresh_plays, judging_front};
 
-use crate::cursor::Cursor;
 use crate::judging::judge::Judge;
 use crate::line_nodes::LineNodes;
 use crate::sequence_cursor::{Front, SequenceCursor};
 use sgf_tree::{MemoryFault, NodeRef};
 
-/// Judges the line before the cursor. The first `held` of its nodes are judged
+/// Judges the line before the cursor. This front of it is judged
 /// already. After a refusal of memory nothing is known of the judgement.
 pub(crate) fn judge_line(
-    cursor: &Cursor<'_, '_>,
-    held: usize,
-    judge: &mut Judge,
-) -> Result<(), MemoryFault>
-    requires some_node { 0 < length (nodes_before cursor.now) }
-    requires within { held ≤ length (nodes_before cursor.now) }
-    requires judged { KeepsJudgement (nodes_before cursor.now) held judge.old.judgement }
-    requires countable { judge.old.plays + length (nodes_before cursor.now) < u64.MAX }
-    ensures judged { OnOk result (HoldsJudgement (nodes_before cursor.now) judge.new.judgement) }
-    ensures plays { PlaysUpTo judge.old.plays judge.new.plays (fresh_plays (nodes_before cursor.now) held) result }
-{
-    let end = cursor.len();
-    begin_or_go_back(&cursor.node(0), held, judge)?;
-    for index in held..end {
-        judge.take(&cursor.node(index))?;
-    }
-    Ok(())
-}
-
-/// The same with a cursor by sequences, and a front of the line that is judged already.
-pub(crate) fn judge_sequences(
     cursor: &SequenceCursor<'_, '_>,
     held: Front,
     judge: &mut Judge,

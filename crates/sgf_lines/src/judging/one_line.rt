@@ -1,14 +1,15 @@
 //! Judging one line.
 
-ghost use Rattle.std.specs.Prelude.{◌<◌, ◌≤◌, ◌+◌, ◌≡◌, All, IfErr, IfOk, OnOk, List, Some, map, fold, length};
-ghost use Rattle.sgf_tree.specs.Tree.{Node, node_count};
-ghost use Rattle.sgf_tree.specs.FileOrder.{node_at, IsLeaf};
-ghost use Rattle.sgf_lines.specs.Verdict.{IsVerdictAt, IsVerdictOf, verdict_of};
+ghost use Rattle.std.specs.Prelude.{◌<◌, IfErr, IfOk};
+ghost use Rattle.sgf_tree.specs.Tree.{node_count};
+ghost use Rattle.sgf_tree.specs.FileOrder.{IsLeaf};
+ghost use Rattle.sgf_lines.specs.Verdict.{IsVerdictAt, IsVerdictOf};
 ghost use Rattle.sgf_lines.specs.Cursor.{IsSeekFault};
-ghost use Rattle.sgf_lines.specs.inner.Judging.{after};
 
+use crate::form::judged::judge_line;
 use crate::judging::judge::Judge;
-use crate::seek::{SeekFault, leaf_at, write_path};
+use crate::seek::SeekFault;
+use crate::sequence_cursor::{Front, SequenceCursor, leaf_at};
 use crate::verdict::Verdict;
 use sgf_tree::{Collection, MemoryFault};
 use std::alloc::Global;
@@ -27,11 +28,22 @@ pub fn judge(
     requires is_leaf { IsLeaf collection.now leaf }
     ensures { IfOk result (IsVerdictAt collection.now leaf) }
 {
-    let nodes = collection.nodes();
-    prove!(leaf < nodes);
-    let mut path = Vec::new(alloc);
-    write_path(collection, leaf, &mut path)?;
-    judge_path(alloc, collection, &path)
+    // There are no more nodes than bytes, and the line has a sequence.
+    let _nodes = collection.nodes();
+    let mut cursor = SequenceCursor::new(alloc, collection);
+    cursor.seek_leaf(leaf)?;
+    let _sequences = cursor.sequences();
+    let _len = cursor.len();
+    let mut judge = Judge::new(alloc);
+    judge_line(
+        &cursor,
+        Front {
+            sequences: 0,
+            nodes: 0,
+        },
+        &mut judge,
+    )?;
+    Ok(judge.verdict())
 }
 
 /// The verdict of the line with this place, the same as `judge` returns. A line's
@@ -50,38 +62,4 @@ pub fn judge_at(
         Some(leaf) => Ok(judge(alloc, collection, leaf)?),
         None => Err(SeekFault::NoSuchLine { place }),
     }
-}
-
-/// The verdict of the line with this path, the root's number first.
-fn judge_path(
-    alloc: Global,
-    collection: &Collection<'_>,
-    path: &[usize],
-) -> Result<Verdict, MemoryFault>
-    requires some_node { 0 < length path.now }
-    requires within { All (λ i. i < node_count collection.now) path.now }
-    ensures { (nodes : List Node) → map Some nodes ≡ map (node_at collection.now) path.now
-        → IfOk result (λ verdict. verdict ≡ verdict_of nodes) }
-{
-    let mut judge = Judge::new(alloc);
-    judge.begin(&collection.node(path[0]))?;
-    take_path(&mut judge, collection, path)?;
-    Ok(judge.verdict())
-}
-
-/// Takes the nodes of a path.
-fn take_path(
-    judge: &mut Judge,
-    collection: &Collection<'_>,
-    path: &[usize],
-) -> Result<(), MemoryFault>
-    requires within { All (λ i. i < node_count collection.now) path.now }
-    requires countable { judge.old.plays + length path.now ≤ u64.MAX }
-    ensures { (nodes : List Node) → map Some nodes ≡ map (node_at collection.now) path.now
-        → OnOk result (judge.new.judgement ≡ fold after judge.old.judgement nodes) }
-{
-    for number in path {
-        judge.take(&collection.node(*number))?;
-    }
-    Ok(())
 }

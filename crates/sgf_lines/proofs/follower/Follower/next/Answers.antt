@@ -9,27 +9,27 @@ use Rattle.sgf_lines.proofs.Keeping.{IsNext}
 use Rattle.sgf_lines.proofs.Touched.{nodes_within}
 use Rattle.sgf_lines.proofs.Followers.{next_is as next_so, given, row_countable, few_played, follows_on}
 use Rattle.sgf_lines.proofs.RunRecords.{verdict_is}
+use Rattle.sgf_lines.proofs.SequenceCursors.{some_ends}
 use Rattle.sgf_lines.proofs.follower.Follower.next.Goals as goal
 use Rattle.sgf_lines.proofs.follower.Follower.next.Goals.{After-nodes-nodes}
 
 module _ (c : After-nodes-nodes) where
-  goes : GoesOnBy c.self.inside.before c.self.inside.cursor c.go_on.new.cursor c.in-Some.held
+  goes : GoesOnBy c.self.inside.before c.self.inside.sequences.at c.go_on.new.sequences.at c.in-Some.held.nodes
   goes = rw c.in-Some.is at c.in_ok-held.ensures.found
 
-  next_is : IsNext c.self.inside.before c.self.inside.cursor c.go_on.new.cursor c.in-Some.held c.self.inside.judge.judgement
-  next_is = next_so c.self.inside.before c.self.inside.cursor c.go_on.new.cursor c.in-Some.held c.self.inside.row c.self.inside.judge c.self.invariant goes
+  next_is : IsNext c.self.inside.before c.self.inside.sequences.at c.go_on.new.sequences.at c.in-Some.held.nodes c.self.inside.judge.judgement
+  next_is = next_so c.self.inside.before c.self.inside.sequences.at c.go_on.new.sequences.at c.in-Some.held.nodes c.self.inside.row c.self.inside.judge c.self.invariant.0 goes
 
-  rise : PlacesRise c.self.inside.cursor.games
+  rise : PlacesRise c.self.inside.sequences.at.games
   rise = rw (c.collection.ensures, next_is.games) at c.nodes-nodes.ensures.places_rise
 
-  nodes : node_count c.self.inside.cursor.games ≤ MAX_LENGTH
-  nodes = nodes_within c.self.inside.cursor.games rise MAX_LENGTH (rw (c.collection.ensures, next_is.games) at c.nodes-nodes.ensures.places_within)
+  nodes : node_count c.self.inside.sequences.at.games ≤ MAX_LENGTH
+  nodes = nodes_within c.self.inside.sequences.at.games rise MAX_LENGTH (rw (c.collection.ensures, next_is.games) at c.nodes-nodes.ensures.places_within)
 
-pub judge_line-requires-clause-some_node : goal.judge_line-requires-clause-some_node
-judge_line-requires-clause-some_node c = (next_is (goal.at.judge_line-requires-clause-some_node c).After-nodes-nodes).some_node
-
-pub judge_line-requires-clause-within : goal.judge_line-requires-clause-within
-judge_line-requires-clause-within c = (next_is (goal.at.judge_line-requires-clause-within c).After-nodes-nodes).within
+pub judge_line-requires-clause-front : goal.judge_line-requires-clause-front
+judge_line-requires-clause-front c =
+    let some = (next_is (goal.at.judge_line-requires-clause-front c).After-nodes-nodes).some_node in
+    (rw c.in-Some.is at c.in_ok-held.ensures.front) (some_ends c.go_on.new.sequences.ends _ c.sequences-sequences.ensures.divided some)
 
 pub judge_line-requires-clause-judged : goal.judge_line-requires-clause-judged
 judge_line-requires-clause-judged c = (next_is (goal.at.judge_line-requires-clause-judged c).After-nodes-nodes).keeps
@@ -37,29 +37,34 @@ judge_line-requires-clause-judged c = (next_is (goal.at.judge_line-requires-clau
 pub judge_line-requires-clause-countable : goal.judge_line-requires-clause-countable
 judge_line-requires-clause-countable c =
     let at = (goal.at.judge_line-requires-clause-countable c).After-nodes-nodes in
-    let few = few_played c.self.inside.before c.self.inside.cursor c.go_on.new.cursor c.in-Some.held c.self.inside.row c.self.inside.judge c.self.invariant (goes at) (rise at) in
+    let few = few_played c.self.inside.before c.self.inside.sequences.at c.go_on.new.sequences.at c.in-Some.held.nodes c.self.inside.row c.self.inside.judge c.self.invariant.0 (goes at) (rise at) in
     omega (arith, few, nodes at, c.len-len.ensures.nodes, c.len-len.ensures.short, ap node_count (next_is at).games)
 
 pub invariant_of-self-in_default-judge_line : goal.invariant_of-self-in_default-judge_line
-invariant_of-self-in_default-judge_line c = record {
-  stands = (next_is (goal.at.invariant_of-self-in_default-judge_line c).After-nodes-nodes).some_node;
-  is_row = refl;
-  plays_are = c.count_anew.ensures.plays;
-}
+invariant_of-self-in_default-judge_line c = (
+  record {
+    stands = (next_is (goal.at.invariant_of-self-in_default-judge_line c).After-nodes-nodes).some_node;
+    is_row = refl;
+    plays_are = c.count_anew.ensures.plays;
+  },
+  c.in_ok-held.ensures.path,
+)
 
 pub overflow_add-self : goal.overflow_add-self
 overflow_add-self c =
     let at = (goal.at.overflow_add-self c).After-nodes-nodes in
-    omega (arith, nodes at, row_countable c.self.inside.before c.self.inside.cursor c.go_on.new.cursor c.in-Some.held c.self.inside.row c.self.inside.judge c.self.invariant (goes at))
+    omega (arith, nodes at, row_countable c.self.inside.before c.self.inside.sequences.at c.go_on.new.sequences.at c.in-Some.held.nodes c.self.inside.row c.self.inside.judge c.self.invariant.0 (goes at))
 
 pub invariant_of-self-2 : goal.invariant_of-self-2
 invariant_of-self-2 c =
-    let at = (goal.at.invariant_of-self-2 c).After-nodes-nodes in
-    follows_on c.self.inside.before c.self.inside.cursor c.go_on.new.cursor c.in-Some.held c.self.inside.row c.self.inside.judge c.self.invariant (goes at) (rise at)
-    c.judge_line.new.judge _ c.in-Ok.ensures.judged c.in-Ok.ensures.plays
+    let at = (goal.at.invariant_of-self-2 c).After-nodes-nodes in (
+      follows_on c.self.inside.before c.self.inside.sequences.at c.go_on.new.sequences.at c.in-Some.held.nodes c.self.inside.row c.self.inside.judge c.self.invariant.0 (goes at) (rise at)
+          c.judge_line.new.judge _ c.in-Ok.ensures.judged c.in-Ok.ensures.plays,
+      c.in_ok-held.ensures.path,
+    )
 
 pub returns-clause-verdict : goal.returns-clause-verdict
 returns-clause-verdict c =
-    let told = verdict_is (nodes_before c.go_on.new.cursor) c.judge_line.new.judge.judgement c.verdict.result c.verdict.ensures c.in-Ok.ensures.judged in
-    given c.self.inside.before c.self.inside.cursor c.go_on.new.cursor c.in-Some.held c.self.inside.row c.self.inside.judge c.self.invariant
+    let told = verdict_is (nodes_before c.go_on.new.sequences.at) c.judge_line.new.judge.judgement c.verdict.result c.verdict.ensures c.in-Ok.ensures.judged in
+    given c.self.inside.before c.self.inside.sequences.at c.go_on.new.sequences.at c.in-Some.held.nodes c.self.inside.row c.self.inside.judge c.self.invariant.0
     (goes (goal.at.returns-clause-verdict c).After-nodes-nodes) c.args.self.now c.self.view_is c.verdict.result told

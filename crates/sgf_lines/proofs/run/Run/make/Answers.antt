@@ -16,19 +16,19 @@ own c =
     let many = rises_over 0 cursor.ends (length (nodes_before cursor.at)) c.sequences-sequences.ensures.divided in
     some_line cursor.at (omega (arith, many, c.requires.front.more))
 
-pub returns-in_ok-judge_sequences-in-List-clause-made : goal.returns-in_ok-judge_sequences-in-List-clause-made
-returns-in_ok-judge_sequences-in-List-clause-made c =
+pub returns-in_ok-judge_line-in-List-clause-made : goal.returns-in_ok-judge_line-in-List-clause-made
+returns-in_ok-judge_line-in-List-clause-made c =
     let run = c.args.self.now in
-    let l = own (goal.at.returns-in_ok-judge_sequences-in-List-clause-made c).After-sequences-sequences in
-    let new : Run = record run { judge = c.judge_sequences.new.judge; row = c.lay_out.new.self } in
-    rw c.in-List.is (made_row run.cursor.at l.0 l.1 c.of.result c.of.ensures c.verdict.result c.judge_sequences.new.judge.judgement c.verdict.ensures
-    c.in_ok-judge_sequences-in-List.ensures.judged new c.lay_out.ensures.text)
+    let l = own (goal.at.returns-in_ok-judge_line-in-List-clause-made c).After-sequences-sequences in
+    let new : Run = record run { judge = c.judge_line.new.judge; row = c.lay_out.new.self } in
+    rw c.in-List.is (made_row run.cursor.at l.0 l.1 c.of.result c.of.ensures c.verdict.result c.judge_line.new.judge.judgement c.verdict.ensures
+    c.in_ok-judge_line-in-List.ensures.judged new c.lay_out.ensures.text)
 
-pub returns-in_ok-judge_sequences-in-List-clause-holds : goal.returns-in_ok-judge_sequences-in-List-clause-holds
-returns-in_ok-judge_sequences-in-List-clause-holds c = rw c.in-List.is c.in_ok-judge_sequences-in-List.ensures.judged
+pub returns-in_ok-judge_line-in-List-clause-holds : goal.returns-in_ok-judge_line-in-List-clause-holds
+returns-in_ok-judge_line-in-List-clause-holds c = rw c.in-List.is c.in_ok-judge_line-in-List.ensures.judged
 
-pub returns-in_ok-judge_sequences-in-List-clause-plays : goal.returns-in_ok-judge_sequences-in-List-clause-plays
-returns-in_ok-judge_sequences-in-List-clause-plays c = rw c.in-List.is c.in_ok-judge_sequences-in-List.ensures.plays
+pub returns-in_ok-judge_line-in-List-clause-plays : goal.returns-in_ok-judge_line-in-List-clause-plays
+returns-in_ok-judge_line-in-List-clause-plays c = rw c.in-List.is c.in_ok-judge_line-in-List.ensures.plays
 
 pub returns-in-Sgf-clause-made : goal.returns-in-Sgf-clause-made
 returns-in-Sgf-clause-made c =

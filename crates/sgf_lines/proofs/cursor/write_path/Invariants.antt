@@ -1,0 +1,11 @@
+-- The path goes up to the next sequence, and there is room for the nodes after it.
+use Rattle.std.proofs.Common.{◌≡◌, ◌≤◌, ◌++◌, length, drop, vec_capacity}
+use Rattle.sgf_lines.specs.inner.Following.{nodes_before, path_before}
+use Rattle.sgf_lines.specs.inner.Sequences.{nodes_in}
+use Rattle.sgf_lines.proofs.cursor.write_path.Given as goal
+
+abbrev pub invariant-loop-index : goal.invariant-loop-index
+invariant-loop-index l = record {
+  up_to : l.path.items ++ drop (nodes_in l.sequences.ends l.index) (path_before l.sequences.at) ≡ path_before l.sequences.at;
+  room : length (nodes_before l.sequences.at) ≤ vec_capacity l.path;
+}
