@@ -132,7 +132,8 @@ impl<'c, 'a> SequenceCursor<'c, 'a> {
             return 0;
         };
         let first = self.collection.sequence_start(self.next);
-        let front = front_up_to(self.collection, &self.path, self.collection.parent(first));
+        let parent = self.collection.sequence_parent(self.next);
+        let front = front_up_to(self.collection, &self.path, parent);
         front.nodes + (self.collection.sequence_end(leaf) - first)
     }
 
@@ -250,27 +251,16 @@ fn nodes_in(path: &[Part], kept: usize) -> usize
     }
 }
 
-/// Whether a line ends with this sequence. It does unless the next node in file order goes on from the sequence's last node.
-fn ends_line(collection: &Collection<'_>, sequence: usize) -> bool
-    requires { sequence < length (sequence_starts collection.now) }
-    ensures leaf { IsTrue result ↔ IsLeaf collection.now (sequence_end collection.now sequence - 1) }
-    ensures few { node_count collection.now ≤ MAX_LENGTH }
-{
-    let end = collection.sequence_end(sequence);
-    if end == collection.nodes() {
-        return true;
-    }
-    collection.sequence_parent(sequence + 1) != Some(end - 1)
-}
-
 /// The first sequence from the sequence `from` on with which a line ends; None if there is none.
 fn next_end(collection: &Collection<'_>, from: usize) -> Option<usize>
     ensures first { IsEndSearch collection.now from result }
     ensures small { IfSome result (λ sequence. sequence < usize.MAX) }
     ensures few { IfSome result (λ sequence. node_count collection.now ≤ MAX_LENGTH) }
 {
+    // There are no more nodes than bytes.
+    let _nodes = collection.nodes();
     for sequence in from..collection.sequences() {
-        if ends_line(collection, sequence) {
+        if collection.ends_in_leaf(sequence) {
             return Some(sequence);
         }
     }

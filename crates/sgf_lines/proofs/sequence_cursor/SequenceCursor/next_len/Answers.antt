@@ -1,26 +1,20 @@
 -- The next line has the front that is kept, and the nodes down to its leaf.
 use Rattle.std.proofs.Common.{arith}
-use Rattle.sgf_lines.proofs.SequenceStarts.{start_is, start_within}
+use Rattle.sgf_lines.proofs.SequenceStarts.{start_is}
 use Rattle.sgf_lines.proofs.SequenceCursors.{no_nodes, front_before, next_long, next_rises}
 use Rattle.sgf_lines.proofs.sequence_cursor.SequenceCursor.next_len.Goals as goal
 
 pub returns-in_default : goal.returns-in_default
 returns-in_default c = no_nodes c.self.inside.collection.now c.self.inside.next c.self.inside.path.items c.self.invariant c.args.self.now c.self.view_is c.in_default.ensures.first
 
-pub parent-requires : goal.parent-requires
-parent-requires c =
-    omega (
-      arith,
-      start_is c.self.inside.collection.now c.self.inside.next (omega (arith, c.in-Some.ensures.first.from_there, c.in-Some.ensures.first.within)),
-      start_within c.self.inside.collection.now c.self.inside.next (omega (arith, c.in-Some.ensures.first.from_there, c.in-Some.ensures.first.within)),
-      c.sequence_start-first.ensures,
-    )
+pub sequence_parent-parent-requires : goal.sequence_parent-parent-requires
+sequence_parent-parent-requires c = omega (arith, c.in-Some.ensures.first.from_there, c.in-Some.ensures.first.within)
 
 pub overflow_sub-result : goal.overflow_sub-result
 overflow_sub-result c =
     omega (
       arith,
-      next_rises c.self.inside.collection.now c.self.inside.next c.self.inside.path.items c.self.invariant c.args.self.now c.self.view_is c.in-Some.leaf c.parent.result c.front_up_to-front.result c.in-Some.ensures.first (rw c.sequence_start-first.ensures at c.parent.ensures)
+      next_rises c.self.inside.collection.now c.self.inside.next c.self.inside.path.items c.self.invariant c.args.self.now c.self.view_is c.in-Some.leaf c.sequence_parent-parent.result c.front_up_to-front.result c.in-Some.ensures.first c.sequence_parent-parent.ensures
           (rw c.deref.ensures.value at c.front_up_to-front.ensures),
       c.sequence_start-first.ensures,
       c.sequence_end.ensures,
@@ -30,9 +24,9 @@ pub overflow_add-result : goal.overflow_add-result
 overflow_add-result c =
     omega (
       arith,
-      next_rises c.self.inside.collection.now c.self.inside.next c.self.inside.path.items c.self.invariant c.args.self.now c.self.view_is c.in-Some.leaf c.parent.result c.front_up_to-front.result c.in-Some.ensures.first (rw c.sequence_start-first.ensures at c.parent.ensures)
+      next_rises c.self.inside.collection.now c.self.inside.next c.self.inside.path.items c.self.invariant c.args.self.now c.self.view_is c.in-Some.leaf c.sequence_parent-parent.result c.front_up_to-front.result c.in-Some.ensures.first c.sequence_parent-parent.ensures
           (rw c.deref.ensures.value at c.front_up_to-front.ensures),
-      front_before c.self.inside.collection.now c.self.inside.next c.self.inside.path.items c.self.invariant c.args.self.now c.self.view_is c.in-Some.leaf c.parent.result c.front_up_to-front.result c.in-Some.ensures.first (rw c.sequence_start-first.ensures at c.parent.ensures)
+      front_before c.self.inside.collection.now c.self.inside.next c.self.inside.path.items c.self.invariant c.args.self.now c.self.view_is c.in-Some.leaf c.sequence_parent-parent.result c.front_up_to-front.result c.in-Some.ensures.first c.sequence_parent-parent.ensures
           (rw c.deref.ensures.value at c.front_up_to-front.ensures),
       start_is c.self.inside.collection.now c.self.inside.next (omega (arith, c.in-Some.ensures.first.from_there, c.in-Some.ensures.first.within)),
       c.sequence_start-first.ensures,
@@ -41,6 +35,6 @@ overflow_add-result c =
 
 pub returns : goal.returns
 returns c =
-    next_long c.self.inside.collection.now c.self.inside.next c.self.inside.path.items c.self.invariant c.args.self.now c.self.view_is c.in-Some.leaf c.parent.result c.front_up_to-front.result c.in-Some.ensures.first (rw c.sequence_start-first.ensures at c.parent.ensures)
+    next_long c.self.inside.collection.now c.self.inside.next c.self.inside.path.items c.self.invariant c.args.self.now c.self.view_is c.in-Some.leaf c.sequence_parent-parent.result c.front_up_to-front.result c.in-Some.ensures.first c.sequence_parent-parent.ensures
     (rw c.deref.ensures.value at c.front_up_to-front.ensures)
     c.sequence_start-first.result c.sequence_end.result c.sequence_start-first.ensures c.sequence_end.ensures
