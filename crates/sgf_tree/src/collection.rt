@@ -1,11 +1,11 @@
 //! A collection that was read: its nodes in file order, numbered from 0.
 
-ghost use Rattle.std.specs.Prelude.{◌≡◌, ◌-◌, ◌<◌, ◌≤◌, ◌++◌, ◌↔◌, ℕ, length, take, map, All, IsTrue, IfOk, OnOk, OnErr};
+ghost use Rattle.std.specs.Prelude.{◌≡◌, ◌-◌, ◌<◌, ◌≤◌, ◌++◌, ◌↔◌, ℕ, length, IsTrue, IfOk, OnOk, OnErr};
 ghost use Rattle.std.specs.List.{flat_map};
 ghost use Rattle.sgf_tree.specs.declared.fault.TheConstants.{MAX_LENGTH};
 ghost use Rattle.sgf_tree.specs.Tree.{game_count, node_count};
-ghost use Rattle.sgf_tree.specs.Written.{node_text, ends_from};
-ghost use Rattle.sgf_tree.specs.inner.NodeText.{ArePushed, GoesOn};
+ghost use Rattle.sgf_tree.specs.Written.{node_text};
+ghost use Rattle.sgf_tree.specs.inner.NodeText.{GoesOn};
 ghost use Rattle.sgf_tree.specs.FileOrder.{node_at, nodes_at, place_at, parent_at, IsLeaf, game_of, IsLastBelow, PlacesRise};
 ghost use Rattle.sgf_tree.specs.FileOrder.{sequence_starts, sequence_start, sequence_end, sequence_numbers};
 
@@ -19,7 +19,7 @@ use std::marker::Model;
 
 /// The collection that a text spells (SGF FF[4], EBNF).
 /// It refers to the text, and doesn't copy names or values.
-/// Only `push_nodes` and `push_sequence` take memory.
+/// Only `push_sequence` takes memory.
 #[derive(Drop)]
 pub struct Collection<'a> {
     text: &'a [u8],
@@ -97,89 +97,6 @@ impl<'a> Collection<'a> {
         }
     }
 
-    /// Appends the nodes with these numbers to `out` as the sgf form writes them. For each node it appends to `ends` the offset in
-    /// `out` where that node ends. Text that already has that form is copied in one piece. If memory is refused, `out` and `ends`
-    /// are unchanged.
-    pub fn push_nodes(
-        &self,
-        numbers: &[usize],
-        out: &mut Vec<u8>,
-        ends: &mut Vec<usize>,
-    ) -> Result<(), MemoryFault>
-        requires { All (λ number. number < node_count self.now) numbers.now }
-        ensures appended { OnOk result (out.new.items ≡ out.old.items ++ flat_map node_text (nodes_at self.now numbers.now)) }
-        ensures ends { OnOk result (ends.new.items
-            ≡ ends.old.items ++ ends_from (length out.old.items) (map node_text (nodes_at self.now numbers.now))) }
-        ensures unchanged { OnErr result (out.new.items ≡ out.old.items) }
-        ensures ends_unchanged { OnErr result (ends.new.items ≡ ends.old.items) }
-    {
-        let bytes = out.len();
-        let count = ends.len();
-        let pushed = self.push_runs(numbers, out, ends);
-        if pushed.is_err() {
-            out.truncate(bytes);
-            ends.truncate(count);
-        }
-        pushed
-    }
-
-    /// The same as `push_nodes`, but a refusal of memory may leave some of the nodes appended.
-    fn push_runs(
-        &self,
-        numbers: &[usize],
-        out: &mut Vec<u8>,
-        ends: &mut Vec<usize>,
-    ) -> Result<(), MemoryFault>
-        requires { All (λ number. number < node_count self.now) numbers.now }
-        ensures pushed { OnOk result (ArePushed (nodes_at self.now numbers.now) out.old.items out.new.items ends.old.items ends.new.items) }
-        ensures goes_on { GoesOn out.old.items out.new.items }
-        ensures ends_go_on { GoesOn ends.old.items ends.new.items }
-    {
-        let mut done = 0;
-        'runs: while done < numbers.len() {
-            done += self.push_run(&numbers[done..], out, ends)?;
-        }
-        Ok(())
-    }
-
-    /// Appends the first node of a list, and the nodes after it as long as each is beside the one before it (`Link::Next`).
-    /// Returns how many nodes it appended. After a refusal of memory some of them may be appended.
-    fn push_run(
-        &self,
-        numbers: &[usize],
-        out: &mut Vec<u8>,
-        ends: &mut Vec<usize>,
-    ) -> Result<usize, MemoryFault>
-        requires some { 0 < length numbers.now }
-        requires within { All (λ number. number < node_count self.now) numbers.now }
-        ensures some { IfOk result (λ count. 0 < count) }
-        ensures within { IfOk result (λ count. count ≤ length numbers.now) }
-        ensures pushed { IfOk result (λ count. ArePushed (nodes_at self.now (take count numbers.now))
-            out.old.items out.new.items ends.old.items ends.new.items) }
-        ensures goes_on { GoesOn out.old.items out.new.items }
-        ensures ends_go_on { GoesOn ends.old.items ends.new.items }
-    {
-        let text = self.text;
-        let start = out.len();
-        let mut last = numbers[0];
-        let first = self.place(last);
-        let mut end = first;
-        let mut count = 1;
-        'beside: while count < numbers.len()
-            && numbers[count] == last + 1
-            && self.nodes.link(last + 1).is_beside()
-        {
-            last += 1;
-            count += 1;
-            end = self.place(last);
-            ends.push(start + (end - first))?;
-        }
-        push_part(text, first, end, out)?;
-        self.node(last).push_to(out)?;
-        ends.push(out.len())?;
-        Ok(count)
-    }
-
     /// The number of sequences. A sequence has the nodes between a `(` and the next parenthesis (SGF FF[4], EBNF).
     pub fn sequences(&self) -> usize
         ensures { result ≡ length (sequence_starts self.now) }
@@ -233,7 +150,7 @@ impl<'a> Collection<'a> {
         ensures unchanged { OnErr result (out.new.items ≡ out.old.items) }
     {
         let before = out.len();
-        let pushed = self.push_runs_of(i, out);
+        let pushed = self.push_runs(i, out);
         if pushed.is_err() {
             out.truncate(before);
         }
@@ -241,7 +158,7 @@ impl<'a> Collection<'a> {
     }
 
     /// The same as `push_sequence`, but a refusal of memory may leave some of the nodes appended.
-    fn push_runs_of(&self, i: usize, out: &mut Vec<u8>) -> Result<(), MemoryFault>
+    fn push_runs(&self, i: usize, out: &mut Vec<u8>) -> Result<(), MemoryFault>
         requires { i < length (sequence_starts self.now) }
         ensures appended { OnOk result (out.new.items
             ≡ out.old.items ++ flat_map node_text (nodes_at self.now (sequence_numbers self.now i))) }

@@ -1,8 +1,5 @@
 //! What a collection knows of a node, and of a long value. `nodes` says how a node is kept in 4 bytes.
 
-ghost use Rattle.std.specs.Prelude.{◌≡◌, true, IsTrue};
-ghost use Rattle.sgf_tree.specs.declared.layout.Link.TheVariants.{Next};
-
 /// The last own node of a game. A game that begins below it is a variation.
 #[derive(Clone, Copy)]
 pub(crate) struct Tip {
@@ -22,18 +19,6 @@ pub(crate) enum Link {
     /// The node before it in the file is its parent. If `beside` is true, the text from the
     /// parent's `;` up to this node's `;` already has the sgf form.
     Next { beside: bool },
-}
-
-impl Link {
-    /// Whether the node is known to be beside the one before it, as `Next` says.
-    pub(crate) fn is_beside(self) -> bool
-        ensures { IsTrue result → self ≡ Next true }
-    {
-        match self {
-            Link::Next { beside } => beside,
-            Link::Root(_) | Link::Variation(_) => false,
-        }
-    }
 }
 
 /// A node, as contracts see it. Its properties are read from the text again.

@@ -5,7 +5,7 @@ use Rattle.std.specs.List.{flat_map}
 use Rattle.sgf_tree.specs.Bytes.{semicolon, open_bracket, backslash, close_bracket}
 use Rattle.sgf_tree.specs.Tree.{Property, Node}
 use Rattle.sgf_tree.specs.Spelling.{WhiteSpace, is_white_space, is_upper, is_lower, IsPropValue, ArePropValues, IsProperty, AreProperties}
-use Rattle.sgf_tree.specs.Written.{value_text, property_text, node_text, ends_from}
+use Rattle.sgf_tree.specs.Written.{value_text, property_text, node_text}
 
 -- a letter of an identifier
 abbrev pub is_letter : ℕ → Bool
@@ -177,11 +177,6 @@ pub record ArePropertiesWritten (whole_text : List ℕ) (from end : ℕ) : Type 
   pub within : end ≤ length whole_text
   pub left : ArePropertiesIn (drop end whole_text)
   pub front : IsWrittenFront (properties_in (drop from whole_text)) (properties_in (drop end whole_text)) (slice_range whole_text from end)
-
--- nodes were appended to a text as the sgf form writes them, and the offsets where they end were appended to `ends`
-pub record ArePushed (nodes : List Node) (old new ends new_ends : List ℕ) : Type 0 where
-  pub text : new ≡ old ++ flat_map node_text nodes
-  pub ends_are : new_ends ≡ ends ++ ends_from (length old) (map node_text nodes)
 
 -- the text between the two offsets is properties, written as the sgf form writes them
 pub record AreWritten (whole_text : List ℕ) (from end : ℕ) : Type 0 where

@@ -1,13 +1,16 @@
-use Rattle.std.proofs.Common.{◌-◌, ◌≤◌, length, take}
-use Rattle.sgf_tree.specs.FileOrder.{nodes_at}
-use Rattle.sgf_tree.specs.inner.NodeText.{ArePushed}
+use Rattle.std.proofs.Common.{◌≡◌, ◌-◌, ◌≤◌, ◌++◌}
+use Rattle.std.specs.List.{flat_map, range_with_len}
+use Rattle.sgf_tree.specs.FileOrder.{nodes_at, sequence_start}
+use Rattle.sgf_tree.specs.Written.{node_text}
 use Rattle.sgf_tree.proofs.collection.Collection.push_runs.Given as goal
 
 abbrev pub invariant-runs : goal.invariant-runs
 invariant-runs l = record {
-  within : l.done ≤ length l.numbers;
-  pushed : ArePushed (nodes_at l.self (take l.done l.numbers)) l.fn.out.items l.out.items l.fn.ends.items l.ends.items;
+  from : sequence_start l.self l.i ≤ l.start;
+  within : l.start ≤ l.end;
+  appended : l.out.items
+      ≡ l.fn.out.items ++ flat_map node_text (nodes_at l.self (range_with_len (sequence_start l.self l.i) (l.start - sequence_start l.self l.i)));
 }
 
 abbrev pub decreases-runs : goal.decreases-runs
-decreases-runs l = length l.numbers - l.done
+decreases-runs l = l.end - l.start
