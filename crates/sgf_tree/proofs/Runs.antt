@@ -1,13 +1,11 @@
 -- Nodes that stand side by side in the text as the sgf form writes them.
-use Rattle.std.proofs.Common.{◌≡◌, ℕ, zero, suc, ◌+◌, ◌-◌, ◌<◌, ◌≤◌, List, [], ◌∷◌, ◌++◌, length, get_or, map, take, slice_range, Some, sym, ap, ◌∙◌, arith, append_assoc, append-nil, length-append, length-take, length-drop, drop}
+use Rattle.std.proofs.Common.{◌≡◌, ℕ, zero, suc, ◌+◌, List, [], ◌∷◌, ◌++◌, Some, sym, ap, ◌∙◌, arith, append_assoc, append-nil}
 use Rattle.std.specs.List.{flat_map, range_with_len}
 use Rattle.std.specs.Prelude.{option_to_list}
 use Rattle.std.proofs.lemmas.Grind.{flat_map-append}
-use Rattle.std.proofs.lemmas.List.{take_more}
 use Rattle.sgf_tree.specs.Tree.{Node, Games}
-use Rattle.sgf_tree.specs.FileOrder.{node_at, nodes_at, place_at}
+use Rattle.sgf_tree.specs.FileOrder.{node_at, nodes_at}
 use Rattle.sgf_tree.specs.Written.{node_text}
-use Rattle.sgf_tree.proofs.ValueEnds.{span-join}
 
 -- a number more
 pub range-more : (first count : ℕ) → range_with_len first (suc count) ≡ range_with_len first count ++ (first + count) ∷ []

@@ -1,4 +1,4 @@
-use Rattle.std.proofs.Common.{◌≡◌, ◌-◌, ◌<◌, length, sym, ap, ◌∙◌, arith}
+use Rattle.std.proofs.Common.{◌≡◌, ◌-◌, sym, ◌∙◌, arith}
 use Rattle.std.proofs.lemmas.Bool.{eq-eqb, eqb-true}
 use Rattle.sgf_tree.specs.FileOrder.{sequence_end, IsLastBelow}
 use Rattle.sgf_tree.proofs.Held.{sequences-held, lasts-held, start-held, end-held, start-within, last-at}
