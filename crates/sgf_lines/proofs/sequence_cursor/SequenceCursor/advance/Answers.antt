@@ -1,6 +1,5 @@
 -- The cursor stands after the next leaf.
 use Rattle.std.proofs.Common.{arith}
-use Rattle.sgf_lines.proofs.SequenceStarts.{start_is, start_within}
 use Rattle.sgf_lines.proofs.SequenceCursors.{no_more, front_before, stands_further, moved, shares_front}
 use Rattle.sgf_lines.proofs.sequence_cursor.SequenceCursor.advance.Goals as goal
 
