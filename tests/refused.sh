@@ -165,15 +165,15 @@ done
 check '300 setups' 'score 186 137 open' "$(cut -d ' ' -f 4- '300 setups.out')"
 grown '300 setups' '100 setups' 5
 
-# More pieces of a record than there is room for at first: 300 nodes on one line, and on two lines.
+# More pieces of a record than there is room for at first: 300 sequences of a node each on one line, and on two lines.
 for form in list sgf gtp; do
-    printf '(;%s)' "$(times 299 ';')" > input.sgf
-    each "300 nodes on a line, $form" REFUSE_MEMORY 4 "$memory" "$nl" split --form "$form"
-    printf '(;(%s)(%s))' "$(times 150 ';')" "$(times 149 ';')" > input.sgf
-    each "300 nodes on two lines, $form" REFUSE_MEMORY 4 "$memory" "$nl" split --form "$form"
+    printf '(;%s%s)' "$(times 299 '(;')" "$(times 299 ')')" > input.sgf
+    each "300 sequences on a line, $form" REFUSE_MEMORY 4 "$memory" "$nl" split --form "$form"
+    printf '(;%s%s%s%s)' "$(times 150 '(;')" "$(times 150 ')')" "$(times 149 '(;')" "$(times 149 ')')" > input.sgf
+    each "300 sequences on two lines, $form" REFUSE_MEMORY 4 "$memory" "$nl" split --form "$form"
 done
-grown '300 nodes on a line, sgf' '300 nodes on two lines, sgf' 1
-grown_by_form '300 nodes on a line' '300 nodes on two lines' gtp 1
+grown '300 sequences on a line, sgf' '300 sequences on two lines, sgf' 1
+grown_by_form '300 sequences on a line' '300 sequences on two lines' gtp 1
 
 # More bytes of a record: 16 nodes on one line, and on two lines.
 comment=";C[$(times 400 x)]"
@@ -183,17 +183,17 @@ printf '(;GM[2]%s(%s)(%s))' "$(times 1 "$comment")" "$(times 7 "$comment")" "$(t
 each 'two lines' REFUSE_MEMORY 4 "$memory" "$nl" split --form sgf
 grown 'one long line' 'two lines' 1
 
-# Texts that are longer than the first buffer. Each read is refused, too: there must be no read after the one that gives nothing.
-for count in 3000 6000 140000; do
+# Texts that are longer than the buffer. Each read is refused, too: there must be no read after the one that gives nothing.
+for count in 3000 66000 140000; do
     printf '(%s)' "$(times "$((count - 2))" ';')" > input.sgf
     each "$count bytes" REFUSE_MEMORY 4 "$memory" '' count
     each "$count bytes read" REFUSE_READ 3 'read failed' '' count
 done
-grown '6000 bytes' '3000 bytes' 1
-grown '140000 bytes' '6000 bytes' 1
+grown '66000 bytes' '3000 bytes' 1
+grown '140000 bytes' '66000 bytes' 1
 check 'reads of 3000 bytes, and one at the end' 2 "$(($(cat '3000 bytes read.runs') - 1))"
-check 'reads of 6000 bytes, and one at the end' 3 "$(($(cat '6000 bytes read.runs') - 1))"
-check 'reads of 140000 bytes, and one at the end' 5 "$(($(cat '140000 bytes read.runs') - 1))"
+check 'reads of 66000 bytes, and one at the end' 3 "$(($(cat '66000 bytes read.runs') - 1))"
+check 'reads of 140000 bytes, and one at the end' 4 "$(($(cat '140000 bytes read.runs') - 1))"
 
 # Values whose lengths are kept, and values just too short for that.
 for length in 4095 4096; do
