@@ -19,7 +19,8 @@ use Rattle.sgf_lines.specs.inner.GoingOn.{index_by, GoesOnBy}
 use Rattle.sgf_lines.specs.inner.Judging.{Judging}
 use Rattle.sgf_lines.specs.inner.Keeping.{HoldsJudgement, PlaysUpTo, fresh_plays}
 use Rattle.sgf_lines.specs.inner.Followers.{state_by, IsRow, Follows}
-use Rattle.sgf_lines.proofs.Keeping.{IsNext, goes_on, some_before, line_is}
+use Rattle.sgf_lines.proofs.Keeping.{IsNext, goes_on}
+use Rattle.sgf_lines.proofs.LineNodes.{some_before, line_is}
 use Rattle.sgf_lines.proofs.LineCounts.{lines_within}
 use Rattle.sgf_lines.proofs.Pages.{get_dropped, get_taken}
 use Rattle.sgf_lines.proofs.PlayCounts.{page_from, few, adds, shares_by, Shares}

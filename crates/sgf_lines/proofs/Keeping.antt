@@ -1,5 +1,5 @@
 -- One line more of a run.
-use Rattle.std.proofs.Common.{◌≡◌, ◌≢◌, ℕ, zero, suc, ◌+◌, ◌-◌, ◌<◌, ◌≤◌, Bool, List, [], ◌∷◌, length, take, map, slice_get, Option, Some, Result, Ok, Err, inr, refl, sym, ap, subst, ◌∙◌, arith, add-one, length-append}
+use Rattle.std.proofs.Common.{◌≡◌, ◌≢◌, ℕ, suc, ◌+◌, ◌-◌, ◌<◌, ◌≤◌, Bool, List, [], ◌∷◌, length, take, map, slice_get, Option, Some, Result, Ok, Err, inr, refl, sym, ap, subst, ◌∙◌, arith, add-one, length-append}
 use Rattle.std.specs.List.{range_with_len}
 use Rattle.std.specs.Result.{IsErr}
 use Rattle.std.proofs.lemmas.List.{take-map, take_all, length-take-le}
@@ -26,9 +26,8 @@ use Rattle.sgf_lines.specs.inner.Fronts.{HasFront, sequences_before, held_by}
 use Rattle.sgf_lines.specs.inner.GoingOn.{index_by, GoesOnBy}
 use Rattle.sgf_lines.proofs.Along.{same_root}
 use Rattle.sgf_lines.proofs.Fronts.{end_of, alike, has_front, front_kept}
-use Rattle.sgf_lines.proofs.Joins.{as_many}
 use Rattle.sgf_lines.proofs.Judgements.{judging_back}
-use Rattle.sgf_lines.proofs.LineNodes.{named_in}
+use Rattle.sgf_lines.proofs.LineNodes.{named_in, as_long}
 use Rattle.sgf_lines.proofs.Recordings.{record_back}
 use Rattle.sgf_lines.proofs.Scripts.{script_cut}
 
@@ -71,19 +70,12 @@ named at = named_in at.games at.index
 line_next : (at : CursorState) → line_before (advanced at) ≡ slice_get (lines at.games) at.index
 line_next at = let next : at.index + 1 ≡ suc at.index = add-one at.index in ap (line_in at.games) next
 
-pub line_is : (at : CursorState) → 0 < at.index → line_before at ≡ slice_get (lines at.games) (at.index - 1)
-line_is at lt = by at.index refl lt
-  where
-    by : (k : ℕ) → at.index ≡ k → 0 < k → line_in at.games k ≡ slice_get (lines at.games) (k - 1)
-    by zero e lt = absurd (omega arith)
-    by (suc k) e lt = let before : suc k - 1 ≡ k = omega arith in ap (λ n. slice_get (lines at.games) n) (sym before)
-
 -- a line that shares so many nodes with the line before it
 module _ (old new : CursorState) (shared : ℕ) (moved : new ≡ advanced old) (continues : Continues (path_before old) shared (path_before new)) where
   many_new : length (nodes_before new) ≡ shared + (continues.more + 1)
   many_new =
       let range = range_with_len (first_after (path_before old)) (continues.more + 1) in
-      as_many (node_at new.games) (nodes_before new) (path_before new) (named new) ∙ ap length continues.new_is ∙ length-append (take shared (path_before old)) range
+      as_long new ∙ ap length continues.new_is ∙ length-append (take shared (path_before old)) range
       ∙ omega (arith, length-take-le shared (path_before old) continues.kept_within, length-range_with_len (first_after (path_before old)) (continues.more + 1))
 
   some_node : 0 < length (nodes_before new)
@@ -93,7 +85,7 @@ module _ (old new : CursorState) (shared : ℕ) (moved : new ≡ advanced old) (
   within = omega (arith, many_new)
 
   within_old : shared ≤ length (nodes_before old)
-  within_old = omega (arith, as_many (node_at old.games) (nodes_before old) (path_before old) (named old), continues.kept_within)
+  within_old = omega (arith, as_long old, continues.kept_within)
 
   same_nodes : take shared (nodes_before old) ≡ take shared (nodes_before new)
   same_nodes =
@@ -177,13 +169,6 @@ module _ (old new : SequencesState) (shared : Front) (moved : new.at ≡ advance
     go = (moved, shares.nodes);
   }
   goes_on_by form Refused kept stands going = absurd (going refl)
-
-pub some_before : (at : CursorState) → 0 < length (nodes_before at) → 0 < at.index
-some_before at some = by at.index refl
-  where
-    by : (n : ℕ) → at.index ≡ n → 0 < at.index
-    by zero e = absurd (omega (arith, some, ap (λ n. length (nodes_of (line_in at.games n))) e))
-    by (suc n) e = omega arith
 
 -- unless memory was refused before, the cursor went on by one line
 module _ (before : Before) (going : before ≢ Refused) (old new : CursorState) (held : ℕ) (go : GoesOnBy before old new held) where

@@ -1,5 +1,5 @@
 -- What a cursor by sequences shows of the line before it, and where it stands after the next leaf.
-use Rattle.std.proofs.Common.{◌≡◌, ◌≢◌, ℕ, zero, suc, ◌+◌, ◌-◌, ◌<◌, ◌≤◌, inl, inr, List, [], ◌∷◌, ◌++◌, length, get_or, take, drop, slice_get, Option, Some, None, option_map, refl, sym, ap, ◌∙◌, subst, arith, add-one, length-append}
+use Rattle.std.proofs.Common.{◌≡◌, ◌≢◌, ℕ, suc, ◌+◌, ◌-◌, ◌<◌, ◌≤◌, inl, inr, List, [], ◌∷◌, ◌++◌, length, get_or, take, drop, slice_get, Option, Some, None, option_map, refl, sym, ap, ◌∙◌, subst, arith, add-one, length-append}
 use Rattle.std.specs.List.{range_with_len}
 use Rattle.std.proofs.lemmas.Bool.{cases_lt}
 use Rattle.std.proofs.lemmas.List.{length-map, take-map, length-take-le}
@@ -18,7 +18,7 @@ use Rattle.sgf_lines.specs.inner.Sequences.{SequencesState, SharesFront, RiseTo,
 use Rattle.sgf_lines.specs.declared.sequence_cursor.Front.{Front}
 use Rattle.sgf_lines.specs.declared.sequence_cursor.Part.{Part}
 use Rattle.sgf_lines.proofs.Named.{line_at}
-use Rattle.sgf_lines.proofs.LineNodes.{as_many_nodes, nodes_after, node_is}
+use Rattle.sgf_lines.proofs.LineNodes.{as_many_nodes, nodes_after, node_is, some_before, line_is}
 use Rattle.sgf_lines.proofs.CursorStates.{before, starts, IsShown, shows_line, advances, none_is_left}
 use Rattle.sgf_lines.proofs.Seeking.{stands_after, sought, no_line_there}
 use Rattle.sgf_lines.proofs.Descending.{path_is, short, kept_within, stands_next, continues_made, shares}
@@ -45,18 +45,6 @@ stands_first c = record {
 
 pub seen_first : (c : Games) → seen c 0 [] ≡ record { at = record { games = c; index = 0 }; ends = [] }
 seen_first c = ap (λ (at : CursorState). record { at = at; ends = [] }) (ap (before c) (first_is_zero c) ∙ starts c)
-
--- some nodes are those of a line
-some_line : (at : CursorState) → 0 < length (nodes_before at) → 0 < at.index
-some_line at some = by at.index refl
-  where
-    by : (index : ℕ) → at.index ≡ index → 0 < at.index
-    by zero e = absurd (let none : length (nodes_of (line_in at.games at.index)) ≡ 0 = rw e refl in omega arith)
-    by (suc index) e = omega arith
-
-line_is : (games : Games) (index : ℕ) → 0 < index → line_in games index ≡ slice_get (lines games) (index - 1)
-line_is games zero some = absurd (omega arith)
-line_is games (suc index) some = let less : suc index - 1 ≡ index = omega arith in rw less refl
 
 first_number : (c : Games) (parts : List Part) (d : ℕ) (part : Part) → AreParts c 0 parts → slice_get parts 0 ≡ Some part → get_or (part_numbers c parts) 0 d ≡ sequence_start c part.sequence
 first_number c [] d part are e = absurd cc
@@ -142,7 +130,7 @@ module _ (c : Games) (next : ℕ) (parts : List Part) (h : IsAfterSequences c ne
     some_nodes = some_end state.ends (length (nodes_before state.at)) divided some
 
     line_there : 0 < state.at.index
-    line_there = some_line state.at some_nodes
+    line_there = some_before state.at some_nodes
 
     shown : IsShown c (first_of c next) (part_numbers c parts)
     shown = shows_line c (first_of c next) state.at at_is (part_numbers c parts) h.stands line_there
@@ -155,7 +143,7 @@ module _ (c : Games) (next : ℕ) (parts : List Part) (h : IsAfterSequences c ne
 
     -- the line before the cursor
     line_found : line_before state.at ≡ slice_get (lines c) (lines_before c (first_of c next) - 1)
-    line_found = line_is state.at.games state.at.index line_there ∙ rw (← at_is) refl
+    line_found = line_is state.at line_there ∙ rw (← at_is) refl
 
     pub game_is : (part : Part) → slice_get parts 0 ≡ Some part
         → option_map (λ (line : Line). line.game_number) (line_before state.at) ≡ Some (game_of c (sequence_start c part.sequence))

@@ -1,10 +1,8 @@
 -- The path names a node, since the line has a sequence.
 use Rattle.std.proofs.Common.{◌<◌, length, ap, arith}
-use Rattle.sgf_tree.specs.FileOrder.{node_at}
-use Rattle.sgf_lines.specs.inner.Following.{nodes_before, path_before}
+use Rattle.sgf_lines.specs.inner.Following.{nodes_before}
 use Rattle.sgf_lines.proofs.CursorStates.{line_is}
-use Rattle.sgf_lines.proofs.Joins.{as_many}
-use Rattle.sgf_lines.proofs.LineNodes.{named_in}
+use Rattle.sgf_lines.proofs.LineNodes.{as_long}
 use Rattle.sgf_lines.proofs.SequenceCursors.{some_end}
 use Rattle.sgf_lines.proofs.cursor.line.Goals as goal
 use Rattle.sgf_lines.proofs.cursor.line.Goals.{After-sequences-sequences}
@@ -13,7 +11,7 @@ some_node : (c : After-sequences-sequences) → 0 < length c.args.path.now
 some_node c =
     let at = c.args.sequences.now.at in
     let some = some_end c.args.sequences.now.ends (length (nodes_before at)) c.sequences-sequences.ensures.divided (omega (arith, c.sequences-sequences.ensures.some c.requires.some, c.sequences-sequences.ensures.count)) in
-    omega (arith, some, as_many (node_at at.games) (nodes_before at) (path_before at) (named_in at.games at.index), ap length c.requires.path)
+    omega (arith, some, as_long at, ap length c.requires.path)
 
 pub invariant_of-result : goal.invariant_of-result
 invariant_of-result c = record { some_node = some_node (goal.at.invariant_of-result c).After-sequences-sequences }

@@ -3,18 +3,12 @@ use Rattle.std.proofs.Common.{◌≡◌, ℕ, ◌+◌, ◌-◌, ◌++◌, List, 
 use Rattle.std.specs.List.{range_with_len}
 use Rattle.std.proofs.lemmas.List.{take-append-drop, drop_all}
 use Rattle.std.proofs.lemmas.List.FromFn.{length-range_with_len}
-use Rattle.sgf_tree.specs.FileOrder.{node_at}
-use Rattle.sgf_lines.specs.Cursor.{CursorState}
 use Rattle.sgf_lines.specs.inner.Following.{nodes_before, path_before}
 use Rattle.sgf_lines.specs.inner.Sequences.{nodes_in}
 use Rattle.sgf_lines.proofs.Fronts.{rises_all, part_then}
-use Rattle.sgf_lines.proofs.Joins.{as_many}
-use Rattle.sgf_lines.proofs.LineNodes.{named_in}
+use Rattle.sgf_lines.proofs.LineNodes.{as_long}
 use Rattle.sgf_lines.proofs.cursor.write_path.Goals as goal
 use Rattle.sgf_lines.proofs.cursor.write_path.Goals.{After-numbers-first}
-
-as_long : (at : CursorState) → length (nodes_before at) ≡ length (path_before at)
-as_long at = as_many (node_at at.games) (nodes_before at) (path_before at) (named_in at.games at.index)
 
 -- the numbers of the next sequence
 abbrev next_range : (c : After-numbers-first) → List ℕ
