@@ -7,7 +7,7 @@ use Rattle.sgf_tree.specs.declared.layout.Link.TheVariants.{Next}
 use Rattle.sgf_tree.specs.declared.layout.NodeEntry.{NodeEntry}
 use Rattle.sgf_tree.specs.declared.nodes.Sequence.{Sequence}
 use Rattle.sgf_tree.specs.inner.Sequences.{opens_by, KeptNodes, links_of}
-use Rattle.sgf_tree.specs.inner.Packing.{link_of, opening, opening_at, link_by, entries_of, kept_of, AreSequencesOf}
+use Rattle.sgf_tree.specs.inner.Packing.{first_of, is_root_of, all_beside_of, link_of, opening, opening_at, link_by, entries_of, kept_of, AreSequencesOf}
 use Rattle.sgf_tree.proofs.Rises.{Rises, rises-ends, rises-get}
 
 abbrev pub numbers_of : List (ℕ × Link) → List ℕ
@@ -31,6 +31,27 @@ opening_at-found (this ∷ rest) o (suc i) low high r here =
     let later = rises-get (this.0 + 1) high (numbers_of rest) i o.0 r.1 (slice_get-map (λ (q : ℕ × Link). q.0) rest i ∙ ap (λ q. option_map (λ (q : ℕ × Link). q.0) q) here) in
     rw (ne_eqb this.0 o.0 (λ e. omega (arith, later))) (opening_at-found rest o i (this.0 + 1) high r.1 here)
 
+-- a sequence whose nodes are no longer known to be beside one another
+abbrev pub apart : Sequence → Sequence
+apart s = record s { first_and_flags = s.first_and_flags % 2147483648 }
+
+-- clearing the top bit keeps the others
+first-kept : (word : ℕ) → (word % 2147483648 % 1073741824 ≡ word % 1073741824) × (word % 2147483648 / 1073741824 % 2 ≡ word / 1073741824 % 2)
+first-kept word = (omega arith, omega arith)
+
+apart-root : (s : Sequence) → is_root_of (apart s) ≡ is_root_of s
+apart-root s = ap (λ k. eqb k 1) (first-kept s.first_and_flags).1
+
+pub apart-link : (s : Sequence) → link_of (is_root_of (apart s)) s.number s.outer ≡ link_of (is_root_of s) s.number s.outer
+apart-link s = ap (λ b. link_of b s.number s.outer) (apart-root s)
+
+pub apart-opening : (s : Sequence) → opening (apart s) ≡ opening s
+apart-opening s =
+    ap (λ k. (k, link_of (is_root_of (apart s)) s.number s.outer)) (first-kept s.first_and_flags).0 ∙ ap (λ (l : Link). (first_of s, l)) (apart-link s)
+
+pub apart-beside : (s : Sequence) → all_beside_of (apart s) ≡ false
+apart-beside s = ne_eqb (s.first_and_flags % 2147483648 / 2147483648) 1 (λ e. omega arith)
+
 -- it is the link of a first node
 pub first-opens : (is_root : Bool) (number outer : ℕ) → opens_by (link_of is_root number outer) ≡ true
 first-opens true number outer = refl
@@ -39,7 +60,7 @@ first-opens false number outer = refl
 pub opening_at-opens : (table : List Sequence) (k : ℕ) → opens_by (opening_at (map opening table) k) ≡ true
 opening_at-opens [] k = refl
 opening_at-opens (s ∷ rest) k =
-    either (eqb s.first k) (link_of s.is_root s.number s.outer) (opening_at (map opening rest) k) (first-opens s.is_root s.number s.outer) (opening_at-opens rest k)
+    either (eqb (first_of s) k) (link_of (is_root_of s) s.number s.outer) (opening_at (map opening rest) k) (first-opens (is_root_of s) s.number s.outer) (opening_at-opens rest k)
   where
     either : (b : Bool) (l m : Link) → opens_by l ≡ true → opens_by m ≡ true → opens_by (cond b l m) ≡ true
     either true l m e f = e

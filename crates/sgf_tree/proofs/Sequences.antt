@@ -8,8 +8,8 @@ use Rattle.sgf_tree.specs.declared.layout.Link.{Link}
 use Rattle.sgf_tree.specs.declared.layout.Link.TheVariants.{Next}
 use Rattle.sgf_tree.specs.declared.nodes.Sequence.{Sequence}
 use Rattle.sgf_tree.specs.inner.Sequences.{opens_by, first_numbers, end_number, AreBesideWithin, AreUpTo}
-use Rattle.sgf_tree.specs.inner.Packing.{link_of, opening, AreSequencesOf}
-use Rattle.sgf_tree.proofs.Packing.{numbers_of, first-opens}
+use Rattle.sgf_tree.specs.inner.Packing.{first_of, is_root_of, all_beside_of, link_of, opening, AreSequencesOf}
+use Rattle.sgf_tree.proofs.Packing.{numbers_of, apart, apart-opening, apart-beside, first-opens}
 use Rattle.sgf_tree.proofs.Lists.{slice_get-left, slice_get-right}
 use Rattle.sgf_tree.proofs.Rises.{Rises, rises-low, rises-get, rises-pair}
 
@@ -17,7 +17,7 @@ abbrev pub firsts : List Sequence → List ℕ
 firsts table = numbers_of (map opening table)
 
 abbrev pub besides : List Sequence → List Bool
-besides table = map (λ (s : Sequence). s.all_beside) table
+besides table = map all_beside_of table
 
 -- a part of the records that stays the same where one of them changes
 pub part-same : {A : Type 0} (f : Sequence → A) (table : List Sequence) (k : ℕ) (s new : Sequence) → s ≡ get_or table k s → f new ≡ f s → map f (set table k new) ≡ map f table
@@ -106,19 +106,19 @@ module _ (table : List Sequence) (links : List Link) (old : AreSequencesOf table
       count low high [] r = omega arith
       count low high (n ∷ ns) r = omega (arith, r.0, count (n + 1) high ns r.1)
 
-  pub table-first : (i : ℕ) (s : Sequence) → i < length table → s ≡ get_or table i s → s.first ≡ get_or (first_numbers 0 links) i 0
+  pub table-first : (i : ℕ) (s : Sequence) → i < length table → s ≡ get_or table i s → first_of s ≡ get_or (first_numbers 0 links) i 0
   table-first i s lt here =
-      ap (λ (t : Sequence). t.first) here ∙ sym (get_or-map (λ (o : ℕ × Link). o.0) (map opening table) i (opening s) ∙ ap (λ (o : ℕ × Link). o.0) (get_or-map opening table i s))
-      ∙ ap (λ ns. get_or ns i s.first) old.firsts_are ∙ get_or_default (first_numbers 0 links) i s.first 0 (omega (arith, table-count))
+      ap first_of here ∙ sym (get_or-map (λ (o : ℕ × Link). o.0) (map opening table) i (opening s) ∙ ap (λ (o : ℕ × Link). o.0) (get_or-map opening table i s))
+      ∙ ap (λ ns. get_or ns i (first_of s)) old.firsts_are ∙ get_or_default (first_numbers 0 links) i (first_of s) 0 (omega (arith, table-count))
 
-  pub table-end : (i : ℕ) (s : Sequence) → i + 1 < length table → s ≡ get_or table (i + 1) s → s.first ≡ end_number links i
+  pub table-end : (i : ℕ) (s : Sequence) → i + 1 < length table → s ≡ get_or table (i + 1) s → first_of s ≡ end_number links i
   table-end i s lt here =
       table-first (i + 1) s lt here ∙ get_or_default (first_numbers 0 links) (i + 1) 0 (length links) (omega (arith, table-count))
 
-  pub table-beside : (i start : ℕ) (s : Sequence) → i < length table → s ≡ get_or table i s → s.all_beside ≡ true → get_or (first_numbers 0 links) i 0 ≤ start → AreBesideWithin links start (end_number links i)
+  pub table-beside : (i start : ℕ) (s : Sequence) → i < length table → s ≡ get_or table i s → all_beside_of s ≡ true → get_or (first_numbers 0 links) i 0 ≤ start → AreBesideWithin links start (end_number links i)
   table-beside i start s lt here is from =
       let known : get_or (besides table) i false ≡ true =
-      get_or_default (besides table) i false s.all_beside (omega (arith, length-map table (λ (t : Sequence). t.all_beside))) ∙ get_or-map (λ (t : Sequence). t.all_beside) table i s ∙ ap (λ (t : Sequence). t.all_beside) (sym here) ∙ is in
+      get_or_default (besides table) i false (all_beside_of s) (omega (arith, length-map table all_beside_of)) ∙ get_or-map all_beside_of table i s ∙ ap all_beside_of (sym here) ∙ is in
       λ number low high. old.beside i known number (omega (arith, low, from)) high
 
   -- records with the same parts
@@ -129,17 +129,17 @@ module _ (table : List Sequence) (links : List Link) (old : AreSequencesOf table
   }
 
   -- the first node of a sequence more
-  pub sequences-first : (s : Sequence) → s.first ≡ length links → AreSequencesOf (table ++ s ∷ []) (links ++ link_of s.is_root s.number s.outer ∷ [])
+  pub sequences-first : (s : Sequence) → first_of s ≡ length links → AreSequencesOf (table ++ s ∷ []) (links ++ link_of (is_root_of s) s.number s.outer ∷ [])
   sequences-first s is =
-      let link : Link = link_of s.is_root s.number s.outer in
-      let opens : opens_by link ≡ true = first-opens s.is_root s.number s.outer in
+      let link : Link = link_of (is_root_of s) s.number s.outer in
+      let opens : opens_by link ≡ true = first-opens (is_root_of s) s.number s.outer in
       let n : ℕ = length links in
       let ns : List ℕ = first_numbers 0 links in
       let bs : List Bool = besides table in
-      let b : Bool = s.all_beside in
+      let b : Bool = all_beside_of s in
       let numbers : first_numbers 0 (links ++ link ∷ []) ≡ ns ++ n ∷ [] = first-push links link opens in
-      let pushed : besides (table ++ s ∷ []) ≡ bs ++ b ∷ [] = map_push (λ (t : Sequence). t.all_beside) table s in
-      let count : length bs ≡ length table = length-map table (λ (t : Sequence). t.all_beside) in
+      let pushed : besides (table ++ s ∷ []) ≡ bs ++ b ∷ [] = map_push all_beside_of table s in
+      let count : length bs ≡ length table = length-map table all_beside_of in
       let same_count : length table ≡ length ns = table-count in
       let total : length (links ++ link ∷ []) ≡ n + 1 = length_push links link in
       record {
@@ -209,13 +209,13 @@ module _ (table : List Sequence) (links : List Link) (old : AreSequencesOf table
   sequences-beside b is = sequences-next table b refl (λ i known. (known, inl is))
 
   -- one that isn't known to be: the newest sequence is no longer known to have its nodes beside one another
-  pub sequences-apart : (b : Bool) (last : ℕ) (s : Sequence) → last + 1 ≡ length table → s ≡ get_or table last s → AreSequencesOf (set table last (record s { all_beside = false })) (links ++ Next b ∷ [])
+  pub sequences-apart : (b : Bool) (last : ℕ) (s : Sequence) → last + 1 ≡ length table → s ≡ get_or table last s → AreSequencesOf (set table last (apart s)) (links ++ Next b ∷ [])
   sequences-apart b last s is here =
       let bs : List Bool = besides table in
-      let new : List Sequence = set table last (record s { all_beside = false }) in
-      let count : length bs ≡ length table = length-map table (λ (t : Sequence). t.all_beside) in
-      let cleared : besides new ≡ set bs last false = map-set (λ (t : Sequence). t.all_beside) table last (record s { all_beside = false }) in
-      sequences-next new b (part-same opening table last s (record s { all_beside = false }) here refl)
+      let new : List Sequence = set table last (apart s) in
+      let count : length bs ≡ length table = length-map table all_beside_of in
+      let cleared : besides new ≡ set bs last false = map-set all_beside_of table last (apart s) ∙ ap (set bs last) (apart-beside s) in
+      sequences-next new b (part-same opening table last s (apart s) here (apart-opening s))
       (λ i known.
       let known_new : get_or (set bs last false) i false ≡ true = ap (λ xs. get_or xs i false) (sym cleared) ∙ known in
       elim (cases_eq i last) [
@@ -231,7 +231,7 @@ module _ (table : List Sequence) (links : List Link) (old : AreSequencesOf table
 pub sequences-none : (table : List Sequence) (links : List Link) (b : Bool) → AreSequencesOf table links → length table ≡ 0 → AreSequencesOf table (links ++ Next b ∷ [])
 sequences-none table links b old none =
     sequences-next table links old table b refl
-    (λ i known. absurd (omega (arith, within-bools (besides table) i known, length-map table (λ (t : Sequence). t.all_beside))))
+    (λ i known. absurd (omega (arith, within-bools (besides table) i known, length-map table all_beside_of)))
 
 -- a first node's number is one of the list
 pub first-member : (n : ℕ) (links : List Link) (i : ℕ) (link : Link) → slice_get links i ≡ Some link → opens_by link ≡ true

@@ -5,7 +5,7 @@
 //! [`measure`] only counts the games, nodes and leaves, which is faster and takes less memory.
 //!
 //! A [`Collection`] numbers its nodes from 0 in file order. Of each node it keeps the place, in 4 bytes. Of each sequence (the nodes between
-//! a `(` and the next parenthesis) it keeps the parent of the first node and the last node below it, in 20 bytes. The properties of a node
+//! a `(` and the next parenthesis) it keeps the parent of the first node and the last node below it, in 16 bytes. The properties of a node
 //! and their raw values are read from the text again when they are asked for, one after another. Reading them takes no memory.
 //!
 //! ```text

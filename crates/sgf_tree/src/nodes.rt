@@ -1,4 +1,4 @@
-//! The nodes of a collection in file order, in 4 bytes a node and 20 bytes more a sequence.
+//! The nodes of a collection in file order, in 4 bytes a node and 16 bytes more a sequence.
 //!
 //! A node's text often has only 6 bytes, as in `;B[pd]`. So the memory of the nodes costs much of the time of reading.
 //!
@@ -11,7 +11,7 @@
 ghost use Rattle.std.specs.Prelude.{◌≡◌, ℕ, ◌+◌, ◌-◌, ◌^◌, ◌<◌, ◌≤◌, length, get_or, option_map, slice_get, slice_set, IsTrue, IfOk, OnOk, OnErr};
 ghost use Rattle.sgf_tree.specs.declared.layout.NodeEntry.{NodeEntry};
 ghost use Rattle.sgf_tree.specs.declared.layout.Link.TheVariants.{Next};
-ghost use Rattle.sgf_tree.specs.inner.Packing.{link_of};
+ghost use Rattle.sgf_tree.specs.inner.Packing.{link_of, first_of, is_root_of, all_beside_of};
 ghost use Rattle.sgf_tree.specs.inner.Sequences.{opens_by, no_nodes, with_node, tip_by, links_of, first_numbers, end_number, AreBesideWithin, IsLastOf, AreUpTo};
 
 use crate::fault::MemoryFault;
@@ -43,30 +43,76 @@ const BESIDE: u32 = 1;
 /// The kind of the first node of a sequence.
 const FIRST: u32 = 2;
 
+/// The numbers of first nodes are less than this. It is the flag of a sequence that begins with the root of a game.
+const ROOT: u32 = 1 << 30;
+/// The flag of a sequence in which each node after the first is beside the node before it (`Link::Next`).
+const BESIDE_ALL: u32 = 1 << 31;
+
 /// A sequence: the nodes between a `(` and the next parenthesis.
 #[derive(Clone, Copy)]
 struct Sequence {
-    /// The number of its first node.
-    first: u32,
+    /// The number of its first node, plus its flags. As fields, the flags would take 4 bytes more.
+    first_and_flags: u32,
     /// The number of the game if the first node is its root, else the number of that node's parent.
     number: u32,
     /// The number of the sequence that ends with the parent; 0 if there is none.
     outer: u32,
     /// The greatest number among its nodes and the nodes below them; 0 as long as it isn't closed.
     last_below: u32,
-    /// Whether its first node is the root of a game.
-    is_root: bool,
-    /// Whether each node after the first is beside the node before it (`Link::Next`).
-    all_beside: bool,
 }
 
 impl Sequence {
+    /// A sequence that isn't closed, with no node but its first one.
+    #[inline(always)]
+    fn new(first: u32, is_root: bool, number: u32, outer: u32) -> Sequence
+        requires { first < ROOT }
+        ensures first { first_of result ≡ first }
+        ensures link { link_of (is_root_of result) result.number result.outer ≡ link_of is_root number outer }
+        ensures open { result.last_below ≡ 0 }
+    {
+        let flags = if is_root {
+            ROOT + BESIDE_ALL
+        } else {
+            BESIDE_ALL
+        };
+        Sequence {
+            first_and_flags: first + flags,
+            number,
+            outer,
+            last_below: 0,
+        }
+    }
+
+    /// The number of its first node.
+    #[inline(always)]
+    fn first(&self) -> u32
+        ensures { result ≡ first_of self.now }
+    {
+        self.first_and_flags % ROOT
+    }
+
+    /// Whether its first node is the root of a game.
+    #[inline(always)]
+    fn is_root(&self) -> bool
+        ensures { result ≡ is_root_of self.now }
+    {
+        self.first_and_flags / ROOT % 2 == 1
+    }
+
+    /// Whether each node after the first is known to be beside the node before it.
+    #[inline(always)]
+    fn all_beside(&self) -> bool
+        ensures { result ≡ all_beside_of self.now }
+    {
+        self.first_and_flags / BESIDE_ALL == 1
+    }
+
     /// How its first node follows the nodes before it. As a field, a `Link` would take 4 bytes more.
     #[inline(always)]
     fn link(&self) -> Link
-        ensures { result ≡ link_of self.now.is_root self.now.number self.now.outer }
+        ensures { result ≡ link_of (is_root_of self.now) self.now.number self.now.outer }
     {
-        if self.is_root {
+        if self.is_root() {
             Link::Root(self.number)
         } else {
             Link::Variation(Tip {
@@ -130,7 +176,7 @@ impl Nodes {
     #[inline(always)]
     pub(crate) fn push(&mut self, place: u32, link: Link) -> Result<(), MemoryFault>
         requires low { place < PLACES }
-        requires few { length self.old.nodes < 2 ^ 32 }
+        requires few { length self.old.nodes < 2 ^ 30 }
         ensures pushed { OnOk result (self.new ≡ with_node self.old place link) }
         ensures unchanged { OnErr result (self.new ≡ self.old) }
     {
@@ -155,7 +201,7 @@ impl Nodes {
         }
         let count = self.sequences.len();
         if count > 0 {
-            self.sequences[count - 1].all_beside = false;
+            self.sequences[count - 1].first_and_flags %= BESIDE_ALL;
         }
         Ok(())
     }
@@ -169,19 +215,14 @@ impl Nodes {
         outer: u32,
     ) -> Result<(), MemoryFault>
         requires low { place < PLACES }
-        requires few { length self.old.nodes < 2 ^ 32 }
+        requires few { length self.old.nodes < 2 ^ 30 }
         ensures pushed { OnOk result (self.new ≡ with_node self.old place (link_of is_root number outer)) }
         ensures unchanged { OnErr result (self.new ≡ self.old) }
     {
         let count = self.sequences.len();
-        self.sequences.push(Sequence {
-            first: self.entries.len() as u32,
-            number,
-            outer,
-            last_below: 0,
-            is_root,
-            all_beside: true,
-        })?;
+        let first = self.entries.len() as u32;
+        self.sequences
+            .push(Sequence::new(first, is_root, number, outer))?;
         let pushed = self.entries.push(place + FIRST * PLACES);
         if pushed.is_err() {
             self.sequences.truncate(count);
@@ -251,7 +292,7 @@ impl Nodes {
         let mut high = self.sequences.len();
         'halves: while low < high {
             let middle = low + (high - low) / 2;
-            if self.sequences[middle].first as usize <= i {
+            if self.sequences[middle].first() as usize <= i {
                 low = middle + 1;
             } else {
                 high = middle;
@@ -266,7 +307,7 @@ impl Nodes {
         requires { i < length (first_numbers 0 (links_of self.now.nodes)) }
         ensures { result ≡ get_or (first_numbers 0 (links_of self.now.nodes)) i 0 }
     {
-        self.sequences[i].first as usize
+        self.sequences[i].first() as usize
     }
 
     /// The number after that of the last node of sequence `i`.
@@ -277,7 +318,7 @@ impl Nodes {
     {
         let count = self.sequences.len();
         if i + 1 < count {
-            self.sequences[i + 1].first as usize
+            self.sequences[i + 1].first() as usize
         } else {
             self.entries.len()
         }
@@ -315,8 +356,7 @@ impl Nodes {
         ensures beside { AreBesideWithin (links_of self.now.nodes) start result }
     {
         let end = self.sequence_end(i);
-        let sequence = self.sequences[i];
-        if sequence.all_beside {
+        if self.sequences[i].all_beside() {
             return end;
         }
         let mut at = start + 1;

@@ -2,7 +2,7 @@ use Rattle.std.proofs.Common.{◌≡◌, ℕ, ◌+◌, ◌-◌, ◌/◌, ◌<◌
 use Rattle.std.proofs.lemmas.Option.{slice_get-map, slice_get_read}
 use Rattle.sgf_tree.specs.declared.layout.NodeEntry.{NodeEntry}
 use Rattle.sgf_tree.specs.declared.nodes.Sequence.{Sequence}
-use Rattle.sgf_tree.specs.inner.Packing.{opening, opening_at}
+use Rattle.sgf_tree.specs.inner.Packing.{first_of, opening, opening_at}
 use Rattle.sgf_tree.specs.inner.Sequences.{links_of, first_numbers}
 use Rattle.sgf_tree.proofs.Packing.{kept-length, kept-at, kept-sequences, next-link, first-link, opening_at-opens, opening_at-found}
 use Rattle.sgf_tree.proofs.Sequences.{all-rise, first-member, table-count, table-first, up-to-member}
@@ -55,7 +55,7 @@ returns c =
     let place = c.sequences_up_to.result - 1 in
     let same : place ≡ at.0 = omega (arith, at.3) in
     let within : place < length table = omega (arith, at.1, table-count table links known) in
-    let number : s.first ≡ c.args.i = table-first table links known place s within c.index.ensures ∙ ap (λ k. get_or (first_numbers 0 links) k 0) same ∙ at.2 in
+    let number : first_of s ≡ c.args.i = table-first table links known place s within c.index.ensures ∙ ap (λ k. get_or (first_numbers 0 links) k 0) same ∙ at.2 in
     let found = opening_at-found os (opening s) place 0 _ (subst (λ ns. Rises 0 ns (length links)) (sym known.firsts_are) (all-rise links))
     (slice_get-map opening table place ∙ ap (option_map opening) (slice_get_read table (length table) place s refl within c.index.ensures)) in
     first-is (goal.at.returns c).After-sequences_up_to ∙ ap (λ k. Some (opening_at os k)) (sym number) ∙ ap Some (found ∙ sym c.link.ensures)

@@ -1,11 +1,11 @@
-use Rattle.std.proofs.Common.{◌≡◌, ℕ, List, ◌-◌, ◌+◌, ◌*◌, ◌++◌, ◌∷◌, [], cond, false, map, set, refl, sym, ap, subst, ◌∙◌, arith}
+use Rattle.std.proofs.Common.{◌≡◌, ℕ, List, ◌-◌, ◌+◌, ◌*◌, ◌++◌, ◌∷◌, [], cond, map, set, refl, sym, ap, subst, ◌∙◌, arith}
 use Rattle.std.proofs.lemmas.List.{map_push}
 use Rattle.sgf_tree.specs.declared.layout.Link.TheVariants.{Next}
 use Rattle.sgf_tree.specs.declared.layout.NodeEntry.{NodeEntry}
 use Rattle.sgf_tree.specs.declared.nodes.Sequence.{Sequence}
-use Rattle.sgf_tree.specs.inner.Packing.{link_of, opening, entries_of, AreSequencesOf}
+use Rattle.sgf_tree.specs.inner.Packing.{is_root_of, link_of, opening, entries_of, AreSequencesOf}
 use Rattle.sgf_tree.specs.inner.Sequences.{links_of}
-use Rattle.sgf_tree.proofs.Packing.{kept-same, entries-next}
+use Rattle.sgf_tree.proofs.Packing.{apart, apart-opening, apart-link, kept-same, entries-next}
 use Rattle.sgf_tree.proofs.Sequences.{part-same, sequences-beside, sequences-apart, sequences-none}
 use Rattle.sgf_tree.proofs.nodes.Nodes.push_next.Goals as goal
 use Rattle.sgf_tree.proofs.nodes.Nodes.push_next.Goals.{Joined-beside, then-beside, else-beside}
@@ -40,8 +40,8 @@ invariant_of-self-then-count-gt0 c =
     let entries = c.self.inside.entries.items in
     let s : Sequence = c.index_mut.result.now in
     let last = c.len-count.result - 1 in
-    let new = set table last (record s { all_beside = false }) in
-    let same : map opening new ≡ map opening table = part-same opening table last s (record s { all_beside = false }) c.index_mut.ensures.value refl in
+    let new = set table last (apart s) in
+    let same : map opening new ≡ map opening table = part-same opening table last s (apart s) c.index_mut.ensures.value (apart-opening s) in
     rw c.in_ok-push.ensures.items
     (subst (λ os. AreSequencesOf new (links_of (entries_of os 0 (entries ++ (c.args.place + c.if-beside.kind * 1073741824) ∷ [])))) (sym same)
     (subst (AreSequencesOf new) (sym (links (goal.at.invariant_of-self-then-count-gt0 c).Joined-beside table entries))
@@ -65,13 +65,13 @@ returns-then-count-gt0-clause-pushed c =
     let entries = c.self.inside.entries.items in
     let s : Sequence = c.index_mut.result.now in
     let last = c.len-count.result - 1 in
-    let new : Sequence = record s { all_beside = false } in
     let here = c.index_mut.ensures.value in
     rw (c.in_ok-push.ensures.items, ← c.self.view_is)
     (kept-same _ _ _ _ _ _
-    (ap (λ os. entries_of os 0 (entries ++ (c.args.place + c.if-beside.kind * 1073741824) ∷ [])) (part-same opening table last s new here refl)
+    (ap (λ os. entries_of os 0 (entries ++ (c.args.place + c.if-beside.kind * 1073741824) ∷ [])) (part-same opening table last s (apart s) here (apart-opening s))
     ∙ pushed (goal.at.returns-then-count-gt0-clause-pushed c).Joined-beside table entries)
-    (part-same (λ (t : Sequence). t.last_below) table last s new here refl) (part-same (λ (t : Sequence). link_of t.is_root t.number t.outer) table last s new here refl))
+    (part-same (λ (t : Sequence). t.last_below) table last s (apart s) here refl)
+    (part-same (λ (t : Sequence). link_of (is_root_of t) t.number t.outer) table last s (apart s) here (apart-link s)))
 
 pub returns-else-count-gt0-clause-pushed : goal.returns-else-count-gt0-clause-pushed
 returns-else-count-gt0-clause-pushed c =

@@ -11,12 +11,12 @@ use Rattle.sgf_tree.proofs.Sequences.{all-rise, numbers-at-most, table-count, ta
 use Rattle.sgf_tree.proofs.nodes.Nodes.run_end.Goals as goal
 use Rattle.sgf_tree.proofs.nodes.Nodes.run_end.Goals.{After-self}
 
-pub returns-then-sequence-clause-beside : goal.returns-then-sequence-clause-beside
-returns-then-sequence-clause-beside c number low high =
+pub returns-then-all_beside-clause-beside : goal.returns-then-all_beside-clause-beside
+returns-then-all_beside-clause-beside c number low high =
     let table = c.self.inside.sequences.items in
     let links = links_of c.args.self.now.nodes in
     let known = subst (λ (v : KeptNodes). AreSequencesOf table (links_of v.nodes)) c.self.view_is c.self.invariant in
-    table-beside table links known c.args.i c.args.start c.index-sequence.result.now (omega (arith, c.requires.sequence, table-count table links known)) c.index-sequence.ensures c.if-sequence.true c.requires.from number low
+    table-beside table links known c.args.i c.args.start c.index.result.now (omega (arith, c.requires.sequence, table-count table links known)) c.index.ensures (sym c.all_beside.ensures ∙ c.if-all_beside.true) c.requires.from number low
     (omega (arith, c.sequence_end-end.ensures, high))
 
 -- the end is that of a sequence
@@ -26,9 +26,9 @@ end-within c =
     let links = links_of c.args.self.now.nodes in
     omega (arith, c.sequence_end-end.ensures, numbers-at-most 0 (length links) (first_numbers 0 links) (c.args.i + 1) (all-rise links), length-map c.args.self.now.nodes (λ (n : NodeEntry). n.link), ap (λ (v : KeptNodes). length v.nodes) c.self.view_is, entries-length (map opening c.self.inside.sequences.items) 0 entries)
 
-pub index-requires : goal.index-requires
-index-requires c =
-    let most = end-within (goal.at.index-requires c).After-self in omega (arith, most, c.self.inside.entries.ok.0)
+pub index-requires-in-beside : goal.index-requires-in-beside
+index-requires-in-beside c =
+    let most = end-within (goal.at.index-requires-in-beside c).After-self in omega (arith, most, c.self.inside.entries.ok.0)
 
 pub beside-preserved : goal.beside-preserved
 beside-preserved c =
@@ -38,7 +38,7 @@ beside-preserved c =
     let within : at < length entries = omega (arith, end-within (goal.at.beside-preserved c).After-self) in
     let here : slice_get (links_of c.args.self.now.nodes) at ≡ Some (Next true) =
     ap (λ (v : KeptNodes). slice_get (links_of v.nodes) at) (sym c.self.view_is) ∙ slice_get-map (λ (n : NodeEntry). n.link) (entries_of (map opening table) 0 entries) at
-    ∙ ap (option_map (λ (n : NodeEntry). n.link)) (entries-at (map opening table) 0 entries at c.index.result.now within c.index.ensures)
+    ∙ ap (option_map (λ (n : NodeEntry). n.link)) (entries-at (map opening table) 0 entries at c.index-in-beside.result.now within c.index-in-beside.ensures)
     ∙ ap (λ k. Some (link_by k (opening_at (map opening table) (0 + at)))) c.if-index-eq-BESIDE.true in
     record {
       rises = omega arith;

@@ -5,7 +5,7 @@ use Rattle.std.proofs.lemmas.List.{get_or_default, length-map}
 use Rattle.std.proofs.lemmas.Option.{same_Some, slice_get-map, slice_get_within, slice_get_read}
 use Rattle.sgf_tree.specs.declared.layout.NodeEntry.{NodeEntry}
 use Rattle.sgf_tree.specs.declared.nodes.Sequence.{Sequence}
-use Rattle.sgf_tree.specs.inner.Packing.{opening, opening_at, link_by}
+use Rattle.sgf_tree.specs.inner.Packing.{first_of, is_root_of, opening, opening_at, link_by}
 use Rattle.sgf_tree.specs.inner.Sequences.{opens_by, links_of, first_numbers}
 use Rattle.sgf_tree.proofs.Packing.{first-opens, kept-length, kept-at, kept-sequences, next-link, first-link, opening_at-found}
 use Rattle.sgf_tree.proofs.Sequences.{all-rise, opens-at, table-count, table-first}
@@ -23,7 +23,7 @@ returns-clause-link c =
     let known = kept-sequences table entries _ c.self.view_is c.self.invariant in
     let s : Sequence = c.index.result.now in
     let within : c.args.i < length table = omega (arith, c.requires, table-count table links known) in
-    let number : s.first ≡ get_or numbers c.args.i 0 = table-first table links known c.args.i s within c.index.ensures in
+    let number : first_of s ≡ get_or numbers c.args.i 0 = table-first table links known c.args.i s within c.index.ensures in
     let first = opens-at 0 links c.args.i c.requires in
     let at : first.0 ≡ get_or numbers c.args.i 0 = omega (arith, first.2) in
     let k : ℕ = get_or numbers c.args.i 0 in
@@ -44,4 +44,4 @@ returns-clause-link c =
 
 pub returns-clause-opens : goal.returns-clause-opens
 returns-clause-opens c =
-    let s : Sequence = c.index.result.now in ap opens_by c.link.ensures ∙ first-opens s.is_root s.number s.outer
+    let s : Sequence = c.index.result.now in ap opens_by c.link.ensures ∙ first-opens (is_root_of s) s.number s.outer

@@ -18,8 +18,8 @@ halves-init c =
 pub index-requires : goal.index-requires
 index-requires c = omega (arith, c.self.inside.sequences.ok.0, table-count c.self.inside.sequences.items _ (kept-sequences c.self.inside.sequences.items c.self.inside.entries.items _ c.self.view_is c.self.invariant))
 
-pub halves-preserved-then-index-i : goal.halves-preserved-then-index-i
-halves-preserved-then-index-i c =
+pub halves-preserved-then-first-i : goal.halves-preserved-then-first-i
+halves-preserved-then-first-i c =
     let table = c.self.inside.sequences.items in
     let links = links_of c.args.self.now.nodes in
     let known = kept-sequences c.self.inside.sequences.items c.self.inside.entries.items _ c.self.view_is c.self.invariant in
@@ -28,7 +28,7 @@ halves-preserved-then-index-i c =
     record {
       rises = omega arith;
       within = c.halves.invariant.within;
-      low_is = λ k lt. omega (arith, first, numbers-most 0 _ (first_numbers 0 links) k middle (all-rise links) (omega arith) (omega arith));
+      low_is = λ k lt. omega (arith, c.first.ensures, first, numbers-most 0 _ (first_numbers 0 links) k middle (all-rise links) (omega arith) (omega arith));
       high_is = c.halves.invariant.high_is;
     }
 
@@ -43,5 +43,5 @@ halves-preserved c =
       rises = omega arith;
       within = omega arith;
       low_is = c.halves.invariant.low_is;
-      high_is = λ k le lt. omega (arith, first, numbers-most 0 _ (first_numbers 0 links) middle k (all-rise links) le lt);
+      high_is = λ k le lt. omega (arith, c.first.ensures, first, numbers-most 0 _ (first_numbers 0 links) middle k (all-rise links) le lt);
     }
