@@ -9,7 +9,7 @@ ghost use Rattle.sgf_lines.specs.inner.Sequences.{SharesFront, nodes_in};
 
 use crate::line::LineRef;
 use crate::seek::SeekFault;
-use crate::sequence_cursor::{Front, SequenceCursor};
+use crate::sequence_cursor::{Front, NO_FRONT, SequenceCursor};
 use sgf_tree::{Collection, MemoryFault};
 use std::alloc::Global;
 use std::marker::Model;
@@ -81,14 +81,7 @@ impl<'c, 'a> Cursor<'c, 'a> {
         let Ok(()) = self.path.reserve(sequences.len()) else {
             return Err(SeekFault::Memory);
         };
-        write_path(
-            &sequences,
-            Front {
-                sequences: 0,
-                nodes: 0,
-            },
-            &mut self.path,
-        );
+        write_path(&sequences, NO_FRONT, &mut self.path);
         self.sequences = sequences;
         Ok(())
     }

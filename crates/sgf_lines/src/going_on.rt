@@ -7,7 +7,7 @@ ghost use Rattle.sgf_lines.specs.inner.Fronts.{HasFront, held_by};
 ghost use Rattle.sgf_lines.specs.inner.GoingOn.{index_by, GoesOnBy};
 
 use crate::cursor::advance;
-use crate::sequence_cursor::{Front, SequenceCursor};
+use crate::sequence_cursor::{Front, NO_FRONT, SequenceCursor};
 use sgf_tree::MemoryFault;
 
 /// What is known of the line before a cursor.
@@ -28,10 +28,7 @@ impl Before {
     {
         match self {
             Before::Held => shared,
-            _ => Front {
-                sequences: 0,
-                nodes: 0,
-            },
+            _ => NO_FRONT,
         }
     }
 }
@@ -52,10 +49,7 @@ pub(crate) fn go_on(
     ensures path { path.new.items ≡ path_before sequences.new.at }
 {
     if let Before::Refused = before {
-        return Ok(Some(Front {
-            sequences: 0,
-            nodes: 0,
-        }));
+        return Ok(Some(NO_FRONT));
     }
     let Some(shared) = advance(sequences, path)? else {
         return Ok(None);

@@ -30,6 +30,12 @@ pub(crate) struct Front {
     pub nodes: usize,
 }
 
+/// The front without any sequence.
+pub(crate) const NO_FRONT: Front = Front {
+    sequences: 0,
+    nodes: 0,
+};
+
 /// A sequence of a line.
 #[derive(Clone, Copy)]
 struct Part {
@@ -274,10 +280,7 @@ fn front_up_to(collection: &Collection<'_>, path: &[Part], parent: Option<usize>
     ensures { IsFrontUpTo collection.now path.now parent result }
 {
     let Some(parent) = parent else {
-        return Front {
-            sequences: 0,
-            nodes: 0,
-        };
+        return NO_FRONT;
     };
     let mut kept = path.len();
     while kept > 0 && last_node(collection, path[kept - 1].sequence as usize) != parent {

@@ -9,7 +9,7 @@ ghost use Rattle.sgf_lines.specs.Cursor.{IsSeekFault};
 use crate::form::judged::judge_line;
 use crate::judging::judge::Judge;
 use crate::seek::SeekFault;
-use crate::sequence_cursor::{Front, SequenceCursor, leaf_at};
+use crate::sequence_cursor::{NO_FRONT, SequenceCursor, leaf_at};
 use crate::verdict::Verdict;
 use sgf_tree::{Collection, MemoryFault};
 use std::alloc::Global;
@@ -35,14 +35,7 @@ pub fn judge(
     let _sequences = cursor.sequences();
     let _len = cursor.len();
     let mut judge = Judge::new(alloc);
-    judge_line(
-        &cursor,
-        Front {
-            sequences: 0,
-            nodes: 0,
-        },
-        &mut judge,
-    )?;
+    judge_line(&cursor, NO_FRONT, &mut judge)?;
     Ok(judge.verdict())
 }
 
