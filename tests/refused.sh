@@ -183,7 +183,7 @@ printf '(;GM[2]%s(%s)(%s))' "$(times 1 "$comment")" "$(times 7 "$comment")" "$(t
 each 'two lines' REFUSE_MEMORY 4 "$memory" "$nl" split --form sgf
 grown 'one long line' 'two lines' 1
 
-# Texts that are longer than the buffer. Each read is refused, too: there must be no read after the one that gives nothing.
+# A text that fits the buffer, and two that are longer. Each read is refused, too: there must be no read after the one that gives nothing.
 for count in 3000 66000 140000; do
     printf '(%s)' "$(times "$((count - 2))" ';')" > input.sgf
     each "$count bytes" REFUSE_MEMORY 4 "$memory" '' count

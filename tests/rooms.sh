@@ -65,8 +65,18 @@ def games(count):
     same(text, ["split", "--form", "sgf"], "(;)\n" * count)
 
 
+# A line of that many sequences, which has a piece more in sgf form.
+def nested(count):
+    text = "(;" * count + ")" * count
+    same(text, ["count"], f"1 {count} 1\n")
+    same(text, ["split"], f"{2 * count - 1} 1 {count} score 0 0 open\n")
+    same(text, ["split", "--form", "sgf"], "(" + ";" * count + ")\n")
+
+
 for room in 16, 128, 256:
     for count in room - 1, room, room + 1:
+        nested(count - 1)
+        nested(count)
         whole_game(count - 1, "x")
         whole_game(count, "x")
         variations(count - 1)
