@@ -3,8 +3,9 @@
 //! A stone that stays can bring a colouring back only on one of these points. Taking a colouring back takes out the points that its step
 //! emptied first.
 
-ghost use Rattle.std.specs.Prelude.{◌≡◌, ◌+◌, ◌≤◌, List, [], ◌∷◌, length, IsFalse, OnOk};
+ghost use Rattle.std.specs.Prelude.{◌≡◌, ◌+◌, ◌≤◌, ◌||◌, List, [], ◌∷◌, length, IsFalse, OnOk};
 ghost use Rattle.std.specs.Vec.{vec_capacity};
+ghost use Rattle.go_board.specs.declared.points.Point.{Point};
 ghost use Rattle.go_board.specs.Past.{Held};
 ghost use Rattle.go_board.specs.inner.Emptied.{HasEmptied, IsEmptied};
 ghost use Rattle.go_board.specs.inner.Rows.{is_set};
@@ -65,7 +66,8 @@ impl Emptied {
         requires emptied { (held : List Held) × IsEmptied held self.old }
         requires few { length points.now ≤ MAX_ROWS }
         requires room { length self.old.log.items + length points.now ≤ vec_capacity self.old.log }
-        ensures { (next newest : Held) (older : List Held) → IsEmptied (newest ∷ older) self.old → number ≡ length (newest ∷ older)
+        ensures both { (p : Point) → is_set self.new.rows p ≡ (is_set self.old.rows p || is_set points.now p) }
+        ensures emptied { (next newest : Held) (older : List Held) → IsEmptied (newest ∷ older) self.old → number ≡ length (newest ∷ older)
             → (IsFalse next.begins → HasEmptied (is_set points.now) newest.colouring next.colouring)
             → IsEmptied (next ∷ newest ∷ older) self.new }
     {

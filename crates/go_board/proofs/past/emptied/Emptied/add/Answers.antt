@@ -45,13 +45,18 @@ each-preserved c =
           })
     ]
 
-pub returns : goal.returns
-returns c = λ next newest older was number empties.
+pub returns-clause-both : goal.returns-clause-both
+returns-clause-both c =
+    let l = c.each in
+    let is = l.invariant in
+    added_all c.args.self.now.rows c.args.points.now l.self.rows (record { added = λ r below. is.rows.added r (omega (arith, below, c.each-test.false)); same = λ r above. is.rows.same r (omega (arith, above, l.auto.row-end)) })
+
+pub returns-clause-emptied : goal.returns-clause-emptied
+returns-clause-emptied c = λ next newest older was number empties.
     let l = c.each in
     let old = c.args.self.now in
-    let points = c.args.points.now in
     let is = l.invariant in
-    let both = added_all old.rows points l.self.rows (record { added = λ r below. is.rows.added r (omega (arith, below, c.each-test.false)); same = λ r above. is.rows.same r (omega (arith, above, l.auto.row-end)) }) in
+    let both = returns-clause-both c in
     let all : HasAllEmptied (is_set l.self.rows) (next ∷ newest ∷ older) = (
       λ goes_on p on stone free. both p ∙ or_right _ _ (empties goes_on p on stone free),
       HasAllEmptied-more (is_set old.rows) (is_set l.self.rows) (newest ∷ older) (λ p set. both p ∙ or_left _ _ set) (history_all old.rows _ _ was.history),

@@ -41,7 +41,7 @@ invariant_of-self-2 c =
     record {
       tabled = subst (λ (past : PastColourings). IsTable (all_of past) c.push.new.self) (sym made) (c.in_ok-push.ensures.ok held next c.self.invariant.tabled c.requires.print);
       emptied_in = subst (λ (past : PastColourings). IsEmptied (all_of past) c.add-2.new.self) (sym made)
-          (c.add-2.ensures next was.colourings.newest was.colourings.older (c.reserve.ensures.emptied held c.self.invariant.emptied_in) (c.next_number-number.ensures held c.self.invariant.tabled)
+          (c.add-2.ensures.emptied next was.colourings.newest was.colourings.older (c.reserve.ensures.emptied held c.self.invariant.emptied_in) (c.next_number-number.ensures held c.self.invariant.tabled)
           (λ goes_on q on some free. stones q on some));
       last = tt;
     }

@@ -20,7 +20,7 @@ invariant_of-self-2 c =
     record {
       tabled = c.add_stone.ensures.table;
       emptied_in = subst (λ (past : PastColourings). IsEmptied (all_of past) c.add.new.self) (sym made)
-          (c.add.ensures next was.colourings.newest was.colourings.older (c.reserve.ensures.emptied held c.self.invariant.emptied_in) (c.next_number-number.ensures held c.self.invariant.tabled)
+          (c.add.ensures.emptied next was.colourings.newest was.colourings.older (c.reserve.ensures.emptied held c.self.invariant.emptied_in) (c.next_number-number.ensures held c.self.invariant.tabled)
           (λ goes_on. emptied_by_play g k p rows move));
       last = tt;
     }

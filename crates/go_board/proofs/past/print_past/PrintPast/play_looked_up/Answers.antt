@@ -86,7 +86,7 @@ invariant_of-self-4 c =
     record {
       tabled = subst (λ (past : PastColourings). IsTable (all_of past) c.fill.new.self) (sym made) (c.fill.ensures next held pushed gap);
       emptied_in = subst (λ (past : PastColourings). IsEmptied (all_of past) c.add.new.self) (sym made)
-          (c.add.ensures next was.colourings.newest was.colourings.older (c.reserve.ensures.emptied held c.self.invariant.emptied_in) (c.next_number-number.ensures held c.link.ensures.table)
+          (c.add.ensures.emptied next was.colourings.newest was.colourings.older (c.reserve.ensures.emptied held c.self.invariant.emptied_in) (c.next_number-number.ensures held c.link.ensures.table)
           (λ goes_on. emptied_by_play g k p rows move));
       last = tt;
     }
