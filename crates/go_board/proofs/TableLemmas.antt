@@ -405,7 +405,7 @@ any_number (x ∷ xs) g (suc j, h, e) = later x.begins (λ low at. any_number xs
         let rest = before (omega (arith, h)) e in
         (rest.0, omega (arith, rest.1), ap first_grid (since-older rest.0 x xs rest.1) ∙ rest.2)
 
--- where a gap opens, no colouring of the present stretch has its print
+-- if a gap opens, no colouring of the present stretch has its print
 gap_lacks : (held : List Held) (nodes : List Node) (gap : Gap) (g : Grid) → IsGap held nodes gap → gap.print ≡ print_of g → ¬ Contains (stretch_of held) g
 gap_lacks held nodes gap g is print has =
     let number = any_number held g has in

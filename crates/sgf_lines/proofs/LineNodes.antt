@@ -59,7 +59,7 @@ module _ (c : Games) (next : ℕ) (at : CursorState) (is : before c next ≡ at)
   pub nodes_after : (i : ℕ) → nodes_at c (drop i path) ≡ drop i (nodes_before at)
   nodes_after i = named_nodes (node_at c) (drop i (nodes_before at)) (drop i path) (sym (drop-map Some i (nodes_before at)) ∙ ap (drop i) path_named ∙ drop-map (node_at c) i path)
 
--- where it has a node there is a line
+-- if it has a node, there is a line
 pub some_before : (at : CursorState) → 0 < length (nodes_before at) → 0 < at.index
 some_before at some = by at.index refl
   where

@@ -20,7 +20,7 @@ next_node games next end node rest lt is =
     ap (λ k. nodes_at games (range_with_len next k) ++ rest) count
     ∙ ap (λ o. (option_to_list o ++ nodes_at games (range_with_len (next + 1) (end - (next + 1)))) ++ rest) is
 
--- where the nodes from an index on are to come, the next one is that at the index
+-- if the nodes from an index on are to come, the next one is that at the index
 pub comes : (nodes : List Node) (i : ℕ) (left : List Node) (node : Node) (rest : List Node) → left ≡ drop i nodes → left ≡ node ∷ rest → slice_get nodes i ≡ Some node
 comes nodes i left node rest is first =
     let none : i + 0 ≡ i = omega arith in
@@ -33,7 +33,7 @@ pub some_come : (nodes : List Node) (i : ℕ) (left : List Node) → left ≡ dr
 some_come nodes i left is lt = omega (arith, ap length is, length-drop i nodes)
 
 module _ (cursor : SequencesState) (rise : RiseTo 0 cursor.ends (length (nodes_before cursor.at))) (sequence next end : ℕ) where
-  -- where no number is left
+  -- if no number is left
   none_left : end ≤ next → nodes_to_come cursor sequence next end ≡ drop (nodes_in cursor.ends sequence) (nodes_before cursor.at)
   none_left past =
       let none : end - next ≡ 0 = omega arith in

@@ -77,7 +77,7 @@ module _ (c : Games) where
   abbrev opens_at : ℕ → Option Bool
   opens_at n = opens_in (ordered_nodes c) n
 
-  -- a node that opens a sequence, where `outer` is the parent of the games that stand side by side here
+  -- a node that opens a sequence; `outer` is the parent of the games that stand side by side here
   record Begins (outer : Option ℕ) (n : ℕ) : Type 0 where
     opens : opens_at n ≡ Some true
     above : (p : ℕ) → parent_at c n ≡ Some (Some p) → (outer ≡ Some p) ⊎ (opens_at (p + 1) ≡ Some true)

@@ -168,8 +168,8 @@ impl<'c, 'a> SequenceCursor<'c, 'a> {
         nodes_in(&self.path, self.path.len())
     }
 
-    /// The number of the first node of a sequence of that line, and the number after that of its last node. Sequences of the line are counted
-    /// from 0, the root's first.
+    /// The number of the first node of a sequence of that line, and the number after that of its last node. Sequences of the line
+    /// are counted from 0, the root's first.
     pub(crate) fn numbers(&self, index: usize) -> (usize, usize)
         requires { index < length self.now.ends }
         ensures nodes { Some (nodes_at self.now.at.games (range_with_len result.0 (result.1 - result.0))) ≡ slice_get (sequences_of self.now.ends (nodes_before self.now.at)) index }
@@ -292,7 +292,7 @@ fn front_up_to(collection: &Collection<'_>, path: &[Part], parent: Option<usize>
     }
 }
 
-/// A sequence as a part of a line, where `skipped` nodes before the sequence's end aren't on the line.
+/// A sequence as a part of a line. `skipped` nodes before the sequence's end aren't on the line.
 fn part_of(collection: &Collection<'_>, sequence: usize, skipped: usize) -> Part
     requires within { sequence < length (sequence_starts collection.now) }
     requires skipped { skipped ≤ sequence_start collection.now sequence }

@@ -9,7 +9,7 @@ use Rattle.sgf_tree.proofs.Lists.{slice_get-left, slice_get-right}
 use Rattle.sgf_tree.proofs.OrderedNodes.{parent_in, parent_in-left, parent_in-right, parent_in-further, length-further_nodes, length-nodes_from, length-ordered_nodes, parent-within, parent_at-lt, parent_at-within}
 use Rattle.sgf_tree.proofs.Starts.{starts_from, length-lasts, first-start}
 
--- an element of a list, where another one may follow it
+-- an element of a list; another one may follow it
 get_or-joined : (xs ys : List ℕ) (i d e : ℕ) → i ≤ length xs → get_or ys 0 d ≡ e → get_or (xs ++ ys) i d ≡ get_or xs i e
 get_or-joined [] ys zero d e le first = first
 get_or-joined [] ys (suc i) d e le first = absurd (omega arith)

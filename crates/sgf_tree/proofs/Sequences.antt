@@ -19,7 +19,7 @@ firsts table = numbers_of (map opening table)
 abbrev pub besides : List Sequence → List Bool
 besides table = map all_beside_of table
 
--- a part of the records that stays the same where one of them changes
+-- a part of the records that stays the same if one of them changes
 pub part-same : {A : Type 0} (f : Sequence → A) (table : List Sequence) (k : ℕ) (s new : Sequence) → s ≡ get_or table k s → f new ≡ f s → map f (set table k new) ≡ map f table
 part-same f table k s new here same =
     map-set f table k new ∙ ap (set (map f table) k) (same ∙ ap f here ∙ sym (get_or-map f table k s)) ∙ set-get_or (map f table) k (f s)
@@ -76,7 +76,7 @@ first-push links link opens =
 next-push : (links : List Link) (b : Bool) → first_numbers 0 (links ++ Next b ∷ []) ≡ first_numbers 0 links
 next-push links b = numbers-push 0 links (Next b) ∙ append-nil (first_numbers 0 links)
 
--- the end of a list where it has one number more, which is the old default
+-- the end of a list that has one number more, the old default
 end-left : (ns : List ℕ) (i n d : ℕ) → i ≤ length ns → get_or (ns ++ n ∷ []) i d ≡ get_or ns i n
 end-left [] zero n d le = refl
 end-left [] (suc i) n d le = absurd (omega arith)
@@ -293,7 +293,7 @@ up-to-member low high numbers number count k rise up within is =
           ]
     ]
 
--- at least one is, where the first one is
+-- at least one is, if the first one is
 pub up-to-some : (numbers : List ℕ) (number count end : ℕ) → AreUpTo numbers number count → number < end → get_or numbers 0 end ≤ number → 0 < count
 up-to-some [] number count end up lt le = absurd (omega arith)
 up-to-some (n ∷ ns) number count end up lt le =

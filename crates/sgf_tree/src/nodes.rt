@@ -275,7 +275,7 @@ impl Nodes {
         sequence.link()
     }
 
-    /// The greatest number among node `i` and the nodes below it. A sequence must begin with node 0.
+    /// The greatest number among node `i` and the nodes below it. The first sequence must begin at node `i` or before it.
     pub(crate) fn last_below(&self, i: usize) -> u32
         requires within { i < length self.now.nodes }
         requires begins { get_or (first_numbers 0 (links_of self.now.nodes)) 0 (length self.now.nodes) ≤ i }

@@ -1,4 +1,4 @@
--- The next node is the first of those with the next numbers; where none is left of them, those of the next sequence come.
+-- The next node is the first of those with the next numbers; if none is left of them, those of the next sequence come.
 use Rattle.std.proofs.Common.{◌≡◌, ◌<◌, length, sym, ◌∙◌, arith}
 use Rattle.sgf_lines.specs.inner.Fronts.{nodes_to_come}
 use Rattle.sgf_lines.proofs.NodesToCome.{some_left, next_sequence, next_node}
