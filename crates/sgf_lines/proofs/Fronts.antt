@@ -31,6 +31,12 @@ pub rises_all : (start : ℕ) (ends : List ℕ) (count : ℕ) → RiseTo start e
 rises_all start [] count h = h
 rises_all start (end ∷ ends) count h = rises_all end ends count h.1
 
+-- a part has an element
+pub rises_each : (start : ℕ) (ends : List ℕ) (count k : ℕ) → RiseTo start ends count → k < length ends → end_of start ends k < end_of start ends (suc k)
+rises_each start [] count k h lt = absurd (omega arith)
+rises_each start (end ∷ ends) count zero h lt = h.0
+rises_each start (end ∷ ends) count (suc k) h lt = rises_each end ends count k h.1 (omega arith)
+
 -- an element of the parts stands before those after it
 pub part_then : {A : Type 0} (start : ℕ) (ends : List ℕ) (xs : List A) (count k : ℕ) (part : List A) → RiseTo start ends count → slice_get (parts_from start ends xs) k ≡ Some part
     → drop (end_of start ends k - start) xs ≡ part ++ drop (end_of start ends (suc k) - start) xs

@@ -1,4 +1,4 @@
--- The search for the leaf with a place, the loops that climb from it to the root of its game, and the position after its line.
+-- The place of the leaf that a line ends in, and the position after that line.
 use Rattle.std.proofs.Common.{◌≡◌, ℕ, ◌+◌, ◌<◌, List, length, Option, Some, None, refl, sym, ap, ◌∙◌, arith, ◌≢◌, slice_get, option_map, get_or}
 use Rattle.sgf_tree.specs.Tree.{Games, node_count}
 use Rattle.sgf_tree.specs.FileOrder.{IsLeaf, OrderedNode, ordered_nodes, place_at}

@@ -1,6 +1,5 @@
 -- The loops that climb from a sequence to the root of its game.
-use Rattle.std.proofs.Common.{◌≡◌, ℕ, ◌+◌, ◌-◌, ◌<◌, ◌≤◌, List, [], ◌∷◌, ◌++◌, length, set, drop, Option, Some, None, refl, sym, ap, ◌∙◌, subst, arith, append_assoc, append-nil, length-append, length-set}
-use Rattle.std.proofs.lemmas.List.{drop_all}
+use Rattle.std.proofs.Common.{◌≡◌, ℕ, ◌+◌, ◌-◌, ◌<◌, ◌≤◌, List, [], ◌∷◌, ◌++◌, length, set, drop, Option, Some, None, refl, sym, ap, ◌∙◌, subst, arith, append_assoc, length-append, length-set}
 use Rattle.std.proofs.lemmas.Grind.{drop-set_at}
 use Rattle.sgf_tree.specs.Tree.{Games, node_count}
 use Rattle.sgf_tree.specs.FileOrder.{sequence_starts, sequence_numbers}
@@ -8,7 +7,7 @@ use Rattle.sgf_lines.specs.inner.Sequences.{first_of, sequence_length, part_numb
 use Rattle.sgf_lines.specs.declared.sequence_cursor.Part.{Part}
 use Rattle.sgf_lines.proofs.SequenceStarts.{first_no_less, length_is, first_within}
 use Rattle.sgf_lines.proofs.SequenceParts.{numbers_more, sequence_long}
-use Rattle.sgf_lines.proofs.SequenceWays.{part_after, front_of, one_way, way_of, parts_few}
+use Rattle.sgf_lines.proofs.SequenceWays.{part_after, front_of, parts_few}
 
 -- one more than a sequence's number, and 0 above a root's
 abbrev pub height : Option ℕ → ℕ
@@ -46,15 +45,15 @@ module _ (c : Games) where
     pub there : IsThere current
     pub few : sequences + height current ≤ last + 1
     pub short : reach current + nodes ≤ node_count c
-    pub count : (above parts : List Part) → ArePartsTo c current above → ArePartsTo c (Some last) parts
-        → (length parts ≡ length above + sequences) × (length (part_numbers c parts) ≡ length (part_numbers c above) + nodes)
+    pub count : (above : List Part) → ArePartsTo c current above → (parts : List Part) × ArePartsTo c (Some last) parts
+        × (length above + sequences ≡ length parts) × (length (part_numbers c above) + nodes ≡ length (part_numbers c parts))
 
   pub measure_begins : (last : ℕ) → last < length (sequence_starts c) → IsMeasured last (Some last) 0 0
   measure_begins last lt = record {
     there = λ k e. let same : last ≡ k = cc in omega arith;
     few = omega arith;
     short = omega (arith, first_within c (last + 1));
-    count = λ above parts way whole. let same = one_way c way whole in (omega (arith, ap length same), omega (arith, ap (λ (ps : List Part). length (part_numbers c ps)) same));
+    count = λ above way. (above, way, omega arith, omega arith);
   }
 
   pub measures : (last k sequences nodes : ℕ) (current above : Option ℕ) → IsMeasured last current sequences nodes → current ≡ Some k → IsAbove c k above
@@ -65,10 +64,10 @@ module _ (c : Games) where
         there = above_there k above lt is;
         few = omega (arith, h.few, height_falls k current above e is);
         short = omega (arith, h.short, ap reach e, reach_falls k above lt is, length_is c k lt);
-        count = λ front parts way whole.
+        count = λ front way.
             let here : ArePartsTo c current (front ++ part_after c front k ∷ []) = rw e (step lt is way refl) in
-            let n = h.count (front ++ part_after c front k ∷ []) parts here whole in
-            (omega (arith, n.0, length-append front (part_after c front k ∷ [])), omega (arith, n.1, nodes_more front k));
+            let n = h.count (front ++ part_after c front k ∷ []) here in
+            (n.0, n.1, omega (arith, n.2, length-append front (part_after c front k ∷ [])), omega (arith, n.3, nodes_more front k));
       }
 
   -- the counts fit
@@ -79,7 +78,7 @@ module _ (c : Games) where
       (omega (arith, h.few, ap height e), omega (arith, h.short, ap reach e, length_is c k lt))
 
   pub measured : (last sequences nodes : ℕ) (current : Option ℕ) → IsMeasured last current sequences nodes → current ≡ None → MeasuresTo c last (record { sequences = sequences; nodes = nodes })
-  measured last sequences nodes current h e = λ parts way. let n = h.count [] parts (rw e top) way in (omega (arith, n.0), omega (arith, n.1))
+  measured last sequences nodes current h e = let n = h.count [] (rw e top) in (n.0, n.1, omega (arith, n.2), omega (arith, n.3))
 
   -- the parts that the loop has passed are written
   pub record IsFilled (last : ℕ) (current : Option ℕ) (room end : ℕ) (path : List Part) : Type 0 where
@@ -90,22 +89,6 @@ module _ (c : Games) where
     pub within : room ≤ length path
     pub end_is : end ≡ length (part_numbers c front)
     pub filled : ArePartsTo c (Some last) (front ++ drop room path)
-
-  pub fill_begins : (last nodes : ℕ) (path : List Part) → last < length (sequence_starts c) → MeasuresTo c last (record { sequences = length path; nodes = nodes })
-      → IsFilled last (Some last) (length path) nodes path
-  fill_begins last nodes path lt room =
-      let f = way_of c last lt in
-      let n = room f.0 f.1 in
-      let none : f.0 ++ drop (length path) path ≡ f.0 = ap (λ (ps : List Part). f.0 ++ ps) (drop_all (length path) path (omega arith)) ∙ append-nil f.0 in
-      record {
-        there = λ k e. let same : last ≡ k = cc in omega arith;
-        front = f.0;
-        way = f.1;
-        room_is = n.0;
-        within = omega arith;
-        end_is = n.1;
-        filled = rw none f.1;
-      }
 
   -- what the loop can count on at a sequence
   pub record IsRoomFor (room end k : ℕ) : Type 0 where

@@ -11,10 +11,10 @@ use Rattle.sgf_tree.specs.Tree.{Node, Games, node_count}
 use Rattle.sgf_tree.specs.FileOrder.{parent_at, place_at, node_at, nodes_at, game_of, IsLeaf, sequence_starts, sequence_start, sequence_end, sequence_numbers}
 use Rattle.sgf_lines.specs.Lines.{lines, place_of, Line, HasNoLineAt}
 use Rattle.sgf_lines.specs.Cursor.{CursorState, advanced, IsAfterPlace}
-use Rattle.sgf_lines.specs.inner.PathTo.{IsPathTo, HasNoLeaf, IsNextLeaf}
+use Rattle.sgf_lines.specs.inner.PathTo.{HasNoLeaf, IsNextLeaf}
 use Rattle.sgf_lines.specs.inner.Standing.{lines_before, IsAfterLeaf}
 use Rattle.sgf_lines.specs.inner.Following.{Continues, path_before, nodes_before, line_before, line_in, nodes_of, IsCutBack}
-use Rattle.sgf_lines.specs.inner.Sequences.{SequencesState, SharesFront, RiseTo, sequences_of, nodes_in, first_of, sequence_length, part_numbers, part_ends, AreParts, IsAfterSequences, IsNextEnd, IsFrontUpTo, GoesDown, ArePartsTo, IsSequenceOf, parts_from}
+use Rattle.sgf_lines.specs.inner.Sequences.{SequencesState, SharesFront, RiseTo, sequences_of, nodes_in, first_of, sequence_length, part_numbers, part_ends, AreParts, IsAfterSequences, IsNextEnd, IsFrontUpTo, GoesDown, IsAbove, ArePartsTo, parts_from}
 use Rattle.sgf_lines.specs.declared.sequence_cursor.Front.{Front}
 use Rattle.sgf_lines.specs.declared.sequence_cursor.Part.{Part}
 use Rattle.sgf_lines.proofs.Named.{line_at}
@@ -22,8 +22,8 @@ use Rattle.sgf_lines.proofs.LineNodes.{as_many_nodes, nodes_after, node_is, some
 use Rattle.sgf_lines.proofs.CursorStates.{before, starts, IsShown, shows_line, advances, none_is_left}
 use Rattle.sgf_lines.proofs.Seeking.{stands_after, sought, no_line_there}
 use Rattle.sgf_lines.proofs.Descending.{path_is, short, kept_within, stands_next, continues_made, shares}
-use Rattle.sgf_lines.proofs.SequenceStarts.{first_no_less, never_empty, start_is, first_within, first_is_zero, closes_last, leaf_closes, parent_closes}
-use Rattle.sgf_lines.proofs.SequenceParts.{rise_to, part_nodes, part_range}
+use Rattle.sgf_lines.proofs.SequenceStarts.{first_no_less, never_empty, start_is, first_within, first_is_zero, leaf_last}
+use Rattle.sgf_lines.proofs.SequenceParts.{end_of, parent_of, rise_to, part_nodes, part_range}
 use Rattle.sgf_lines.proofs.SequenceWays.{parts_path, parts_are}
 use Rattle.sgf_lines.proofs.SequenceCuts.{split_numbers, nodes_are, cut_back, front_within}
 
@@ -73,7 +73,7 @@ module _ (c : Games) (next : ℕ) (parts : List Part) (h : IsAfterSequences c ne
   ends_are : part_ends parts ≡ state.ends
   ends_are = ap (λ (s : SequencesState). s.ends) is
 
-  games_are : c ≡ state.at.games
+  pub games_are : c ≡ state.at.games
   games_are = ap (λ (at : CursorState). at.games) at_is
 
   -- ---- The line before the cursor.
@@ -122,9 +122,6 @@ module _ (c : Games) (next : ℕ) (parts : List Part) (h : IsAfterSequences c ne
       let path : path_before state.at ≡ part_numbers c parts = rw (← at_is) (path_is c (first_of c next) (part_numbers c parts) h.stands) in
       rw (first, last, path, ← ends_are) (sym (part_range c 0 parts i part h.are e))
 
-  pub end_within : (i end : ℕ) (part : Part) → slice_get parts i ≡ Some part → end ≡ sequence_end c part.sequence → end ≤ node_count state.at.games
-  end_within i end part e last = omega (arith, last, first_within c (part.sequence + 1), ap node_count games_are)
-
   module _ (some : 0 < length state.ends) where
     some_nodes : 0 < length (nodes_before state.at)
     some_nodes = some_end state.ends (length (nodes_before state.at)) divided some
@@ -161,11 +158,10 @@ module _ (c : Games) (next : ℕ) (parts : List Part) (h : IsAfterSequences c ne
     pub last_there : next - 1 < length (sequence_starts c)
     last_there = omega (arith, one_before, h.within)
 
-    pub place_is : (last place : ℕ) → last + 1 ≡ sequence_end c (next - 1) → place_at c last ≡ Some place → option_map place_of (line_before state.at) ≡ Some place
-    place_is last place ends e =
+    pub place_is : (place : ℕ) → place_at c (sequence_end c (next - 1) - 1) ≡ Some place → option_map place_of (line_before state.at) ≡ Some place
+    place_is place e =
         let back : next - 1 + 1 ≡ next = omega (arith, one_before) in
-        let last_is : last ≡ first_of c next - 1 = omega (arith, ap (first_of c) back) in
-        ap (λ o. option_map place_of o) line_found ∙ shown.place_is place (rw last_is at e)
+        ap (λ o. option_map place_of o) line_found ∙ shown.place_is place (rw back at e)
 
   -- ---- The next line.
 
@@ -175,7 +171,10 @@ module _ (c : Games) (next : ℕ) (parts : List Part) (h : IsAfterSequences c ne
   pub no_nodes : HasNoLeaf c (first_of c next) (node_count c) → 0 ≡ length (nodes_before (advanced state.at))
   no_nodes none = let one : state.at.index + 1 ≡ suc state.at.index = add-one state.at.index in sym (ap (λ i. length (nodes_of (line_in state.at.games i))) one ∙ ap (λ o. length (nodes_of o)) (no_more none))
 
-  module _ (leaf : ℕ) (parent : Option ℕ) (front : Front) (n : IsNextEnd c next leaf) (parent_is : parent_at c (sequence_start c next) ≡ Some parent) (cut : IsFrontUpTo c parts parent front) where
+  module _ (leaf : ℕ) (outer : Option ℕ) (front : Front) (n : IsNextEnd c next leaf) (above : IsAbove c next outer) (cut : IsFrontUpTo parts outer front) where
+    abbrev parent : Option ℕ
+    parent = end_of c outer
+
     next_there : next < length (sequence_starts c)
     next_there = omega (arith, n.from_there, n.within)
 
@@ -194,10 +193,14 @@ module _ (c : Games) (next : ℕ) (parts : List Part) (h : IsAfterSequences c ne
     }
 
     parent_there : parent_at c (first_of c next) ≡ Some parent
-    parent_there = rw (start_is c next next_there) at parent_is
+    parent_there = rw (start_is c next next_there) at (parent_of c next outer above)
+
+    outer_there : (outer : Option ℕ) → IsAbove c next outer → (o : ℕ) → outer ≡ Some o → o < length (sequence_starts c)
+    outer_there None is o e = absurd cc
+    outer_there (Some a) is o e = let same : a ≡ o = cc in omega (arith, is.0, next_there)
 
     node_cut : IsCutBack (part_numbers c parts) parent front.nodes
-    node_cut = cut_back c parts h.are parent front (λ p e. parent_closes c next p next_there (rw e at parent_there)) cut
+    node_cut = cut_back c parts h.are outer front (outer_there outer above) cut
 
     pub front_before : front.nodes ≤ first_of c next
     front_before =
@@ -233,7 +236,7 @@ module _ (c : Games) (next : ℕ) (parts : List Part) (h : IsAfterSequences c ne
     module _ (new : List Part) (down : GoesDown c parts front.sequences next (leaf + 1) new) where
       numbers_made : part_numbers c new ≡ take front.nodes (part_numbers c parts) ++ range_with_len (first_of c next) (leaf_node + 1 - first_of c next)
       numbers_made =
-          let within = front_within c parts h.are parent front cut in
+          let within = front_within c parts h.are outer front cut in
           let kept = part_numbers c (take front.sequences parts) in
           let count : front.nodes ≡ length kept = within.1 ∙ nodes_are c parts h.are front.sequences within.0 in
           let front_is : take front.nodes (part_numbers c parts) ≡ kept =
@@ -261,7 +264,7 @@ module _ (c : Games) (next : ℕ) (parts : List Part) (h : IsAfterSequences c ne
 
       pub shares_front : SharesFront state (seen c (leaf + 1) new) front
       shares_front =
-          let within = front_within c parts h.are parent front cut in
+          let within = front_within c parts h.are outer front cut in
           record {
             nodes = subst (λ m. Continues (path_before state.at) front.nodes (path_before (before c m))) after_leaf continued;
             within = omega (arith, as_many_parts, within.0);
@@ -277,28 +280,32 @@ module _ (c : Games) (next : ℕ) (parts : List Part) (h : IsAfterSequences c ne
   pub no_such_line : (place : ℕ) → ((leaf : ℕ) → IsLeaf c leaf → place_at c leaf ≢ Some place) → HasNoLineAt state.at.games place
   no_such_line place none = no_line_there c (first_of c next) place state.at at_is none
 
-  pub found : (leaf place : ℕ) → leaf < node_count c → IsLeaf c leaf → place_at c leaf ≡ Some place → IsAfterPlace place state.at (before state.at.games (leaf + 1))
-  found leaf place lt is_leaf placed = subst (IsAfterPlace place state.at) (ap (λ games. before games (leaf + 1)) games_are) (sought c leaf place state.at (sym games_are) lt is_leaf placed)
+  pub found : (sequence place : ℕ) → sequence < length (sequence_starts c) → IsLeaf c (sequence_end c sequence - 1) → place_at c (sequence_end c sequence - 1) ≡ Some place
+      → IsAfterPlace place state.at (before state.at.games (sequence_end state.at.games sequence))
+  found sequence place lt is_leaf placed =
+      let some = never_empty c sequence lt in
+      let back : sequence_end c sequence - 1 + 1 ≡ sequence_end c sequence = omega arith in
+      subst (IsAfterPlace place state.at) (ap (before c) back ∙ ap (λ games. before games (sequence_end games sequence)) games_are)
+      (sought c (sequence_end c sequence - 1) place state.at (sym games_are) (omega (arith, first_within c (sequence + 1))) is_leaf placed)
 
-  module _ (leaf sequence : ℕ) (new : List Part) (lt : leaf < node_count state.at.games) (is_leaf : IsLeaf state.at.games leaf) (of : IsSequenceOf c leaf sequence) (way : ArePartsTo c (Some sequence) new) where
-    leaf_here : IsLeaf c leaf
-    leaf_here = subst (λ games. IsLeaf games leaf) (sym games_are) is_leaf
+  -- a leaf is the last node of its sequence
+  pub leaf_ends : (leaf sequence : ℕ) → sequence < length (sequence_starts c) → sequence_start c sequence ≤ leaf → leaf < sequence_end c sequence → IsLeaf state.at.games leaf
+      → leaf + 1 ≡ sequence_end state.at.games sequence
+  leaf_ends leaf sequence within start end is_leaf =
+      leaf_last c leaf sequence (record { within = within; start = start; end = end }) (rw (← games_are) at is_leaf) ∙ ap (λ games. sequence_end games sequence) games_are
 
-    there : leaf < node_count c
-    there = omega (arith, lt, ap node_count games_are)
-
-    leaf_last : leaf + 1 ≡ first_of c (sequence + 1)
-    leaf_last = closes_last c leaf sequence (leaf_closes c leaf there leaf_here) of
-
-    path_there : IsPathTo c (Some leaf) (part_numbers c new)
-    path_there = let same : sequence_end c sequence - 1 ≡ leaf = omega (arith, leaf_last) in subst (λ m. IsPathTo c (Some m) (part_numbers c new)) same (parts_path c way)
+  module _ (sequence : ℕ) (new : List Part) (there : sequence < length (sequence_starts state.at.games)) (is_leaf : IsLeaf state.at.games (sequence_end state.at.games sequence - 1))
+      (way : ArePartsTo c (Some sequence) new) where
+    lt : sequence < length (sequence_starts c)
+    lt = rw (← games_are) at there
 
     pub stands_sought : IsAfterSequences c (sequence + 1) new
-    stands_sought = record {
-      within = omega (arith, of.within);
-      stands = subst (λ m. IsAfterLeaf c m (part_numbers c new)) leaf_last (stands_after c leaf (part_numbers c new) there leaf_here path_there);
-      are = parts_are c way;
-    }
-
-    pub after_leaf_is : before c (first_of c (sequence + 1)) ≡ before state.at.games (leaf + 1)
-    after_leaf_is = ap (before c) (sym leaf_last) ∙ ap (λ games. before games (leaf + 1)) games_are
+    stands_sought =
+        let some = never_empty c sequence lt in
+        let back : sequence_end c sequence - 1 + 1 ≡ sequence_end c sequence = omega arith in
+        record {
+          within = omega (arith, lt);
+          stands = subst (λ m. IsAfterLeaf c m (part_numbers c new)) back
+              (stands_after c (sequence_end c sequence - 1) (part_numbers c new) (omega (arith, first_within c (sequence + 1))) (rw (← games_are) at is_leaf) (parts_path c way));
+          are = parts_are c way;
+        }

@@ -9,12 +9,12 @@ use Rattle.sgf_tree.specs.Tree.{Games}
 use Rattle.sgf_tree.specs.FileOrder.{sequence_starts, sequence_start, sequence_end, sequence_numbers}
 use Rattle.sgf_tree.proofs.Lists.{slice_get-left, slice_get-right}
 use Rattle.sgf_lines.specs.inner.Following.{IsCutBack}
-use Rattle.sgf_lines.specs.inner.Sequences.{first_of, sequence_length, nodes_in, part_numbers, part_ends, AreParts, IsUpTo, IsFrontUpTo, GoesDown, IsSequenceOf}
+use Rattle.sgf_lines.specs.inner.Sequences.{first_of, sequence_length, nodes_in, part_numbers, part_ends, AreParts, IsUpTo, IsFrontUpTo, GoesDown}
 use Rattle.sgf_lines.specs.declared.sequence_cursor.Front.{Front}
 use Rattle.sgf_lines.specs.declared.sequence_cursor.Part.{Part}
 use Rattle.sgf_lines.proofs.Lists.{Each, each_append, each_get, element, front_more, range_append}
-use Rattle.sgf_lines.proofs.SequenceStarts.{first_no_less, Closes, never_empty, closes_last, start_is, length_is}
-use Rattle.sgf_lines.proofs.SequenceParts.{numbers_more, parts_more, part_within, parts_front, front_end, sequence_long}
+use Rattle.sgf_lines.proofs.SequenceStarts.{first_no_less, never_empty, same_sequence, last_in, start_is, length_is}
+use Rattle.sgf_lines.proofs.SequenceParts.{end_of, numbers_more, parts_more, part_within, parts_front, front_end, sequence_long}
 
 get_dropped : {A : Type 0} (k : ℕ) (xs : List A) (j : ℕ) → slice_get (drop k xs) j ≡ slice_get xs (k + j)
 get_dropped zero xs j = let same : 0 + j ≡ j = omega arith in rw same refl
@@ -27,24 +27,24 @@ range_get at n j lt = slice_get-get_or (range_with_len at n) j 0 (omega (arith, 
 module _ (c : Games) where
   -- ---- The cut.
 
-  -- another node than the last one of a sequence, if the sequence has a last one that ends another
-  no_such : (k p : ℕ) → k < length (sequence_starts c) → Closes c p → sequence_end c k ≢ p + 1 → Each (λ n. n ≢ p) (sequence_numbers c k)
-  no_such k p lt closes other = in_range (sequence_start c k) (sequence_length c k) (omega arith) (omega (arith, never_empty c k lt))
+  -- a sequence has not the last node of another
+  no_such : (k outer : ℕ) → k < length (sequence_starts c) → outer < length (sequence_starts c) → k ≢ outer → Each (λ n. n ≢ sequence_end c outer - 1) (sequence_numbers c k)
+  no_such k outer lt there other = in_range (sequence_start c k) (sequence_length c k) (omega arith) (omega (arith, never_empty c k lt))
     where
-      in_range : (at n : ℕ) → sequence_start c k ≤ at → at + n ≤ sequence_end c k → Each (λ m. m ≢ p) (range_with_len at n)
+      in_range : (at n : ℕ) → sequence_start c k ≤ at → at + n ≤ sequence_end c k → Each (λ m. m ≢ sequence_end c outer - 1) (range_with_len at n)
       in_range at zero from to = tt
       in_range at (suc n) from to = (
-        λ e. let is : IsSequenceOf c p k = record { within = lt; start = omega arith; end = omega arith } in other (sym (closes_last c p k closes is)),
+        λ e. other (same_sequence c (sequence_end c outer - 1) k outer (record { within = lt; start = omega arith; end = omega arith }) (last_in c outer there)),
         in_range (at + 1) n (omega arith) (omega arith),
       )
 
-  no_such_part : (p : ℕ) (parts : List Part) → Closes c p
-      → ((i : ℕ) (part : Part) → slice_get parts i ≡ Some part → (part.sequence < length (sequence_starts c)) × (sequence_end c part.sequence ≢ p + 1)) → Each (λ n. n ≢ p) (part_numbers c parts)
-  no_such_part p [] closes other = tt
-  no_such_part p (part ∷ parts) closes other =
+  no_such_part : (outer : ℕ) (parts : List Part) → outer < length (sequence_starts c)
+      → ((i : ℕ) (part : Part) → slice_get parts i ≡ Some part → (part.sequence < length (sequence_starts c)) × (part.sequence ≢ outer)) → Each (λ n. n ≢ sequence_end c outer - 1) (part_numbers c parts)
+  no_such_part outer [] there other = tt
+  no_such_part outer (part ∷ parts) there other =
       let here = other 0 part refl in
-      each_append (λ n. n ≢ p) (sequence_numbers c part.sequence) (part_numbers c parts) (no_such part.sequence p here.0 closes here.1)
-      (no_such_part p parts closes (λ i q e. other (suc i) q e))
+      each_append (λ n. n ≢ sequence_end c outer - 1) (sequence_numbers c part.sequence) (part_numbers c parts) (no_such part.sequence outer here.0 there here.1)
+      (no_such_part outer parts there (λ i q e. other (suc i) q e))
 
   pub split_numbers : (k : ℕ) (parts : List Part) → part_numbers c parts ≡ part_numbers c (take k parts) ++ part_numbers c (drop k parts)
   split_numbers k parts =
@@ -56,38 +56,39 @@ module _ (c : Games) where
     nodes_are k le = omega (arith, front_end c 0 parts k are le)
 
     -- the front in nodes ends with the parent
-    cut_at : (p : ℕ) (front : Front) → Closes c p → IsUpTo c parts p front → IsCutBack (part_numbers c parts) (Some p) front.nodes
-    cut_at p front closes h =
+    cut_at : (outer : ℕ) (front : Front) → outer < length (sequence_starts c) → IsUpTo parts outer front → IsCutBack (part_numbers c parts) (Some (sequence_end c outer - 1)) front.nodes
+    cut_at outer front there h =
+        let p = sequence_end c outer - 1 in
         let k = front.sequences in
         let before = part_numbers c (take k parts) in
         let behind = part_numbers c (drop k parts) in
         let count : front.nodes ≡ length before = h.count ∙ nodes_are k h.within in
         let both : part_numbers c parts ≡ before ++ behind = split_numbers k parts in
         let long : length (part_numbers c parts) ≡ length before + length behind = ap length both ∙ length-append before behind in
-        let others : Each (λ n. n ≢ p) behind = no_such_part p (drop k parts) closes
-        (λ i part e. let there : slice_get parts (k + i) ≡ Some part = sym (get_dropped k parts i) ∙ e in (part_within c 0 parts (k + i) part are there, h.others (k + i) part (omega arith) there)) in (
+        let others : Each (λ n. n ≢ p) behind = no_such_part outer (drop k parts) there
+        (λ i part e. let here : slice_get parts (k + i) ≡ Some part = sym (get_dropped k parts i) ∙ e in (part_within c 0 parts (k + i) part are here, h.others (k + i) part (omega arith) here)) in (
           omega arith,
           λ i ge lt e.
               let here : slice_get behind (i - length before) ≡ Some p = sym (slice_get-right before behind i (i - length before) (omega arith)) ∙ ap (λ ns. slice_get ns i) (sym both) ∙ e in
               each_get (λ n. n ≢ p) behind (i - length before) p others here refl,
-          λ some. last_kept p front h k refl some count both,
+          λ some. last_kept outer front h k refl some count both,
         )
       where
-        last_kept : (p : ℕ) (front : Front) → IsUpTo c parts p front → (k : ℕ) → k ≡ front.sequences → 0 < front.nodes → front.nodes ≡ length (part_numbers c (take k parts))
-            → part_numbers c parts ≡ part_numbers c (take k parts) ++ part_numbers c (drop k parts) → slice_get (part_numbers c parts) (front.nodes - 1) ≡ Some p
-        last_kept p front h zero is some count both = absurd (omega arith)
-        last_kept p front h (suc i) is some count both =
+        last_kept : (outer : ℕ) (front : Front) → IsUpTo parts outer front → (k : ℕ) → k ≡ front.sequences → 0 < front.nodes → front.nodes ≡ length (part_numbers c (take k parts))
+            → part_numbers c parts ≡ part_numbers c (take k parts) ++ part_numbers c (drop k parts) → slice_get (part_numbers c parts) (front.nodes - 1) ≡ Some (sequence_end c outer - 1)
+        last_kept outer front h zero is some count both = absurd (omega arith)
+        last_kept outer front h (suc i) is some count both =
             let f = element parts i (omega (arith, h.within)) in
             let part = f.0 in
             let lt = part_within c 0 parts i part are f.1 in
-            let end = h.last i part (omega arith) f.1 in
+            let end = ap (sequence_end c) (h.last i part (omega arith) f.1) in
             let some_node = never_empty c part.sequence lt in
             let one : i + 1 ≡ suc i = omega arith in
             let kept : part_numbers c (take (suc i) parts) ≡ part_numbers c (take i parts) ++ sequence_numbers c part.sequence =
             ap (part_numbers c) (rw one at (front_more parts i part f.1)) ∙ numbers_more c (take i parts) part in
             let long : length (part_numbers c (take (suc i) parts)) ≡ length (part_numbers c (take i parts)) + sequence_length c part.sequence =
             ap length kept ∙ length-append (part_numbers c (take i parts)) (sequence_numbers c part.sequence) ∙ ap (λ n. length (part_numbers c (take i parts)) + n) (sequence_long c part.sequence) in
-            let last : sequence_start c part.sequence + (sequence_length c part.sequence - 1) ≡ p = omega arith in
+            let last : sequence_start c part.sequence + (sequence_length c part.sequence - 1) ≡ sequence_end c outer - 1 = omega arith in
             ap (λ ns. slice_get ns (front.nodes - 1)) both
             ∙ slice_get-left (part_numbers c (take (suc i) parts)) (part_numbers c (drop (suc i) parts)) (front.nodes - 1) (omega arith)
             ∙ ap (λ ns. slice_get ns (front.nodes - 1)) kept
@@ -95,16 +96,17 @@ module _ (c : Games) where
             ∙ range_get (sequence_start c part.sequence) (sequence_length c part.sequence) (sequence_length c part.sequence - 1) (omega arith)
             ∙ ap Some last
 
-    pub cut_back : (parent : Option ℕ) (front : Front) → ((p : ℕ) → parent ≡ Some p → Closes c p) → IsFrontUpTo c parts parent front → IsCutBack (part_numbers c parts) parent front.nodes
-    cut_back None front closes h = ap (λ (f : Front). f.nodes) h
-    cut_back (Some p) front closes h = cut_at p front (closes p refl) h
+    pub cut_back : (outer : Option ℕ) (front : Front) → ((o : ℕ) → outer ≡ Some o → o < length (sequence_starts c)) → IsFrontUpTo parts outer front
+        → IsCutBack (part_numbers c parts) (end_of c outer) front.nodes
+    cut_back None front there h = ap (λ (f : Front). f.nodes) h
+    cut_back (Some o) front there h = cut_at o front (there o refl) h
 
-    pub front_within : (parent : Option ℕ) (front : Front) → IsFrontUpTo c parts parent front → (front.sequences ≤ length parts) × (front.nodes ≡ nodes_in (part_ends parts) front.sequences)
+    pub front_within : (outer : Option ℕ) (front : Front) → IsFrontUpTo parts outer front → (front.sequences ≤ length parts) × (front.nodes ≡ nodes_in (part_ends parts) front.sequences)
     front_within None front h =
         let none : front.sequences ≡ 0 = ap (λ (f : Front). f.sequences) h in
         let no_nodes : front.nodes ≡ 0 = ap (λ (f : Front). f.nodes) h in
         (omega arith, rw (none, no_nodes) refl)
-    front_within (Some p) front h = (h.within, h.count)
+    front_within (Some o) front h = (h.within, h.count)
 
   -- ---- Down to the next leaf.
 

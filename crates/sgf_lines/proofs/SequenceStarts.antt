@@ -1,5 +1,5 @@
 -- Where the sequences of a collection begin and end among its nodes, and which nodes are parents and leaves.
-use Rattle.std.proofs.Common.{◌≡◌, ◌≢◌, ℕ, zero, suc, ◌+◌, ◌-◌, ◌<◌, ◌≤◌, ◌⊎◌, inl, inr, Bool, true, false, cond, List, [], ◌∷◌, length, get_or, slice_get, Option, Some, None, option_map, refl, sym, ap, ◌∙◌, subst, arith, add-zero}
+use Rattle.std.proofs.Common.{◌≡◌, ℕ, zero, suc, ◌+◌, ◌-◌, ◌<◌, ◌≤◌, ◌⊎◌, inl, inr, Bool, true, false, cond, List, [], ◌∷◌, length, get_or, slice_get, Option, Some, None, option_map, refl, sym, ap, ◌∙◌, subst, arith, add-zero}
 use Rattle.std.proofs.lemmas.Bool.{cases_lt, cases_eq}
 use Rattle.std.proofs.lemmas.List.{get_or_past}
 use Rattle.std.proofs.lemmas.Option.{slice_get-get_or, slice_get_within, get_or_from_slice_get}
@@ -8,9 +8,9 @@ use Rattle.sgf_tree.specs.FileOrder.{OrderedNode, further_nodes, ordered_nodes, 
 use Rattle.sgf_tree.proofs.OrderedNodes.{length-ordered_nodes, length-further_nodes}
 use Rattle.sgf_tree.proofs.Rises.{Rises, rises-low, rises-get, rises-pair}
 use Rattle.sgf_lines.specs.inner.PathTo.{HasNoLeaf}
-use Rattle.sgf_lines.specs.inner.Sequences.{first_of, sequence_length, IsSequenceOf}
+use Rattle.sgf_lines.specs.inner.Sequences.{first_of, sequence_length}
 use Rattle.sgf_lines.proofs.Lists.{element}
-use Rattle.sgf_lines.proofs.Visits.{Stands, stands_whole, stands_get, stands_own, stands_below, stands_after, first_ordered, first_parent, further_parent, leaf_by_next, node_within, rises_parts}
+use Rattle.sgf_lines.proofs.Visits.{Stands, stands_whole, stands_get, stands_own, stands_below, stands_after, first_ordered, further_parent, rises_parts}
 
 -- ---- The numbers of opening nodes.
 
@@ -28,20 +28,6 @@ numbers_rise at (r ∷ rs) = by r.opens (numbers_rise (at + 1) rs)
     by false h =
         let sum : at + 1 + length rs ≡ at + suc (length rs) = omega arith in
         rises-low at (at + 1) (opening_numbers (at + 1) rs) (at + suc (length rs)) (omega arith) (subst (λ n. Rises (at + 1) (opening_numbers (at + 1) rs) n) sum h)
-
--- each is that of an opening node
-number_opens : (at : ℕ) (rs : List OrderedNode) (k n : ℕ) → slice_get (opening_numbers at rs) k ≡ Some n → (at ≤ n) × (opens_in rs (n - at) ≡ Some true)
-number_opens at [] k n e = absurd cc
-number_opens at (r ∷ rs) k n e = by r.opens k refl (λ k f. number_opens (at + 1) rs k n f) e
-  where
-    later : (at + 1 ≤ n) × (opens_in rs (n - (at + 1)) ≡ Some true) → (at ≤ n) × (opens_in (r ∷ rs) (n - at) ≡ Some true)
-    later h = let le : at + 1 ≤ n = h.0 in let one : n - at ≡ suc (n - (at + 1)) = omega arith in (omega arith, rw one h.1)
-
-    by : (b : Bool) (k : ℕ) → r.opens ≡ b → ((k : ℕ) → slice_get (opening_numbers (at + 1) rs) k ≡ Some n → (at + 1 ≤ n) × (opens_in rs (n - (at + 1)) ≡ Some true))
-        → slice_get (cond b (at ∷ opening_numbers (at + 1) rs) (opening_numbers (at + 1) rs)) k ≡ Some n → (at ≤ n) × (opens_in (r ∷ rs) (n - at) ≡ Some true)
-    by true zero o rest e = let same : at ≡ n = cc in let first : n - at ≡ 0 = omega arith in (omega arith, rw first (ap Some o))
-    by true (suc k) o rest e = later (rest k e)
-    by false k o rest e = later (rest k e)
 
 -- each opening node has its number there
 opening_number : (at : ℕ) (rs : List OrderedNode) (i : ℕ) → opens_in rs i ≡ Some true → (k : ℕ) × (slice_get (opening_numbers at rs) k ≡ Some (at + i))
@@ -77,11 +63,6 @@ module _ (c : Games) where
   abbrev opens_at : ℕ → Option Bool
   opens_at n = opens_in (ordered_nodes c) n
 
-  -- a node that opens a sequence; `outer` is the parent of the games that stand side by side here
-  record Begins (outer : Option ℕ) (n : ℕ) : Type 0 where
-    opens : opens_at n ≡ Some true
-    above : (p : ℕ) → parent_at c n ≡ Some (Some p) → (outer ≡ Some p) ⊎ (opens_at (p + 1) ≡ Some true)
-
   -- a further node of a sequence
   record IsFurther (n : ℕ) : Type 0 where
     no_opening : opens_at n ≡ Some false
@@ -99,47 +80,32 @@ module _ (c : Games) where
   further_closed last (n ∷ ns) zero lt = refl
   further_closed last (n ∷ ns) (suc k) lt = further_closed (last + 1) ns k (omega arith)
 
-  kinds : (g : Games) (at : ℕ) (outer : Option ℕ) → Stands c at outer g → (n : ℕ) → at ≤ n → n < at + node_count g → Begins outer n ⊎ IsFurther n
+  kinds : (g : Games) (at : ℕ) (outer : Option ℕ) → Stands c at outer g → (n : ℕ) → at ≤ n → n < at + node_count g → (opens_at n ≡ Some true) ⊎ IsFurther n
   kinds no_games at outer h n from to = absurd (omega arith)
   kinds (game first more below after) at outer h n from to =
       let last = at + length more in
       let next = last + 1 + node_count below in
-      let own = stands_own c at outer first more below after h in
-      let under = stands_below c at outer first more below after h in
       elim (cases_lt n (last + 1)) [
         | inl before ↦
             elim (cases_eq n at) [
-              | inl same ↦
-                  let parent : parent_at c at ≡ Some outer = first_parent c at outer first more below after h in
-                  inl (rw same (record { opens = first_opens (game first more below after) at outer h (omega arith); above = λ p e. inl (cc) }))
+              | inl same ↦ inl (rw same (first_opens (game first more below after) at outer h (omega arith)))
               | inr other ↦
                   let k = n - (at + 1) in
                   let here : n ≡ at + suc k = omega arith in
                   let no : opens_at (at + suc k) ≡ Some false =
-                  ap (option_map (λ (r : OrderedNode). r.opens)) (stands_get (first_ordered outer first ∷ further_nodes at more) (suc k) own (omega (arith, length-further_nodes at more)))
+                  ap (option_map (λ (r : OrderedNode). r.opens)) (stands_get (first_ordered outer first ∷ further_nodes at more) (suc k) (stands_own c at outer first more below after h) (omega (arith, length-further_nodes at more)))
                   ∙ further_closed at more k (omega arith) in
                   let parent : parent_at c (at + suc k) ≡ Some (Some (at + k)) = further_parent c at outer first more below after h k (omega arith) in
                   inr (rw here (record { no_opening = no; before = at + k; next = omega arith; parent_is = parent }))
             ]
         | inr past ↦
             elim (cases_lt n next) [
-              | inl inside ↦
-                  elim (kinds below (last + 1) (Some last) under n past inside) [
-                    | inl b ↦
-                        inl (record {
-                          opens = b.opens;
-                          above = λ p e. elim (b.above p e) [
-                            | inl outer_is ↦ let same : last ≡ p = cc in inr (rw (← same) (first_opens below (last + 1) (Some last) under (omega arith)))
-                            | inr o ↦ inr o
-                          ];
-                        })
-                    | inr f ↦ inr f
-                  ]
+              | inl inside ↦ kinds below (last + 1) (Some last) (stands_below c at outer first more below after h) n past inside
               | inr behind ↦ kinds after next outer (stands_after c at outer first more below after h) n behind (omega arith)
             ]
       ]
 
-  kind_of : (n : ℕ) → n < node_count c → Begins None n ⊎ IsFurther n
+  kind_of : (n : ℕ) → n < node_count c → (opens_at n ≡ Some true) ⊎ IsFurther n
   kind_of n lt = kinds c 0 None (stands_whole c) n (omega arith) (omega arith)
 
   -- ---- The first nodes of sequences.
@@ -187,9 +153,6 @@ module _ (c : Games) where
     | inr none ↦ omega (arith, first_within 0)
   ]
 
-  start_opens : (k : ℕ) → k < length starts → opens_at (first_of c k) ≡ Some true
-  start_opens k lt = let same : first_of c k - 0 ≡ first_of c k = omega arith in rw same at (number_opens 0 (ordered_nodes c) k (first_of c k) (at_start k lt)).1
-
   -- the sequence that a node opens
   opened : (n : ℕ) → opens_at n ≡ Some true → (k : ℕ) × (k < length starts) × (first_of c k ≡ n)
   opened n o =
@@ -197,8 +160,14 @@ module _ (c : Games) where
       let same : 0 + n ≡ n = omega arith in
       (f.0, slice_get_within starts f.0 (0 + n) f.1, get_or_from_slice_get starts f.0 (0 + n) (node_count c) f.1 ∙ same)
 
+  -- the sequence that has a node
+  pub record IsSequenceOf (n k : ℕ) : Type 0 where
+    pub within : k < length starts
+    pub start : sequence_start c k ≤ n
+    pub end : n < sequence_end c k
+
   -- the sequences before the k-th have the nodes before its first one
-  before_first : (k n : ℕ) → k ≤ length starts → n < first_of c k → (s : ℕ) × IsSequenceOf c n s × (s < k)
+  before_first : (k n : ℕ) → k ≤ length starts → n < first_of c k → (s : ℕ) × IsSequenceOf n s × (s < k)
   before_first zero n le lt = absurd (omega (arith, first_is_zero))
   before_first (suc k) n le lt = elim (cases_lt n (first_of c k)) [
     | inl before ↦ let f = before_first k n (omega arith) before in (f.0, f.1, omega (arith, f.2))
@@ -207,7 +176,7 @@ module _ (c : Games) where
         (k, record { within = omega arith; start = omega (arith, start_is k (omega arith)); end = rw next lt }, omega arith)
   ]
 
-  pub in_sequence : (n : ℕ) → n < node_count c → (s : ℕ) × IsSequenceOf c n s
+  pub in_sequence : (n : ℕ) → n < node_count c → (s : ℕ) × IsSequenceOf n s
   in_sequence n lt = let f = before_first (length starts) n (omega arith) (omega (arith, past_all (length starts) (omega arith))) in (f.0, f.1)
 
   -- ---- Inside a sequence.
@@ -218,79 +187,48 @@ module _ (c : Games) where
   pub length_is : (k : ℕ) → k < length starts → first_of c k + sequence_length c k ≡ first_of c (k + 1)
   length_is k lt = omega (arith, start_is k lt, never_empty k lt)
 
+  -- a node stands in but one sequence
+  pub same_sequence : (n j k : ℕ) → IsSequenceOf n j → IsSequenceOf n k → j ≡ k
+  same_sequence n j k a b = elim (cases_lt j k) [
+    | inl lt ↦ absurd (omega (arith, a.end, b.start, start_is k b.within, first_no_less (j + 1) k (omega arith) (omega (arith, b.within))))
+    | inr ge ↦ elim (cases_lt k j) [
+      | inl lt ↦ absurd (omega (arith, b.end, a.start, start_is j a.within, first_no_less (k + 1) j (omega arith) (omega (arith, a.within))))
+      | inr le ↦ omega arith
+    ]
+  ]
+
+  -- its last node stands in it
+  pub last_in : (k : ℕ) → k < length starts → IsSequenceOf (sequence_end c k - 1) k
+  last_in k lt = record { within = lt; start = omega (arith, never_empty k lt); end = omega (arith, never_empty k lt) }
+
   -- no sequence opens inside another
   not_opening : (k n : ℕ) → k < length starts → sequence_start c k < n → n < sequence_end c k → opens_at n ≡ Some true → ⊥
   not_opening k n lt from to o =
       let f = opened n o in
-      let s = start_is k lt in
-      elim (cases_lt f.0 (k + 1)) [
-        | inl le ↦ elim (cases_eq f.0 k) [
-          | inl same ↦ absurd (omega (arith, f.2, ap (first_of c) same))
-          | inr other ↦ absurd (omega (arith, f.2, first_rises f.0 k (omega arith) f.1))
-        ]
-        | inr past ↦ elim (cases_eq f.0 (k + 1)) [
-          | inl same ↦ absurd (omega (arith, f.2, ap (first_of c) same))
-          | inr other ↦ absurd (omega (arith, f.2, first_rises (k + 1) f.0 (omega arith) (omega (arith, f.1))))
-        ]
-      ]
+      let own : IsSequenceOf n f.0 = record { within = f.1; start = omega (arith, start_is f.0 f.1, f.2); end = omega (arith, first_rises f.0 (f.0 + 1) (omega arith) f.1, f.2) } in
+      let same = same_sequence n f.0 k own (record { within = lt; start = omega arith; end = to }) in
+      absurd (omega (arith, f.2, ap (first_of c) same, start_is k lt))
 
   -- each node inside a sequence goes on from the one before it
   pub goes_on : (k n : ℕ) → k < length starts → sequence_start c k < n → n < sequence_end c k → parent_at c n ≡ Some (Some (n - 1))
   goes_on k n lt from to = elim (kind_of n (omega (arith, first_within (k + 1)))) [
-    | inl b ↦ absurd (not_opening k n lt from to b.opens)
+    | inl opens ↦ absurd (not_opening k n lt from to opens)
     | inr f ↦ let less : f.before ≡ n - 1 = omega (arith, f.next) in rw less at f.parent_is
   ]
 
-  -- a node ends a sequence
-  pub Closes : ℕ → Type 0
-  Closes n = (n + 1 ≡ node_count c) ⊎ (opens_at (n + 1) ≡ Some true)
-
-  -- such a node is the last of its sequence
-  pub closes_last : (n k : ℕ) → Closes n → IsSequenceOf c n k → n + 1 ≡ sequence_end c k
-  unfolding Closes
-  closes_last n k h is = elim (cases_lt (n + 1) (sequence_end c k)) [
-    | inl lt ↦ elim h [
-      | inl all ↦ absurd (omega (arith, first_within (k + 1)))
-      | inr o ↦ absurd (not_opening k (n + 1) is.within (omega (arith, is.start)) lt o)
-    ]
+  -- a leaf is the last of its sequence
+  pub leaf_last : (n k : ℕ) → IsSequenceOf n k → IsLeaf c n → n + 1 ≡ sequence_end c k
+  leaf_last n k is leaf = elim (cases_lt (n + 1) (sequence_end c k)) [
+    | inl lt ↦ let less : n + 1 - 1 ≡ n = omega arith in absurd (leaf (n + 1) (rw less at (goes_on k (n + 1) is.within (omega (arith, is.start)) lt)))
     | inr ge ↦ omega (arith, is.end)
   ]
-
-  -- a leaf ends its sequence
-  pub leaf_closes : (n : ℕ) → n < node_count c → IsLeaf c n → Closes n
-  unfolding Closes
-  leaf_closes n lt leaf = elim (cases_eq (n + 1) (node_count c)) [
-    | inl all ↦ inl all
-    | inr other ↦ elim (kind_of (n + 1) (omega arith)) [
-      | inl b ↦ inr b.opens
-      | inr f ↦ let same : f.before ≡ n = omega (arith, f.next) in absurd (leaf (n + 1) (rw same at f.parent_is))
-    ]
-  ]
-
-  -- the parent of the first node of a sequence ends a sequence
-  pub parent_closes : (k p : ℕ) → k < length starts → parent_at c (first_of c k) ≡ Some (Some p) → Closes p
-  unfolding Closes
-  parent_closes k p lt e = elim (kind_of (first_of c k) (start_within k lt)) [
-    | inl b ↦ elim (b.above p e) [ inl none ↦ absurd cc | inr o ↦ inr o ]
-    | inr f ↦ absurd (let yes = start_opens k lt in let no = f.no_opening in cc)
-  ]
-
-  -- whether the last node of a sequence is a leaf, by the next node
-  pub no_node_next : (k : ℕ) → k < length starts → sequence_end c k ≡ node_count c → IsLeaf c (sequence_end c k - 1)
-  no_node_next k lt all = leaf_by_next c (sequence_end c k - 1) (λ e. absurd (omega (arith, never_empty k lt, node_within c (sequence_end c k - 1 + 1) (Some (sequence_end c k - 1)) e)))
-
-  pub leaf_if_next : (k : ℕ) → k < length starts → parent_at c (sequence_end c k) ≢ Some (Some (sequence_end c k - 1)) → IsLeaf c (sequence_end c k - 1)
-  leaf_if_next k lt other =
-      let back : sequence_end c k - 1 + 1 ≡ sequence_end c k = omega (arith, never_empty k lt) in
-      leaf_by_next c (sequence_end c k - 1) (λ e. other (rw back at e))
 
   -- no leaf stands before the last node of a sequence, and none up to the next sequence, if that isn't one
   pub no_leaf_inside : (from k : ℕ) → k < length starts → HasNoLeaf c (first_of c from) (first_of c k) → HasNoLeaf c (first_of c from) (sequence_end c k - 1)
   no_leaf_inside from k lt none n ge below leaf = elim (cases_lt n (first_of c k)) [
     | inl before ↦ none n ge before leaf
     | inr inside ↦
-        let is : IsSequenceOf c n k = record { within = lt; start = omega (arith, start_is k lt); end = omega arith } in
-        absurd (omega (arith, closes_last n k (leaf_closes n (omega (arith, first_within (k + 1))) leaf) is))
+        absurd (omega (arith, leaf_last n k (record { within = lt; start = omega (arith, start_is k lt); end = omega arith }) leaf))
   ]
 
   pub no_leaf_more : (from k : ℕ) → k < length starts → HasNoLeaf c (first_of c from) (first_of c k) → (IsLeaf c (sequence_end c k - 1) → ⊥) → HasNoLeaf c (first_of c from) (first_of c (k + 1))

@@ -1,7 +1,6 @@
 -- Words of private contracts, views and invariants.
 pub mod PathTo
 pub mod Standing
-pub mod Seeking
 pub mod Following
 pub mod Sequences
 pub mod Fronts

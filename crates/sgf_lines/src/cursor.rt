@@ -49,7 +49,7 @@ impl<'c, 'a> Cursor<'c, 'a> {
         ensures { result ≡ record { games = collection.now; index = 0 } }
     {
         Cursor {
-            sequences: SequenceCursor::new(alloc, collection),
+            sequences: SequenceCursor::new(alloc, collection.outline()),
             path: Vec::new(alloc),
         }
     }
@@ -76,7 +76,7 @@ impl<'c, 'a> Cursor<'c, 'a> {
         ensures unchanged { OnErr result (self.new ≡ self.old) }
     {
         let alloc = *self.path.allocator();
-        let mut sequences = SequenceCursor::new(alloc, self.sequences.collection());
+        let mut sequences = SequenceCursor::new(alloc, self.sequences.outline());
         sequences.seek_after(place)?;
         let Ok(()) = self.path.reserve(sequences.len()) else {
             return Err(SeekFault::Memory);

@@ -74,7 +74,7 @@ impl<'c, 'a> Follower<'c, 'a> {
             return Ok(None);
         };
         // There are no more lines than nodes, and no more nodes than bytes. Each sequence has a node.
-        let _nodes = self.sequences.collection().nodes();
+        let _nodes = self.sequences.outline().nodes();
         let _sequences = self.sequences.sequences();
         let _len = self.sequences.len();
         let row = self.row;

@@ -1,12 +1,17 @@
 //! Going over the nodes of a line.
 
-ghost use Rattle.std.specs.Prelude.{◌≡◌, ◌<◌, ◌∷◌, length, drop};
+ghost use Rattle.std.specs.Prelude.{◌≡◌, ◌<◌, ◌∷◌, length, drop, IfSome};
+ghost use Rattle.sgf_tree.specs.Tree.{lone_property};
 ghost use Rattle.sgf_lines.specs.inner.Following.{nodes_before};
 ghost use Rattle.sgf_lines.specs.inner.Fronts.{HasFront};
+ghost use Rattle.sgf_lines.specs.inner.Gathered.{HoldsAlone};
 
 use crate::sequence_cursor::{Front, SequenceCursor};
-use sgf_tree::NodeRef;
+use sgf_tree::{NodeRef, SequenceNodes};
 use std::marker::Model;
+
+/// The names of two letters whose properties a step needs: those that set up stones and players (SGF FF[4], setup properties).
+const NEEDED_NAMES: [[u8; 2]; 4] = [*b"AB", *b"AW", *b"AE", *b"PL"];
 
 /// The nodes of the line before a cursor that are still to come, one after the other.
 #[derive(Drop)]
@@ -16,23 +21,23 @@ pub(crate) struct LineNodes<'s, 'c, 'a> {
     /// The next sequence of the line.
     sequence: usize,
 
-    /// The number of the next node, of the sequence before that one.
-    next: usize,
-
-    /// The number after that of the last node of that sequence.
-    end: usize,
+    /// The nodes that are left of the sequence before that one.
+    nodes: SequenceNodes<'c, 'a>,
 }
 
 impl<'s, 'c, 'a> Model for LineNodes<'s, 'c, 'a> {
     ghost use Rattle.std.specs.Prelude.{◌≤◌, List, length};
-    ghost use Rattle.sgf_tree.specs.Tree.{Node, node_count};
+    ghost use Rattle.sgf_tree.specs.Tree.{Node};
+    ghost use Rattle.sgf_tree.specs.inner.TreeCode.{nodes_code};
     ghost use Rattle.sgf_lines.specs.inner.Fronts.{nodes_to_come};
 
     ghost Value = { List Node };
 
-    ghost view = { λ s. nodes_to_come s.cursor.now s.sequence s.next s.end };
+    ghost coded = { nodes_code };
 
-    ghost invariant = { λ s. (s.end ≤ node_count s.cursor.now.at.games) × (s.sequence ≤ length s.cursor.now.ends) };
+    ghost view = { λ s. nodes_to_come s.cursor.now s.sequence s.nodes };
+
+    ghost invariant = { λ s. s.sequence ≤ length s.cursor.now.ends };
 }
 
 impl<'s, 'c, 'a> LineNodes<'s, 'c, 'a> {
@@ -44,24 +49,24 @@ impl<'s, 'c, 'a> LineNodes<'s, 'c, 'a> {
         LineNodes {
             cursor,
             sequence: front.sequences,
-            next: 0,
-            end: 0,
+            nodes: cursor.outline().no_nodes(),
         }
     }
 
-    /// Takes the next node. There must be one.
-    pub(crate) fn next(&mut self) -> NodeRef<'c, 'a>
+    /// Takes the next node. There must be one. With it comes, if it is recognized at a glance, its first property: its letter and its only raw
+    /// value. Its other properties hold nothing then that a step needs. Most nodes are like that, as `;B[pd]` or `;B[pd]BL[921.325]`.
+    #[inline(always)]
+    pub(crate) fn next(&mut self) -> (NodeRef<'c, 'a>, Option<(u8, &'a [u8])>)
         requires { 0 < length self.old }
-        ensures { self.old ≡ result ∷ self.new }
+        ensures taken { self.old ≡ result.0 ∷ self.new }
+        ensures lead { IfSome result.1 (λ lone. HoldsAlone (lone_property lone.0 lone.1.now) result.0.properties) }
     {
-        if self.next >= self.end {
-            // The ends of the sequences rise, and there are fewer sequences than `usize::MAX`.
+        if self.nodes.is_empty() {
+            // The ends of the sequences rise, so a sequence has a node.
             let _sequences = self.cursor.sequences();
-            (self.next, self.end) = self.cursor.numbers(self.sequence);
+            self.nodes = self.cursor.nodes(self.sequence);
             self.sequence += 1;
         }
-        let node = self.cursor.collection().node(self.next);
-        self.next += 1;
-        node
+        self.nodes.next(&NEEDED_NAMES).unwrap()
     }
 }

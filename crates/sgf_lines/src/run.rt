@@ -31,7 +31,7 @@ use crate::options::{Form, Options};
 use crate::plays::Plays;
 use crate::seek::SeekFault;
 use crate::sequence_cursor::{Front, SequenceCursor};
-use sgf_tree::{Collection, MAX_LENGTH, MemoryFault, read};
+use sgf_tree::{MAX_LENGTH, MemoryFault, Outline, read_outline};
 use std::alloc::Global;
 
 /// The number of bytes that a source is asked for at once.
@@ -119,16 +119,16 @@ fn split_text<T: Sink>(
     ensures { (source new_source : SourceState) → HasReadAll source new_source text.now
         → IsRunWithPlays options.now source new_source (T.state sink.old) (T.state sink.new) plays.old plays.new result }
 {
-    let collection = match read(alloc, text) {
-        Ok(collection) => collection,
+    let outline = match read_outline(alloc, text) {
+        Ok(outline) => outline,
         Err(fault) => return Err(RunFault::unread(fault, text.len())),
     };
-    let cursor = match cursor_after(alloc, &collection, options.after) {
+    let cursor = match cursor_after(alloc, &outline, options.after) {
         Ok(cursor) => cursor,
         Err(fault) => return Err(fault),
     };
     // There are no more lines than nodes.
-    let limit = options.limit.unwrap_or(collection.nodes() as u64);
+    let limit = options.limit.unwrap_or(outline.nodes() as u64);
     let mut run = Run::new(alloc, cursor, options.form);
     let result = run.write(limit, sink);
     plays.add(run.judge.plays());
@@ -188,17 +188,17 @@ fn read_some<S: Source>(
 /// A cursor after the line with the place that is asked for; before the first line if no place is asked for.
 fn cursor_after<'c, 'a>(
     alloc: Global,
-    collection: &'c Collection<'a>,
+    outline: &'c Outline<'a>,
     after: Option<u64>,
 ) -> Result<SequenceCursor<'c, 'a>, RunFault>
-    ensures start { (text : List ℕ) → Spells collection.now text → IsStart collection.now after result }
-    ensures same { IfOk result (λ cursor. cursor.at.games ≡ collection.now) }
+    ensures start { (text : List ℕ) → Spells outline.now text → IsStart outline.now after result }
+    ensures same { IfOk result (λ cursor. cursor.at.games ≡ outline.now) }
     ensures no_read { read_failures result ≡ 0 }
     ensures no_write { write_failures result ≡ 0 }
 {
     // Places rise, so at most one line has the place.
     rise();
-    let mut cursor = SequenceCursor::new(alloc, collection);
+    let mut cursor = SequenceCursor::new(alloc, outline);
     let Some(place) = after else {
         return Ok(cursor);
     };
@@ -281,7 +281,7 @@ impl<'c, 'a> Run<'c, 'a> {
             ≡ (T.state sink.old).failures + write_failures result }
     {
         // Places rise, and there are no more nodes than bytes.
-        let _nodes = self.cursor.collection().nodes();
+        let _nodes = self.cursor.outline().nodes();
         let mut lines = 0u64;
         'page: while lines < limit {
             match self.next() {

@@ -145,13 +145,13 @@ module _ (s : List ℕ) (k : ℕ) (run : IsSpan is_white_space s 0 k) where
 
 -- a value further on, after white space from one offset to another
 module _ (t : List ℕ) (from k : ℕ) (run : IsSpan is_white_space t from k) where
-  white-between : WhiteSpace (drop from t) (drop k t)
+  pub white-between : WhiteSpace (drop from t) (drop k t)
   white-between =
       let rises : from ≤ k = run.rises in
       let e : from + (k - from) ≡ k = omega arith in
       subst (WhiteSpace (drop from t)) (drop-drop (k - from) from t ∙ ap (λ i. drop i t) e) (white-run (drop from t) (k - from) (run-drop is_white_space t from k run))
 
-  white-up-to : k < length t → WhiteSpace (drop from t) (get_or t k 0 ∷ drop (k + 1) t)
+  pub white-up-to : k < length t → WhiteSpace (drop from t) (get_or t k 0 ∷ drop (k + 1) t)
   white-up-to lt = subst (WhiteSpace (drop from t)) (byte-at t k lt) white-between
 
   -- no `[` there

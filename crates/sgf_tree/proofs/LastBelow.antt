@@ -10,7 +10,7 @@ use Rattle.sgf_tree.proofs.OrderedNodes.{parent_in, parent_in-left, parent_in-ri
 use Rattle.sgf_tree.proofs.Starts.{starts_from, length-lasts, first-start}
 
 -- an element of a list; another one may follow it
-get_or-joined : (xs ys : List ℕ) (i d e : ℕ) → i ≤ length xs → get_or ys 0 d ≡ e → get_or (xs ++ ys) i d ≡ get_or xs i e
+pub get_or-joined : (xs ys : List ℕ) (i d e : ℕ) → i ≤ length xs → get_or ys 0 d ≡ e → get_or (xs ++ ys) i d ≡ get_or xs i e
 get_or-joined [] ys zero d e le first = first
 get_or-joined [] ys (suc i) d e le first = absurd (omega arith)
 get_or-joined (x ∷ xs) ys zero d e le first = refl

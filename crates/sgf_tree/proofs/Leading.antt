@@ -4,10 +4,12 @@ use Rattle.std.proofs.lemmas.List.Elements.{All-nil, All-push}
 use Rattle.sgf_tree.specs.Tree.{Property}
 use Rattle.sgf_tree.specs.Lead.{IsOtherName, IsLedBy}
 use Rattle.sgf_tree.specs.RawValue.{IsValue}
-use Rattle.sgf_tree.specs.Spelling.{is_upper, no_white_space, no_letter, upper, prop_value, no_value, IsProperty, property, no_property, properties}
+use Rattle.sgf_tree.specs.Spelling.{is_upper, no_white_space, no_letter, upper, prop_value, no_value, IsProperty, property, AreProperties, no_property, properties}
 use Rattle.sgf_tree.specs.inner.Lead.{IsOtherProperty, AreOtherProperties, AreOthers, IsLedNode}
 use Rattle.sgf_tree.specs.inner.NodeText.{properties_in}
 use Rattle.sgf_tree.specs.inner.Progress.{IsValueEnd, EndsNode}
+use Rattle.sgf_tree.specs.inner.Walking.{IsNodeEnded}
+use Rattle.sgf_tree.proofs.Classes.{between-not_upper}
 use Rattle.sgf_tree.proofs.Iterating.{byte-at}
 use Rattle.sgf_tree.proofs.LoneNodes.{lone, spelled, ends-node}
 use Rattle.sgf_tree.proofs.NodeEnds.{nothing-skipped}
@@ -57,22 +59,41 @@ module _ (names : List (List ℕ)) (t : List ℕ) where
       }
 
   -- the last one, right before the end of the node
-  pub others-end : (at end : ℕ) → AreOtherProperties names t at end → end < length t → 32 < get_or t end 0 → get_or t end 0 < 65 → AreOthers names t at
-  others-end at end all lt above below = record {
+  pub others-end : (at end : ℕ) → AreOtherProperties names t at end → EndsNode t end → AreOthers names t at end
+  others-end at end all ends = record {
     end = end;
     properties = all;
-    ends = record { next = end; white_space = nothing-skipped t end lt above; inside = lt; below = below };
+    ends = record { white_space = nothing-skipped t end ends.within ends.above; inside = ends.within; below = ends.below };
   }
 
--- none after a move that is a node by itself
-pub others-nothing : (names : List (List ℕ)) (t : List ℕ) → EndsNode t 6 → AreOthers names t 6
-others-nothing names t ends = others-end names t 6 6 (others-none names t 6 (omega (arith, ends.within))) ends.within ends.above ends.below
+  -- none after a move that is a node by itself
+  pub others-nothing : EndsNode t 6 → AreOthers names t 6 6
+  others-nothing ends = others-end 6 6 (others-none 6 (omega (arith, ends.within))) ends
 
 -- the properties of the node
-pub led-properties : (names : List (List ℕ)) (s : List ℕ) (is : IsLedNode names s) → IsLedBy names (lone s is.front) (properties_in (drop 1 s))
-led-properties names s is =
-    record {
-      rest = is.others.properties.properties;
-      all = properties-in (properties (spelled s is.front) is.others.properties.spelled) (ends-node s is.others.end is.others.ends);
-      others = is.others.properties.named;
-    }
+module _ (names : List (List ℕ)) (s : List ℕ) (next : ℕ) (is : IsLedNode names s next) where
+  abbrev all : List Property
+  all = lone s is.front ∷ is.others.properties.properties
+
+  all-spelled : AreProperties all (drop 1 s) (drop is.others.end s)
+  all-spelled = properties (spelled s is.front) is.others.properties.spelled
+
+  pub led-properties : IsLedBy names (lone s is.front) (properties_in (drop 1 s))
+  led-properties =
+      record {
+        rest = is.others.properties.properties;
+        all = properties-in all-spelled (ends-node s is.others.end next is.others.ends);
+        others = is.others.properties.named;
+      }
+
+  -- and where they end
+  pub led-ended : IsNodeEnded s next
+  led-ended =
+      let ends = is.others.ends in
+      record {
+        text_end = is.others.end;
+        properties = all;
+        spelled = all-spelled;
+        white_space = ends.white_space;
+        ends = λ _. ((λ e. omega (arith, ends.below)), between-not_upper (get_or s next 0) ends.below);
+      }

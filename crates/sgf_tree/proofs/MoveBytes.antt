@@ -1,15 +1,10 @@
 -- The bytes of two moves, all compared at once with the least one that may stand there.
 use Rattle.std.proofs.Common.{◌≡◌, ◌∙◌, ℕ, ◌+◌, ◌/◌, ◌%◌, ◌^◌, ◌<◌, ◌≤◌, nat_le, IsTrue, List, [], ◌∷◌, length, get_or, inl, inr, refl, sym, ap, subst, arith, le-leb}
 use Rattle.std.proofs.lemmas.Bool.{and_from, cases_lt}
-use Rattle.sgf_tree.specs.inner.Progress.{is_plain, IsMove, EndsNode}
-use Rattle.sgf_tree.specs.inner.Counting.{IsMoveNode}
+use Rattle.sgf_tree.specs.inner.Progress.{is_plain, IsMove, IsMoveNode, EndsNode}
 use Rattle.sgf_tree.proofs.PlacedBytes
 use Rattle.sgf_tree.proofs.PlacedBytes.{above}
 use Rattle.sgf_tree.proofs.ValueEnds.{other-plain}
-
--- the lowest bits of a number
-low-bits : (n : ℕ) → n % 32 ≡ 31 → (n / 1 % 2 ≡ 1) × (n / 2 % 2 ≡ 1) × (n / 4 % 2 ≡ 1) × (n / 8 % 2 ≡ 1) × (n / 16 % 2 ≡ 1)
-low-bits n e = (omega arith, omega arith, omega arith, omega arith, omega arith)
 
 other-than : (b : ℕ) → b < 256 → above b 94 ≤ 253 → IsTrue (is_plain b)
 other-than b fits h = other-plain b (λ e. omega (arith, h)) (λ e. omega (arith, h))
@@ -42,48 +37,6 @@ move-from t at fits within first second third fourth fifth =
           | inl lt ↦ let same : i ≡ at + 2 = omega arith in rw same (other-than (get_or t (at + 2) 0) (fits (at + 2)) third)
           | inr le ↦ let same : i ≡ at + 3 = omega arith in rw same (other-than (get_or t (at + 3) 0) (fits (at + 3)) fourth)
         ]
-
--- the bits above the lowest six
-next-bits : (n : ℕ) → n % 4096 ≡ 4095 → (n / 64 % 2 ≡ 1) × (n / 128 % 2 ≡ 1) × (n / 256 % 2 ≡ 1) × (n / 512 % 2 ≡ 1) × (n / 1024 % 2 ≡ 1) × (n / 2048 % 2 ≡ 1)
-next-bits n e = (omega arith, omega arith, omega arith, omega arith, omega arith, omega arith)
-
--- the bytes of two moves, and the byte after each
-module _ (t : List ℕ) (at : ℕ) (room : at + 16 ≤ length t) (fits : (i : ℕ) → get_or t i 0 < 256) where
-  abbrev least : List ℕ
-  least = 65 ∷ 91 ∷ 94 ∷ 94 ∷ 93 ∷ 33 ∷ 65 ∷ 91 ∷ 94 ∷ 94 ∷ 93 ∷ 33 ∷ 0 ∷ 0 ∷ 0 ∷ 0 ∷ []
-
-  abbrev most : List ℕ
-  most = 25 ∷ 0 ∷ 253 ∷ 253 ∷ 0 ∷ 31 ∷ 25 ∷ 0 ∷ 253 ∷ 253 ∷ 0 ∷ 31 ∷ 0 ∷ 0 ∷ 0 ∷ 0 ∷ []
-
-  abbrev move_bits : ℕ
-  move_bits = PlacedBytes.bits least most refl refl t at room
-
-  here : (i j : ℕ) → j ≡ at + i → i < 16 → move_bits / 2 ^ i % 2 ≡ 1 → above (get_or t j 0) (get_or least i 0) ≤ get_or most i 0
-  here = in-place least most refl refl t at room
-
-  pub move-stands : move_bits % 32 ≡ 31 → IsMove t at
-  move-stands e =
-      let set = low-bits move_bits e in
-      move-from t at fits (omega arith) (here 0 at (omega arith) (omega arith) set.0) (here 1 (at + 1) refl (omega arith) set.1) (here 2 (at + 2) refl (omega arith) set.2)
-      (here 3 (at + 3) refl (omega arith) set.3) (here 4 (at + 4) refl (omega arith) set.4)
-
-  ends-here : (p : ℕ) → p < length t → above (get_or t p 0) 33 ≤ 31 → EndsNode t p
-  ends-here p lt between = record { within = lt; above = omega (arith, between, fits p); below = omega (arith, between, fits p) }
-
-  pub node-ends : move_bits % 64 ≡ 63 → EndsNode t (at + 5)
-  node-ends e = ends-here (at + 5) (omega arith) (here 5 (at + 5) refl (omega arith) (omega (arith, e)))
-
-  module _ (e : move_bits % 4096 ≡ 4095) where
-    set : (move_bits / 64 % 2 ≡ 1) × (move_bits / 128 % 2 ≡ 1) × (move_bits / 256 % 2 ≡ 1) × (move_bits / 512 % 2 ≡ 1) × (move_bits / 1024 % 2 ≡ 1) × (move_bits / 2048 % 2 ≡ 1)
-    set = next-bits move_bits e
-
-    pub next-stands : IsMove t (at + 6)
-    next-stands =
-        move-from t (at + 6) fits (omega arith) (here 6 (at + 6) refl (omega arith) set.0) (here 7 (at + 6 + 1) (omega arith) (omega arith) set.1)
-        (here 8 (at + 6 + 2) (omega arith) (omega arith) set.2) (here 9 (at + 6 + 3) (omega arith) (omega arith) set.3) (here 10 (at + 6 + 4) (omega arith) (omega arith) set.4)
-
-    pub next-ends : EndsNode t (at + 11)
-    next-ends = ends-here (at + 11) (omega arith) (here 11 (at + 11) refl (omega arith) set.5)
 
 -- the bytes of two nodes that begin with a move, and the byte after them
 module _ (t : List ℕ) (at : ℕ) (room : at + 16 ≤ length t) (fits : (i : ℕ) → get_or t i 0 < 256) where

@@ -43,7 +43,7 @@ past-same (value {v} {t} u us) ends no_value none = absurd (none v t u)
 past-same {r = r} (value u us) ends (value {t} {vs} v are) none =
     let e = (prop-same u v).1 in past-same us ends (subst (λ x. ArePropValues vs x r) (sym e) are) none
 
-left-white : {s t : List ℕ} {b : ℕ} → WhiteSpace s (b ∷ t) → is_white_space b ≡ false → left_after is_white_space s ≡ b ∷ t
+pub left-white : {s t : List ℕ} {b : ℕ} → WhiteSpace s (b ∷ t) → is_white_space b ≡ false → left_after is_white_space s ≡ b ∷ t
 unfolding left_after
 left-white no_white_space h = rw h
 left-white (white_space k w) h = rw k (left-white w h)
@@ -121,9 +121,13 @@ ends-values {s = s} (properties (property {b} w h l first vs) ps) ends = λ c u 
       | inr k ↦ false≢true (sym (upper-not_bracket b h) ∙ ap (λ x. x == 91) (sym k))
     ]
 
-none-upper : {A : Type 0} (f : ℕ → List ℕ → A) (none : A) (s l : List ℕ) → WhiteSpace s l → NoPropertyFollows s → by_front (λ b t. if is_upper b then f b t else none) none l ≡ none
+-- no capital follows
+abbrev pub NoNameFollows : List ℕ → Type 0
+NoNameFollows s = (b : ℕ) (t : List ℕ) → WhiteSpace s (b ∷ t) → is_upper b ≡ false
+
+none-upper : {A : Type 0} (f : ℕ → List ℕ → A) (none : A) (s l : List ℕ) → WhiteSpace s l → NoNameFollows s → by_front (λ b t. if is_upper b then f b t else none) none l ≡ none
 none-upper f none s [] w ends = refl
-none-upper f none s (b ∷ t) w ends = rw (ends b t w).1
+none-upper f none s (b ∷ t) w ends = rw (ends b t w)
 
 -- the first property
 pub property-is : {b : ℕ} {name t u : List ℕ} {v : List ℕ} {vs : List (List ℕ)} {w r : List ℕ} → IsTrue (is_upper b) → Letters name t u → IsPropValue v u w → ArePropValues vs w r → NoValueFollows r
@@ -143,7 +147,7 @@ unfolding properties_up_to
 properties-are zero no_property ends le = refl
 properties-are zero (properties p ps) ends le = absurd (omega arith)
 properties-are {s = s} (suc n) no_property ends le =
-    none-upper (λ b t. property_from (name_in (front is_letter (b ∷ t))) (values_in (left_after is_letter (b ∷ t))) ∷ properties_up_to n (after_values_up_to (length t) (left_after is_letter (b ∷ t)))) [] s (left_after is_white_space s) (white-left s) ends
+    none-upper (λ b t. property_from (name_in (front is_letter (b ∷ t))) (values_in (left_after is_letter (b ∷ t))) ∷ properties_up_to n (after_values_up_to (length t) (left_after is_letter (b ∷ t)))) [] s (left_after is_white_space s) (white-left s) (λ b t w. (ends b t w).1)
 properties-are (suc n) (properties (property {b} {name} {v} {vs = vs} w h l first more) ps) ends le =
     let is = property-is {b = b} h l first more (ends-values ps ends) in
     let p : Property = record { name = b ∷ name; first = v; more = vs } in
@@ -164,3 +168,10 @@ count-properties (properties p ps) = let a = shorter-property p in let b = count
 pub properties-in : {ps : List Property} {s r : List ℕ} → AreProperties ps s r → NoPropertyFollows r → properties_in s ≡ ps
 unfolding properties_in
 properties-in {s = s} h ends = properties-are (length s) h ends (omega (arith, count-properties h))
+
+-- none at all
+pub no-properties-in : (s : List ℕ) → NoNameFollows s → properties_in s ≡ []
+unfolding properties_in properties_up_to
+no-properties-in [] ends = refl
+no-properties-in (c ∷ s) ends =
+    none-upper (λ b t. property_from (name_in (front is_letter (b ∷ t))) (values_in (left_after is_letter (b ∷ t))) ∷ properties_up_to (length s) (after_values_up_to (length t) (left_after is_letter (b ∷ t)))) [] (c ∷ s) (left_after is_white_space (c ∷ s)) (white-left (c ∷ s)) ends

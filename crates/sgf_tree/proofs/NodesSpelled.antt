@@ -15,7 +15,7 @@ pub data IsEnd (t : List ℕ) : List ℕ → Type 0 where
   tail : {b : ℕ} {s : List ℕ} → IsEnd t (b ∷ s) → IsEnd t s
 
 module _ {t : List ℕ} where
-  end-drop : {s : List ℕ} → IsEnd t s → (length s ≤ length t) × (drop (length t - length s) t ≡ s)
+  pub end-drop : {s : List ℕ} → IsEnd t s → (length s ≤ length t) × (drop (length t - length s) t ≡ s)
   end-drop all = let e : length t - length t ≡ 0 = omega arith in (omega arith, rw e)
   end-drop {s} (tail {b} e) =
       let h = end-drop e in
@@ -28,7 +28,7 @@ module _ {t : List ℕ} where
       dropped (x ∷ u) zero q = cc
       dropped (x ∷ u) (suc k) q = dropped u k q
 
-  end-WhiteSpace : {s r : List ℕ} → WhiteSpace s r → IsEnd t s → IsEnd t r
+  pub end-WhiteSpace : {s r : List ℕ} → WhiteSpace s r → IsEnd t s → IsEnd t r
   end-WhiteSpace no_white_space e = e
   end-WhiteSpace (white_space h w) e = end-WhiteSpace w (tail e)
 
@@ -57,19 +57,19 @@ module _ {t : List ℕ} where
   end-AreProperties no_property e = e
   end-AreProperties (properties p ps) e = end-AreProperties ps (end-IsProperty p e)
 
-  end-IsNode : {whole : ℕ} {n : Node} {s r : List ℕ} → IsNode whole n s r → IsEnd t s → IsEnd t r
+  pub end-IsNode : {whole : ℕ} {n : Node} {s r : List ℕ} → IsNode whole n s r → IsEnd t s → IsEnd t r
   end-IsNode (node w h ps) e = end-AreProperties ps (tail (end-WhiteSpace w e))
 
-  end-AreNodes : {whole : ℕ} {ns : List Node} {s r : List ℕ} → AreNodes whole ns s r → IsEnd t s → IsEnd t r
+  pub end-AreNodes : {whole : ℕ} {ns : List Node} {s r : List ℕ} → AreNodes whole ns s r → IsEnd t s → IsEnd t r
   end-AreNodes no_node e = e
   end-AreNodes (nodes n ns) e = end-AreNodes ns (end-IsNode n e)
 
-  end-AreGames : {whole : ℕ} {g : Games} {s r : List ℕ} → AreGames whole g s r → IsEnd t s → IsEnd t r
+  pub end-AreGames : {whole : ℕ} {g : Games} {s r : List ℕ} → AreGames whole g s r → IsEnd t s → IsEnd t r
   end-AreGames no_game e = e
   end-AreGames (games w n ns below v after) e =
       end-AreGames after (tail (end-WhiteSpace v (end-AreGames below (end-AreNodes ns (end-IsNode n (tail (end-WhiteSpace w e)))))))
 
-  end-ByteOrderMark : {s r : List ℕ} → ByteOrderMark s r → IsEnd t s → IsEnd t r
+  pub end-ByteOrderMark : {s r : List ℕ} → ByteOrderMark s r → IsEnd t s → IsEnd t r
   end-ByteOrderMark no_byte_order_mark e = e
   end-ByteOrderMark byte_order_mark e = tail (tail (tail e))
 
@@ -82,7 +82,7 @@ white-byte (white_space k w) (white_space l v) h = white-byte w v h
 
 -- a byte that is neither ends a node
 module _ (b : ℕ) (not_white_space : is_white_space b ≡ false) (not_bracket : b ≢ 91) (not_upper : is_upper b ≡ false) where
-  ends-at : {r t : List ℕ} → WhiteSpace r (b ∷ t) → NoPropertyFollows r
+  pub ends-at : {r t : List ℕ} → WhiteSpace r (b ∷ t) → NoPropertyFollows r
   ends-at w c u v =
       elim (white-byte w v not_white_space) [
         | inl h ↦ (white-not_bracket c h, white-not_upper c h)
@@ -102,20 +102,20 @@ module _ (t : List ℕ) where
     pub spelled : AreProperties n.properties (drop (n.place + 1) t) rest
     pub ends : NoPropertyFollows rest
 
-  node-spelled : {n : Node} {s r : List ℕ} → IsNode (length t) n s r → IsEnd t s → NoPropertyFollows r → IsNodeSpelled n
-  node-spelled {n} {s} {r} (node {place} {ps} {t = u} w e ps_spelled) end ends =
+  -- what stands at its place
+  pub own-spelled : {n : Node} {s r : List ℕ} → IsNode (length t) n s r → IsEnd t s → (drop n.place t ≡ 59 ∷ drop (n.place + 1) t) × AreProperties n.properties (drop (n.place + 1) t) r
+  own-spelled {n} {s} {r} (node {place} {ps} {t = u} w e ps_spelled) end =
       let after : IsEnd t u = tail (end-WhiteSpace w end) in
       let dropped = end-drop after in
       let at : place + 1 ≡ length t - length u = omega (arith, e) in
-      let here : place ≡ length t - length (59 ∷ u) = omega (arith, e) in
-      record {
-        begins =
-            ap (λ k. drop k t) here ∙ (end-drop (end-WhiteSpace w end)).1
-            ∙ ap (λ x. 59 ∷ x) (sym dropped.1 ∙ ap (λ k. drop k t) (sym at));
-        rest = r;
-        spelled = subst (λ k. AreProperties ps (drop k t) r) (sym at) (subst (λ x. AreProperties ps x r) (sym dropped.1) ps_spelled);
-        ends = ends;
-      }
+      let here : place ≡ length t - length (59 ∷ u) = omega (arith, e) in (
+        ap (λ k. drop k t) here ∙ (end-drop (end-WhiteSpace w end)).1
+            ∙ ap (λ x. 59 ∷ x) (sym dropped.1 ∙ ap (λ k. drop k t) (sym at)),
+        subst (λ k. AreProperties ps (drop k t) r) (sym at) (subst (λ x. AreProperties ps x r) (sym dropped.1) ps_spelled),
+      )
+
+  node-spelled : {n : Node} {s r : List ℕ} → IsNode (length t) n s r → IsEnd t s → NoPropertyFollows r → IsNodeSpelled n
+  node-spelled {r = r} is end ends = let here = own-spelled is end in record { begins = here.0; rest = r; spelled = here.1; ends = ends }
 
   abbrev Spelled : OrderedNode → Type 0
   Spelled r = IsNodeSpelled r.node

@@ -137,6 +137,12 @@ pub parent_at-lt : (c : Games) (j i : ℕ) → parent_at c j ≡ Some (Some i) �
 parent_at-lt c j i h =
     elim (parent-within 0 None c j i h) [ inl p ↦ absurd (cc) | inr w ↦ let lt : i < 0 + j = w.before in omega arith ]
 
+-- a node that is a parent is the one of the node after it
+pub next-child : (c : Games) (j i : ℕ) → parent_at c j ≡ Some (Some i) → parent_at c (i + 1) ≡ Some (Some i)
+next-child c j i h =
+    let e : i + 1 ≡ suc i - 0 = omega arith in
+    elim (parent-within 0 None c j i h) [ inl p ↦ absurd (cc) | inr w ↦ ap (parent_at c) e ∙ w.next ]
+
 -- there is an ordered node for each node
 pub length-ordered_nodes : (c : Games) → length (ordered_nodes c) ≡ node_count c
 length-ordered_nodes c = length-nodes_from 0 None c

@@ -1,25 +1,17 @@
 -- How the machine goes over the own nodes of a game.
-use Rattle.std.proofs.Common.{◌≡◌, ◌≢◌, ℕ, ◌+◌, ◌-◌, ◌<◌, ◌≤◌, Bool, true, false, IsTrue, inl, inr, List, [], ◌∷◌, ◌++◌, length, get_or, Some, None, refl, sym, ap, subst, ◌∙◌, arith, length-append, ne_eqb}
+use Rattle.std.proofs.Common.{◌≡◌, ◌≢◌, ℕ, ◌+◌, ◌<◌, ◌≤◌, true, false, inl, inr, List, [], ◌∷◌, ◌++◌, length, get_or, Some, None, refl, sym, ap, subst, ◌∙◌, arith, ne_eqb}
 use Rattle.std.proofs.lemmas.Bool.{cases_lt}
-use Rattle.std.proofs.lemmas.List.{get_or_push}
 use Rattle.sgf_tree.specs.Tree.{Property, Node, Games, no_games, game}
 use Rattle.sgf_tree.specs.Spelling.{is_white_space}
 use Rattle.sgf_tree.specs.inner.Machine.{OpenGame, Stack, Started, opened, in_node, after_game, after_node, between_games, ended, new_game, new_node, next_state, accepted}
 use Rattle.sgf_tree.specs.Refusal.{IsFaultyAt}
-use Rattle.sgf_tree.specs.inner.NodeText.{AreWritten}
 use Rattle.sgf_tree.specs.inner.Progress.{ComesTo, IsSpan}
 use Rattle.sgf_tree.specs.inner.PropertiesRead.{StandsAfterNode, ArePropertiesRead, with_properties}
-use Rattle.sgf_tree.specs.inner.GamesRead.{HoldStack, IsOpening, StandsBetween, IsNodeRead, IsSequenceRead}
-use Rattle.sgf_tree.specs.inner.Sequences.{KeptNodes}
-use Rattle.sgf_tree.specs.declared.layout.Link.{Link}
-use Rattle.sgf_tree.specs.declared.layout.Link.TheVariants.{Next}
-use Rattle.sgf_tree.specs.declared.layout.NodeEntry.{NodeEntry}
-use Rattle.sgf_tree.proofs.NodesRead.{first-held, next-held}
+use Rattle.sgf_tree.specs.inner.GamesRead.{StandsBetween}
 use Rattle.sgf_tree.proofs.Run.{run-take-step}
 use Rattle.sgf_tree.proofs.Skipping.{stays-opened}
 use Rattle.sgf_tree.proofs.Spans.{run-white}
 use Rattle.sgf_tree.proofs.ValueEnds.{ends-faulty, refused-faulty}
-use Rattle.sgf_tree.proofs.WrittenParts.{node-written}
 
 opened-node : (at : ℕ) (k : Stack) → next_state at (opened k) 59 ≡ Some (new_node k true at)
 unfolding next_state
@@ -133,60 +125,3 @@ module _ (t : List ℕ) where
     record { stack = ended so_far.whole; opens = false; place = end; properties = [] },
     (refl, next-node end so_far.whole so_far.stands lt e),
   )
-
-  -- the same, and the entries hold the nodes
-  pub record SequenceSoFar (end : ℕ) (is_written : Bool) (k : Stack) (kept : KeptNodes) : Type 0 where
-    pub last : OpenGame
-    pub nodes : NodesSoFar end k last
-    pub held : HoldStack t (record { closed = k.closed; unclosed = last ∷ k.unclosed }) kept
-    pub written : IsTrue is_written → (d : NodeEntry) → let place = (get_or kept.nodes (length kept.nodes - 1) d).place in (get_or t place 0 ≡ 59) × AreWritten t (place + 1) end
-
-  -- the node that was pushed last is written, if it is
-  last-written : (place end : ℕ) (is_written : Bool) (link : Link) (kept kept' : KeptNodes) → get_or t place 0 ≡ 59 → IsNodeRead t place end link kept kept'
-      → (IsTrue is_written → AreWritten t (place + 1) end) → IsTrue is_written → (d : NodeEntry)
-      → let last = (get_or kept'.nodes (length kept'.nodes - 1) d).place in (get_or t last 0 ≡ 59) × AreWritten t (last + 1) end
-  last-written place end is_written link kept kept' e read written is d =
-      let n : NodeEntry = record { place = place; link = link } in
-      let at : length kept.nodes ≡ length kept'.nodes - 1 = omega (arith, ap (λ (v : KeptNodes). length v.nodes) read.pushed, length-append kept.nodes (n ∷ [])) in
-      let here : get_or kept'.nodes (length kept'.nodes - 1) d ≡ n = ap (λ (v : KeptNodes). get_or v.nodes (length kept'.nodes - 1) d) read.pushed ∙ get_or_push kept.nodes n d (length kept'.nodes - 1) at in
-      rw here (e, written is)
-
-  pub sequence-first : (at place end : ℕ) (is_written : Bool) (k : Stack) (link : Link) (kept kept' : KeptNodes)
-      → IsSpan is_white_space t at place → ComesTo t at (opened k) → HoldStack t k kept → IsOpening k link → place < length t → get_or t place 0 ≡ 59
-      → IsNodeRead t place end link kept kept' → (IsTrue is_written → AreWritten t (place + 1) end) → SequenceSoFar end is_written k kept'
-  sequence-first at place end is_written k link kept kept' white after held opening lt e read written =
-      let own = nodes-first at place end k white after lt e read.properties in
-      record {
-        last = new_game (record { place = place; properties = own.0 });
-        nodes = own.1;
-        held = first-held t k place end own.0 link kept kept' held opening read lt;
-        written = last-written place end is_written link kept kept' e read written;
-      }
-
-  pub sequence-next : (place end : ℕ) (beside is_written : Bool) (k : Stack) (kept kept' : KeptNodes)
-      → SequenceSoFar place beside k kept → place < length t → get_or t place 0 ≡ 59 → IsNodeRead t place end (Next beside) kept kept'
-      → (IsTrue is_written → AreWritten t (place + 1) end) → SequenceSoFar end is_written k kept'
-  sequence-next place end beside is_written k kept kept' so_far lt e read written =
-      let own = nodes-next place end k so_far.last so_far.nodes lt e read.properties in
-      record {
-        last = with_node so_far.last (record { place = place; properties = own.0 });
-        nodes = own.1;
-        held = next-held t k.closed so_far.last k.unclosed place end own.0 kept kept' beside so_far.held so_far.nodes.nothing_below read lt
-            (λ is d. let before = so_far.written is d in node-written t (get_or kept.nodes (length kept.nodes - 1) d).place place before.0 lt e before.1);
-        written = last-written place end is_written (Next beside) kept kept' e read written;
-      }
-
-  pub sequence-done : (end : ℕ) (is_written : Bool) (k : Stack) (kept : KeptNodes) → SequenceSoFar end is_written k kept → (end < length t → get_or t end 0 ≢ 59) → IsSequenceRead t end k kept
-  sequence-done end is_written k kept so_far other =
-      record {
-        last = so_far.last;
-        stands = nodes-done end k so_far.last so_far.nodes other;
-        held = so_far.held;
-        nothing_below = so_far.nodes.nothing_below;
-      }
-
-  -- there are no more nodes than bytes
-  pub node-room : (place end : ℕ) (link : Link) (kept kept' : KeptNodes) → length kept.nodes ≤ place → IsNodeRead t place end link kept kept' → length kept'.nodes ≤ end
-  node-room place end link kept kept' room read =
-      let n : NodeEntry = record { place = place; link = link } in
-      omega (arith, room, read.properties.rises, ap (λ (v : KeptNodes). length v.nodes) read.pushed, length-append kept.nodes (n ∷ []))

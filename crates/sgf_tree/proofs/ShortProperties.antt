@@ -1,17 +1,17 @@
 -- A property with one value, as the code tells it.
-use Rattle.std.proofs.Common.{◌≡◌, ◌≢◌, ℕ, ◌+◌, ◌<◌, ◌≤◌, Bool, false, IsTrue, inl, inr, List, length, get_or, true, refl, arith}
-use Rattle.std.proofs.lemmas.Bool.{cases_lt, or_left, false≢true}
+use Rattle.std.proofs.Common.{◌≡◌, ◌≢◌, ℕ, ◌+◌, ◌<◌, ◌≤◌, Bool, false, IsTrue, inl, inr, List, length, get_or, true, refl, subst, arith}
+use Rattle.std.proofs.lemmas.Bool.{cases_lt, or_left}
 use Rattle.sgf_tree.specs.Spelling.{is_white_space, is_upper, is_lower}
 use Rattle.sgf_tree.specs.inner.NodeText.{is_letter, AreWritten}
 use Rattle.sgf_tree.specs.inner.Progress.{IsSpan, IsBracket, IsValueEnd, IsMove, EndsNode}
-use Rattle.sgf_tree.specs.inner.PropertiesRead.{AreValuesEnded, IsNameRead, AreValuesRead, IsPropertyRead, IsShortProperty, IsWholePropertyRead, ArePropertiesRead}
+use Rattle.sgf_tree.specs.inner.PropertiesRead.{AreValuesEnded, IsNameRead, AreValuesRead, IsPropertyRead, IsShortProperty, IsWholePropertyRead, ArePropertiesRead, IsTextRead}
 use Rattle.sgf_tree.specs.declared.reader.properties.PartRead.{PartRead}
 use Rattle.sgf_tree.proofs.Classes.{upper-range, between-not_upper}
 use Rattle.sgf_tree.proofs.NameEnds.{name-read, bracket-here}
 use Rattle.sgf_tree.proofs.NodeEnds.{PropertiesSoFar, nothing-skipped, properties-begin, properties-more, properties-done}
 use Rattle.sgf_tree.proofs.ValueUnits.{no-units, plain-units, units-ended}
 use Rattle.sgf_tree.proofs.ValuesRead.{values-begin, values-step, values-done}
-use Rattle.sgf_tree.proofs.WrittenParts.{values-none, values-one, property-one, span-done, written-none, written-more}
+use Rattle.sgf_tree.proofs.WrittenParts.{values-none, values-one, property-one, written-none, written-more}
 
 -- a name and its values
 pub property-read : {t : List ℕ} {start bracket end : ℕ} → IsNameRead t start bracket → AreValuesRead t bracket end → IsPropertyRead t start end
@@ -23,17 +23,22 @@ property-read name values =
       reached = λ n h. let after = name.reached n h in values.reached n after.0 after.1;
     }
 
-pub short-property : (t : List ℕ) (start bracket close : ℕ) (read : PartRead) → start < length t → IsTrue (is_upper (get_or t start 0)) → IsSpan is_letter t start bracket
-    → IsSpan is_upper t start bracket → IsBracket t bracket → IsValueEnd t (bracket + 1) close → AreValuesEnded t (close + 1) read → IsWholePropertyRead t start read
-short-property t start bracket close read lt capital letters capitals stands value ended =
+-- how far a part was read that the sgf form writes as it stands
+abbrev pub straight : ℕ → ℕ → PartRead
+straight text_end end = record { text_end = text_end; end = end; as_written = true }
+
+pub short-property : (t : List ℕ) (start bracket close next : ℕ) → start < length t → IsTrue (is_upper (get_or t start 0)) → IsSpan is_letter t start bracket
+    → IsSpan is_upper t start bracket → IsBracket t bracket → IsValueEnd t (bracket + 1) close → AreValuesEnded t (close + 1) next → IsWholePropertyRead t start (straight (close + 1) next)
+short-property t start bracket close next lt capital letters capitals stands value ended =
     let name = name-read t start bracket bracket lt capital letters (bracket-here t bracket stands) stands in
-    let values = values-done t bracket read.end (values-step t bracket bracket close read.end (values-begin t bracket) value ended.white_space) (λ _. ended.other) in
+    let values = values-done t bracket next (values-step t bracket bracket close next (values-begin t bracket) value ended.white_space) (λ _. ended.other) in
     let alone = values-one t bracket bracket close (values-none t bracket (omega (arith, stands.within))) stands.within stands.bracket value.rises value.within value.bracket value.spelled in
     record {
       property = property-read name values;
+      rises = omega (arith, name.rises, value.rises);
+      white_space = ended.white_space;
       written = λ is.
-          let same : read.end ≡ close + 1 = ended.written is in
-          property-one t start bracket read.end read.end capitals (rw same alone) (λ e. omega (arith, name.rises)) (λ e. omega (arith, values.rises)) (span-done ended.white_space) (λ _. ended.other);
+          property-one t start bracket (close + 1) next capitals alone (λ e. omega (arith, name.rises)) (λ e. omega (arith, value.rises)) ended.white_space (λ _. ended.other);
     }
 
 -- a property of two capitals and one value of plain bytes
@@ -51,52 +56,96 @@ module _ (t : List ℕ) (at close : ℕ) (is : IsShortProperty t at close) where
         stops = λ lt. rw is.bracket other;
       }
 
+  pub two-letters : IsSpan is_letter t at (at + 2)
+  two-letters =
+      two-name is_letter (or_left (is_upper (get_or t at 0)) (is_lower (get_or t at 0)) is.first) (or_left (is_upper (get_or t (at + 1) 0)) (is_lower (get_or t (at + 1) 0)) is.second) refl
+
   pub two-value : IsValueEnd t (at + 2 + 1) close
   two-value =
       let three : at + 2 + 1 ≡ at + 3 = omega arith in
       rw three (units-ended t (at + 3) close (plain-units t (at + 3) (at + 3) close (no-units t (at + 3)) is.plain) is.within is.end)
 
-  two-whole : (read : PartRead) → AreValuesEnded t (close + 1) read → IsWholePropertyRead t at read
-  two-whole read ended =
+  two-whole : (next : ℕ) → AreValuesEnded t (close + 1) next → IsWholePropertyRead t at (straight (close + 1) next)
+  two-whole next ended =
       let rises : at + 3 ≤ close = is.plain.rises in
-      short-property t at (at + 2) close read (omega (arith, is.within)) is.first
-      (two-name is_letter (or_left (is_upper (get_or t at 0)) (is_lower (get_or t at 0)) is.first) (or_left (is_upper (get_or t (at + 1) 0)) (is_lower (get_or t (at + 1) 0)) is.second) refl)
+      short-property t at (at + 2) close next (omega (arith, is.within)) is.first two-letters
       (two-name is_upper is.first is.second refl) (record { within = omega (arith, is.within); bracket = is.bracket }) two-value ended
 
 -- a byte above the space that is no `[` ends a property's values at once
-ended-at : (t : List ℕ) (end : ℕ) → end < length t → 32 < get_or t end 0 → get_or t end 0 ≢ 91 → AreValuesEnded t end (record { end = end; as_written = true })
-ended-at t end lt above other = record { white_space = nothing-skipped t end lt above; other = other; written = λ _. refl }
+ended-at : (t : List ℕ) (end : ℕ) → end < length t → 32 < get_or t end 0 → get_or t end 0 ≢ 91 → AreValuesEnded t end end
+ended-at t end lt above other = record { white_space = nothing-skipped t end lt above; other = other }
+
+-- The properties of a node were read so far, and the text of the last one up to `read.text_end`.
+pub record ReadSoFar (t : List ℕ) (at : ℕ) (read : PartRead) : Type 0 where
+  pub properties : PropertiesSoFar t at read.end
+  pub rises : at ≤ read.text_end
+  pub white_space : IsSpan is_white_space t read.text_end read.end
+  pub no_value : at < read.text_end → read.end < length t → get_or t read.end 0 ≢ 91
+  pub written : IsTrue read.as_written → AreWritten t at read.text_end
+
+module _ (t : List ℕ) (at : ℕ) where
+  -- none yet
+  pub so-far-begin : (end : ℕ) → at ≤ length t → IsSpan is_white_space t at end → ReadSoFar t at (straight at end)
+  so-far-begin end within white =
+      record {
+        properties = properties-begin t at end white;
+        rises = omega arith;
+        white_space = white;
+        no_value = λ some. absurd (omega arith);
+        written = λ _. written-none t at within;
+      }
+
+  -- one more property
+  pub so-far-more : (read next whole : PartRead) → ReadSoFar t at read → read.end < length t → IsTrue (is_upper (get_or t read.end 0)) → IsWholePropertyRead t read.end next
+      → whole.text_end ≡ next.text_end → whole.end ≡ next.end → (IsTrue whole.as_written → IsTrue read.as_written × (read.text_end ≡ read.end) × IsTrue next.as_written) → ReadSoFar t at whole
+  so-far-more read next whole so_far lt capital property text_end end written =
+      rw (text_end, end)
+      (record {
+        properties = properties-more t at read.end next.end so_far.properties lt capital property.property;
+        rises = omega (arith, so_far.rises, so_far.white_space.rises, property.rises);
+        white_space = property.white_space;
+        no_value = λ some inside. (property.property.stops inside).1;
+        written = λ is.
+            let (before, same, last) = written is in
+            written-more t at read.end next.text_end (subst (AreWritten t at) same (so_far.written before)) (property.written last);
+      })
+
+  module _ (read : PartRead) (so_far : ReadSoFar t at read) (no_property : read.end < length t → is_upper (get_or t read.end 0) ≡ false) where
+    pub so-far-done : ArePropertiesRead t at read.end
+    so-far-done = properties-done t at read.end so_far.properties no_property
+
+    pub so-far-text : IsTextRead t at read
+    so-far-text = record { rises = so_far.rises; white_space = so_far.white_space; no_value = so_far.no_value; no_property = no_property; written = so_far.written }
 
 -- The properties of a node were read up to a `]` just before `end`: whatever white space follows there, all before it is read.
-pub record AreReadTo (t : List ℕ) (at end : ℕ) : Type 0 where
-  pub read : (read : PartRead) → AreValuesEnded t end read → PropertiesSoFar t at read.end
-  pub written : (read : PartRead) → AreValuesEnded t end read → IsTrue read.as_written → AreWritten t at read.end
+abbrev pub AreReadTo : List ℕ → ℕ → ℕ → Type 0
+AreReadTo t at end = (next : ℕ) → AreValuesEnded t end next → ReadSoFar t at (straight end next)
 
 module _ (t : List ℕ) (at end : ℕ) (so_far : AreReadTo t at end) where
-  abbrev straight : PartRead
-  straight = record { end = end; as_written = true }
-
   -- one more short property
   pub read-to-more : (close : ℕ) → IsShortProperty t end close → AreReadTo t at (close + 1)
-  read-to-more close is =
+  read-to-more close is next ended =
       let letter = upper-range (get_or t end 0) is.first in
       let lt : end < length t = omega (arith, is.plain.rises, is.within) in
-      let here : AreValuesEnded t end straight = ended-at t end lt (omega (arith, letter.0)) (λ e. omega (arith, letter.1)) in
-      record {
-        read = λ read ended. properties-more t at end read.end (so_far.read straight here) lt is.first (two-whole t end close is read ended).property;
-        written = λ read ended same. written-more t at end read.end (so_far.written straight here refl) ((two-whole t end close is read ended).written same);
-      }
+      let here : AreValuesEnded t end end = ended-at t end lt (omega (arith, letter.0)) (λ e. omega (arith, letter.1)) in
+      so-far-more t at (straight end end) (straight (close + 1) next) (straight (close + 1) next) (so_far end here) lt is.first (two-whole t end close is next ended) refl refl
+      (λ _. (refl, refl, refl))
 
   -- the node ends
   module _ (ends : EndsNode t end) where
-    end-here : AreValuesEnded t end straight
-    end-here = ended-at t end ends.within ends.above (λ e. omega (arith, ends.below))
+    here : ReadSoFar t at (straight end end)
+    here = so_far end (ended-at t end ends.within ends.above (λ e. omega (arith, ends.below)))
 
     pub read-to-end : ArePropertiesRead t at end
-    read-to-end = properties-done t at end (so_far.read straight end-here) (λ lt. between-not_upper (get_or t end 0) ends.below)
+    read-to-end = so-far-done t at (straight end end) here (λ lt. between-not_upper (get_or t end 0) ends.below)
 
-    pub written-to-end : AreWritten t at end
-    written-to-end = so_far.written straight end-here refl
+    pub text-to-end : IsTextRead t at (straight end end)
+    text-to-end = so-far-text t at (straight end end) here (λ lt. between-not_upper (get_or t end 0) ends.below)
+
+-- no properties before the end of a node
+pub text-none : (t : List ℕ) (at : ℕ) → EndsNode t at → IsTextRead t at (straight at at)
+text-none t at ends =
+    so-far-text t at (straight at at) (so-far-begin t at at (omega (arith, ends.within)) (nothing-skipped t at ends.within ends.above)) (λ lt. between-not_upper (get_or t at 0) ends.below)
 
 -- a move in front of a node's properties
 module _ (t : List ℕ) (at : ℕ) (is : IsMove t at) where
@@ -116,31 +165,28 @@ module _ (t : List ℕ) (at : ℕ) (is : IsMove t at) where
       rw (two, four)
       (units-ended t (at + 2) (at + 2 + 2) (plain-units t (at + 2) (at + 2) (at + 2 + 2) (no-units t (at + 2)) is.value.plain) is.value.within is.value.bracket)
 
-  move-whole : (read : PartRead) → AreValuesEnded t (at + 5) read → IsWholePropertyRead t at read
-  move-whole read ended =
+  move-whole : (next : ℕ) → AreValuesEnded t (at + 5) next → IsWholePropertyRead t at (straight (at + 5) next)
+  move-whole next ended =
       let five : at + 4 + 1 ≡ at + 5 = omega arith in
-      short-property t at (at + 1) (at + 4) read (omega (arith, is.value.within)) is.capital (move-name is_letter (or_left (is_upper (get_or t at 0)) (is_lower (get_or t at 0)) is.capital) refl)
-      (move-name is_upper is.capital refl) (record { within = omega (arith, is.value.within); bracket = is.bracket }) move-value (rw five ended)
+      subst (λ i. IsWholePropertyRead t at (straight i next)) five
+      (short-property t at (at + 1) (at + 4) next (omega (arith, is.value.within)) is.capital (move-name is_letter (or_left (is_upper (get_or t at 0)) (is_lower (get_or t at 0)) is.capital) refl)
+      (move-name is_upper is.capital refl) (record { within = omega (arith, is.value.within); bracket = is.bracket }) move-value (rw five ended))
 
   pub after-move : AreReadTo t at (at + 5)
-  after-move =
+  after-move next ended =
       let letter = upper-range (get_or t at 0) is.capital in
       let lt : at < length t = omega (arith, is.value.within) in
-      record {
-        read = λ read ended. properties-more t at at read.end (properties-begin t at at (nothing-skipped t at lt (omega (arith, letter.0)))) lt is.capital (move-whole read ended).property;
-        written = λ read ended same. written-more t at at read.end (written-none t at (omega (arith, is.value.within))) ((move-whole read ended).written same);
-      }
+      so-far-more t at (straight at at) (straight (at + 5) next) (straight (at + 5) next) (so-far-begin t at at (omega arith) (nothing-skipped t at lt (omega (arith, letter.0)))) lt is.capital
+      (move-whole next ended) refl refl (λ _. (refl, refl, refl))
 
   -- and only white space after it
   pub spaced-read : (end : ℕ) → IsSpan is_white_space t (at + 5) end → end < length t → get_or t end 0 < 65 → ArePropertiesRead t at end
   spaced-read end white lt below =
-      let read : PartRead = record { end = end; as_written = false } in
-      let last : AreValuesEnded t (at + 5) read = record { white_space = white; other = λ e. omega (arith, below); written = λ is. absurd (false≢true is) } in
-      properties-done t at end (after-move.read read last) (λ _. between-not_upper (get_or t end 0) below)
+      so-far-done t at (straight (at + 5) end) (after-move end (record { white_space = white; other = λ e. omega (arith, below) })) (λ _. between-not_upper (get_or t end 0) below)
 
   -- and nothing after it
   pub lone-read : EndsNode t (at + 5) → ArePropertiesRead t at (at + 5)
   lone-read ends = read-to-end t at (at + 5) after-move ends
 
-  pub lone-written : EndsNode t (at + 5) → AreWritten t at (at + 5)
-  lone-written ends = written-to-end t at (at + 5) after-move ends
+  pub lone-text : EndsNode t (at + 5) → IsTextRead t at (straight (at + 5) (at + 5))
+  lone-text ends = text-to-end t at (at + 5) after-move ends

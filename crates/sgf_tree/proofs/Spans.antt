@@ -50,7 +50,7 @@ module _ (t : List ℕ) where
       run-span at to (λ i. z) le within (λ i low high. stays (get_or t i 0) i (white i low high)) h
 
   -- a span of no byte, and one of one more byte
-  span-none : (at : ℕ) → slice_range t at at ≡ []
+  pub span-none : (at : ℕ) → slice_range t at at ≡ []
   span-none at = let e : at - at ≡ 0 = omega arith in rw e
 
   span-more : (at i : ℕ) → at ≤ i → i < length t → slice_range t at (i + 1) ≡ slice_range t at i ++ get_or t i 0 ∷ []

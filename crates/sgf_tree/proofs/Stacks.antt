@@ -1,6 +1,6 @@
--- The ordered nodes of whole and open games: games side by side, one more node, and a game that ends.
-use Rattle.std.proofs.Common.{◌≡◌, ℕ, ◌+◌, true, false, List, [], ◌∷◌, ◌++◌, length, Option, Some, None, sym, ap, ◌∙◌, arith, append_assoc, append-nil, length-append}
-use Rattle.sgf_tree.specs.Tree.{Node, Games, no_games, game, joined, game_count, node_count}
+-- The ordered nodes of whole and open games: games side by side, and a game that ends.
+use Rattle.std.proofs.Common.{◌≡◌, ℕ, ◌+◌, true, List, [], ◌∷◌, ◌++◌, length, Option, Some, None, sym, ap, ◌∙◌, arith, append_assoc, append-nil, length-append}
+use Rattle.sgf_tree.specs.Tree.{Games, no_games, game, joined, game_count, node_count}
 use Rattle.sgf_tree.specs.FileOrder.{OrderedNode, further_nodes, nodes_from}
 use Rattle.sgf_tree.specs.inner.Machine.{OpenGame, whole_game}
 use Rattle.sgf_tree.specs.inner.GamesRead.{open_count, tip, own_nodes, open_nodes, lasts, open_lasts}
@@ -85,27 +85,3 @@ open_lasts-closed closed g (h ∷ hs) =
     let n : ℕ = next + node_count h.below in
     ap (λ ls. open_lasts closed hs ++ 0 ∷ ls) (lasts-followed next h.below (whole_game g) ∙ ap (λ ls. lasts next h.below ++ ls) (lasts-whole n g))
     ∙ sym (append_assoc (open_lasts closed hs) (0 ∷ lasts next h.below) ((n + length g.more + node_count g.below) ∷ lasts (n + 1 + length g.more) g.below))
-
--- one more node of a game
-further_nodes-more : (last : ℕ) (ns : List Node) (n : Node) → further_nodes last (ns ++ n ∷ []) ≡ further_nodes last ns ++ record { node = n; parent = Some (last + length ns); opens = false } ∷ []
-further_nodes-more last [] n = let e : last + 0 ≡ last = omega arith in rw e
-further_nodes-more last (m ∷ ns) n =
-    let e : last + 1 + length ns ≡ last + length (m ∷ ns) = omega arith in
-    ap (λ rs. record { node = m; parent = Some last; opens = false } ∷ rs) (further_nodes-more (last + 1) ns n ∙ ap (λ k. further_nodes (last + 1) ns ++ record { node = n; parent = Some k; opens = false } ∷ []) e)
-
-pub open_nodes-more : (closed : Games) (g : OpenGame) (gs : List OpenGame) (n : Node) → g.below ≡ no_games
-    → open_nodes closed (record { first = g.first; more = g.more ++ n ∷ []; below = g.below } ∷ gs)
-    ≡ open_nodes closed (g ∷ gs) ++ record { node = n; parent = Some (open_count closed gs + length g.more); opens = false } ∷ []
-open_nodes-more closed g gs n none =
-    let at : ℕ = open_count closed gs in
-    let r : OrderedNode = record { node = g.first; parent = tip closed gs; opens = true } in
-    let new : OrderedNode = record { node = n; parent = Some (at + length g.more); opens = false } in
-    rw none
-    (ap (λ rs. open_nodes closed gs ++ ((r ∷ rs) ++ [])) (further_nodes-more at g.more n)
-    ∙ ap (λ rs. open_nodes closed gs ++ rs) (append-nil (r ∷ (further_nodes at g.more ++ new ∷ [])))
-    ∙ sym (append_assoc (open_nodes closed gs) (r ∷ further_nodes at g.more) (new ∷ []))
-    ∙ ap (λ rs. open_nodes closed gs ++ rs ++ new ∷ []) (sym (append-nil (r ∷ further_nodes at g.more))))
-
-pub open_lasts-more : (closed : Games) (g : OpenGame) (gs : List OpenGame) (n : Node) → g.below ≡ no_games
-    → open_lasts closed (record { first = g.first; more = g.more ++ n ∷ []; below = g.below } ∷ gs) ≡ open_lasts closed (g ∷ gs)
-open_lasts-more closed g gs n none = rw none

@@ -1,56 +1,113 @@
--- What holds once a whole text was read.
-use Rattle.std.proofs.Common.{◌≡◌, ℕ, ◌+◌, ◌<◌, ◌≤◌, get_or, inl, inr, List, [], length, map, slice_get, Some, unwrap_or, sym, ap, subst, ◌∙◌, arith}
-use Rattle.std.proofs.lemmas.Option.{slice_get_within}
-use Rattle.sgf_tree.specs.declared.fault.TheConstants.{MAX_LENGTH}
-use Rattle.sgf_tree.specs.Tree.{Games, no_games, game_count, node_count}
-use Rattle.sgf_tree.specs.Spelling.{Spells}
-use Rattle.sgf_tree.specs.FileOrder.{game_of, ordered_nodes, IsLastBelow, sequence_starts, sequence_start, sequence_end}
-use Rattle.sgf_tree.specs.inner.Machine.{MachineState, accepted, collection_of}
-use Rattle.sgf_tree.specs.inner.Progress.{ComesTo}
-use Rattle.sgf_tree.specs.inner.Layout.{games_in, outline, IsLaidOut}
-use Rattle.sgf_tree.specs.inner.GamesRead.{IsRootOf, IsRead}
-use Rattle.sgf_tree.specs.inner.Sequences.{KeptNodes}
+-- How all games of a text are read, and what holds then.
+use Rattle.std.proofs.Common.{◌≡◌, ℕ, ◌+◌, ◌-◌, ◌<◌, ◌≤◌, ◌⊎◌, inl, inr, List, [], ◌∷◌, length, get_or, Some, None, unwrap_or, refl, sym, ap, subst, ◌∙◌, arith}
+use Rattle.sgf_tree.specs.Tree.{Games, no_games, game, game_count, node_count}
+use Rattle.sgf_tree.specs.Spelling.{Spells, is_white_space}
+use Rattle.sgf_tree.specs.Refusal.{IsFaultyAt}
+use Rattle.sgf_tree.specs.inner.Machine.{OpenGame, Stack, MachineState, after_game, close, close_in, whole_game, accepted, collection_of, games_in}
+use Rattle.sgf_tree.specs.inner.OwnNodes.{Coming, nothing}
+use Rattle.sgf_tree.specs.inner.Progress.{ComesTo, IsSpan}
+use Rattle.sgf_tree.specs.inner.GamesRead.{open_count, whole, StandsBetween, IsGameRead, ReadsWhole}
 use Rattle.sgf_tree.proofs.AcceptedSpelled.{accepted-spelled}
-use Rattle.sgf_tree.proofs.LastBelow.{lasts-below}
-use Rattle.sgf_tree.proofs.Starts.{starts-are, length-lasts}
-use Rattle.sgf_tree.proofs.NodesRead.{nodes-held}
+use Rattle.sgf_tree.proofs.Completion.{add_games, closed-in}
+use Rattle.sgf_tree.proofs.GamesLoop.{none-accepted, close-faulty, close-stands, games-unfinished, games-whole, games-accepted, open_count-closed, depth-closed}
 use Rattle.sgf_tree.proofs.Run.{collection-run}
+use Rattle.sgf_tree.proofs.SequencesRead.{open-unaccepted}
 use Rattle.sgf_tree.proofs.ValueEnds.{reaches-all}
 
-pub collection-reached : (t : List ℕ) (c : Games) (z : MachineState) → ComesTo t (length t) z → accepted z ≡ Some c → collection_of t ≡ Some c
-collection-reached t c z whole accepts = collection-run t z (reaches-all t z whole) ∙ accepts
+no-game : (gs : List OpenGame) → length gs ≡ 0 → gs ≡ []
+no-game [] e = refl
+no-game (g ∷ gs) e = absurd (omega arith)
 
-module _ (t : List ℕ) (c : Games) (kept : KeptNodes) (read : IsRead t c kept) where
-  whole-collection : collection_of t ≡ Some c
-  whole-collection = collection-reached t c read.reached read.whole read.accepts
+some-game : (games : Games) → 0 < node_count games → 0 < game_count games
+some-game no_games some = some
+some-game (game first more below after) some = omega arith
 
-  pub whole-games : games_in t ≡ c
-  whole-games = ap (λ o. unwrap_or o no_games) whole-collection
+module _ (t : List ℕ) where
+  collection-reached : (c : Games) (z : MachineState) → ComesTo t (length t) z → accepted z ≡ Some c → collection_of t ≡ Some c
+  collection-reached c z reached accepts = collection-run t z (reaches-all t z reached) ∙ accepts
 
-  pub whole-spelled : Spells c t
-  whole-spelled = accepted-spelled c t whole-collection
+  -- games were read from `start` up to `at`, and the keeper keeps them; so many are open
+  pub record GamesSoFar (keeps : Stack → Coming → Type 0) (start at depth : ℕ) : Type 0 where
+    pub rises : start ≤ at
+    pub within : at ≤ length t
+    pub stack : Stack
+    pub stands : StandsBetween t at stack
+    pub kept : keeps stack nothing
+    pub few : open_count stack.closed stack.unclosed ≤ at
+    pub none : at ≡ start → game_count stack.closed ≡ 0
+    pub some : start < at → 0 < open_count stack.closed stack.unclosed
+    pub depth_is : length stack.unclosed ≡ depth
 
-  whole-root : (i g : ℕ) → i < node_count c → IsRootOf c i g → game_of c i ≡ g
-  whole-root i g lt (inl h) = h.1
-  whole-root i g lt (inr h) = absurd (omega (arith, h.0))
-
-  pub whole-laid_out : (games : ℕ) → length t ≤ MAX_LENGTH → games ≡ game_count c → IsLaidOut t games kept
-  whole-laid_out games short e =
-      let count : length kept.nodes ≡ node_count c = nodes-held t (record { closed = c; unclosed = [] }) kept read.held in
+  -- the own nodes of a game
+  pub games-opened : (keeps keeps' : Stack → Coming → Type 0) (start at depth end : ℕ) (so_far : GamesSoFar keeps start at depth)
+      → at < end → end ≤ length t → IsGameRead keeps' t end so_far.stack → GamesSoFar keeps' start end (depth + 1)
+  games-opened keeps keeps' start at depth end so_far rises within read =
+      let k : Stack = so_far.stack in
       record {
-        short = short;
-        spelled = subst (λ g. Spells g t) (sym whole-games) whole-spelled;
-        games_counted = e ∙ ap game_count (sym whole-games);
-        same_order = ap (λ g. map outline (ordered_nodes g)) whole-games ∙ read.held.same_order;
-        games_numbered = λ i n k here is.
-            ap (λ g. game_of g i) whole-games
-            ∙ whole-root i k (omega (arith, slice_get_within kept.nodes i n here)) (read.held.roots i n k here is);
-        last_known =
-            subst (λ g. (k n l : ℕ) → sequence_start g k ≤ n → n < sequence_end g k → slice_get kept.lasts k ≡ Some l → IsLastBelow g n l) (sym whole-games)
-            (λ k n l from to here.
-            lasts-below c k l n (subst (λ ns. get_or ns k 0 ≤ n) (starts-are c) from) (subst (λ ns. n < get_or ns (k + 1) (node_count c)) (starts-are c) to)
-            (ap (λ ls. slice_get ls k) read.held.same_lasts ∙ here));
-        sequences_counted = ap length (sym read.held.same_lasts) ∙ length-lasts 0 0 c ∙ ap length (sym (starts-are c)) ∙ ap (λ g. length (sequence_starts g)) (sym whole-games);
-        places_within = read.held.places_within;
-        beside = read.held.beside;
+        rises = omega (arith, so_far.rises);
+        within = within;
+        stack = record { closed = k.closed; unclosed = read.read ∷ k.unclosed };
+        stands = read.stands;
+        kept = read.kept;
+        few = read.few;
+        none = λ e. absurd (omega (arith, so_far.rises));
+        some = λ _. omega arith;
+        depth_is = omega (arith, so_far.depth_is);
       }
+
+  -- a `)`
+  module _ (keeps : Stack → Coming → Type 0) (start at depth : ℕ) (so_far : GamesSoFar keeps start at depth) where
+    pub unopened-faulty : at < length t → get_or t at 0 ≡ 41 → depth ≡ 0 → IsFaultyAt t at
+    unopened-faulty lt e none = close-faulty t at so_far.stack so_far.stands lt e (no-game so_far.stack.unclosed (so_far.depth_is ∙ none))
+
+    pub games-closed : (keeps' : Stack → Coming → Type 0) (next : ℕ) → 0 < depth → at < length t → get_or t at 0 ≡ 41 → IsSpan is_white_space t (at + 1) next
+        → ((k k' : Stack) → keeps k nothing → length k.unclosed ≡ depth - 1 + 1 → close k ≡ Some (after_game k') → keeps' k' nothing) → GamesSoFar keeps' start next (depth - 1)
+    games-closed keeps' next some lt e white ends = close-of so_far.stack.unclosed refl
+      where
+        close-of : (gs : List OpenGame) → so_far.stack.unclosed ≡ gs → GamesSoFar keeps' start next (depth - 1)
+        close-of [] none = absurd (omega (arith, so_far.depth_is, ap length none))
+        close-of (g ∷ gs) is =
+            let k : Stack = so_far.stack in
+            let k' : Stack = add_games k.closed gs (whole_game g) in
+            let count : open_count k'.closed k'.unclosed ≡ open_count k.closed k.unclosed = open_count-closed k.closed g gs ∙ sym (ap (open_count k.closed) is) in
+            let one : length k.unclosed ≡ length (g ∷ gs) = ap length is in
+            let open_one : 0 < open_count k.closed k.unclosed = subst (λ xs. 0 < open_count k.closed xs) (sym is) (omega arith) in
+            record {
+              rises = omega (arith, so_far.rises, white.rises);
+              within = white.within;
+              stack = k';
+              stands = close-stands t at k so_far.stands g gs next is lt e white;
+              kept = ends k k' so_far.kept (omega (arith, so_far.depth_is)) (ap (close_in k.closed) is ∙ closed-in k.closed g gs);
+              few = omega (arith, so_far.few, white.rises);
+              none = λ e'. absurd (omega (arith, so_far.rises, white.rises));
+              some = λ _. omega arith;
+              depth_is = omega (arith, so_far.depth_is, depth-closed k.closed g gs);
+            }
+
+    -- the end of the text
+    module _ (ends : at ≡ length t) where
+      pub games-faulty-end : (0 < depth) ⊎ (at ≡ start) → IsFaultyAt t at
+      games-faulty-end h =
+          subst (IsFaultyAt t) (sym ends) (games-unfinished t at so_far.stack so_far.stands ends (unaccepted so_far.stack.closed so_far.stack.unclosed so_far.none so_far.depth_is h))
+        where
+          unaccepted : (closed : Games) (gs : List OpenGame) → (at ≡ start → game_count closed ≡ 0) → length gs ≡ depth → (0 < depth) ⊎ (at ≡ start)
+              → accepted (after_game (record { closed = closed; unclosed = gs })) ≡ None
+          unaccepted closed (g ∷ gs) none depth_is h = open-unaccepted closed g gs
+          unaccepted closed [] none depth_is (inl some) = absurd (omega arith)
+          unaccepted closed [] none depth_is (inr e) = none-accepted closed (none e)
+
+      pub games-read : depth ≡ 0 → start < at → ReadsWhole keeps t
+      games-read none some =
+          let k : Stack = so_far.stack in
+          let all : k.unclosed ≡ [] = no-game k.unclosed (so_far.depth_is ∙ none) in
+          let count : open_count k.closed k.unclosed ≡ node_count k.closed = ap (open_count k.closed) all in
+          let nodes : 0 < node_count k.closed = omega (arith, so_far.some some) in
+          let accepts = games-accepted t at k so_far.stands ends all (some-game k.closed nodes) in
+          let collection : collection_of t ≡ Some k.closed = collection-reached k.closed so_far.stands.state (games-whole t at k so_far.stands ends) accepts in
+          let same : k.closed ≡ games_in t = sym (ap (λ o. unwrap_or o no_games) collection) in
+          let kept : keeps (whole k.closed) nothing = subst (λ gs. keeps (record { closed = k.closed; unclosed = gs }) nothing) all so_far.kept in
+          record {
+            spelled = subst (λ c. Spells c t) same (accepted-spelled k.closed t collection);
+            kept = subst (λ c. keeps (whole c) nothing) same kept;
+            few = subst (λ c. node_count c ≤ length t) same (omega (arith, so_far.few));
+          }

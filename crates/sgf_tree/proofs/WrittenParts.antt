@@ -6,14 +6,17 @@ use Rattle.std.proofs.lemmas.List.{drop-drop}
 use Rattle.std.specs.List.{flat_map}
 use Rattle.sgf_tree.specs.Tree.{Property}
 use Rattle.sgf_tree.specs.RawValue.{IsValue}
-use Rattle.sgf_tree.specs.Spelling.{is_white_space, is_upper, WhiteSpace, no_white_space, white_space, Letters, no_letter, upper, IsPropValue, prop_value, ArePropValues, no_value, value, IsProperty, property, AreProperties, no_property, properties}
+use Rattle.sgf_tree.specs.Spelling.{is_white_space, is_upper, WhiteSpace, no_white_space, Letters, no_letter, upper, IsPropValue, prop_value, ArePropValues, no_value, value, IsProperty, property, AreProperties, no_property, properties}
 use Rattle.sgf_tree.specs.Written.{value_text, property_text}
 use Rattle.sgf_tree.specs.inner.NodeText.{is_letter, left_after, front, values_in, property_from, name_in, after_values_up_to, properties_in, NoValueFollows, NoPropertyFollows, ArePropertiesIn, AreValuesWritten, IsPropertyWritten, ArePropertiesWritten, AreWritten, IsNodeWritten}
 use Rattle.sgf_tree.specs.inner.Progress.{IsSpan, SpellsValue}
-use Rattle.sgf_tree.proofs.Classes.{upper-not_white_space}
+use Rattle.sgf_tree.specs.inner.PropertiesRead.{IsTextRead}
+use Rattle.sgf_tree.specs.declared.reader.properties.PartRead.{PartRead}
+use Rattle.sgf_tree.proofs.Classes.{upper-not_white_space, white-not_bracket, white-not_upper}
 use Rattle.sgf_tree.proofs.NameEnds.{span-one}
 use Rattle.sgf_tree.proofs.NodesSpelled.{white-byte}
-use Rattle.sgf_tree.proofs.NodeTexts.{white-same, white-none, ends-values, property-is, properties-in}
+use Rattle.sgf_tree.proofs.NodeTexts.{NoNameFollows, white-same, white-none, ends-values, property-is, properties-in, no-properties-in}
+use Rattle.sgf_tree.proofs.Spans.{span-none}
 use Rattle.sgf_tree.proofs.ValueEnds.{span-join}
 use Rattle.sgf_tree.proofs.Iterating.{white-to, white-all, byte-at, run-drop, values-more}
 
@@ -23,37 +26,39 @@ capitals zero s le h = no_letter
 capitals (suc n) [] le h = absurd (omega arith)
 capitals (suc n) (b ∷ s) le h = upper (h 0 (omega arith)) (capitals n s (omega arith) (λ i lt. h (suc i) (omega arith)))
 
--- nothing more of a span stands at its end
-pub span-done : {test : ℕ → Bool} {t : List ℕ} {at end : ℕ} → IsSpan test t at end → IsSpan test t end end
-span-done span = record { rises = omega arith; within = span.within; passing = λ i low high. absurd (omega arith); stops = span.stops }
+-- What holds of white space, and of the byte after a run of it, holds of each byte that follows.
+module _ (Holds : ℕ → Type 0) (of_white : (b : ℕ) → IsTrue (is_white_space b) → Holds b) where
+  follows-run : (s : List ℕ) (k : ℕ) → IsSpan is_white_space s 0 k → (k < length s → Holds (get_or s k 0)) → (b : ℕ) (u : List ℕ) → WhiteSpace s (b ∷ u) → Holds b
+  follows-run s k run next b u w =
+      elim (cases_lt k (length s)) [
+        | inl lt ↦
+            elim (white-byte (white-to s k run lt) w (run.stops lt)) [
+              | inl white ↦ of_white b white
+              | inr same ↦ subst Holds (sym same) (next lt)
+            ]
+        | inr le ↦ by_white (is_white_space b) refl (white-all s k run le)
+      ]
+    where
+      by_white : (c : Bool) → is_white_space b ≡ c → WhiteSpace s [] → Holds b
+      by_white true white all = of_white b white
+      by_white false other all = absurd (white-none all w other)
+
+  -- the same further on
+  pub follows-at : (t : List ℕ) (end next : ℕ) → IsSpan is_white_space t end next → (next < length t → Holds (get_or t next 0)) → (b : ℕ) (u : List ℕ) → WhiteSpace (drop end t) (b ∷ u) → Holds b
+  follows-at t end next white holds =
+      follows-run (drop end t) (next - end) (run-drop is_white_space t end next white) (λ small. subst Holds (sym (here small)) (holds (omega (arith, white.rises, length-drop end t))))
+    where
+      here : next - end < length (drop end t) → get_or (drop end t) (next - end) 0 ≡ get_or t next 0
+      here small =
+          let rises : end ≤ next = white.rises in
+          let to : end + (next - end) ≡ next = omega arith in get_or-drop end t (next - end) 0 ∙ ap (λ i. get_or t i 0) to
 
 -- no value follows a run of white space before another byte
-ends-run : (s : List ℕ) (k : ℕ) → IsSpan is_white_space s 0 k → (k < length s → get_or s k 0 ≢ 91) → NoValueFollows s
-ends-run s k run other b u w e =
-    elim (cases_lt k (length s)) [
-      | inl lt ↦
-          elim (white-byte (white-to s k run lt) w (run.stops lt)) [
-            | inl white ↦ false≢true (subst (λ c. is_white_space c ≡ true) e white)
-            | inr same ↦ other lt (sym same ∙ e)
-          ]
-      | inr le ↦ nothing (white-all s k run le) (subst (λ c. WhiteSpace s (c ∷ u)) e w)
-    ]
-  where
-    nothing : {r x : List ℕ} → WhiteSpace r [] → ¬ WhiteSpace r (91 ∷ x)
-    nothing v z = white-none v z refl
-
--- the same further on
 pub ends-at : (t : List ℕ) (end next : ℕ) → IsSpan is_white_space t end next → (next < length t → get_or t next 0 ≢ 91) → NoValueFollows (drop end t)
-ends-at t end next white other =
-    ends-run (drop end t) (next - end) (run-drop is_white_space t end next white) (λ small e. other (omega (arith, white.rises, length-drop end t)) (sym (here small) ∙ e))
-  where
-    here : next - end < length (drop end t) → get_or (drop end t) (next - end) 0 ≡ get_or t next 0
-    here small =
-        let rises : end ≤ next = white.rises in
-        let to : end + (next - end) ≡ next = omega arith in get_or-drop end t (next - end) 0 ∙ ap (λ i. get_or t i 0) to
+ends-at = follows-at (λ b. b ≢ 91) white-not_bracket
 
 -- the first property has one form
-head-same : {p q : Property} {qs : List Property} {s r m : List ℕ} → IsProperty p s r → NoValueFollows r → AreProperties (q ∷ qs) s m → NoPropertyFollows m
+pub head-same : {p q : Property} {qs : List Property} {s r m : List ℕ} → IsProperty p s r → NoValueFollows r → AreProperties (q ∷ qs) s m → NoPropertyFollows m
     → (q ≡ p) × AreProperties qs r m
 head-same {qs = qs} {m = m} (property {b} {name} {v} {t = t} {u} {r = r} {vs = vs} w h l first more) ends (properties (property {b = c} {name = other} {v = x} {t = k} {u = z} {r = j} {vs = xs} w2 h2 l2 first2 more2) are) done =
     let same = white-same w w2 (upper-not_white_space b h) (upper-not_white_space c h2) in
@@ -72,13 +77,8 @@ pub properties-more : {ps : List Property} {p : Property} {s m r : List ℕ} →
 properties-more no_property is = properties is no_property
 properties-more (properties q qs) is = properties q (properties-more qs is)
 
--- a node ends before a `;`
-semicolon-ends : {b : ℕ} {r u : List ℕ} → WhiteSpace (59 ∷ r) (b ∷ u) → (b ≢ 91) × (is_upper b ≡ false)
-semicolon-ends no_white_space = ((λ e. omega arith), refl)
-semicolon-ends (white_space h w) = absurd (false≢true h)
-
 -- a node doesn't end before a property
-upper-first : {p : Property} {s r : List ℕ} → IsProperty p s r → ¬ NoPropertyFollows s
+pub upper-first : {p : Property} {s r : List ℕ} → IsProperty p s r → ¬ NoPropertyFollows s
 upper-first (property {b} {t = t} w h l first more) done = false≢true (sym (done b t w).1 ∙ h)
 
 pub left-after : {p : Property} {s r : List ℕ} → ArePropertiesIn s → IsProperty p s r → NoValueFollows r → (properties_in s ≡ p ∷ properties_in r) × ArePropertiesIn r
@@ -95,8 +95,7 @@ left-after {p} {s} {r} held is ends = after held.properties held.rest held.spell
 module _ (t : List ℕ) where
   pub values-none : (from : ℕ) → from ≤ length t → AreValuesWritten t from from
   values-none from le =
-      let e : from - from ≡ 0 = omega arith in
-      record { rises = omega arith; within = le; values = []; spelled = no_value; text = rw e }
+      record { rises = omega arith; within = le; values = []; spelled = no_value; text = span-none t from }
 
   -- one more value
   pub values-one : (from at close : ℕ) → AreValuesWritten t from at → at < length t → get_or t at 0 ≡ 91 → at + 1 ≤ close → close < length t → get_or t close 0 ≡ 93 → SpellsValue t (at + 1) close
@@ -162,8 +161,7 @@ module _ (t : List ℕ) where
 
   pub front-none : (from : ℕ) → from ≤ length t → ArePropertiesIn (drop from t) → ArePropertiesWritten t from from
   front-none from le held =
-      let e : from - from ≡ 0 = omega arith in
-      record { rises = omega arith; within = le; left = held; front = record { taken = []; front = refl; written = rw e } }
+      record { rises = omega arith; within = le; left = held; front = record { taken = []; front = refl; written = span-none t from } }
 
   text-more : (from at end : ℕ) (ps : List Property) → from ≤ at → slice_range t from at ≡ flat_map property_text ps → (one : IsPropertyWritten t at end)
       → slice_range t from end ≡ flat_map property_text (ps ++ one.property ∷ [])
@@ -193,8 +191,7 @@ module _ (t : List ℕ) where
   -- properties, one after another
   pub written-none : (from : ℕ) → from ≤ length t → AreWritten t from from
   written-none from le =
-      let e : from - from ≡ 0 = omega arith in
-      record { rises = omega arith; within = le; properties = []; spelled = no_property; text = rw e }
+      record { rises = omega arith; within = le; properties = []; spelled = no_property; text = span-none t from }
 
   pub written-more : (from at end : ℕ) → AreWritten t from at → IsPropertyWritten t at end → AreWritten t from end
   written-more from at end before one =
@@ -206,18 +203,36 @@ module _ (t : List ℕ) where
         text = text-more from at end before.properties before.rises before.text one;
       }
 
-  -- those of a node, before the next one
-  pub node-written : (place end : ℕ) → get_or t place 0 ≡ 59 → end < length t → get_or t end 0 ≡ 59 → AreWritten t (place + 1) end → IsNodeWritten t place end
-  node-written place end e lt f written =
-      let low : place + 1 ≤ end = written.rises in
-      let ends : NoPropertyFollows (drop end t) =
-      subst NoPropertyFollows (sym (byte-at t end lt ∙ ap (λ b. b ∷ drop (end + 1) t) f)) (λ b u w. semicolon-ends w) in
-      let own : properties_in (drop 1 (drop place t)) ≡ written.properties =
-      ap properties_in (drop-drop 1 place t) ∙ properties-in written.spelled ends in
+  -- the properties of a node, with its `;` before them
+  pub node-written : (place : ℕ) (read : PartRead) → place < length t → get_or t place 0 ≡ 59 → IsTextRead t (place + 1) read → IsTrue read.as_written → IsNodeWritten t place read.text_end
+  node-written place read lt semicolon of is =
       record {
-        rises = omega arith;
+        rises = omega (arith, low);
         within = written.within;
         text =
-            sym (span-join t place (place + 1) end (omega arith) low) ∙ ap (λ s. s ++ slice_range t (place + 1) end) (span-one t place (omega arith) ∙ ap (λ b. b ∷ []) e)
-            ∙ ap (λ s. 59 ∷ s) written.text ∙ ap (λ ps. 59 ∷ flat_map property_text ps) (sym own);
+            sym (span-join t place (place + 1) end (omega arith) low) ∙ ap (λ s. s ++ slice_range t (place + 1) end) (span-one t place lt ∙ ap (λ b. b ∷ []) semicolon)
+            ∙ ap (λ s. 59 ∷ s) own ∙ ap (λ s. 59 ∷ flat_map property_text (properties_in s)) (sym (drop-drop 1 place t));
       }
+    where
+      end : ℕ
+      end = read.text_end
+
+      written : AreWritten t (place + 1) end
+      written = of.written is
+
+      low : place + 1 ≤ end
+      low = of.rises
+
+      no_name : NoNameFollows (drop end t)
+      no_name = follows-at (λ b. is_upper b ≡ false) white-not_upper t end read.end of.white_space of.no_property
+
+      own : slice_range t (place + 1) end ≡ flat_map property_text (properties_in (drop (place + 1) t))
+      own =
+          elim (cases_lt (place + 1) end) [
+            | inl some ↦
+                let no_value = ends-at t end read.end of.white_space (of.no_value some) in
+                written.text ∙ ap (flat_map property_text) (sym (properties-in written.spelled (λ b u w. (no_value b u w, no_name b u w))))
+            | inr none ↦
+                let same : end ≡ place + 1 = omega (arith, low) in
+                rw same (span-none t (place + 1) ∙ ap (flat_map property_text) (sym (no-properties-in (drop (place + 1) t) (subst (λ i. NoNameFollows (drop i t)) same no_name))))
+          ]

@@ -1,9 +1,10 @@
 -- Words of private contracts, views and invariants.
 pub mod TreeCode
 pub mod Machine
-pub mod Layout
-pub mod Sequences
-pub mod Packing
+pub mod OwnNodes
+pub mod Listing
+pub mod Outlining
+pub mod Placing
 pub mod NodeText
 pub mod Progress
 pub mod Literals
@@ -12,3 +13,4 @@ pub mod Lead
 pub mod PropertiesRead
 pub mod GamesRead
 pub mod Counting
+pub mod Walking

@@ -1,32 +1,25 @@
 //! A collection that was read: its nodes in file order, numbered from 0.
 
-ghost use Rattle.std.specs.Prelude.{◌≡◌, ◌-◌, ◌<◌, ◌≤◌, ◌++◌, ◌↔◌, ℕ, length, IsTrue, IfOk, OnOk, OnErr};
-ghost use Rattle.std.specs.List.{flat_map};
+ghost use Rattle.std.specs.Prelude.{◌≡◌, ◌-◌, ◌<◌, ◌↔◌, ℕ, Some, [], IsTrue};
 ghost use Rattle.sgf_tree.specs.declared.fault.TheConstants.{MAX_LENGTH};
 ghost use Rattle.sgf_tree.specs.Tree.{game_count, node_count};
-ghost use Rattle.sgf_tree.specs.Written.{node_text};
-ghost use Rattle.sgf_tree.specs.inner.NodeText.{GoesOn};
-ghost use Rattle.sgf_tree.specs.FileOrder.{node_at, nodes_at, place_at, parent_at, IsLeaf, game_of, IsLastBelow, PlacesRise};
-ghost use Rattle.sgf_tree.specs.FileOrder.{sequence_starts, sequence_start, sequence_end, sequence_numbers};
+ghost use Rattle.sgf_tree.specs.FileOrder.{node_at, place_at, parent_at, IsLeaf, game_of, IsLastBelow, PlacesRise};
 
-use crate::fault::MemoryFault;
-use crate::layout::{Link, LongValue, Tip};
+use crate::layout::LongValue;
 use crate::node::NodeRef;
-use crate::nodes::Nodes;
-use crate::reader::scan::rest_from;
-use crate::written::push_part;
+use crate::numbered::Numbered;
+use crate::outline::Outline;
 use std::marker::Model;
 
 /// The collection that a text spells (SGF FF[4], EBNF).
 /// It refers to the text, and doesn't copy names or values.
-/// Only `push_sequence` takes memory.
 #[derive(Drop)]
 pub struct Collection<'a> {
-    text: &'a [u8],
-    games: u32,
-    nodes: Nodes,
-    /// The long values, in file order. So a binary search finds the one at a given offset.
-    long: Vec<LongValue>,
+    outline: Outline<'a>,
+    /// The places of the nodes.
+    places: Vec<u32>,
+    /// For each sequence the greatest number among its nodes and the nodes below them.
+    last_nodes: Vec<u32>,
 }
 
 impl<'a> Model for Collection<'a> {
@@ -37,42 +30,58 @@ impl<'a> Model for Collection<'a> {
 
     ghost coded = { games_code };
 
-    ghost use Rattle.sgf_tree.specs.inner.Layout.{games_in, IsLaidOut};
-    ghost use Rattle.sgf_tree.specs.inner.KeptEnds.{AreKeptEnds};
+    ghost use Rattle.std.specs.Prelude.{◌≡◌};
+    ghost use Rattle.sgf_tree.specs.FileOrder.{ordered_nodes};
+    ghost use Rattle.sgf_tree.specs.inner.GamesRead.{lasts};
+    ghost use Rattle.sgf_tree.specs.inner.Placing.{ordered_places};
 
-    ghost view = { λ c. games_in c.text.now };
+    ghost view = { λ c. c.outline };
 
-    ghost invariant = { λ c. IsLaidOut c.text.now c.games c.nodes × AreKeptEnds c.text.now c.long.items };
+    ghost invariant = { λ c. (c.places.items ≡ ordered_places (ordered_nodes c.outline)) × (c.last_nodes.items ≡ lasts 0 c.outline) };
 }
 
 impl<'a> Collection<'a> {
-    ghost use Rattle.sgf_tree.specs.inner.Layout.{games_in, IsLaidOut};
+    ghost use Rattle.std.specs.Prelude.{length, ◌≤◌};
+    ghost use Rattle.sgf_tree.specs.Spelling.{Spells};
+    ghost use Rattle.sgf_tree.specs.inner.Machine.{games_in};
+    ghost use Rattle.sgf_tree.specs.inner.OwnNodes.{nothing};
+    ghost use Rattle.sgf_tree.specs.inner.GamesRead.{whole};
+    ghost use Rattle.sgf_tree.specs.inner.Placing.{HoldsNodes};
     ghost use Rattle.sgf_tree.specs.inner.KeptEnds.{AreKeptEnds};
 
-    /// The collection that the text spells. The entries must hold this collection.
-    pub(crate) fn new(
-        text: &'a [u8],
-        games: u32,
-        nodes: Nodes,
-        long: Vec<LongValue>,
-    ) -> Collection<'a>
-        requires laid_out { IsLaidOut text.now games nodes }
+    /// The collection that the text spells. The nodes must be those of this collection.
+    pub(crate) fn new(text: &'a [u8], nodes: Numbered, long: Vec<LongValue>) -> Collection<'a>
+        requires short { length text.now ≤ MAX_LENGTH }
+        requires spelled { Spells (games_in text.now) text.now }
+        requires few { node_count (games_in text.now) ≤ length text.now }
+        requires held { HoldsNodes text.now nodes (whole (games_in text.now)) nothing }
         requires kept { AreKeptEnds text.now long.items }
         ensures { result ≡ games_in text.now }
     {
+        let Numbered {
+            sequences,
+            places,
+            last_nodes,
+        } = nodes;
         Collection {
-            text,
-            games,
-            nodes,
-            long,
+            outline: Outline::new(text, sequences, long),
+            places,
+            last_nodes,
         }
     }
 
-    /// The number of games.
+    /// Its outline, which knows its sequences.
+    pub fn outline(&self) -> &Outline<'a>
+        ensures { result.now ≡ self.now }
+    {
+        &self.outline
+    }
+
+    /// The number of games. The games below others aren't counted.
     pub fn games(&self) -> usize
         ensures { result ≡ game_count self.now }
     {
-        self.games as usize
+        self.outline.games()
     }
 
     /// The number of nodes of all games, at every depth. Their places rise in file order, and are less than `MAX_LENGTH`.
@@ -81,7 +90,7 @@ impl<'a> Collection<'a> {
         ensures places_rise { PlacesRise self.now }
         ensures places_within { (i p : ℕ) → place_at self.now i ≡ Some p → p < MAX_LENGTH }
     {
-        self.nodes.len()
+        self.outline.nodes()
     }
 
     /// Node `i`, from 0 in file order. `i` must be less than `nodes()`, here and in the calls below.
@@ -89,93 +98,7 @@ impl<'a> Collection<'a> {
         requires { i < node_count self.now }
         ensures { node_at self.now i ≡ Some result }
     {
-        let at = self.nodes.place(i);
-        NodeRef {
-            place: at,
-            text: rest_from(self.text, at as usize),
-            long: &self.long,
-        }
-    }
-
-    /// The number of sequences. A sequence has the nodes between a `(` and the next parenthesis (SGF FF[4], EBNF).
-    pub fn sequences(&self) -> usize
-        ensures { result ≡ length (sequence_starts self.now) }
-    {
-        self.nodes.sequences()
-    }
-
-    /// The number of the first node of sequence `i`, from 0 in file order. `i` must be less than `sequences()`, here and in the
-    /// four calls below.
-    pub fn sequence_start(&self, i: usize) -> usize
-        requires { i < length (sequence_starts self.now) }
-        ensures { result ≡ sequence_start self.now i }
-    {
-        self.nodes.sequence_start(i)
-    }
-
-    /// The number after that of the last node of sequence `i`. It is the number of the first node of the next sequence, or `nodes()`.
-    pub fn sequence_end(&self, i: usize) -> usize
-        requires { i < length (sequence_starts self.now) }
-        ensures { result ≡ sequence_end self.now i }
-    {
-        self.nodes.sequence_end(i)
-    }
-
-    /// The number of the parent of the first node of sequence `i`. None if that node is the root of a game.
-    pub fn sequence_parent(&self, i: usize) -> Option<usize>
-        requires { i < length (sequence_starts self.now) }
-        ensures { parent_at self.now (sequence_start self.now i) ≡ Some result }
-    {
-        match self.nodes.sequence_link(i) {
-            Link::Variation(Tip { node, .. }) => Some(node as usize),
-            Link::Root(_) | Link::Next { .. } => None,
-        }
-    }
-
-    /// Whether the last node of sequence `i` is a leaf.
-    pub fn ends_in_leaf(&self, i: usize) -> bool
-        requires { i < length (sequence_starts self.now) }
-        ensures { IsTrue result ↔ IsLeaf self.now (sequence_end self.now i - 1) }
-    {
-        let last = self.nodes.sequence_end(i) - 1;
-        self.nodes.sequence_last_below(i) as usize == last
-    }
-
-    /// Appends the nodes of sequence `i` to `out` as the sgf form writes them. Text that already has that form is copied in one piece.
-    /// If memory is refused, `out` is unchanged.
-    pub fn push_sequence(&self, i: usize, out: &mut Vec<u8>) -> Result<(), MemoryFault>
-        requires { i < length (sequence_starts self.now) }
-        ensures appended { OnOk result (out.new.items
-            ≡ out.old.items ++ flat_map node_text (nodes_at self.now (sequence_numbers self.now i))) }
-        ensures unchanged { OnErr result (out.new.items ≡ out.old.items) }
-    {
-        let before = out.len();
-        let pushed = self.push_runs(i, out);
-        if pushed.is_err() {
-            out.truncate(before);
-        }
-        pushed
-    }
-
-    /// The same as `push_sequence`, but a refusal of memory may leave some of the nodes appended.
-    fn push_runs(&self, i: usize, out: &mut Vec<u8>) -> Result<(), MemoryFault>
-        requires { i < length (sequence_starts self.now) }
-        ensures appended { OnOk result (out.new.items
-            ≡ out.old.items ++ flat_map node_text (nodes_at self.now (sequence_numbers self.now i))) }
-        ensures goes_on { GoesOn out.old.items out.new.items }
-    {
-        let text = self.text;
-        let end = self.sequence_end(i);
-        let mut start = self.sequence_start(i);
-        'runs: while start < end {
-            let next = self.nodes.run_end(i, start);
-            let first = self.place(start);
-            let last = self.place(next - 1);
-            push_part(text, first, last, out)?;
-            self.node(next - 1).push_to(out)?;
-            start = next;
-        }
-        Ok(())
+        self.outline.node_at(self.places[i])
     }
 
     /// The number of the parent of node `i`, which is the node before it on its line. None if node `i` is the root of a game.
@@ -183,10 +106,13 @@ impl<'a> Collection<'a> {
         requires { i < node_count self.now }
         ensures { parent_at self.now i ≡ Some result }
     {
-        match self.nodes.link(i) {
-            Link::Root(_) => None,
-            Link::Variation(tip) => Some(tip.node as usize),
-            Link::Next { .. } => Some(i - 1),
+        let sequence = self.outline.sequence_of(i);
+        if self.outline.sequence_start(sequence) < i {
+            return Some(i - 1);
+        }
+        match self.outline.sequence_outer(sequence) {
+            Some(outer) => Some(self.outline.sequence_end(outer) - 1),
+            None => None,
         }
     }
 
@@ -203,7 +129,7 @@ impl<'a> Collection<'a> {
         requires { i < node_count self.now }
         ensures { place_at self.now i ≡ Some result }
     {
-        self.nodes.place(i) as usize
+        self.places[i] as usize
     }
 
     /// The number, from 1, of the game that has node `i`.
@@ -211,14 +137,7 @@ impl<'a> Collection<'a> {
         requires { i < node_count self.now }
         ensures { result ≡ game_of self.now i }
     {
-        let mut at = i;
-        'climb: loop {
-            match self.nodes.link(at) {
-                Link::Root(game) => return game as usize,
-                Link::Variation(tip) => at = tip.node as usize,
-                Link::Next { .. } => at -= 1,
-            }
-        }
+        self.outline.game_of(self.outline.sequence_of(i))
     }
 
     /// The greatest number among node `i` and the nodes below it.
@@ -226,6 +145,6 @@ impl<'a> Collection<'a> {
         requires { i < node_count self.now }
         ensures { IsLastBelow self.now i result }
     {
-        self.nodes.last_below(i) as usize
+        self.last_nodes[self.outline.sequence_of(i)] as usize
     }
 }

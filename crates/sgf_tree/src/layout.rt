@@ -1,32 +1,31 @@
-//! What a collection knows of a node, and of a long value. `nodes` says how a node is kept in 4 bytes.
+//! What is known of the nodes of a game while they are read, and of a long value.
 
-/// The last own node of a game. A game that begins below it is a variation.
+/// The own nodes of a game, as they stand in the text. They are the nodes of a sequence.
 #[derive(Clone, Copy)]
-pub(crate) struct Tip {
-    /// The number of the sequence that it ends.
-    pub sequence: u32,
-    /// Its own number.
-    pub node: u32,
+pub(crate) struct OwnNodes {
+    /// The offset of the first `;`.
+    pub first: usize,
+    /// The offset of the last `;`.
+    pub last: usize,
+    /// The offset after the text of the last node. White space may follow.
+    pub end: usize,
+    /// How many nodes these are.
+    pub count: usize,
+    /// The offset of the first `;` of the last stretch.
+    pub start: usize,
+    /// Whether the sgf form writes the last stretch as it stands in the text. If not, it is one node.
+    pub written: bool,
 }
 
-/// How a node follows the nodes before it.
+/// A stretch of the own nodes of a game: nodes that the sgf form writes as they stand in the text, with nothing between them, or one other node.
 #[derive(Clone, Copy)]
-pub(crate) enum Link {
-    /// It is the root of the game with this number, from 1.
-    Root(u32),
-    /// It is the first node after a `(`, and this node is its parent.
-    Variation(Tip),
-    /// The node before it in the file is its parent. If `beside` is true, the text from the
-    /// parent's `;` up to this node's `;` already has the sgf form.
-    Next { beside: bool },
-}
-
-/// A node, as contracts see it. Its properties are read from the text again.
-#[derive(Clone, Copy)]
-pub(crate) struct NodeEntry {
-    /// The offset of its `;` in bytes, from 0.
-    pub place: u32,
-    pub link: Link,
+pub(crate) struct Stretch {
+    /// The offset of its first `;`.
+    pub start: usize,
+    /// The offset after the text of its last node; `start` if the sgf form may not write it as it stands.
+    pub end: usize,
+    /// Whether it is the last one of the game's own nodes.
+    pub is_last: bool,
 }
 
 /// A long raw value, in 8 bytes. Its length is kept, so that the value's end isn't searched for again.

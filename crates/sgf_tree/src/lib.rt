@@ -4,9 +4,11 @@
 //! spells, or the first byte that no text of the grammar can have there.
 //! [`measure`] only counts the games, nodes and leaves, which is faster and takes less memory.
 //!
-//! A [`Collection`] numbers its nodes from 0 in file order. Of each node it keeps the place, in 4 bytes. Of each sequence (the nodes between
-//! a `(` and the next parenthesis) it keeps the parent of the first node and the last node below it, in 16 bytes. The properties of a node
-//! and their raw values are read from the text again when they are asked for, one after another. Reading them takes no memory.
+//! An [`Outline`] ([`read_outline`]) keeps the sequences of a collection, which are the nodes between a `(` and the next parenthesis: in 20 bytes
+//! each, where it stands in the text, the number of its first node, and the sequence that it goes on from. If white space stands between its
+//! nodes, it keeps in 8 bytes where each stretch without any is. The nodes are found on the text, one after another.
+//! A [`Collection`] numbers its nodes from 0 in file order. Beside its outline it keeps the place of each node, in 4 bytes. The properties of
+//! a node and their raw values are read from the text again when they are asked for, one after another. Reading them takes no memory.
 //!
 //! ```text
 //! let collection = read(alloc, text)?;
@@ -22,18 +24,20 @@
 //! | Module | What it has |
 //! |---|---|
 //! | `reader` | reading a text, and the first fault |
-//! | `reader/games`, `reader/properties` | reading nodes and games; reading the properties of a node |
-//! | `reader/counting` | counting games, nodes and leaves, without keeping nodes |
+//! | `reader/keeper`, `reader/games` | what a reader tells the one who keeps a part of it; reading games |
+//! | `reader/own_nodes`, `reader/properties` | what is known of the own nodes of a game; reading the properties of a node |
+//! | `reader/counting` | counting games, nodes and leaves |
 //! | `reader/lead` | recognizing a node that is a move and short properties |
 //! | `reader/value` | what ends a raw value, and keeping where long values end |
 //! | `reader/mark`, `reader/scan` | the byte order mark; where spans of a text end |
 //! | `reader/fault` | why reading a text stopped, and how the place of the first fault is found |
 //! | `extent` | how much a text holds |
-//! | `collection`, `node`, `property` | looking into a collection that was read |
+//! | `sequences`, `outline`, `walk` | keeping the sequences of a collection; looking into them; going over the nodes of one |
+//! | `numbered`, `collection` | keeping the place of each node too; looking into a collection by numbers of nodes |
+//! | `node`, `property` | looking into a node and a property |
 //! | `iter` | the properties of a node and the values of a property, one after another |
 //! | `written` | writing a node as the sgf form does |
-//! | `nodes` | keeping the nodes of a collection in few bytes |
-//! | `layout` | what is known of a node and of a long value |
+//! | `layout` | what is known of the own nodes of a game and of a long value |
 //! | `text`, `numbers` | the decoded text of a value; the value of a number |
 //! | `fault` | how a call may fail |
 //! | `laws` | what holds of all texts |
@@ -48,11 +52,14 @@ mod iter;
 pub mod laws;
 mod layout;
 mod node;
-mod nodes;
+mod numbered;
 mod numbers;
+mod outline;
 mod property;
 mod reader;
+mod sequences;
 mod text;
+mod walk;
 mod written;
 
 pub use collection::Collection;
@@ -61,6 +68,8 @@ pub use fault::{MAX_LENGTH, MemoryFault, ReadFault};
 pub use iter::{Properties, Values};
 pub use node::NodeRef;
 pub use numbers::number;
+pub use outline::Outline;
 pub use property::PropRef;
-pub use reader::{measure, read};
+pub use reader::{measure, read, read_outline};
 pub use text::push_text;
+pub use walk::SequenceNodes;

@@ -1,17 +1,15 @@
 //! A node of a collection.
 
-ghost use Rattle.std.specs.Prelude.{◌≡◌, ◌<◌, ◌++◌, length, slice_get, find, Some, IfSome, OnOk, OnErr, option_map, option_to_list};
+ghost use Rattle.std.specs.Prelude.{◌≡◌, ◌<◌, ◌++◌, length, slice_get, find, Some, OnOk, OnErr, option_map, option_to_list};
 ghost use Rattle.std.specs.Str.{bytes_eq};
 ghost use Rattle.sgf_tree.specs.Tree.{lone_property};
-ghost use Rattle.sgf_tree.specs.Lead.{IsLedBy};
 ghost use Rattle.sgf_tree.specs.Written.{node_text};
 
 use crate::fault::MemoryFault;
 use crate::iter::Properties;
 use crate::layout::LongValue;
 use crate::property::PropRef;
-use crate::reader::lead::is_led_at_once;
-use crate::reader::scan::{is_lone_front, is_lone_node, part};
+use crate::reader::scan::{is_lone_front, part};
 use crate::written::push_node;
 use std::marker::Model;
 
@@ -77,27 +75,6 @@ impl<'c, 'a> NodeRef<'c, 'a> {
         }
     }
 
-    /// If the node is recognized at a glance as a property such as `B[pd]`, and perhaps short properties after it whose names aren't
-    /// among `names`, this returns the first property's letter and its raw value, which is two bytes. So a caller that looks only for
-    /// names of one letter and for these names needn't go over the properties of `;B[pd]BL[921.325]OB[3]`. If it returns None, nothing
-    /// is known.
-    ///
-    /// The node is recognized only if the name of its first property is one capital, whose only value is two bytes without an escape,
-    /// and if each property after it has a name of two capitals and one value of at most 12 bytes, none of which is a `]` or a `\`.
-    /// Nothing may stand between these parts. White space may follow the last of them. At least 17 bytes of text must be left from the
-    /// node's `;` on, and from the name of each property after the first.
-    #[inline(always)]
-    pub fn lead(&self, names: &[[u8; 2]]) -> Option<(u8, &'a [u8])>
-        ensures { IfSome result (λ lone. IsLedBy names.now (lone_property lone.0 lone.1.now) self.now.properties) }
-    {
-        let text = self.text;
-        if is_led_at_once(text, names) {
-            Some((text[1], part(text, 3, 5)))
-        } else {
-            None
-        }
-    }
-
     /// The number of its properties. This goes over all of them.
     pub fn props(&self) -> usize
         ensures { result ≡ length self.now.properties }
@@ -136,10 +113,6 @@ impl<'c, 'a> NodeRef<'c, 'a> {
         ensures unchanged { OnErr result (out.new.items ≡ out.old.items) }
     {
         let text = self.text;
-        if is_lone_node(text) {
-            out.extend_from_slice(part(text, 0, 6))?;
-            return Ok(());
-        }
         let before = out.len();
         let pushed = push_node(text, self.long, out);
         if pushed.is_err() {

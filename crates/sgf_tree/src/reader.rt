@@ -1,34 +1,43 @@
 //! Reading a text.
 //!
-//! The reader goes over the text once. Each node that ends is pushed to `Nodes`, and the length of each long value to a vector.
+//! The reader goes over the text once, and tells a keeper what comes. `read_outline` keeps the sequences, `read` keeps the place of each
+//! node too, and `measure` only counts. The length of each long value is kept in a vector.
 //! A fault is reported at the first byte that no text of the grammar can have there.
 
 ghost use Rattle.std.specs.Prelude.{◌≡◌, ◌<◌, ◌≤◌, ◌↔◌, [], length, Err, IfOk, IfErr, OnOk};
+ghost use Rattle.sgf_tree.specs.Tree.{no_games};
 ghost use Rattle.sgf_tree.specs.Spelling.{Spells};
 ghost use Rattle.sgf_tree.specs.Refusal.{IsFaultyWhereNotSgf};
+ghost use Rattle.sgf_tree.specs.Extent.{HasExtent};
 ghost use Rattle.sgf_tree.specs.inner.Progress.{IsTrueFault};
-ghost use Rattle.sgf_tree.specs.inner.Sequences.{no_nodes};
 ghost use Rattle.sgf_tree.specs.inner.KeptEnds.{AreKeptEnds};
-ghost use Rattle.sgf_tree.specs.inner.GamesRead.{ReadsWhole};
+ghost use Rattle.sgf_tree.specs.inner.OwnNodes.{nothing};
+ghost use Rattle.sgf_tree.specs.inner.GamesRead.{whole, ReadsWhole};
 
 mod counting;
 mod fault;
 mod games;
+pub(crate) mod keeper;
 pub(crate) mod lead;
 mod mark;
+mod own_nodes;
 pub(crate) mod properties;
 pub(crate) mod scan;
 pub(crate) mod value;
 
 use crate::collection::Collection;
+use crate::extent::Extent;
 use crate::fault::{MAX_LENGTH, ReadFault};
 use crate::layout::LongValue;
-use crate::nodes::Nodes;
+use crate::numbered::Numbered;
+use crate::outline::Outline;
+use crate::reader::counting::Tally;
 use crate::reader::fault::PartFault;
 use crate::reader::games::read_games;
+use crate::reader::keeper::Keeper;
 use crate::reader::mark::mark_end;
 use crate::reader::scan::skip_white_space;
-pub use counting::measure;
+use crate::sequences::Sequences;
 use std::alloc::Global;
 
 /// Reads the collection that a text spells (SGF FF[4], EBNF). The collection refers to the text.
@@ -44,26 +53,70 @@ pub fn read<'a>(alloc: Global, text: &'a [u8]) -> Result<Collection<'a>, ReadFau
     if text.len() > MAX_LENGTH {
         return Err(ReadFault::TooLong);
     }
-    let Ok(mut nodes) = Nodes::with_room(alloc, text.len()) else {
+    let Ok(mut nodes) = Numbered::with_room(alloc, text.len()) else {
         return Err(ReadFault::Memory);
     };
     let mut long = Vec::new(alloc);
     match read_whole(text, &mut nodes, &mut long) {
-        Ok(games) => Ok(Collection::new(text, games, nodes, long)),
+        Ok(()) => Ok(Collection::new(text, nodes, long)),
         Err(PartFault::NotSgf(at)) => Err(ReadFault::NotSgf { at }),
         Err(PartFault::Memory) => Err(ReadFault::Memory),
     }
 }
 
-/// Reads a whole text. Returns the number of its games.
-fn read_whole(text: &[u8], nodes: &mut Nodes, long: &mut Vec<LongValue>) -> Result<u32, PartFault>
+/// Reads the outline of the collection that a text spells, which knows its sequences. It takes less memory than a collection. The outline
+/// refers to the text. The faults are those of `read`.
+pub fn read_outline<'a>(alloc: Global, text: &'a [u8]) -> Result<Outline<'a>, ReadFault>
+    ensures too_long { (result ≡ Err ReadFault.TooLong) ↔ (MAX_LENGTH < length text.now) }
+    ensures spelled { IfOk result (λ c. Spells c text.now) }
+    ensures not_sgf { IfErr result (IsFaultyWhereNotSgf text.now) }
+{
+    if text.len() > MAX_LENGTH {
+        return Err(ReadFault::TooLong);
+    }
+    let Ok(mut sequences) = Sequences::with_room(alloc, text.len()) else {
+        return Err(ReadFault::Memory);
+    };
+    let mut long = Vec::new(alloc);
+    match read_whole(text, &mut sequences, &mut long) {
+        Ok(()) => Ok(Outline::new(text, sequences, long)),
+        Err(PartFault::NotSgf(at)) => Err(ReadFault::NotSgf { at }),
+        Err(PartFault::Memory) => Err(ReadFault::Memory),
+    }
+}
+
+/// Counts the games, nodes and leaves of the collection that a text spells (SGF FF[4], EBNF). Nothing is kept, so this is faster than
+/// `read`. Memory is asked for only if the text has long values. The faults are those of `read`.
+pub fn measure(alloc: Global, text: &[u8]) -> Result<Extent, ReadFault>
+    ensures too_long { (result ≡ Err ReadFault.TooLong) ↔ (MAX_LENGTH < length text.now) }
+    ensures measured { IfOk result (HasExtent text.now) }
+    ensures not_sgf { IfErr result (IsFaultyWhereNotSgf text.now) }
+{
+    if text.len() > MAX_LENGTH {
+        return Err(ReadFault::TooLong);
+    }
+    let mut tally = Tally::new();
+    let mut long = Vec::new(alloc);
+    match read_whole(text, &mut tally, &mut long) {
+        Ok(()) => Ok(tally.extent()),
+        Err(PartFault::NotSgf(at)) => Err(ReadFault::NotSgf { at }),
+        Err(PartFault::Memory) => Err(ReadFault::Memory),
+    }
+}
+
+/// Reads a whole text, and tells `keeper` what comes.
+fn read_whole<K: Keeper>(
+    text: &[u8],
+    keeper: &mut K,
+    long: &mut Vec<LongValue>,
+) -> Result<(), PartFault>
     requires short { length text.now ≤ MAX_LENGTH }
-    requires nothing_read { nodes.old ≡ no_nodes }
+    requires nothing_read { K.keeps text.now keeper.old (whole no_games) nothing }
     requires nothing_kept { long.old.items ≡ [] }
-    ensures read { IfOk result (ReadsWhole text.now nodes.new) }
+    ensures read { OnOk result (ReadsWhole (K.keeps text.now keeper.new) text.now) }
     ensures fault { IfErr result (IsTrueFault text.now) }
     ensures kept { OnOk result (AreKeptEnds text.now long.new.items) }
 {
     let mark = mark_end(text)?;
-    read_games(text, skip_white_space(text, mark), nodes, long)
+    read_games(text, skip_white_space(text, mark), keeper, long)
 }

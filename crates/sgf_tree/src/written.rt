@@ -1,6 +1,6 @@
 //! Writing a node as the sgf form does. Text that already has that form is appended as it is. The rest is appended part by part.
 
-ghost use Rattle.std.specs.Prelude.{◌≡◌, ◌≤◌, ◌++◌, OnOk, OnErr, IfSome, length, drop, slice_range};
+ghost use Rattle.std.specs.Prelude.{◌≡◌, ◌≤◌, ◌++◌, OnOk, IfSome, length, drop};
 ghost use Rattle.std.specs.List.{flat_map};
 ghost use Rattle.sgf_tree.specs.Written.{value_text, property_text, node_text};
 ghost use Rattle.sgf_tree.specs.inner.NodeText.{properties_in, ArePropertiesIn, IsNodeIn, AreValuesWritten, IsPropertyWritten, ArePropertiesWritten, GoesOn};
@@ -12,26 +12,6 @@ use crate::layout::LongValue;
 use crate::property::PropRef;
 use crate::reader::scan::{part, short_name_end, skip_white_space};
 use crate::reader::value::value_end;
-
-/// Appends the part of a text between two offsets. Often it is empty, and then nothing is called.
-#[inline(always)]
-pub(crate) fn push_part(
-    text: &[u8],
-    start: usize,
-    end: usize,
-    out: &mut Vec<u8>,
-) -> Result<(), MemoryFault>
-    requires rises { start ≤ end }
-    requires within { end ≤ length text.now }
-    ensures appended { OnOk result (out.new.items ≡ out.old.items ++ slice_range text.now start end) }
-    ensures unchanged { OnErr result (out.new.items ≡ out.old.items) }
-{
-    if start == end {
-        return Ok(());
-    }
-    out.extend_from_slice(part(text, start, end))?;
-    Ok(())
-}
 
 /// Appends the `;` of the node that the text begins with, and its properties.
 /// After a refusal of memory some of these may be appended.

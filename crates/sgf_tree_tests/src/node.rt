@@ -102,16 +102,19 @@ fn properties_one_after_another(rt: HostRuntime) {
     );
 }
 
-/// Whether `lead` returns a property for the text's first node just if it should, and the same as `front`. The names of the other
+/// Whether a property comes with the text's first node just if it should, and the same as from `front`. The names of the other
 /// properties must then be `others`.
 fn leads(alloc: Global, text: &str, names: &[[u8; 2]], want: Option<&str>) -> bool {
     match read(alloc, text.as_bytes()) {
         Ok(collection) => {
-            if collection.nodes() == 0 {
+            let outline = collection.outline();
+            if outline.sequences() == 0 {
                 return false;
             }
-            let node = collection.node(0);
-            let told = node.lead(names);
+            let mut nodes = outline.sequence_nodes(0);
+            let Some((node, told)) = nodes.next(names) else {
+                return false;
+            };
             match want {
                 None => told.is_none(),
                 Some(others) => told.is_some()
@@ -147,8 +150,8 @@ fn nodes_led(rt: HostRuntime) {
         ("(;B[pd];C[0123456789])", Some("")),
         ("(;W[[:](;C[0123456789]))", Some("")),
         ("(;C[ab])(;C[0123456789])", Some("")),
-        ("(;Z[  ];C[01234])", None),
-        ("(;Z[  ];C[012345])", Some("")),
+        ("(;Z[  ];C[0123])", None),
+        ("(;Z[  ];C[01234])", Some("")),
         ("(;B[pd][dp];C[012345678901234567])", None),
         ("(;B[];C[012345678901234567])", None),
         ("(;B[p];C[012345678901234567])", None),
@@ -198,8 +201,8 @@ fn nodes_led(rt: HostRuntime) {
         // the end of the text
         ("(;B[pd]BL[1];C[012345])", None),
         ("(;B[pd]BL[1];C[0123456])", Some("BL")),
-        ("(;B[pd] ;C[0123])", None),
-        ("(;B[pd] ;C[01234])", Some("")),
+        ("(;B[pd] ;C[012])", None),
+        ("(;B[pd] ;C[0123])", Some("")),
         ("(;B[pd]BL[1])", None),
         ("(;B[pd])", None),
     ];

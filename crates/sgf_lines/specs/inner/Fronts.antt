@@ -1,8 +1,6 @@
 -- The sequences of the line before a cursor, and the first of them that are held already.
-use Rattle.std.specs.Prelude.{◌≡◌, ◌<◌, ◌-◌, ℕ, List, ◌++◌, length, drop}
-use Rattle.std.specs.List.{range_with_len}
+use Rattle.std.specs.Prelude.{◌≡◌, ◌<◌, ℕ, List, ◌++◌, length, drop}
 use Rattle.sgf_tree.specs.Tree.{Node}
-use Rattle.sgf_tree.specs.FileOrder.{nodes_at}
 use Rattle.sgf_lines.specs.declared.sequence_cursor.Front.{Front}
 use Rattle.sgf_lines.specs.declared.going_on.Before.{Before}
 use Rattle.sgf_lines.specs.declared.going_on.Before.TheVariants.{Unheld, Held, Refused}
@@ -24,7 +22,6 @@ held_by Unheld shared = record { sequences = 0; nodes = 0 }
 held_by Held shared = shared
 held_by Refused shared = record { sequences = 0; nodes = 0 }
 
--- the nodes with the numbers from `next` on and before `end`, and then those of the line's sequences from the index `sequence` on
-abbrev pub nodes_to_come : SequencesState → ℕ → ℕ → ℕ → List Node
-nodes_to_come cursor sequence next end =
-    nodes_at cursor.at.games (range_with_len next (end - next)) ++ drop (nodes_in cursor.ends sequence) (nodes_before cursor.at)
+-- the nodes that are left of one sequence, and then those of the line's sequences from the index `sequence` on
+abbrev pub nodes_to_come : SequencesState → ℕ → List Node → List Node
+nodes_to_come cursor sequence left = left ++ drop (nodes_in cursor.ends sequence) (nodes_before cursor.at)

@@ -8,7 +8,6 @@ use Rattle.sgf_tree.specs.inner.TreeCode.{games_code}
 use Rattle.sgf_lines.specs.Cursor.{CursorState}
 use Rattle.sgf_lines.specs.inner.Following.{Continues, path_before}
 use Rattle.sgf_lines.specs.inner.PathTo.{HasNoLeaf}
-use Rattle.sgf_lines.specs.inner.Seeking.{AllBefore}
 use Rattle.sgf_lines.specs.inner.Standing.{IsAfterLeaf}
 use Rattle.sgf_lines.specs.declared.sequence_cursor.Front.{Front}
 use Rattle.sgf_lines.specs.declared.sequence_cursor.Part.{Part}
@@ -88,16 +87,16 @@ pub record IsNextEnd (games : Games) (from sequence : ℕ) : Type 0 where
 abbrev pub IsEndSearch : Games → ℕ → Option ℕ → Type 0
 IsEndSearch games from found = MatchOption found (HasNoLeaf games (first_of games from) (node_count games)) (IsNextEnd games from)
 
--- The first parts, up to and including the last one whose last node is `parent`. No part, if there is no parent or no part ends so.
-pub record IsUpTo (games : Games) (parts : List Part) (parent : ℕ) (front : Front) : Type 0 where
+-- The first parts, up to and including the last one that is the sequence `outer`. No part, if there is no such sequence or no part is it.
+pub record IsUpTo (parts : List Part) (outer : ℕ) (front : Front) : Type 0 where
   pub within : front.sequences ≤ length parts
   pub count : front.nodes ≡ nodes_in (part_ends parts) front.sequences
-  pub others : (i : ℕ) (part : Part) → front.sequences ≤ i → slice_get parts i ≡ Some part → sequence_end games part.sequence ≢ parent + 1
-  pub last : (i : ℕ) (part : Part) → front.sequences ≡ i + 1 → slice_get parts i ≡ Some part → sequence_end games part.sequence ≡ parent + 1
+  pub others : (i : ℕ) (part : Part) → front.sequences ≤ i → slice_get parts i ≡ Some part → part.sequence ≢ outer
+  pub last : (i : ℕ) (part : Part) → front.sequences ≡ i + 1 → slice_get parts i ≡ Some part → part.sequence ≡ outer
 
-abbrev pub IsFrontUpTo : Games → List Part → Option ℕ → Front → Type 0
-IsFrontUpTo games parts None front = front ≡ record { sequences = 0; nodes = 0 }
-IsFrontUpTo games parts (Some parent) front = IsUpTo games parts parent front
+abbrev pub IsFrontUpTo : List Part → Option ℕ → Front → Type 0
+IsFrontUpTo parts None front = front ≡ record { sequences = 0; nodes = 0 }
+IsFrontUpTo parts (Some outer) front = IsUpTo parts outer front
 
 -- The new parts are the first `kept` old ones, and then the sequences from `first` on and before `end`.
 pub record GoesDown (games : Games) (old : List Part) (kept first end : ℕ) (new : List Part) : Type 0 where
@@ -108,8 +107,9 @@ pub record GoesDown (games : Games) (old : List Part) (kept first end : ℕ) (ne
 
 -- the sequence that this one goes on from, which ends with the parent of its first node; None if it begins a game of the collection
 abbrev pub IsAbove : Games → ℕ → Option ℕ → Type 0
-IsAbove games sequence None = parent_at games (sequence_start games sequence) ≡ Some None
-IsAbove games sequence (Some above) = (above < sequence) × (parent_at games (sequence_start games sequence) ≡ Some (Some (sequence_end games above - 1)))
+IsAbove games sequence found =
+    MatchOption found (parent_at games (sequence_start games sequence) ≡ Some None)
+    (λ above. (above < sequence) × (parent_at games (sequence_start games sequence) ≡ Some (Some (sequence_end games above - 1))))
 
 -- the parts from the root to the end of a sequence, each going on from the one before it; above the first there are none
 pub data ArePartsTo (games : Games) : Option ℕ → List Part → Type 0 where
@@ -121,16 +121,16 @@ pub data ArePartsTo (games : Games) : Option ℕ → List Part → Type 0 where
 -- how many sequences and nodes the line to the end of a sequence has
 abbrev pub MeasuresTo : Games → ℕ → Front → Type 0
 MeasuresTo games sequence line =
-    (parts : List Part) → ArePartsTo games (Some sequence) parts → (line.sequences ≡ length parts) × (line.nodes ≡ length (part_numbers games parts))
+    (parts : List Part) × ArePartsTo games (Some sequence) parts × (line.sequences ≡ length parts) × (line.nodes ≡ length (part_numbers games parts))
 
--- the sequence that has this node
-pub record IsSequenceOf (games : Games) (number sequence : ℕ) : Type 0 where
-  pub within : sequence < length (sequence_starts games)
-  pub start : sequence_start games sequence ≤ number
-  pub end : number < sequence_end games sequence
+-- the first sequence whose last node isn't before a place; the number of sequences, if all of them are
+pub record IsFirstFrom (games : Games) (place sequence : ℕ) : Type 0 where
+  pub within : sequence ≤ length (sequence_starts games)
+  pub before : (earlier here : ℕ) → earlier < sequence → place_at games (sequence_end games earlier - 1) ≡ Some here → here < place
+  pub after : (here : ℕ) → sequence < length (sequence_starts games) → place_at games (sequence_end games sequence - 1) ≡ Some here → place ≤ here
 
--- The first node that isn't before a place; the node count, if all are before it.
-pub record IsFirstFrom (games : Games) (place number : ℕ) : Type 0 where
-  pub within : number ≤ node_count games
-  pub before : AllBefore games place number
-  pub after : (here : ℕ) → place_at games number ≡ Some here → place ≤ here
+-- the sequence that ends in the leaf with this place; None if no leaf has it
+abbrev pub IsEndAt : Games → ℕ → Option ℕ → Type 0
+IsEndAt games place (Some sequence) =
+    (sequence < length (sequence_starts games)) × IsLeaf games (sequence_end games sequence - 1) × (place_at games (sequence_end games sequence - 1) ≡ Some place)
+IsEndAt games place None = (leaf : ℕ) → IsLeaf games leaf → place_at games leaf ≢ Some place

@@ -28,7 +28,8 @@ pub(crate) fn judge_line(
     begin_or_go_back(&cursor.root(), held.nodes, judge)?;
     let mut nodes = LineNodes::after(cursor, held);
     for index in held.nodes..end {
-        judge.take(&nodes.next())?;
+        let (node, lead) = nodes.next();
+        judge.take(&node, lead)?;
     }
     Ok(())
 }

@@ -1,7 +1,9 @@
 //! The script of a line in gtp form.
 
-ghost use Rattle.std.specs.Prelude.{◌≡◌, ◌==◌, ◌+◌, ◌<◌, ◌≤◌, false, length, OnOk};
+ghost use Rattle.std.specs.Prelude.{◌≡◌, ◌==◌, ◌+◌, ◌<◌, ◌≤◌, false, length, IfSome, OnOk};
+ghost use Rattle.sgf_tree.specs.Tree.{lone_property};
 ghost use Rattle.sgf_lines.specs.inner.Following.{nodes_before};
+ghost use Rattle.sgf_lines.specs.inner.Gathered.{HoldsAlone};
 ghost use Rattle.sgf_lines.specs.inner.Fronts.{HasFront};
 ghost use Rattle.sgf_lines.specs.inner.Judging.{after, next_plays, board_in};
 ghost use Rattle.sgf_lines.specs.inner.Keeping.{HoldsJudgement, KeepsJudgement, KeepsScript, PlaysUpTo, fresh_plays, script_front};
@@ -93,9 +95,15 @@ impl Script {
         Ok(())
     }
 
-    /// Judges a node, and adds it if its step was taken.
-    fn take(&mut self, node: &NodeRef<'_, '_>, judge: &mut Judge) -> Result<(), MemoryFault>
+    /// Judges a node, and adds it if its step was taken. `lead` is as for `take_step`.
+    fn take<'a>(
+        &mut self,
+        node: &NodeRef<'_, 'a>,
+        lead: Option<(u8, &'a [u8])>,
+        judge: &mut Judge,
+    ) -> Result<(), MemoryFault>
         requires countable { judge.old.plays < u64.MAX }
+        requires lead { IfSome lead (λ lone. HoldsAlone (lone_property lone.0 lone.1.now) node.now.properties) }
         requires letters { IsLettered self.old (board_in judge.old.judgement) }
         ensures judged { OnOk result (judge.new.judgement ≡ after judge.old.judgement node.now) }
         ensures said { OnOk result (self.new ≡ said_after self.old judge.old.judgement node.now) }
@@ -103,7 +111,7 @@ impl Script {
         ensures not_fewer { judge.old.plays ≤ judge.new.plays }
         ensures not_more { judge.new.plays ≤ judge.old.plays + next_plays judge.old.judgement }
     {
-        let Some(step) = judge.take(node)? else {
+        let Some(step) = judge.take(node, lead)? else {
             return Ok(());
         };
         match judge.board() {
@@ -164,7 +172,8 @@ pub(crate) fn follow(
     keep(held.nodes, judge, script)?;
     let mut nodes = LineNodes::after(cursor, held);
     for index in held.nodes..end {
-        script.take(&nodes.next(), judge)?;
+        let (node, lead) = nodes.next();
+        script.take(&node, lead, judge)?;
     }
     script.end()
 }

@@ -1,6 +1,8 @@
 //! A judge goes along the nodes of a line, and back to the last node that the next line shares.
 
-ghost use Rattle.std.specs.Prelude.{◌≡◌, ◌+◌, ◌<◌, OnOk, OnErr, IfOk, option_copied};
+ghost use Rattle.std.specs.Prelude.{◌≡◌, ◌+◌, ◌<◌, OnOk, OnErr, IfOk, IfSome, option_copied};
+ghost use Rattle.sgf_tree.specs.Tree.{lone_property};
+ghost use Rattle.sgf_lines.specs.inner.Gathered.{HoldsAlone};
 ghost use Rattle.go_board.specs.State.{begun};
 ghost use Rattle.sgf_lines.specs.inner.Back.{back_to};
 ghost use Rattle.sgf_lines.specs.Verdict.{score_in};
@@ -89,15 +91,17 @@ impl Judge {
         Ok(())
     }
 
-    /// Takes one more node, and returns its step. None if the step isn't taken: the game isn't judged, the node
+    /// Takes one more node, and returns its step. `lead` is as for `take_step`. None if the step isn't taken: the game isn't judged, the node
     /// isn't allowed, or the line ended before it. After a refusal of memory nothing is changed.
     // Inlined: a caller that needs no step has no step put together.
     #[inline(always)]
     pub(crate) fn take<'a>(
         &mut self,
         node: &NodeRef<'_, 'a>,
+        lead: Option<(u8, &'a [u8])>,
     ) -> Result<Option<TakenStep<'a>>, MemoryFault>
         requires countable { self.old.plays < u64.MAX }
+        requires lead { IfSome lead (λ lone. HoldsAlone (lone_property lone.0 lone.1.now) node.now.properties) }
         ensures judged { OnOk result (self.new.judgement ≡ after self.old.judgement node.now) }
         ensures plays { OnOk result (self.new.plays ≡ self.old.plays + next_plays self.old.judgement) }
         ensures step { IfOk result (IsTakenFrom self.old.judgement node.now) }
@@ -109,7 +113,7 @@ impl Judge {
         if let Some(_) = self.ended {
             return Ok(None);
         }
-        match take_step(referee, node, &mut self.operations) {
+        match take_step(referee, node, lead, &mut self.operations) {
             Ok(step) => {
                 self.plays += 1;
                 Ok(Some(step))

@@ -1,15 +1,16 @@
 //! Judging one line.
 
-ghost use Rattle.std.specs.Prelude.{◌<◌, IfErr, IfOk};
+ghost use Rattle.std.specs.Prelude.{◌≡◌, ◌<◌, Some, option_map, IfErr, IfOk};
 ghost use Rattle.sgf_tree.specs.Tree.{node_count};
 ghost use Rattle.sgf_tree.specs.FileOrder.{IsLeaf};
-ghost use Rattle.sgf_lines.specs.Verdict.{IsVerdictAt, IsVerdictOf};
+ghost use Rattle.sgf_lines.specs.Verdict.{IsVerdictAt, IsVerdictOf, verdict};
+ghost use Rattle.sgf_lines.specs.inner.Following.{line_before};
 ghost use Rattle.sgf_lines.specs.Cursor.{IsSeekFault};
 
 use crate::form::judged::judge_line;
 use crate::judging::judge::Judge;
 use crate::seek::SeekFault;
-use crate::sequence_cursor::{NO_FRONT, SequenceCursor, leaf_at};
+use crate::sequence_cursor::{NO_FRONT, SequenceCursor};
 use crate::verdict::Verdict;
 use sgf_tree::{Collection, MemoryFault};
 use std::alloc::Global;
@@ -28,14 +29,22 @@ pub fn judge(
     requires is_leaf { IsLeaf collection.now leaf }
     ensures { IfOk result (IsVerdictAt collection.now leaf) }
 {
-    // There are no more nodes than bytes, and the line has a sequence.
-    let _nodes = collection.nodes();
-    let mut cursor = SequenceCursor::new(alloc, collection);
+    let mut cursor = SequenceCursor::new(alloc, collection.outline());
     cursor.seek_leaf(leaf)?;
+    judge_before(alloc, &cursor)
+}
+
+/// The verdict of the line before a cursor.
+fn judge_before(alloc: Global, cursor: &SequenceCursor<'_, '_>) -> Result<Verdict, MemoryFault>
+    requires { 0 < cursor.now.at.index }
+    ensures { IfOk result (λ told. option_map verdict (line_before cursor.now.at) ≡ Some told) }
+{
+    // There are no more nodes than bytes, and the line has a sequence.
+    let _nodes = cursor.outline().nodes();
     let _sequences = cursor.sequences();
     let _len = cursor.len();
     let mut judge = Judge::new(alloc);
-    judge_line(&cursor, NO_FRONT, &mut judge)?;
+    judge_line(cursor, NO_FRONT, &mut judge)?;
     Ok(judge.verdict())
 }
 
@@ -51,8 +60,7 @@ pub fn judge_at(
     ensures verdict { IfOk result (IsVerdictOf collection.now place) }
     ensures why { IfErr result (IsSeekFault collection.now place) }
 {
-    match leaf_at(collection, place) {
-        Some(leaf) => Ok(judge(alloc, collection, leaf)?),
-        None => Err(SeekFault::NoSuchLine { place }),
-    }
+    let mut cursor = SequenceCursor::new(alloc, collection.outline());
+    cursor.seek_after(place)?;
+    Ok(judge_before(alloc, &cursor)?)
 }

@@ -1,6 +1,6 @@
 //! A node's step on a referee.
 
-ghost use Rattle.std.specs.Prelude.{◌≡◌, ◌<◌, ◌⊎◌, ◌∷◌, [], length, All, IfOk, IsSome, Ok, if◌then◌else◌};
+ghost use Rattle.std.specs.Prelude.{◌≡◌, ◌<◌, ◌⊎◌, ◌∷◌, [], length, All, IfOk, IfSome, IsSome, Ok, if◌then◌else◌};
 ghost use Rattle.sgf_tree.specs.Tree.{Node, lone_property};
 ghost use Rattle.go_board.specs.Point.{IsRectOn};
 ghost use Rattle.go_board.specs.State.{set_up as set_up_rule};
@@ -33,11 +33,9 @@ pub(crate) struct TakenStep<'a> {
     pub(crate) comment: Option<&'a [u8]>,
 }
 
-/// The names of two letters whose properties a step needs: those that set up stones and players (SGF FF[4], setup properties).
-const NEEDED_NAMES: [[u8; 2]; 4] = [*b"AB", *b"AW", *b"AE", *b"PL"];
-
 /// Takes a node's step, which adds one state. It plays the node's move, sets up
-/// its stones and its player, or stays. `operations` is a buffer.
+/// its stones and its player, or stays. `operations` is a buffer. `lead` is the letter and the only raw value of a property, if the node's other
+/// properties hold nothing that a step needs. If it is None, nothing is known.
 ///
 /// If the node isn't allowed, the first reason is returned. After a refusal the referee is unchanged.
 // Inlined: a caller that needs no step has none put together.
@@ -45,19 +43,21 @@ const NEEDED_NAMES: [[u8; 2]; 4] = [*b"AB", *b"AW", *b"AE", *b"PL"];
 pub(crate) fn take_step<'a, P: Past>(
     referee: &mut Referee<P>,
     node: &NodeRef<'_, 'a>,
+    lead: Option<(u8, &'a [u8])>,
     operations: &mut Vec<SetupOp>,
 ) -> Result<TakenStep<'a>, TurnFault>
+    requires { IfSome lead (λ lone. HoldsAlone (lone_property lone.0 lone.1.now) node.now.properties) }
     ensures stepped { IsStepped (step referee.old.present node.now) referee.old referee.new result }
     ensures told { IfOk result (IsStepOf referee.old.present.colouring.side node.now) }
 {
-    match node.lead(&NEEDED_NAMES) {
+    match lead {
         Some((letter, raw)) => take_led_step(referee, letter, raw),
         None => take_any_step(referee, node, operations),
     }
 }
 
-/// Takes the step of a node that `NodeRef::lead` recognizes: its first property has this letter as its name and `raw` as its only value,
-/// and its other properties hold nothing that a step needs. Most nodes are like that, as `;B[pd]` or `;B[pd]BL[921.325]`.
+/// Takes the step of a node of which one property has this letter as its name and `raw` as its only value,
+/// and the other properties hold nothing that a step needs.
 // Inlined: what such a node doesn't need drops out.
 #[inline(always)]
 fn take_led_step<'a, P: Past>(

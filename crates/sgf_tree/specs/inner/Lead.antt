@@ -20,13 +20,13 @@ pub record AreOtherProperties (names : List (List ℕ)) (text : List ℕ) (at en
   pub spelled : AreProperties properties (drop at text) (drop end text)
   pub named : All (λ property. IsOtherName names property.name) properties
 
--- such properties stand from `at` up to the end of a node, after which white space may stand
-pub record AreOthers (names : List (List ℕ)) (text : List ℕ) (at : ℕ) : Type 0 where
+-- such properties stand from `at` up to the end of a node, after which white space may stand up to `next`
+pub record AreOthers (names : List (List ℕ)) (text : List ℕ) (at next : ℕ) : Type 0 where
   pub end : ℕ
   pub properties : AreOtherProperties names text at end
-  pub ends : IsNodeEnd text end
+  pub ends : IsNodeEnd text end next
 
--- the text begins like `;B[pd]`, and then come such properties, up to the end of the node
-pub record IsLedNode (names : List (List ℕ)) (text : List ℕ) : Type 0 where
+-- the text begins like `;B[pd]`, and then come such properties, up to the end of the node and of the white space after it
+pub record IsLedNode (names : List (List ℕ)) (text : List ℕ) (next : ℕ) : Type 0 where
   pub front : IsMove text 1
-  pub others : AreOthers names text 6
+  pub others : AreOthers names text 6 next

@@ -1,6 +1,6 @@
 -- A machine that reads a text byte by byte, and keeps the games so far as trees. It connects the code and the grammar: the code
 -- follows it, and the laws in proofs/ say that it ends with exactly the collection that the text spells.
-use Rattle.std.specs.Prelude.{ℕ, ◌+◌, Bool, true, false, if◌then◌else◌, ◌==◌, List, [], ◌∷◌, ◌++◌, Option, Some, None, option_and_then}
+use Rattle.std.specs.Prelude.{ℕ, ◌+◌, Bool, true, false, if◌then◌else◌, ◌==◌, List, [], ◌∷◌, ◌++◌, Option, Some, None, option_and_then, unwrap_or}
 use Rattle.sgf_tree.specs.Tree.{Property, Node, Games, no_games, game, values}
 pub use Rattle.sgf_tree.specs.Tree.{joined}
 use Rattle.sgf_tree.specs.Bytes.{open_parenthesis, close_parenthesis, semicolon, open_bracket, backslash, close_bracket, byte_ef, byte_bb, byte_bf}
@@ -158,3 +158,7 @@ accepted _ = None
 -- the collection that a text spells; None if it spells none
 unfoldable pub collection_of : List ℕ → Option Games
 collection_of text = option_and_then accepted (run 0 start text)
+
+-- the collection that a text spells; no games if it spells none
+abbrev pub games_in : List ℕ → Games
+games_in text = unwrap_or (collection_of text) no_games

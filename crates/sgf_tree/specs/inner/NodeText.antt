@@ -3,7 +3,7 @@
 use Rattle.std.specs.Prelude.{◌≡◌, ◌≢◌, ℕ, zero, suc, ◌+◌, ◌<◌, ◌≤◌, Bool, false, ◌||◌, ◌==◌, if◌then◌else◌, List, [], ◌∷◌, ◌++◌, length, drop, slice_range, filter, IsTrue, Option, None, Some}
 use Rattle.std.specs.List.{flat_map}
 use Rattle.sgf_tree.specs.Bytes.{semicolon, open_bracket, backslash, close_bracket}
-use Rattle.sgf_tree.specs.Tree.{Property}
+use Rattle.sgf_tree.specs.Tree.{Property, Node}
 use Rattle.sgf_tree.specs.Spelling.{WhiteSpace, is_white_space, is_upper, is_lower, IsPropValue, ArePropValues, IsProperty, AreProperties}
 use Rattle.sgf_tree.specs.Written.{value_text, property_text, node_text}
 
@@ -94,6 +94,10 @@ properties_up_to (suc count) text =
 -- all properties at the front
 unfoldable pub properties_in : List ℕ → List Property
 properties_in text = properties_up_to (length text) text
+
+-- the node whose `;` is at `place`
+abbrev pub node_in : List ℕ → (place : ℕ) → Node
+node_in text place = record { place = place; properties = properties_in (drop 1 (drop place text)) }
 
 -- no value follows
 abbrev pub NoValueFollows : List ℕ → Type 0
@@ -190,4 +194,4 @@ pub record AreWritten (whole_text : List ℕ) (from end : ℕ) : Type 0 where
 pub record IsNodeWritten (whole_text : List ℕ) (place end : ℕ) : Type 0 where
   pub rises : place < end
   pub within : end ≤ length whole_text
-  pub text : slice_range whole_text place end ≡ node_text (record { place = place; properties = properties_in (drop 1 (drop place whole_text)) })
+  pub text : slice_range whole_text place end ≡ node_text (node_in whole_text place)

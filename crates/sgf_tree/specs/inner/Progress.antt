@@ -1,6 +1,6 @@
 -- How far a text was read: words of the contracts inside `reader`.
 use Rattle.std.specs.Prelude.{◌≡◌, ◌≢◌, ℕ, ◌+◌, ◌-◌, ◌*◌, ◌<◌, ◌≤◌, Bool, false, not, ◌&&◌, ◌==◌, List, [], ◌∷◌, length, slice_index, slice_range, take, drop, Some, IsTrue}
-use Rattle.sgf_tree.specs.Bytes.{space, capital_a, open_bracket, backslash, close_bracket}
+use Rattle.sgf_tree.specs.Bytes.{space, semicolon, capital_a, open_bracket, backslash, close_bracket}
 use Rattle.sgf_tree.specs.RawValue.{IsValue}
 use Rattle.sgf_tree.specs.Spelling.{is_white_space, is_upper}
 use Rattle.sgf_tree.specs.inner.Machine.{Started, MachineState, start, in_value, run}
@@ -89,15 +89,19 @@ pub record IsMove (text : List ℕ) (at : ℕ) : Type 0 where
   pub bracket : slice_index text (at + 1) ≡ open_bracket
   pub value : IsTwoPlain text (at + 2)
 
+-- a node that begins like `;B[pd]` is at `at`
+pub record IsMoveNode (text : List ℕ) (at : ℕ) : Type 0 where
+  pub begins : slice_index text at ≡ semicolon
+  pub move : IsMove text (at + 1)
+
 -- the byte at `at` ends a node: it is greater than all white space, and less than every letter and bracket
 pub record EndsNode (text : List ℕ) (at : ℕ) : Type 0 where
   pub within : at < length text
   pub above : space < slice_index text at
   pub below : slice_index text at < capital_a
 
--- after any white space at `at` comes a byte that is less than every letter and bracket
-pub record IsNodeEnd (text : List ℕ) (at : ℕ) : Type 0 where
-  pub next : ℕ
+-- after any white space at `at` comes, at `next`, a byte that is less than every letter and bracket
+pub record IsNodeEnd (text : List ℕ) (at next : ℕ) : Type 0 where
   pub white_space : IsSpan is_white_space text at next
   pub inside : next < length text
   pub below : slice_index text next < capital_a
@@ -112,11 +116,6 @@ pub record IsPropertyEnd (text : List ℕ) (at : ℕ) : Type 0 where
 pub record IsLoneFront (text : List ℕ) : Type 0 where
   pub front : IsMove text 1
   pub ends : IsPropertyEnd text 6
-
--- the same front, and then the node ends
-pub record IsLoneNode (text : List ℕ) : Type 0 where
-  pub front : IsMove text 1
-  pub ends : IsNodeEnd text 6
 
 -- no raw value begins at `at`
 abbrev pub SpellsNoValue : List ℕ → ℕ → Type 0

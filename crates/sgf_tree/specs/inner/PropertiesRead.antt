@@ -5,7 +5,7 @@ use Rattle.sgf_tree.specs.Tree.{Property}
 use Rattle.sgf_tree.specs.Spelling.{is_white_space, is_upper}
 use Rattle.sgf_tree.specs.inner.Machine.{Started, MachineState, in_node, in_name, in_value, after_value, after_node, ended, next_state, accepted}
 use Rattle.sgf_tree.specs.inner.Progress.{ComesTo, IsTrueFault, IsSpan, IsBracket, ArePlain}
-use Rattle.sgf_tree.specs.inner.NodeText.{IsPropertyWritten}
+use Rattle.sgf_tree.specs.inner.NodeText.{AreWritten, IsPropertyWritten}
 use Rattle.sgf_tree.specs.declared.reader.fault.PartFault.{PartFault}
 use Rattle.sgf_tree.specs.declared.reader.properties.PartRead.{PartRead}
 
@@ -22,10 +22,9 @@ pub record AreValuesRead (text : List ℕ) (bracket end : ℕ) : Type 0 where
       → (property : Property) × ComesTo text end (after_value node property)
 
 -- after any white space at `end` comes a byte that doesn't begin a value
-pub record AreValuesEnded (text : List ℕ) (end : ℕ) (read : PartRead) : Type 0 where
-  pub white_space : IsSpan is_white_space text end read.end
-  pub other : slice_index text read.end ≢ open_bracket
-  pub written : IsTrue read.as_written → read.end ≡ end
+pub record AreValuesEnded (text : List ℕ) (end next : ℕ) : Type 0 where
+  pub white_space : IsSpan is_white_space text end next
+  pub other : slice_index text next ≢ open_bracket
 
 -- a property of two capitals begins at `at`, as in `BL[921.325]`, and its first value has plain bytes; the `]` of this value is at `close`
 pub record IsShortProperty (text : List ℕ) (at close : ℕ) : Type 0 where
@@ -54,7 +53,9 @@ pub record IsPropertyRead (text : List ℕ) (start end : ℕ) : Type 0 where
 -- the same, as the code says it: how far the property was read, and whether the sgf form writes it as it stands
 pub record IsWholePropertyRead (text : List ℕ) (start : ℕ) (read : PartRead) : Type 0 where
   pub property : IsPropertyRead text start read.end
-  pub written : IsTrue read.as_written → IsPropertyWritten text start read.end
+  pub rises : start < read.text_end
+  pub white_space : IsSpan is_white_space text read.text_end read.end
+  pub written : IsTrue read.as_written → IsPropertyWritten text start read.text_end
 
 -- the machine has read a node up to `end`, and takes only what may come after a node
 pub record StandsAfterNode (text : List ℕ) (end : ℕ) (whole : Started) : Type 0 where
@@ -74,6 +75,15 @@ pub record ArePropertiesRead (text : List ℕ) (at end : ℕ) : Type 0 where
   pub not_white_space : end < length text → is_white_space (slice_index text end) ≡ false
   pub reached : (node : Started) → node.properties ≡ [] → ComesTo text at (in_node node)
       → (properties : List Property) × StandsAfterNode text end (with_properties node properties)
+
+-- The text of properties that begin at `at`, perhaps of none, was read. White space may follow it, and then comes a byte that begins no property,
+-- and no value of the last property.
+pub record IsTextRead (text : List ℕ) (at : ℕ) (read : PartRead) : Type 0 where
+  pub rises : at ≤ read.text_end
+  pub white_space : IsSpan is_white_space text read.text_end read.end
+  pub no_value : at < read.text_end → read.end < length text → slice_index text read.end ≢ open_bracket
+  pub no_property : read.end < length text → is_upper (slice_index text read.end) ≡ false
+  pub written : IsTrue read.as_written → AreWritten text at read.text_end
 
 -- if `at` is just after the `[` of a value, the fault is the first one of the text
 abbrev pub IsFaultInValue : List ℕ → ℕ → PartFault → Type 0

@@ -24,6 +24,9 @@ abbrev pub node_code : Coded Node
 node_code =
     code_by (ℕ × List Property) (coded× coded_ℕ (coded_list property_code)) (λ n. (n.place, n.properties)) (λ parts. record { place = parts.0; properties = parts.1 }) (λ _. refl)
 
+abbrev pub nodes_code : Coded (List Node)
+nodes_code = coded_list node_code
+
 -- a game's own nodes; None if there is no game
 abbrev pub Token : Type 0
 Token = Option (Node × List Node)

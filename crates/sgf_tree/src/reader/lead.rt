@@ -1,42 +1,40 @@
 //! Recognizing at a glance a node that is a move and then properties that don't matter to the caller.
 
-ghost use Rattle.std.specs.Prelude.{◌≡◌, ◌≢◌, ◌≤◌, ◌<◌, ◌+◌, length, All, IsTrue, IfSome};
+ghost use Rattle.std.specs.Prelude.{◌≡◌, ◌≢◌, ◌≤◌, ◌<◌, length, All, IsTrue, IfSome};
 ghost use Rattle.sgf_tree.specs.inner.Lead.{IsLedNode, AreOthers, IsOtherProperty};
 
-use crate::reader::properties::{bytes_in_place, near_property_close};
-use crate::reader::scan::ends_node;
-use crate::reader::value::NEAR;
+use crate::reader::properties::{moves_in_place, near_property_close};
+use crate::reader::scan::node_end;
 
-/// Whether the text begins with a node that is written like `;B[pd]BL[921.325]OB[3]`: a move, and then perhaps short properties
-/// whose names aren't among `names`. If it is false, nothing is known.
+/// Where the node ends that the text begins with, after any white space, if it is written like `;B[pd]BL[921.325]OB[3]`: a move, and then
+/// perhaps short properties whose names aren't among `names`. If it is None, nothing is known.
 #[inline(always)]
-pub(crate) fn is_led_at_once(text: &[u8], names: &[[u8; 2]]) -> bool
-    ensures { IsTrue result → IsLedNode names.now text.now }
+pub(crate) fn led_end(text: &[u8], names: &[[u8; 2]]) -> Option<usize>
+    ensures { IfSome result (IsLedNode names.now text.now) }
 {
-    if text.len() <= NEAR {
-        return false;
+    if moves_in_place(text, 0) % 64 != 63 {
+        return None;
     }
-    let in_place = bytes_in_place(text, 1);
-    if in_place % 64 == 63 {
-        return true;
+    if b' ' < text[6] && text[6] < b'A' {
+        return Some(6);
     }
-    in_place % 32 == 31 && are_others(text, 6, names)
+    others_end(text, 6, names)
 }
 
-/// Whether such short properties stand from `at` up to the end of a node. If it is false, nothing is known.
+/// The end of a node, after any white space, if such short properties stand from `at` up to it. If it is None, nothing is known.
 #[inline(always)]
-fn are_others(text: &[u8], at: usize, names: &[[u8; 2]]) -> bool
+fn others_end(text: &[u8], at: usize, names: &[[u8; 2]]) -> Option<usize>
     requires { at ≤ length text.now }
-    ensures { IsTrue result → AreOthers names.now text.now at }
+    ensures { IfSome result (AreOthers names.now text.now at) }
 {
     let mut end = at;
     'properties: while let Some(next) = other_property_end(text, end, names) {
         end = next;
         if b' ' < text[end] && text[end] < b'A' {
-            return true;
+            return Some(end);
         }
     }
-    ends_node(text, end)
+    node_end(text, end)
 }
 
 /// The end of the first value of the property whose name begins at `start`, if the name is two capitals and isn't among `names`, if this

@@ -1,18 +1,17 @@
 //! Reading the properties of a node.
 
-ghost use Rattle.std.specs.Prelude.{◌≡◌, ◌≢◌, false, ◌<◌, ◌≤◌, ◌+◌, ◌%◌, length, slice_index, IsTrue, IfSome, IfOk, IfErr, OnOk};
+ghost use Rattle.std.specs.Prelude.{◌≡◌, ◌≢◌, ◌↔◌, true, false, ◌<◌, ◌≤◌, ◌+◌, ◌%◌, ℕ, List, length, slice_index, IsTrue, IfSome, IfOk, IfErr, OnOk};
 ghost use Rattle.std.specs.Int.Count.{count_trailing_zeros};
 ghost use Rattle.sgf_tree.specs.Bytes.{close_bracket};
 ghost use Rattle.sgf_tree.specs.Spelling.{is_upper};
-ghost use Rattle.sgf_tree.specs.inner.Progress.{IsSpan, IsMove, EndsNode};
-ghost use Rattle.sgf_tree.specs.inner.NodeText.{AreWritten};
-ghost use Rattle.sgf_tree.specs.inner.PropertiesRead.{AreValuesEnded, IsNameRead, IsShortProperty, IsWholePropertyRead, ArePropertiesRead, IsFaultInProperty, IsFaultInNode};
+ghost use Rattle.sgf_tree.specs.inner.Progress.{IsSpan, IsMove, IsMoveNode, EndsNode};
+ghost use Rattle.sgf_tree.specs.inner.PropertiesRead.{AreValuesEnded, IsNameRead, IsShortProperty, IsWholePropertyRead, ArePropertiesRead, IsTextRead, IsFaultInProperty, IsFaultInNode};
 ghost use Rattle.sgf_tree.specs.inner.KeptEnds.{AreKeptEnds};
 
 use crate::fault::MAX_LENGTH;
 use crate::layout::LongValue;
 use crate::reader::fault::PartFault;
-use crate::reader::scan::{letters_end, short_name_end, skip_white_space, white_space_end};
+use crate::reader::scan::{letters_end, short_name_end, skip_line_end, skip_white_space};
 use crate::reader::value::{NEAR, near_value_end, read_value};
 use std::simd::prelude::*;
 
@@ -20,82 +19,117 @@ use std::simd::prelude::*;
 /// the 16 bytes among which the `]` is searched for, and the byte after these.
 const GLANCE: usize = 20;
 
-/// Reads at a glance the properties of a node, which begin at `at`: none, or a move and perhaps short properties, as in
-/// `B[pd]BL[921.325]`. Nearly all nodes are like that. None says nothing.
+/// How far a part of a text was read.
+#[derive(Clone, Copy)]
+pub(crate) struct PartRead {
+    /// The offset after the part.
+    pub text_end: usize,
+    /// The offset after the white space that follows the part.
+    pub end: usize,
+    /// Whether the sgf form writes the part as it stands in the text. False says nothing.
+    pub as_written: bool,
+}
+
+impl PartRead {
+    /// A part that ends at `end`, with no white space after it, and that the sgf form writes as it stands in the text.
+    #[inline(always)]
+    pub(crate) fn to(end: usize) -> PartRead
+        ensures { result ≡ record { text_end = end; end = end; as_written = true } }
+    {
+        PartRead {
+            text_end: end,
+            end,
+            as_written: true,
+        }
+    }
+
+    /// This part, and then the next one, which begins at its end. So the sgf form writes both as they stand only if no white space is
+    /// between them.
+    #[inline(always)]
+    fn with(self, next: PartRead) -> PartRead
+        ensures text_end { result.text_end ≡ next.text_end }
+        ensures end { result.end ≡ next.end }
+        ensures written { IsTrue result.as_written ↔ (IsTrue self.as_written × (self.text_end ≡ self.end) × IsTrue next.as_written) }
+    {
+        PartRead {
+            text_end: next.text_end,
+            end: next.end,
+            as_written: self.as_written & (self.text_end == self.end) & next.as_written,
+        }
+    }
+}
+
+/// What `moves_in_place` returns for two moves, one after the other.
+pub(crate) const TWO_MOVES: u64 = 65535;
+
+/// Which of the bytes at `at` are as in `;B[pd];W[dd];`, all compared at once. The last of these may be any byte that ends a node.
+/// The bits 13 to 15 are set too. It is 0 if fewer bytes are left than are compared.
 #[inline(always)]
-pub(crate) fn glance(text: &[u8], at: usize) -> Option<PartRead>
+pub(crate) fn moves_in_place(text: &[u8], at: usize) -> u64
     requires { at ≤ length text.now }
-    ensures read { IfSome result (λ read. ArePropertiesRead text.now at read.end) }
-    ensures written { IfSome result (λ read. IsTrue read.as_written → AreWritten text.now at read.end) }
+    ensures first { result % 64 ≡ 63 → IsMoveNode text.now at }
+    ensures after { result % 64 ≡ 63 → at + NEAR ≤ length text.now }
+    ensures second { result ≡ TWO_MOVES → IsMoveNode text.now (at + 6) }
+    ensures ends { result ≡ TWO_MOVES → EndsNode text.now (at + 12) }
 {
     if text.len() - at < NEAR {
-        return None;
-    }
-    let in_place = bytes_in_place(text, at);
-    if in_place % 64 == 63 {
-        return Some(PartRead {
-            end: at + 5,
-            as_written: true,
-        });
-    }
-    short_properties(text, at, in_place)
-}
-
-/// Reads the properties of a node, which begin at `at`: none, or, if `in_place` tells of one, a move and perhaps short properties.
-/// None says nothing.
-#[inline(always)]
-pub(crate) fn short_properties(text: &[u8], at: usize, in_place: u64) -> Option<PartRead>
-    requires within { at ≤ length text.now }
-    requires move_stands { in_place % 32 ≡ 31 → IsMove text.now at }
-    ensures read { IfSome result (λ read. ArePropertiesRead text.now at read.end) }
-    ensures written { IfSome result (λ read. IsTrue read.as_written → AreWritten text.now at read.end) }
-{
-    if in_place % 32 == 31 {
-        return after_move(text, at);
-    }
-    if at < text.len() && b' ' < text[at] && text[at] < b'A' {
-        Some(PartRead {
-            end: at,
-            as_written: true,
-        })
+        0
     } else {
-        None
+        near_moves_in_place(text, at)
     }
 }
 
-/// Which of the bytes at `at` are as in `B[pd];W[dd];`, all compared at once: bit 0 tells of a capital, bits 1 to 4 of a value of two
-/// plain bytes in its brackets, and bit 5 of a byte that ends a node. Bits 6 to 11 tell the same of the next six bytes.
+/// The same, if at least as many bytes are left as are compared.
 #[inline(always)]
-pub(crate) fn bytes_in_place(text: &[u8], at: usize) -> u64
+fn near_moves_in_place(text: &[u8], at: usize) -> u64
     requires { at + NEAR ≤ length text.now }
-    ensures move_stands { result % 32 ≡ 31 → IsMove text.now at }
-    ensures node_ends { result % 64 ≡ 63 → EndsNode text.now (at + 5) }
-    ensures next_stands { result % 4096 ≡ 4095 → IsMove text.now (at + 6) }
-    ensures next_ends { result % 4096 ≡ 4095 → EndsNode text.now (at + 11) }
+    ensures first { result % 64 ≡ 63 → IsMoveNode text.now at }
+    ensures second { result ≡ TWO_MOVES → IsMoveNode text.now (at + 6) }
+    ensures ends { result ≡ TWO_MOVES → EndsNode text.now (at + 12) }
 {
     // A byte is in place if it is at most so much above the least one. This wraps, so only `\` and `]` aren't plain.
     let least = u8x16::from_array([
-        b'A', b'[', 94, 94, b']', 33, b'A', b'[', 94, 94, b']', 33, 0, 0, 0, 0,
+        b';', b'A', b'[', 94, 94, b']', b';', b'A', b'[', 94, 94, b']', 33, 0, 0, 0,
     ]);
-    let above = u8x16::from_array([25, 0, 253, 253, 0, 31, 25, 0, 253, 253, 0, 31, 0, 0, 0, 0]);
+    let above = u8x16::from_array([
+        0, 25, 0, 253, 253, 0, 0, 25, 0, 253, 253, 0, 31, 255, 255, 255,
+    ]);
     (u8x16::from_slice(&text[at..]) - least)
         .simd_le(above)
         .to_bitmask()
 }
 
-/// The same, but 0 if fewer bytes are left than are compared.
+/// How far a node such as `;B[pd]` was read, whose `;` is at `place` and after which a node ends at once.
 #[inline(always)]
-pub(crate) fn near_bytes_in_place(text: &[u8], at: usize) -> u64
-    requires { at ≤ length text.now }
-    ensures move_stands { result % 32 ≡ 31 → IsMove text.now at }
-    ensures node_ends { result % 64 ≡ 63 → EndsNode text.now (at + 5) }
-    ensures next_stands { result % 4096 ≡ 4095 → IsMove text.now (at + 6) }
-    ensures next_ends { result % 4096 ≡ 4095 → EndsNode text.now (at + 11) }
+pub(crate) fn move_read(place: usize) -> PartRead
+    requires { place < MAX_LENGTH }
+    ensures is { result ≡ record { text_end = place + 6; end = place + 6; as_written = true } }
+    ensures read { (text : List ℕ) → IsMoveNode text place → EndsNode text (place + 6) → ArePropertiesRead text (place + 1) result.end }
+    ensures text { (text : List ℕ) → IsMoveNode text place → EndsNode text (place + 6) → IsTextRead text (place + 1) result }
 {
-    if text.len() - at < NEAR {
-        0
+    PartRead::to(place + 6)
+}
+
+/// Reads at a glance the properties of a node, which begin at `at`: none, or, if `is_move`, a move and perhaps short properties, as in
+/// `B[pd]BL[921.325]`. Nearly all nodes are like that. None says nothing.
+#[inline(always)]
+pub(crate) fn short_properties(text: &[u8], at: usize, is_move: bool) -> Option<PartRead>
+    requires within { at ≤ length text.now }
+    requires move_stands { IsTrue is_move → IsMove text.now at }
+    ensures read { IfSome result (λ read. ArePropertiesRead text.now at read.end) }
+    ensures text { IfSome result (IsTextRead text.now at) }
+{
+    if is_move {
+        let end = at + 5;
+        if end < text.len() && b' ' < text[end] && text[end] < b'A' {
+            return Some(PartRead::to(end));
+        }
+        return after_move(text, at);
+    }
+    if at < text.len() && b' ' < text[at] && text[at] < b'A' {
+        Some(PartRead::to(at))
     } else {
-        bytes_in_place(text, at)
+        None
     }
 }
 
@@ -105,28 +139,25 @@ pub(crate) fn near_bytes_in_place(text: &[u8], at: usize) -> u64
 fn after_move(text: &[u8], at: usize) -> Option<PartRead>
     requires { IsMove text.now at }
     ensures read { IfSome result (λ read. ArePropertiesRead text.now at read.end) }
-    ensures written { IfSome result (λ read. IsTrue read.as_written → AreWritten text.now at read.end) }
+    ensures text { IfSome result (IsTextRead text.now at) }
 {
     let mut end = at + 5;
     'near: while let Some(close) = near_property_close(text, end) {
         end = close + 1;
         if b' ' < text[end] && text[end] < b'A' {
-            return Some(PartRead {
-                end,
-                as_written: true,
-            });
+            return Some(PartRead::to(end));
         }
     }
-    let PartRead {
-        mut end,
-        mut as_written,
-    } = property_end(text, end)?;
-    'properties: while end < text.len() && text[end].is_ascii_uppercase() {
-        let property = read_short_property(text, end)?;
-        as_written = as_written & property.as_written;
-        end = property.end;
+    let next = property_end(text, end)?;
+    let mut read = PartRead {
+        text_end: end,
+        end: next,
+        as_written: true,
+    };
+    'properties: while read.end < text.len() && text[read.end].is_ascii_uppercase() {
+        read = read.with(read_short_property(text, read.end)?);
     }
-    Some(PartRead { end, as_written })
+    Some(read)
 }
 
 /// The `]` of the first value of a property that begins at `at`, if its name is two capitals, this value has few plain bytes, and the
@@ -172,15 +203,6 @@ fn property_stops(text: &[u8], at: usize) -> u64
         .to_bitmask()
 }
 
-/// How far a part of a text was read.
-#[derive(Clone, Copy)]
-pub(crate) struct PartRead {
-    /// The offset after the part and the white space that follows it.
-    pub end: usize,
-    /// Whether the sgf form writes the part as it stands in the text. False says nothing.
-    pub as_written: bool,
-}
-
 /// Reads the properties of a node, which begin at `at` or after white space there.
 #[inline(never)]
 pub(crate) fn read_properties(
@@ -192,21 +214,23 @@ pub(crate) fn read_properties(
     requires within { at ≤ length text.now }
     requires kept { AreKeptEnds text.now long.old.items }
     ensures read { IfOk result (λ read. ArePropertiesRead text.now at read.end) }
-    ensures written { IfOk result (λ read. IsTrue read.as_written → AreWritten text.now at read.end) }
+    ensures text { IfOk result (IsTextRead text.now at) }
     ensures fault { IfErr result (IsFaultInNode text.now at) }
     ensures kept { OnOk result (AreKeptEnds text.now long.new.items) }
 {
-    let mut end = skip_white_space(text, at);
-    let mut as_written = end == at;
-    'properties: while end < text.len() && text[end].is_ascii_uppercase() {
-        let property = match read_short_property(text, end) {
+    let mut read = PartRead {
+        text_end: at,
+        end: skip_white_space(text, at),
+        as_written: true,
+    };
+    'properties: while read.end < text.len() && text[read.end].is_ascii_uppercase() {
+        let property = match read_short_property(text, read.end) {
             Some(property) => property,
-            None => read_far_property(text, end, long)?,
+            None => read_far_property(text, read.end, long)?,
         };
-        as_written = as_written & property.as_written;
-        end = property.end;
+        read = read.with(property);
     }
-    Ok(PartRead { end, as_written })
+    Ok(read)
 }
 
 /// Reads at a glance the property whose identifier begins at `start`, if it has a name of one or two letters
@@ -222,32 +246,25 @@ fn read_short_property(text: &[u8], start: usize) -> Option<PartRead>
     }
     let bracket = short_name_end(text, start)?;
     let close = near_value_end(text, bracket + 1)?;
-    let read = property_end(text, close + 1)?;
-    Some(read)
+    let end = property_end(text, close + 1)?;
+    Some(PartRead {
+        text_end: close + 1,
+        end,
+        as_written: true,
+    })
 }
 
-/// The end of a property whose last value may be just before `end`, after any white space there. None if another value follows, or
-/// if the text ends.
+/// The offset after any white space at `end`, where a property whose last value may be just before `end` ends. None if another value
+/// follows, or if the text ends.
 #[inline(always)]
-fn property_end(text: &[u8], end: usize) -> Option<PartRead>
+fn property_end(text: &[u8], end: usize) -> Option<usize>
     requires { end ≤ length text.now }
-    ensures { IfSome result (AreValuesEnded text.now end) }
+    ensures within { IfSome result (λ next. next < length text.now) }
+    ensures ended { IfSome result (AreValuesEnded text.now end) }
 {
-    if end < text.len() && b' ' < text[end] {
-        if text[end] == b'[' {
-            return None;
-        }
-        return Some(PartRead {
-            end,
-            as_written: true,
-        });
-    }
-    let next = white_space_end(text, end);
+    let next = skip_line_end(text, end);
     if next < text.len() && text[next] != b'[' {
-        Some(PartRead {
-            end: next,
-            as_written: next == end,
-        })
+        Some(next)
     } else {
         None
     }
@@ -269,18 +286,20 @@ fn read_far_property(
     ensures kept { OnOk result (AreKeptEnds text.now long.new.items) }
 {
     let name = read_name(text, start)?;
-    let mut at = name.end;
     let mut as_written = name.as_written;
+    let mut bracket = name.end;
     'values: loop {
-        let end = read_value(text, at + 1, long)? + 1;
-        at = skip_white_space(text, end);
-        as_written = as_written & (at == end);
-        if at == text.len() || text[at] != b'[' {
+        let text_end = read_value(text, bracket + 1, long)? + 1;
+        let end = skip_white_space(text, text_end);
+        if end == text.len() || text[end] != b'[' {
             return Ok(PartRead {
-                end: at,
+                text_end,
+                end,
                 as_written,
             });
         }
+        as_written = as_written & (end == text_end);
+        bracket = end;
     }
 }
 
@@ -294,10 +313,7 @@ fn read_name(text: &[u8], start: usize) -> Result<PartRead, PartFault>
     ensures fault { IfErr result (IsFaultInProperty text.now start) }
 {
     match short_name_end(text, start) {
-        Some(end) => Ok(PartRead {
-            end,
-            as_written: true,
-        }),
+        Some(end) => Ok(PartRead::to(end)),
         None => read_far_name(text, start),
     }
 }
@@ -311,11 +327,13 @@ fn read_far_name(text: &[u8], start: usize) -> Result<PartRead, PartFault>
     ensures written { IfOk result (λ read. read.as_written ≡ false) }
     ensures fault { IfErr result (IsFaultInProperty text.now start) }
 {
-    let end = skip_white_space(text, letters_end(text, start));
+    let text_end = letters_end(text, start);
+    let end = skip_white_space(text, text_end);
     if end == text.len() || text[end] != b'[' {
         return Err(PartFault::NotSgf(end));
     }
     Ok(PartRead {
+        text_end,
         end,
         as_written: false,
     })

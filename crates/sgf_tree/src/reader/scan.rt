@@ -3,7 +3,7 @@
 ghost use Rattle.std.specs.Prelude.{◌≡◌, ◌≤◌, ◌<◌, ◌+◌, length, drop, slice_index, slice_range, IsTrue, IfSome};
 ghost use Rattle.sgf_tree.specs.Spelling.{is_white_space, is_upper};
 ghost use Rattle.sgf_tree.specs.inner.NodeText.{is_letter};
-ghost use Rattle.sgf_tree.specs.inner.Progress.{IsSpan, IsBracket, IsNodeEnd, IsPropertyEnd, IsMove, IsLoneNode, IsLoneFront};
+ghost use Rattle.sgf_tree.specs.inner.Progress.{IsSpan, IsBracket, IsNodeEnd, IsPropertyEnd, IsMove, IsLoneFront};
 
 use crate::reader::value::is_two_plain;
 
@@ -115,13 +115,6 @@ pub(crate) fn letters_end(text: &[u8], at: usize) -> usize
     end
 }
 
-/// Whether the text begins with a node that is written like `;B[pd]`.
-pub(crate) fn is_lone_node(text: &[u8]) -> bool
-    ensures { IsTrue result → IsLoneNode text.now }
-{
-    is_short_front(text) && ends_node(text, 6)
-}
-
 /// Whether the first property of the node at the front of the text is written
 /// like `B[pd]`, and has no other value. If it is false, nothing is known.
 pub(crate) fn is_lone_front(text: &[u8]) -> bool
@@ -147,11 +140,15 @@ fn is_short_front(text: &[u8]) -> bool
     text.len() > 6 && text[1].is_ascii_uppercase() && text[2] == b'[' && is_two_plain(text, 3)
 }
 
-/// Whether a node ends at `at`, or after white space there. If it is false, nothing is known.
-pub(crate) fn ends_node(text: &[u8], at: usize) -> bool
+/// Where a node ends, at `at` or after white space there. If it is None, nothing is known.
+pub(crate) fn node_end(text: &[u8], at: usize) -> Option<usize>
     requires { at ≤ length text.now }
-    ensures { IsTrue result → IsNodeEnd text.now at }
+    ensures { IfSome result (IsNodeEnd text.now at) }
 {
     let end = skip_white_space(text, at);
-    end < text.len() && text[end] < b'A'
+    if end < text.len() && text[end] < b'A' {
+        Some(end)
+    } else {
+        None
+    }
 }

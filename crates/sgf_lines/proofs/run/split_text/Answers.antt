@@ -16,10 +16,10 @@ use Rattle.sgf_lines.proofs.run.split_text.Goals as goal
 pub add-requires : goal.add-requires
 add-requires g c =
     let run = c.new-run.result in
-    let same : run.cursor.at.games ≡ c.in-Ok.collection = ap (λ (p : SequencesState). p.at.games) c.new-run.ensures.cursor ∙ c.in-Ok-cursor_after.ensures.same in
+    let same : run.cursor.at.games ≡ c.in-Ok.outline = ap (λ (p : SequencesState). p.at.games) c.new-run.ensures.cursor ∙ c.in-Ok-cursor_after.ensures.same in
     let rise : PlacesRise run.cursor.at.games = rw same c.nodes.ensures.places_rise in
     let fewer = few_played run.cursor.at.games rise run.cursor.at.index c.unwrap_or-limit.result run.form (g.T.Sink.state c.args.sink.now) (g.T.Sink.state c.write-result.new.sink) c.write-result.new.self.judge.plays c.write-result.result c.write-result.ensures.answer in
-    let nodes = nodes_within c.in-Ok.collection c.nodes.ensures.places_rise MAX_LENGTH c.nodes.ensures.places_within in
+    let nodes = nodes_within c.in-Ok.outline c.nodes.ensures.places_rise MAX_LENGTH c.nodes.ensures.places_within in
     omega (arith, c.requires.plays_countable, fewer, nodes, ap node_count same, c.plays.ensures)
 
 pub returns-in-Err : goal.returns-in-Err
@@ -30,21 +30,21 @@ returns-in-Err g c source new_source read =
 pub returns-in-Err-cursor_after : goal.returns-in-Err-cursor_after
 returns-in-Err-cursor_after g c source new_source read =
     no_start_run c.args.options.now source new_source c.args.text.now read (g.T.Sink.state c.args.sink.now) c.args.plays.now
-    c.in-Ok.collection c.in-Err-cursor_after.fault c.in-Ok.ensures.spelled (c.in-Err-cursor_after.ensures.start c.args.text.now c.in-Ok.ensures.spelled)
+    c.in-Ok.outline c.in-Err-cursor_after.fault c.in-Ok.ensures.spelled (c.in-Err-cursor_after.ensures.start c.args.text.now c.in-Ok.ensures.spelled)
     c.in-Err-cursor_after.ensures.no_read (omega (arith, c.in-Err-cursor_after.ensures.no_write))
 
 pub returns : goal.returns
 returns g c source new_source read =
     let o = c.args.options.now in
     let text = c.args.text.now in
-    let games = c.in-Ok.collection in
+    let games = c.in-Ok.outline in
     let cursor = c.in-Ok-cursor_after.cursor in
     let sink = g.T.Sink.state c.args.sink.now in
     let new_sink = g.T.Sink.state c.write-result.new.sink in
     let n = c.write-result.new.self.judge.plays in
     let result = c.write-result.result in
     let spelled : Spells games text = c.in-Ok.ensures.spelled in
-    let limit : c.unwrap_or-limit.result ≡ unwrap_or c.args.options.now.limit (node_count c.in-Ok.collection) =
+    let limit : c.unwrap_or-limit.result ≡ unwrap_or c.args.options.now.limit (node_count c.in-Ok.outline) =
     c.unwrap_or-limit.ensures ∙ ap (unwrap_or c.args.options.now.limit) c.nodes.ensures.count in
     let wrote : WritesLines o.form (take c.unwrap_or-limit.result (drop cursor.at.index (lines games))) sink new_sink n result =
     rw (c.new-run.ensures.form, c.new-run.ensures.cursor, c.in-Ok-cursor_after.ensures.same) at c.write-result.ensures.answer in

@@ -1,29 +1,26 @@
 -- One step up the way writes one part more.
 use Rattle.std.proofs.Common.{arith}
 use Rattle.sgf_lines.proofs.SequenceStarts.{fewer}
-use Rattle.sgf_lines.proofs.SequenceClimbing.{fill_begins, fills, room_for}
+use Rattle.sgf_lines.proofs.SequenceClimbing.{fills, room_for}
 use Rattle.sgf_lines.proofs.sequence_cursor.fill_path.Goals as goal
 
-pub loop-sequence-init : goal.loop-sequence-init
-loop-sequence-init c = fill_begins c.args.collection.now c.args.last c.args.nodes c.args.path.now c.requires.within c.requires.room
-
 pub overflow_cast-path : goal.overflow_cast-path
-overflow_cast-path c = omega (arith, c.loop-sequence.invariant.there c.in-Some.number c.in-Some.is, fewer c.args.collection.now, c.requires.few)
+overflow_cast-path c = omega (arith, c.loop-sequence.invariant.there c.in-Some.number c.in-Some.is, fewer c.args.outline.now, c.requires.few)
 
 pub overflow_cast-path-in-Some : goal.overflow_cast-path-in-Some
 overflow_cast-path-in-Some c =
     let room =
-    room_for c.args.collection.now c.args.last c.in-Some.number c.loop-sequence.room c.loop-sequence.end c.loop-sequence.path c.loop-sequence.sequence c.loop-sequence.invariant c.in-Some.is in
+    room_for c.args.outline.now c.args.last c.in-Some.number c.loop-sequence.room c.loop-sequence.end c.loop-sequence.path c.loop-sequence.sequence c.loop-sequence.invariant c.in-Some.is in
     omega (arith, room.short, c.requires.few)
 
 pub overflow_sub-end : goal.overflow_sub-end
 overflow_sub-end c =
     let room =
-    room_for c.args.collection.now c.args.last c.in-Some.number c.loop-sequence.room c.loop-sequence.end c.loop-sequence.path c.loop-sequence.sequence c.loop-sequence.invariant c.in-Some.is in
+    room_for c.args.outline.now c.args.last c.in-Some.number c.loop-sequence.room c.loop-sequence.end c.loop-sequence.path c.loop-sequence.sequence c.loop-sequence.invariant c.in-Some.is in
     omega (arith, room.long, c.sequence_length-end.ensures)
 
 pub loop-sequence-preserved : goal.loop-sequence-preserved
 loop-sequence-preserved c =
     rw c.sequence_length-end.ensures
-    (fills c.args.collection.now c.args.last c.in-Some.number c.loop-sequence.room c.loop-sequence.end c.loop-sequence.path c.loop-sequence.sequence c.sequence_above-sequence.result
-    c.loop-sequence.invariant c.in-Some.is c.sequence_above-sequence.ensures)
+    (fills c.args.outline.now c.args.last c.in-Some.number c.loop-sequence.room c.loop-sequence.end c.loop-sequence.path c.loop-sequence.sequence c.sequence_outer-sequence.result
+    c.loop-sequence.invariant c.in-Some.is c.sequence_outer-sequence.ensures)

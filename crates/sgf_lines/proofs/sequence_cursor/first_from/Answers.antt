@@ -1,12 +1,22 @@
--- Places rise in file order.
-use Rattle.std.proofs.Common.{arith}
-use Rattle.sgf_lines.proofs.Seeking.{place_within}
+-- Places rise in file order, and so do those of the last nodes of sequences.
+use Rattle.std.proofs.Common.{◌≡◌, ◌+◌, ◌-◌, ◌/◌, inl, inr, arith}
+use Rattle.std.proofs.lemmas.Bool.{cases_eq}
+use Rattle.sgf_tree.specs.FileOrder.{sequence_end}
+use Rattle.sgf_lines.proofs.SequenceSeeking.{lasts_rise}
 use Rattle.sgf_lines.proofs.sequence_cursor.first_from.Goals as goal
 
-pub loop-low-init : goal.loop-low-init
-loop-low-init c = record {
-  order = omega arith;
-  within = omega (arith, c.nodes-high.ensures.count);
-  before = λ number here lt e. absurd (omega arith);
-  after = λ here e. absurd (omega (arith, place_within c.args.collection.now c.nodes-high.result here e, c.nodes-high.ensures.count));
-}
+pub loop-low-preserved-then-last_place-place : goal.loop-low-preserved-then-last_place-place
+loop-low-preserved-then-last_place-place c =
+    let middle = c.loop-low.low + (c.loop-low.high - c.loop-low.low) / 2 in
+    let less = c.loop-low-test.true in
+    record {
+      order = omega arith;
+      within = c.loop-low.invariant.within;
+      before = λ earlier here lt e. elim (cases_eq earlier middle) [
+        | inl same ↦ let there = rw same at e in let is = c.last_place.ensures in let equal : c.last_place.result ≡ here = cc in omega (arith, c.if-last_place-place.true)
+        | inr other ↦
+            let rises = lasts_rise c.args.outline.now earlier middle (omega arith) (omega (arith, c.loop-low.invariant.within)) in
+            omega (arith, c.if-last_place-place.true, c.requires (sequence_end c.args.outline.now earlier - 1) (sequence_end c.args.outline.now middle - 1) here c.last_place.result rises e c.last_place.ensures)
+      ];
+      after = c.loop-low.invariant.after;
+    }

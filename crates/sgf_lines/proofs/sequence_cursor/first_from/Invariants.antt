@@ -1,16 +1,14 @@
--- All nodes before `low` are before the place, and the node `high` isn't.
-use Rattle.std.proofs.Common.{◌≡◌, ◌-◌, ◌≤◌, ℕ, Some}
-use Rattle.sgf_tree.specs.Tree.{node_count}
-use Rattle.sgf_tree.specs.FileOrder.{place_at}
-use Rattle.sgf_lines.specs.inner.Seeking.{AllBefore}
+-- The last nodes of all sequences before `low` are before the place, and that of the sequence `high` isn't.
+use Rattle.std.proofs.Common.{◌≡◌, ◌-◌, ◌<◌, ◌≤◌, ℕ, Some, length}
+use Rattle.sgf_tree.specs.FileOrder.{place_at, sequence_starts, sequence_end}
 use Rattle.sgf_lines.proofs.sequence_cursor.first_from.Given as goal
 
 abbrev pub invariant-loop-low : goal.invariant-loop-low
 invariant-loop-low l = record {
   order : l.low ≤ l.high;
-  within : l.high ≤ node_count l.collection;
-  before : AllBefore l.collection l.place l.low;
-  after : (here : ℕ) → place_at l.collection l.high ≡ Some here → l.place ≤ here;
+  within : l.high ≤ length (sequence_starts l.outline);
+  before : (earlier here : ℕ) → earlier < l.low → place_at l.outline (sequence_end l.outline earlier - 1) ≡ Some here → here < l.place;
+  after : (here : ℕ) → l.high < length (sequence_starts l.outline) → place_at l.outline (sequence_end l.outline l.high - 1) ≡ Some here → l.place ≤ here;
 }
 
 abbrev pub decreases-loop-low : goal.decreases-loop-low

@@ -1,13 +1,12 @@
--- The parts from the end of the path that were passed end otherwise.
-use Rattle.std.proofs.Common.{◌≡◌, ◌≢◌, ◌+◌, ◌≤◌, ℕ, length, slice_get, Some}
-use Rattle.sgf_tree.specs.FileOrder.{sequence_end}
+-- The parts from the end of the path that were passed are other sequences.
+use Rattle.std.proofs.Common.{◌≡◌, ◌≢◌, ◌≤◌, ℕ, length, slice_get, Some}
 use Rattle.sgf_lines.specs.declared.sequence_cursor.Part.{Part}
 use Rattle.sgf_lines.proofs.sequence_cursor.front_up_to.Given as goal
 
 abbrev pub invariant-loop-kept : goal.invariant-loop-kept
 invariant-loop-kept l = record {
   within : l.kept ≤ length l.path;
-  others : (i : ℕ) (part : Part) → l.kept ≤ i → slice_get l.path i ≡ Some part → sequence_end l.collection part.sequence ≢ l.parent + 1;
+  others : (i : ℕ) (part : Part) → l.kept ≤ i → slice_get l.path i ≡ Some part → part.sequence ≢ l.outer;
 }
 
 abbrev pub decreases-loop-kept : goal.decreases-loop-kept

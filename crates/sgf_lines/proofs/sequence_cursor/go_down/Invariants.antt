@@ -5,6 +5,6 @@ use Rattle.sgf_lines.proofs.sequence_cursor.go_down.Given as goal
 
 abbrev pub invariant-loop-sequence : goal.invariant-loop-sequence
 invariant-loop-sequence l = record {
-  down : GoesDown l.collection l.fn.path.items l.fn.front.sequences l.first l.sequence l.path.items;
+  down : GoesDown l.outline l.fn.path.items l.fn.front.sequences l.first l.sequence l.path.items;
   room : l.fn.front.sequences + (l.end - l.first) ≤ vec_capacity l.path;
 }

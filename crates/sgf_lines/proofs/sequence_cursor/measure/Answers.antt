@@ -5,19 +5,19 @@ use Rattle.sgf_lines.proofs.SequenceClimbing.{measure_begins, measures, measure_
 use Rattle.sgf_lines.proofs.sequence_cursor.measure.Goals as goal
 
 pub loop-sequence-init : goal.loop-sequence-init
-loop-sequence-init c = measure_begins c.args.collection.now c.args.last c.requires.within
+loop-sequence-init c = measure_begins c.args.outline.now c.args.last c.requires.within
 
 pub overflow_add-sequences : goal.overflow_add-sequences
 overflow_add-sequences c =
     let fits =
-    measure_fits c.args.collection.now c.args.last c.in-Some.number c.loop-sequence.sequences c.loop-sequence.nodes c.loop-sequence.sequence c.loop-sequence.invariant c.in-Some.is in
-    omega (arith, fits.0, fewer c.args.collection.now)
+    measure_fits c.args.outline.now c.args.last c.in-Some.number c.loop-sequence.sequences c.loop-sequence.nodes c.loop-sequence.sequence c.loop-sequence.invariant c.in-Some.is in
+    omega (arith, fits.0, fewer c.args.outline.now)
 
 pub loop-sequence-preserved : goal.loop-sequence-preserved
 loop-sequence-preserved c =
     rw c.sequence_length-nodes.ensures
-    (measures c.args.collection.now c.args.last c.in-Some.number c.loop-sequence.sequences c.loop-sequence.nodes c.loop-sequence.sequence c.sequence_above-sequence.result c.loop-sequence.invariant
-    c.in-Some.is c.sequence_above-sequence.ensures)
+    (measures c.args.outline.now c.args.last c.in-Some.number c.loop-sequence.sequences c.loop-sequence.nodes c.loop-sequence.sequence c.sequence_outer-sequence.result c.loop-sequence.invariant
+    c.in-Some.is c.sequence_outer-sequence.ensures)
 
 pub returns : goal.returns
-returns c = measured c.args.collection.now c.args.last c.loop-sequence.sequences c.loop-sequence.nodes c.loop-sequence.sequence c.loop-sequence.invariant c.in_default.is
+returns c = measured c.args.outline.now c.args.last c.loop-sequence.sequences c.loop-sequence.nodes c.loop-sequence.sequence c.loop-sequence.invariant c.in_default.is

@@ -3,7 +3,7 @@ use Rattle.sgf_lines.proofs.SequenceClimbing.{IsMeasured, height}
 use Rattle.sgf_lines.proofs.sequence_cursor.measure.Given as goal
 
 abbrev pub invariant-loop-sequence : goal.invariant-loop-sequence
-invariant-loop-sequence l = IsMeasured l.collection l.last l.sequence l.sequences l.nodes
+invariant-loop-sequence l = IsMeasured l.outline l.last l.sequence l.sequences l.nodes
 
 abbrev pub decreases-loop-sequence : goal.decreases-loop-sequence
 decreases-loop-sequence l = height l.sequence

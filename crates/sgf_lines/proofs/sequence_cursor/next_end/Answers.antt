@@ -5,27 +5,22 @@ use Rattle.sgf_tree.specs.FileOrder.{sequence_starts}
 use Rattle.sgf_lines.specs.inner.PathTo.{HasNoLeaf}
 use Rattle.sgf_lines.specs.inner.Sequences.{first_of}
 use Rattle.sgf_lines.proofs.SequenceStarts.{no_leaf_inside, no_leaf_more, past_all}
-use Rattle.sgf_tree.specs.declared.fault.TheConstants.{MAX_LENGTH}
-use Rattle.sgf_lines.proofs.Touched.{nodes_within}
 use Rattle.sgf_lines.proofs.sequence_cursor.next_end.Goals as goal
 
 pub returns-then-ends_in_leaf-clause-first : goal.returns-then-ends_in_leaf-clause-first
 returns-then-ends_in_leaf-clause-first c = record {
   from_there = c.loop-sequence.auto.sequence;
-  within = omega (arith, c.sequences-sequence-end.ensures, c.loop-sequence-test.true);
+  within = omega (arith, c.sequences-sequence-end.ensures.count, c.loop-sequence-test.true);
   is_leaf = c.ends_in_leaf.ensures.0 c.if-ends_in_leaf.true;
-  first = no_leaf_inside c.args.collection.now c.args.from c.loop-sequence.sequence (omega (arith, c.sequences-sequence-end.ensures, c.loop-sequence-test.true)) c.loop-sequence.invariant;
+  first = no_leaf_inside c.args.outline.now c.args.from c.loop-sequence.sequence (omega (arith, c.sequences-sequence-end.ensures.count, c.loop-sequence-test.true)) c.loop-sequence.invariant;
 }
 
 pub loop-sequence-preserved : goal.loop-sequence-preserved
 loop-sequence-preserved c =
-    no_leaf_more c.args.collection.now c.args.from c.loop-sequence.sequence (omega (arith, c.sequences-sequence-end.ensures, c.loop-sequence-test.true)) c.loop-sequence.invariant
+    no_leaf_more c.args.outline.now c.args.from c.loop-sequence.sequence (omega (arith, c.sequences-sequence-end.ensures.count, c.loop-sequence-test.true)) c.loop-sequence.invariant
     (λ leaf. both_ways c.ends_in_leaf.result c.if-ends_in_leaf.false (c.ends_in_leaf.ensures.1 leaf))
 
 pub returns-clause-first : goal.returns-clause-first
 returns-clause-first c =
-    let all : length (sequence_starts c.args.collection.now) ≤ c.loop-sequence.sequence = omega (arith, c.sequences-sequence-end.ensures, c.loop-sequence-test.false) in
-    subst (HasNoLeaf c.args.collection.now (first_of c.args.collection.now c.args.from)) (past_all c.args.collection.now c.loop-sequence.sequence all) c.loop-sequence.invariant
-
-pub returns-then-ends_in_leaf-clause-few : goal.returns-then-ends_in_leaf-clause-few
-returns-then-ends_in_leaf-clause-few c = nodes_within c.args.collection.now c.nodes-nodes.ensures.places_rise MAX_LENGTH c.nodes-nodes.ensures.places_within
+    let all : length (sequence_starts c.args.outline.now) ≤ c.loop-sequence.sequence = omega (arith, c.sequences-sequence-end.ensures.count, c.loop-sequence-test.false) in
+    subst (HasNoLeaf c.args.outline.now (first_of c.args.outline.now c.args.from)) (past_all c.args.outline.now c.loop-sequence.sequence all) c.loop-sequence.invariant

@@ -6,7 +6,6 @@ use Rattle.sgf_tree.specs.declared.fault.TheConstants.{MAX_LENGTH}
 use Rattle.sgf_lines.specs.inner.Following.{nodes_before}
 use Rattle.sgf_lines.specs.inner.GoingOn.{GoesOnBy}
 use Rattle.sgf_lines.proofs.Keeping.{IsNext}
-use Rattle.sgf_lines.proofs.Touched.{nodes_within}
 use Rattle.sgf_lines.proofs.Followers.{next_is as next_so, given, row_countable, few_played, follows_on}
 use Rattle.sgf_lines.proofs.RunRecords.{verdict_is}
 use Rattle.sgf_lines.proofs.SequenceCursors.{some_ends}
@@ -21,10 +20,10 @@ module _ (c : After-nodes-nodes) where
   next_is = next_so c.self.inside.before c.self.inside.sequences.at c.go_on.new.sequences.at c.in-Some.held.nodes c.self.inside.row c.self.inside.judge c.self.invariant.0 goes
 
   rise : PlacesRise c.self.inside.sequences.at.games
-  rise = rw (c.collection.ensures, next_is.games) at c.nodes-nodes.ensures.places_rise
+  rise = rw (c.outline.ensures, next_is.games) at c.nodes-nodes.ensures.places_rise
 
   nodes : node_count c.self.inside.sequences.at.games ≤ MAX_LENGTH
-  nodes = nodes_within c.self.inside.sequences.at.games rise MAX_LENGTH (rw (c.collection.ensures, next_is.games) at c.nodes-nodes.ensures.places_within)
+  nodes = omega (arith, c.nodes-nodes.ensures.count, c.nodes-nodes.ensures.few, ap node_count c.outline.ensures, ap node_count next_is.games)
 
 pub judge_line-requires-clause-front : goal.judge_line-requires-clause-front
 judge_line-requires-clause-front c =

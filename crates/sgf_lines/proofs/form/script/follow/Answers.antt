@@ -39,8 +39,8 @@ keep-requires c =
     let through = rises_through 0 cursor.ends (length (nodes_before cursor.at)) c.args.held.sequences c.sequences-sequences.ensures.divided (omega (arith, c.requires.front.more)) in
     omega (arith, through.1, c.requires.front.count, c.len-end.ensures.nodes, c.len-end.ensures.small)
 
-pub next-requires : goal.next-requires
-next-requires c =
+pub next-node-requires : goal.next-node-requires
+next-node-requires c =
     some_come (nodes_before c.args.cursor.now.at) c.loop-index.index c.loop-index.nodes c.loop-index.invariant.comes (omega (arith, c.loop-index-test.true, c.len-end.ensures.nodes))
 
 pub take-requires-clause-countable : goal.take-requires-clause-countable
@@ -56,14 +56,14 @@ loop-index-preserved c =
     let nodes = nodes_before c.args.cursor.now.at in
     let kind = game_kind (root_properties nodes) in
     let i = c.loop-index.index in
-    let here = comes nodes i c.loop-index.nodes c.next.result c.next.new.self c.loop-index.invariant.comes c.next.ensures in
+    let here = comes nodes i c.loop-index.nodes c.next-node.result.0 c.next-node.new.self c.loop-index.invariant.comes c.next-node.ensures.taken in
     record {
-      judges = judges_on nodes c.args.held.nodes c.args.judge.now.plays i c.loop-index.judge c.loop-index.invariant.judges c.loop-index.auto.index c.next.result here
+      judges = judges_on nodes c.args.held.nodes c.args.judge.now.plays i c.loop-index.judge c.loop-index.invariant.judges c.loop-index.auto.index c.next-node.result.0 here
           c.take.new.judge c.in_ok-take.ensures.judged c.in_ok-take.ensures.plays;
-      says = c.in_ok-take.ensures.said ∙ ap (λ s. said_after s c.loop-index.judge.judgement c.next.result) c.loop-index.invariant.says
-          ∙ ap (λ j. said_after (script_front nodes i) j c.next.result) c.loop-index.invariant.judges.judged
-          ∙ script_more kind (take i nodes) c.next.result ∙ ap (script_of kind) (sym (front_more nodes i c.next.result here));
-      comes = come_on nodes i c.loop-index.nodes c.next.result c.next.new.self c.loop-index.invariant.comes c.next.ensures;
+      says = c.in_ok-take.ensures.said ∙ ap (λ s. said_after s c.loop-index.judge.judgement c.next-node.result.0) c.loop-index.invariant.says
+          ∙ ap (λ j. said_after (script_front nodes i) j c.next-node.result.0) c.loop-index.invariant.judges.judged
+          ∙ script_more kind (take i nodes) c.next-node.result.0 ∙ ap (script_of kind) (sym (front_more nodes i c.next-node.result.0 here));
+      comes = come_on nodes i c.loop-index.nodes c.next-node.result.0 c.next-node.new.self c.loop-index.invariant.comes c.next-node.ensures.taken;
     }
 
 pub returns-clause-judged : goal.returns-clause-judged
@@ -88,7 +88,7 @@ returns-clause-plays c =
 pub returns-in_err-take-clause-plays : goal.returns-in_err-take-clause-plays
 returns-in_err-take-clause-plays c =
     let nodes = nodes_before c.args.cursor.now.at in
-    let here = comes nodes c.loop-index.index c.loop-index.nodes c.next.result c.next.new.self c.loop-index.invariant.comes c.next.ensures in
+    let here = comes nodes c.loop-index.index c.loop-index.nodes c.next-node.result.0 c.next-node.new.self c.loop-index.invariant.comes c.next-node.ensures.taken in
     fresh_of_err (Unit {0}) c.in_err-take.field-0 c.from_residual-in_err-take.result c.from_residual-in_err-take.ensures.0
-    (stopped nodes c.args.held.nodes c.args.judge.now.plays c.loop-index.index c.loop-index.judge c.loop-index.invariant.judges c.loop-index.auto.index c.next.result here
+    (stopped nodes c.args.held.nodes c.args.judge.now.plays c.loop-index.index c.loop-index.judge c.loop-index.invariant.judges c.loop-index.auto.index c.next-node.result.0 here
     c.in_err-take.field-0 c.take.new.judge.plays c.in_err-take.ensures.not_fewer c.in_err-take.ensures.not_more)

@@ -14,9 +14,9 @@ use Rattle.sgf_lines.proofs.run.Run.write_lines.Goals as goal
 pub next-requires-clause-countable : goal.next-requires-clause-countable
 next-requires-clause-countable g c =
     let run = c.args.self.now in
-    let rise : PlacesRise run.cursor.at.games = rw c.collection.ensures at c.nodes-nodes.ensures.places_rise in
+    let rise : PlacesRise run.cursor.at.games = rw c.outline.ensures at c.nodes-nodes.ensures.places_rise in
     let fewer = few run.cursor.at.games rise run.cursor.at.index c.args.limit run.form c.page.lines in
-    let nodes = nodes_within run.cursor.at.games rise MAX_LENGTH (rw c.collection.ensures at c.nodes-nodes.ensures.places_within) in
+    let nodes = nodes_within run.cursor.at.games rise MAX_LENGTH (rw c.outline.ensures at c.nodes-nodes.ensures.places_within) in
     omega (arith, fewer, nodes, c.page.invariant.plays, ap node_count c.page.invariant.written.same)
 
 pub page-preserved : goal.page-preserved
@@ -24,7 +24,7 @@ page-preserved g c =
     let run = c.args.self.now in
     let games = run.cursor.at.games in
     let first = run.cursor.at.index in
-    let rise : PlacesRise games = rw c.collection.ensures at c.nodes-nodes.ensures.places_rise in
+    let rise : PlacesRise games = rw c.outline.ensures at c.nodes-nodes.ensures.places_rise in
     let made : HasRecord c.page.self.form c.page.self.cursor.at c.next.new.self.cursor.at (record_in c.next.new.self) = rw c.in-Ok-true.field-0-test at c.in-Ok-true.ensures.made in
     let got : HasRecord run.form c.page.self.cursor.at c.next.new.self.cursor.at (record_in c.next.new.self) = rw c.page.invariant.form at made in
     let held : c.next.new.self.before ≡ Held = rw c.in-Ok-true.field-0-test at c.in-Ok-true.ensures.before in
@@ -46,7 +46,7 @@ page-preserved g c =
 pub returns-in-Err-put-clause-answer : goal.returns-in-Err-put-clause-answer
 returns-in-Err-put-clause-answer g c =
     let run = c.args.self.now in
-    let rise : PlacesRise run.cursor.at.games = rw c.collection.ensures at c.nodes-nodes.ensures.places_rise in
+    let rise : PlacesRise run.cursor.at.games = rw c.outline.ensures at c.nodes-nodes.ensures.places_rise in
     let made : HasRecord c.page.self.form c.page.self.cursor.at c.next.new.self.cursor.at (record_in c.next.new.self) = rw c.in-Ok-true.field-0-test at c.in-Ok-true.ensures.made in
     let got : HasRecord run.form c.page.self.cursor.at c.next.new.self.cursor.at (record_in c.next.new.self) = rw c.page.invariant.form at made in
     let cut = c.in-Err-put.ensures in
@@ -63,7 +63,7 @@ returns-in-Err-put-clause-answer g c =
 pub returns-in-Err-clause-answer : goal.returns-in-Err-clause-answer
 returns-in-Err-clause-answer g c =
     let run = c.args.self.now in
-    let rise : PlacesRise run.cursor.at.games = rw c.collection.ensures at c.nodes-nodes.ensures.places_rise in
+    let rise : PlacesRise run.cursor.at.games = rw c.outline.ensures at c.nodes-nodes.ensures.places_rise in
     let judged : PlaysLine c.page.self.form c.page.self.before c.page.self.cursor.at c.page.self.judge.plays c.next.new.self.judge.plays (Err c.in-Err.field-0) = c.in-Err.ensures.plays in
     let counted : PlaysLine run.form c.page.self.before c.page.self.cursor.at c.page.self.judge.plays c.next.new.self.judge.plays (Err c.in-Err.field-0) = rw c.page.invariant.form at judged in (
       c.page.invariant.written.within,

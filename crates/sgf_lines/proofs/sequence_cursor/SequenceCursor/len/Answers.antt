@@ -10,11 +10,11 @@ nodes_are : (c : After-nodes_in) → c.nodes_in.result ≡ length (nodes_before 
 nodes_are c =
     let count : c.len.result ≡ length c.self.inside.path.items = omega (arith, c.len.ensures, c.self.inside.path.ok.0) in
     c.nodes_in.ensures.count ∙ ap (λ parts. nodes_in (part_ends parts) c.len.result) c.deref.ensures.value ∙ ap (nodes_in (part_ends c.self.inside.path.items)) count
-    ∙ all_nodes c.self.inside.collection.now c.self.inside.next c.self.inside.path.items c.self.invariant c.args.self.now c.self.view_is
+    ∙ all_nodes c.self.inside.outline.now c.self.inside.next c.self.inside.path.items c.self.invariant c.args.self.now c.self.view_is
 
 pub returns-clause-nodes : goal.returns-clause-nodes
 returns-clause-nodes c = nodes_are c
 
 pub returns-clause-short : goal.returns-clause-short
 returns-clause-short c =
-    omega (arith, nodes_are c, few_nodes c.self.inside.collection.now c.self.inside.next c.self.inside.path.items c.self.invariant c.args.self.now c.self.view_is)
+    omega (arith, nodes_are c, few_nodes c.self.inside.outline.now c.self.inside.next c.self.inside.path.items c.self.invariant c.args.self.now c.self.view_is)

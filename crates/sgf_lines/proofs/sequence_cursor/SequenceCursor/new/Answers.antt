@@ -4,7 +4,7 @@ use Rattle.sgf_lines.proofs.SequenceCursors.{seen, stands_first, seen_first}
 use Rattle.sgf_lines.proofs.sequence_cursor.SequenceCursor.new.Goals as goal
 
 pub invariant_of-result : goal.invariant_of-result
-invariant_of-result c = rw c.new.ensures.items (stands_first c.args.collection.now)
+invariant_of-result c = rw c.new.ensures.items (stands_first c.args.outline.now)
 
 pub returns : goal.returns
-returns c = ap (seen c.args.collection.now 0) c.new.ensures.items ∙ seen_first c.args.collection.now
+returns c = ap (seen c.args.outline.now 0) c.new.ensures.items ∙ seen_first c.args.outline.now

@@ -5,36 +5,33 @@ use Rattle.sgf_lines.proofs.SequenceCursors.{no_nodes, front_before, next_long, 
 use Rattle.sgf_lines.proofs.sequence_cursor.SequenceCursor.next_len.Goals as goal
 
 pub returns-in_default : goal.returns-in_default
-returns-in_default c = no_nodes c.self.inside.collection.now c.self.inside.next c.self.inside.path.items c.self.invariant c.args.self.now c.self.view_is c.in_default.ensures.first
-
-pub sequence_parent-parent-requires : goal.sequence_parent-parent-requires
-sequence_parent-parent-requires c = omega (arith, c.in-Some.ensures.first.from_there, c.in-Some.ensures.first.within)
+returns-in_default c = no_nodes c.self.inside.outline.now c.self.inside.next c.self.inside.path.items c.self.invariant c.args.self.now c.self.view_is c.in_default.ensures.first
 
 pub overflow_sub-result : goal.overflow_sub-result
 overflow_sub-result c =
     omega (
       arith,
-      next_rises c.self.inside.collection.now c.self.inside.next c.self.inside.path.items c.self.invariant c.args.self.now c.self.view_is c.in-Some.leaf c.sequence_parent-parent.result c.front_up_to-front.result c.in-Some.ensures.first c.sequence_parent-parent.ensures
+      next_rises c.self.inside.outline.now c.self.inside.next c.self.inside.path.items c.self.invariant c.args.self.now c.self.view_is c.in-Some.leaf c.sequence_outer-outer.result c.front_up_to-front.result c.in-Some.ensures.first c.sequence_outer-outer.ensures
           (rw c.deref.ensures.value at c.front_up_to-front.ensures),
       c.sequence_start-first.ensures,
-      c.sequence_end.ensures,
+      c.sequence_end.ensures.end,
     )
 
 pub overflow_add-result : goal.overflow_add-result
 overflow_add-result c =
     omega (
       arith,
-      next_rises c.self.inside.collection.now c.self.inside.next c.self.inside.path.items c.self.invariant c.args.self.now c.self.view_is c.in-Some.leaf c.sequence_parent-parent.result c.front_up_to-front.result c.in-Some.ensures.first c.sequence_parent-parent.ensures
+      next_rises c.self.inside.outline.now c.self.inside.next c.self.inside.path.items c.self.invariant c.args.self.now c.self.view_is c.in-Some.leaf c.sequence_outer-outer.result c.front_up_to-front.result c.in-Some.ensures.first c.sequence_outer-outer.ensures
           (rw c.deref.ensures.value at c.front_up_to-front.ensures),
-      front_before c.self.inside.collection.now c.self.inside.next c.self.inside.path.items c.self.invariant c.args.self.now c.self.view_is c.in-Some.leaf c.sequence_parent-parent.result c.front_up_to-front.result c.in-Some.ensures.first c.sequence_parent-parent.ensures
+      front_before c.self.inside.outline.now c.self.inside.next c.self.inside.path.items c.self.invariant c.args.self.now c.self.view_is c.in-Some.leaf c.sequence_outer-outer.result c.front_up_to-front.result c.in-Some.ensures.first c.sequence_outer-outer.ensures
           (rw c.deref.ensures.value at c.front_up_to-front.ensures),
-      start_is c.self.inside.collection.now c.self.inside.next (omega (arith, c.in-Some.ensures.first.from_there, c.in-Some.ensures.first.within)),
+      start_is c.self.inside.outline.now c.self.inside.next (omega (arith, c.in-Some.ensures.first.from_there, c.in-Some.ensures.first.within)),
       c.sequence_start-first.ensures,
-      c.sequence_end.ensures,
+      c.sequence_end.ensures.end,
     )
 
 pub returns : goal.returns
 returns c =
-    next_long c.self.inside.collection.now c.self.inside.next c.self.inside.path.items c.self.invariant c.args.self.now c.self.view_is c.in-Some.leaf c.sequence_parent-parent.result c.front_up_to-front.result c.in-Some.ensures.first c.sequence_parent-parent.ensures
+    next_long c.self.inside.outline.now c.self.inside.next c.self.inside.path.items c.self.invariant c.args.self.now c.self.view_is c.in-Some.leaf c.sequence_outer-outer.result c.front_up_to-front.result c.in-Some.ensures.first c.sequence_outer-outer.ensures
     (rw c.deref.ensures.value at c.front_up_to-front.ensures)
-    c.sequence_start-first.result c.sequence_end.result c.sequence_start-first.ensures c.sequence_end.ensures
+    c.sequence_start-first.result c.sequence_end.result c.sequence_start-first.ensures c.sequence_end.ensures.end

@@ -1,13 +1,18 @@
--- The cursor stands after the leaf.
-use Rattle.sgf_lines.proofs.SequenceCursors.{stands_sought, after_leaf_is}
+-- The leaf is the last node of its sequence.
+use Rattle.std.proofs.Common.{◌≡◌, ◌+◌, ◌-◌, arith}
+use Rattle.sgf_tree.specs.FileOrder.{sequence_end}
+use Rattle.sgf_lines.proofs.SequenceCursors.{leaf_ends}
 use Rattle.sgf_lines.proofs.sequence_cursor.SequenceCursor.seek_leaf.Goals as goal
+use Rattle.sgf_lines.proofs.sequence_cursor.SequenceCursor.seek_leaf.Goals.{After-sequence_of-sequence}
 
-pub invariant_of-self-2 : goal.invariant_of-self-2
-invariant_of-self-2 c =
-    stands_sought c.self.inside.collection.now c.self.inside.next c.self.inside.path.items c.self.invariant c.args.self.now c.self.view_is c.args.leaf c.sequence_of-sequence.result
-    c.write_path.new.path.items c.requires.within c.requires.is_leaf c.sequence_of-sequence.ensures.of c.in_ok-write_path.ensures.ok
+ends : (c : After-sequence_of-sequence) → c.args.leaf + 1 ≡ sequence_end c.args.self.now.at.games c.sequence_of-sequence.result
+ends c =
+    leaf_ends c.self.inside.outline.now c.self.inside.next c.self.inside.path.items c.self.invariant c.args.self.now c.self.view_is c.args.leaf c.sequence_of-sequence.result c.sequence_of-sequence.ensures.within c.sequence_of-sequence.ensures.start c.sequence_of-sequence.ensures.end c.requires.is_leaf
+
+pub seek_end-requires-clause-is_leaf : goal.seek_end-requires-clause-is_leaf
+seek_end-requires-clause-is_leaf c =
+    let last : c.args.leaf ≡ sequence_end c.args.self.now.at.games c.sequence_of-sequence.result - 1 = omega (arith, ends (goal.at.seek_end-requires-clause-is_leaf c).After-sequence_of-sequence) in
+    rw last at c.requires.is_leaf
 
 pub returns-clause-sought : goal.returns-clause-sought
-returns-clause-sought c =
-    after_leaf_is c.self.inside.collection.now c.self.inside.next c.self.inside.path.items c.self.invariant c.args.self.now c.self.view_is c.args.leaf c.sequence_of-sequence.result
-    c.write_path.new.path.items c.requires.within c.requires.is_leaf c.sequence_of-sequence.ensures.of c.in_ok-write_path.ensures.ok
+returns-clause-sought c = rw (ends (goal.at.returns-clause-sought c).After-sequence_of-sequence) c.seek_end.ensures.sought

@@ -1,12 +1,28 @@
-use Rattle.std.proofs.Common.{arith}
-use Rattle.sgf_tree.proofs.Held.{count-held, begins-held, last-at}
+use Rattle.std.proofs.Common.{◌≡◌, ◌≤◌, ◌<◌, ◌+◌, get_or, length, refl, ap, subst, arith}
+use Rattle.std.proofs.lemmas.Option.{slice_get_read}
+use Rattle.std.specs.Prelude.{slice_get, Some}
+use Rattle.sgf_tree.specs.Tree.{node_count}
+use Rattle.sgf_tree.specs.FileOrder.{IsLastBelow}
+use Rattle.sgf_tree.specs.inner.GamesRead.{lasts}
+use Rattle.sgf_tree.proofs.LastBelow.{lasts-below}
+use Rattle.sgf_tree.proofs.Starts.{starts-are, length-lasts}
 use Rattle.sgf_tree.proofs.collection.Collection.last_below.Goals as goal
 
-pub last_below-requires-clause-within : goal.last_below-requires-clause-within
-last_below-requires-clause-within c = omega (arith, count-held c.self.inside c.self.invariant.0 _ c.self.view_is)
-
-pub last_below-requires-clause-begins : goal.last_below-requires-clause-begins
-last_below-requires-clause-begins c = begins-held c.self.inside c.self.invariant.0 _ c.self.view_is c.args.i
+pub index-requires : goal.index-requires
+index-requires c =
+    let s = c.self.inside in
+    omega (arith, c.sequence_of.ensures.within, ap length c.self.invariant.1, length-lasts 0 0 s.outline, ap length (starts-are s.outline))
 
 pub returns : goal.returns
-returns c = last-at c.self.inside c.self.invariant.0 _ c.self.view_is c.args.i _ c.last_below.ensures
+returns c =
+    let s = c.self.inside in
+    let k = c.sequence_of.result in
+    let in_sequence = c.sequence_of.ensures in
+    let is : slice_get (lasts 0 s.outline) k ≡ Some c.index.result.now =
+    subst (λ ls. slice_get ls k ≡ Some c.index.result.now) c.self.invariant.1
+    (slice_get_read s.last_nodes.items (length s.last_nodes.items) k c.index.result.now refl
+    (omega (arith, in_sequence.within, ap length c.self.invariant.1, length-lasts 0 0 s.outline, ap length (starts-are s.outline))) c.index.ensures) in
+    subst (λ g. IsLastBelow g c.args.i c.index.result.now) c.self.view_is
+    (lasts-below s.outline k c.index.result.now c.args.i
+    (subst (λ ns. get_or ns k 0 ≤ c.args.i) (starts-are s.outline) in_sequence.start)
+    (subst (λ ns. c.args.i < get_or ns (k + 1) (node_count s.outline)) (starts-are s.outline) in_sequence.end) is)

@@ -1,22 +1,25 @@
-use Rattle.std.proofs.Common.{arith}
-use Rattle.sgf_tree.proofs.Held.{count-held, within-at, node-at}
-use Rattle.sgf_tree.proofs.KeptEnds.{kept-drop}
+use Rattle.std.proofs.Common.{◌≡◌, ◌∙◌, ◌<◌, Some, ap, sym, arith}
+use Rattle.sgf_tree.specs.Tree.{node_count}
+use Rattle.sgf_tree.specs.FileOrder.{node_at, place_at}
+use Rattle.sgf_tree.proofs.PlacesKept.{places-count, place-kept}
 use Rattle.sgf_tree.proofs.collection.Collection.node.Goals as goal
+use Rattle.sgf_tree.proofs.collection.Collection.node.Goals.{After-index}
 
-pub place-at-requires : goal.place-at-requires
-place-at-requires c = omega (arith, count-held c.self.inside c.self.invariant.0 _ c.self.view_is)
+pub index-requires : goal.index-requires
+index-requires c =
+    let s = c.self.inside in
+    omega (arith, c.requires, ap node_count c.self.view_is, places-count s.outline s.places.items c.self.invariant.0)
 
-pub rest_from-requires : goal.rest_from-requires
-rest_from-requires c =
-    omega (arith, within-at c.self.inside c.self.invariant.0 _ c.self.view_is c.args.i _ c.requires c.place-at.ensures)
+-- its place was read
+here : (c : After-index) → place_at c.self.inside.outline c.args.i ≡ Some c.index.result.now
+here c =
+    let s = c.self.inside in
+    let lt : c.args.i < node_count s.outline = omega (arith, c.requires, ap node_count c.self.view_is) in
+    place-kept s.outline s.places.items c.self.invariant.0 c.args.i c.index.result.now lt c.index.ensures
 
-pub invariant_of-result : goal.invariant_of-result
-invariant_of-result c =
-    rw c.rest_from.ensures (
-      (node-at c.self.inside c.self.invariant.0 _ c.self.view_is c.args.i _ c.requires c.place-at.ensures).1,
-      kept-drop c.self.inside.text.now c.place-at.result _ (omega (arith, within-at c.self.inside c.self.invariant.0 _ c.self.view_is c.args.i _ c.requires c.place-at.ensures)) c.self.invariant.1,
-    )
+pub node_at-requires : goal.node_at-requires
+node_at-requires c = (c.args.i, here (goal.at.node_at-requires c).After-index)
 
 pub returns : goal.returns
 returns c =
-    rw c.rest_from.ensures (node-at c.self.inside c.self.invariant.0 _ c.self.view_is c.args.i _ c.requires c.place-at.ensures).0
+    ap (λ g. node_at g c.args.i) (sym c.self.view_is) ∙ c.node_at.ensures c.args.i (here (goal.at.returns c).After-index)

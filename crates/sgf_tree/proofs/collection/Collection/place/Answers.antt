@@ -1,9 +1,16 @@
-use Rattle.std.proofs.Common.{arith}
-use Rattle.sgf_tree.proofs.Held.{count-held, place-at}
+use Rattle.std.proofs.Common.{◌∙◌, ◌<◌, ap, sym, arith}
+use Rattle.sgf_tree.specs.FileOrder.{place_at}
+use Rattle.sgf_tree.specs.Tree.{node_count}
+use Rattle.sgf_tree.proofs.PlacesKept.{places-count, place-kept}
 use Rattle.sgf_tree.proofs.collection.Collection.place.Goals as goal
 
-pub place-requires : goal.place-requires
-place-requires c = omega (arith, count-held c.self.inside c.self.invariant.0 _ c.self.view_is)
+pub index-requires : goal.index-requires
+index-requires c =
+    let s = c.self.inside in
+    omega (arith, c.requires, ap node_count c.self.view_is, places-count s.outline s.places.items c.self.invariant.0)
 
 pub returns : goal.returns
-returns c = place-at c.self.inside c.self.invariant.0 _ c.self.view_is c.args.i _ c.requires c.place.ensures
+returns c =
+    let s = c.self.inside in
+    let lt : c.args.i < node_count s.outline = omega (arith, c.requires, ap node_count c.self.view_is) in
+    ap (λ g. place_at g c.args.i) (sym c.self.view_is) ∙ place-kept s.outline s.places.items c.self.invariant.0 c.args.i c.index.result.now lt c.index.ensures

@@ -1,162 +1,167 @@
-use Rattle.std.proofs.Common.{◌≡◌, ◌≢◌, ◌+◌, ◌<◌, true, IsTrue, length, get_or, refl, subst, arith}
+use Rattle.std.proofs.Common.{◌≡◌, ◌≢◌, ℕ, ◌+◌, ◌<◌, inl, inr, length, get_or, sym, subst, ◌∙◌, arith}
 use Rattle.std.proofs.lemmas.Result.{err_from_is_err_and}
-use Rattle.sgf_tree.specs.inner.GamesRead.{IsNodeRead}
-use Rattle.sgf_tree.specs.inner.NodeText.{AreWritten}
-use Rattle.sgf_tree.specs.inner.Progress.{IsMove, EndsNode}
-use Rattle.sgf_tree.specs.inner.PropertiesRead.{ArePropertiesRead}
-use Rattle.sgf_tree.specs.declared.layout.Link.TheVariants.{Next}
-use Rattle.sgf_tree.proofs.MovesRead.{move-node, move-next, beside-next}
-use Rattle.sgf_tree.proofs.SequencesRead.{place-faulty, place-node, sequence-first, sequence-next, sequence-done, nodes-node, node-room}
+use Rattle.sgf_tree.specs.inner.Progress.{EndsNode}
+use Rattle.sgf_tree.specs.inner.PropertiesRead.{ArePropertiesRead, IsTextRead}
+use Rattle.sgf_tree.specs.inner.KeptEnds.{AreKeptEnds}
+use Rattle.sgf_tree.specs.inner.OwnNodes.{own_of}
+use Rattle.sgf_tree.specs.inner.GamesRead.{coming_of}
+use Rattle.sgf_tree.proofs.OwnStretches.{AreAllTold, ended-few, last-rises, last-within, own-told}
+use Rattle.sgf_tree.proofs.OwnRead.{OwnSoFar, move-ends, read-node, read-faulty, own-start, own-more, own-move, own-few, own-game, own-done}
 use Rattle.sgf_tree.proofs.reader.games.read_sequence.Goals as goal
-use Rattle.sgf_tree.proofs.reader.games.read_sequence.Goals.{then-place-text-via-then-place-text, then-place-text-via-else-place-text+then-text-place-ne59, in-Some, in-None+in_ok-read-in-None}
-
-pub returns-then-place-text-clause-fault : goal.returns-then-place-text-clause-fault
-returns-then-place-text-clause-fault c k after held opening =
-    let t = c.args.text.now in
-    let place = c.skip_white_space-place.result in
-    let other : place < length t → get_or t place 0 ≢ 59 = elim c.then-place-text.branch [
-      | then-place-text-via-then-place-text w ↦ λ lt. absurd (omega (arith, w.if-place-text.true))
-      | then-place-text-via-else-place-text+then-text-place-ne59 w ↦ λ _. w.if-text-place-ne59.true
-    ] in
-    place-faulty t c.args.at place k c.skip_white_space-place.ensures after other
-
-pub returns-in_err-read-clause-fault : goal.returns-in_err-read-clause-fault
-returns-in_err-read-clause-fault c =
-    let p = err_from_is_err_and c.from_residual.result c.from_residual.ensures.1 in
-    let t = c.args.text.now in
-    let place = c.skip_white_space-place.result in
-    let lt : place < length t = omega (arith, c.skip_white_space-place.ensures.within) in
-    rw (p.1, p.2)
-    (λ k after held opening.
-    c.in_err-read.ensures.fault _ refl (place-node t c.args.at place k c.skip_white_space-place.ensures after lt c.if-text-place-ne59.false))
+use Rattle.sgf_tree.proofs.reader.games.read_sequence.Goals.{in-Some, in-None+in_ok-read-in-None, then-nodes-test+else-text-next-eq59, else-nodes-test, then-not-is_written+in_ok-stretch, else-not-is_written}
 
 pub nodes-init : goal.nodes-init
-nodes-init c =
+nodes-init g c =
     let t = c.args.text.now in
-    let place = c.skip_white_space-place.result in
-    let lt : place < length t = omega (arith, c.skip_white_space-place.ensures.within) in
-    let read = c.in_ok-read.ensures.read in
+    record { so_far = rw c.none-own.ensures (own-start t c.args.at (g.K.Keeper.keeps t c.args.keeper.now) c.skip_white_space-next.result c.skip_white_space-next.ensures); long = c.requires.long }
+
+pub take_node-requires-clause-few : goal.take_node-requires-clause-few
+take_node-requires-clause-few g c =
+    let t = c.args.text.now in
+    let keeps = g.K.Keeper.keeps t in
+    let o = c.requires.opened in
+    let so_far = c.nodes.invariant.so_far in
+    let own = so_far.each o.0 o.1 in
+    (t, o.0, own.nodes, own.ended, own.holds o.2, own.are, c.requires.short, own-few t c.args.at (keeps c.args.keeper.now) (keeps c.nodes.keeper) c.nodes.next c.nodes.own so_far o.0 o.3)
+
+pub take_node-requires-then-in_place-eq-TWO_MOVES-clause-few : goal.take_node-requires-then-in_place-eq-TWO_MOVES-clause-few
+take_node-requires-then-in_place-eq-TWO_MOVES-clause-few g c =
+    let t = c.args.text.now in
+    let keeps = g.K.Keeper.keeps t in
+    let kept = keeps c.args.keeper.now in
+    let o = c.requires.opened in
+    let moves = c.moves_in_place-in_place.ensures in
+    let all = c.if-in_place-eq-TWO_MOVES.true in
+    let first = moves.first (omega (arith, all)) in
+    let between = move-ends t (c.nodes.next + 6) (moves.second all) in
+    let one = c.move_read.ensures in
+    let taken = c.in_ok-own.ensures in
+    let so_far = own-move t c.args.at kept (keeps c.nodes.keeper) (keeps c.take_node.new.keeper) c.nodes.next c.nodes.own c.in_ok-own.own c.move_read.result c.nodes.invariant.so_far
+    first between one.is (one.read t first between) (one.text t first between) (taken.taken t) taken.end taken.count in
+    let own = so_far.each o.0 o.1 in
+    (t, o.0, own.nodes, own.ended, own.holds o.2, own.are, c.requires.short, own-few t c.args.at kept (keeps c.take_node.new.keeper) (c.nodes.next + 6) c.in_ok-own.own so_far o.0 o.3)
+
+pub nodes-preserved-then-in_place-eq-TWO_MOVES : goal.nodes-preserved-then-in_place-eq-TWO_MOVES
+nodes-preserved-then-in_place-eq-TWO_MOVES g c =
+    let t = c.args.text.now in
+    let at = c.args.at in
+    let next = c.nodes.next in
+    let keeps = g.K.Keeper.keeps t in
+    let kept = keeps c.args.keeper.now in
+    let moves = c.moves_in_place-in_place.ensures in
+    let all = c.if-in_place-eq-TWO_MOVES.true in
+    let first = moves.first (omega (arith, all)) in
+    let second = moves.second all in
+    let between = move-ends t (next + 6) second in
+    let twelve : next + 6 + 6 ≡ next + 12 = omega arith in
+    let ends = subst (λ (i : ℕ). EndsNode t i) (sym twelve) (moves.ends all) in
+    let one = c.move_read.ensures in
+    let other = c.move_read-then-in_place-eq-TWO_MOVES.ensures in
+    let taken = c.in_ok-own.ensures in
+    let takes = c.in_ok-own-2.ensures in
+    let to_one = own-move t at kept (keeps c.nodes.keeper) (keeps c.take_node.new.keeper) next c.nodes.own c.in_ok-own.own c.move_read.result c.nodes.invariant.so_far
+    first between one.is (one.read t first between) (one.text t first between) (taken.taken t) taken.end taken.count in
+    let to_other = own-move t at kept (keeps c.take_node.new.keeper) (keeps c.take_node-then-in_place-eq-TWO_MOVES.new.keeper) (next + 6) c.in_ok-own.own c.in_ok-own-2.own
+    c.move_read-then-in_place-eq-TWO_MOVES.result to_one second ends other.is (other.read t second ends) (other.text t second ends) (takes.taken t) takes.end takes.count in
     record {
-      rises = omega (arith, c.skip_white_space-place.ensures.rises, read.properties.rises);
-      within = read.properties.within;
-      room = node-room t place c.in_ok-read.read.end c.args.link _ _ (omega (arith, c.requires.room, c.skip_white_space-place.ensures.rises)) read;
-      so_far = λ k after held opening.
-          sequence-first t c.args.at place c.in_ok-read.read.end c.in_ok-read.read.as_written k c.args.link _ _ c.skip_white_space-place.ensures after held opening lt c.if-text-place-ne59.false read c.in_ok-read.ensures.written;
-      kept = c.in_ok-read.ensures.kept;
-    }
-
-pub read_moves-requires-clause-room : goal.read_moves-requires-clause-room
-read_moves-requires-clause-room c =
-    let t = c.args.text.now in
-    let place = c.nodes.read.end in
-    let all = c.if-in_place-eq4095.true in
-    let six : place + 1 + 5 ≡ place + 6 = omega arith in
-    let seven : place + 1 + 6 ≡ place + 6 + 1 = omega arith in
-    let twelve : place + 1 + 11 ≡ place + 12 = omega arith in
-    let bytes = c.near_bytes_in_place-in_place.ensures in
-    let some = c.if-in_place-eq63.true in
-    let ends = subst (EndsNode t) six (bytes.node_ends some) in
-    let move = bytes.move_stands (omega (arith, some)) in
-    let next-ends = subst (EndsNode t) twelve (bytes.next_ends all) in
-    let next-move = subst (IsMove t) seven (bytes.next_stands all) in
-    let read = move-node t place (place + 6) c.nodes.read.as_written _ _ refl move ends c.in_ok-push.ensures.pushed in
-    let next-read = move-node t (place + 6) (place + 12) true _ _ (omega arith) next-move next-ends c.in_ok-push-2.ensures.pushed in
-    node-room t (place + 6) (place + 12) _ _ _ (node-room t place (place + 6) _ _ _ c.nodes.invariant.room read) next-read
-
-pub read_moves-requires-clause-within : goal.read_moves-requires-clause-within
-read_moves-requires-clause-within c =
-    let ends = c.near_bytes_in_place-in_place.ensures.next_ends c.if-in_place-eq4095.true in omega (arith, ends.within)
-
-pub nodes-preserved-then-text-place-eq59 : goal.nodes-preserved-then-text-place-eq59
-nodes-preserved-then-text-place-eq59 c =
-    let t = c.args.text.now in
-    let place = c.nodes.read.end in
-    let all = c.if-in_place-eq4095.true in
-    let pushed = c.in_ok-push.ensures.pushed in
-    let pushed-next = c.in_ok-push-2.ensures.pushed in
-    let six : place + 1 + 5 ≡ place + 6 = omega arith in
-    let seven : place + 1 + 6 ≡ place + 6 + 1 = omega arith in
-    let twelve : place + 1 + 11 ≡ place + 12 = omega arith in
-    let bytes = c.near_bytes_in_place-in_place.ensures in
-    let some = c.if-in_place-eq63.true in
-    let ends = subst (EndsNode t) six (bytes.node_ends some) in
-    let move = bytes.move_stands (omega (arith, some)) in
-    let next-ends = subst (EndsNode t) twelve (bytes.next_ends all) in
-    let next-move = subst (IsMove t) seven (bytes.next_stands all) in
-    let read = move-node t place (place + 6) c.nodes.read.as_written _ _ refl move ends pushed in
-    let next-read = move-node t (place + 6) (place + 12) true _ _ (omega arith) next-move next-ends pushed-next in
-    let more = c.in_ok-read_moves.ensures in
-    record {
-      rises = omega (arith, c.nodes.invariant.rises, more.rises);
-      within = more.within;
-      room = more.room;
-      so_far = λ k after held opening.
-          beside-next k more.read
-          (move-next t (place + 6) (place + 12) true _ _ (omega arith) next-move next-ends pushed-next k c.if-text-place-eq59.true
-          (move-next t place (place + 6) c.nodes.read.as_written _ _ refl move ends pushed k c.if-text-read-eq59.true (c.nodes.invariant.so_far k after held opening)));
-      kept = c.nodes.invariant.kept;
-    }
-
-pub nodes-preserved-else-in_place-eq4095 : goal.nodes-preserved-else-in_place-eq4095
-nodes-preserved-else-in_place-eq4095 c =
-    let t = c.args.text.now in
-    let place = c.nodes.read.end in
-    let pushed = c.in_ok-push.ensures.pushed in
-    let six : place + 1 + 5 ≡ place + 6 = omega arith in
-    let bytes = c.near_bytes_in_place-in_place.ensures in
-    let some = c.if-in_place-eq63.true in
-    let ends = subst (EndsNode t) six (bytes.node_ends some) in
-    let move = bytes.move_stands (omega (arith, some)) in
-    let read = move-node t place (place + 6) c.nodes.read.as_written _ _ refl move ends pushed in
-    record {
-      rises = omega (arith, c.nodes.invariant.rises);
-      within = read.properties.within;
-      room = node-room t place (place + 6) _ _ _ c.nodes.invariant.room read;
-      so_far = λ k after held opening.
-          move-next t place (place + 6) c.nodes.read.as_written _ _ refl move ends pushed k c.if-text-read-eq59.true (c.nodes.invariant.so_far k after held opening);
-      kept = c.nodes.invariant.kept;
+      so_far = subst (λ (i : ℕ). OwnSoFar t at kept (keeps c.take_node-then-in_place-eq-TWO_MOVES.new.keeper) i c.in_ok-own-2.own) twelve to_other;
+      long = c.nodes.invariant.long;
     }
 
 pub returns-in_err-read-in-None-clause-fault : goal.returns-in_err-read-in-None-clause-fault
-returns-in_err-read-in-None-clause-fault c =
+returns-in_err-read-in-None-clause-fault g c =
     let p = err_from_is_err_and c.from_residual-in_err-read-in-None.result c.from_residual-in_err-read-in-None.ensures.1 in
     rw (p.1, p.2)
-    (λ k after held opening.
-    let so_far = c.nodes.invariant.so_far k after held opening in
-    let node = nodes-node c.args.text.now c.nodes.read.end k so_far.last so_far.nodes c.nodes-test.true c.if-text-read-eq59.true in
+    (λ k after.
+    let own = c.nodes.invariant.so_far.each k after in
+    let node = read-node c.args.text.now c.args.at k after c.nodes.next own.nodes own.read c.nodes-test.true c.if-text-next-eq59.true in
     c.in_err-read-in-None.ensures.fault node.0 node.1.0 node.1.1)
 
-pub nodes-preserved : goal.nodes-preserved
-nodes-preserved c =
+pub take_node-requires-else-in_place-eq-TWO_MOVES-clause-few : goal.take_node-requires-else-in_place-eq-TWO_MOVES-clause-few
+take_node-requires-else-in_place-eq-TWO_MOVES-clause-few g c =
     let t = c.args.text.now in
-    let place = c.nodes.read.end in
-    let end = c.match-short_properties.read.end in
-    let is_written = c.match-short_properties.read.as_written in
-    let properties : ArePropertiesRead t (place + 1) end = elim c.match-short_properties.branch [
-      | in-Some w ↦ rw w.read-is w.in-Some.ensures.read
-      | in-None+in_ok-read-in-None w ↦ rw w.read-is w.in_ok-read-in-None.ensures.read
+    let keeps = g.K.Keeper.keeps t in
+    let o = c.requires.opened in
+    let so_far = c.nodes.invariant.so_far in
+    let own = so_far.each o.0 o.1 in
+    (t, o.0, own.nodes, own.ended, own.holds o.2, own.are, c.requires.short, own-few t c.args.at (keeps c.args.keeper.now) (keeps c.nodes.keeper) c.nodes.next c.nodes.own so_far o.0 o.3)
+
+pub nodes-preserved : goal.nodes-preserved
+nodes-preserved g c =
+    let t = c.args.text.now in
+    let keeps = g.K.Keeper.keeps t in
+    let joined = c.match-short_properties in
+    let own = c.in_ok-own-3 in
+    let facts : ArePropertiesRead t (c.nodes.next + 1) joined.read.end × IsTextRead t (c.nodes.next + 1) joined.read × AreKeptEnds t joined.long.items = elim joined.branch [
+      | in-Some w ↦ rw (w.read-is, w.long-is) (w.in-Some.ensures.read, w.in-Some.ensures.text, c.nodes.invariant.long)
+      | in-None+in_ok-read-in-None w ↦ rw (w.read-is, w.long-is) (w.in_ok-read-in-None.ensures.read, w.in_ok-read-in-None.ensures.text, w.in_ok-read-in-None.ensures.kept)
     ] in
-    let written : IsTrue is_written → AreWritten t (place + 1) end = elim c.match-short_properties.branch [
-      | in-Some w ↦ rw w.read-is w.in-Some.ensures.written
-      | in-None+in_ok-read-in-None w ↦ rw w.read-is w.in_ok-read-in-None.ensures.written
-    ] in
-    let read : IsNodeRead t place end (Next c.nodes.read.as_written) _ _ = record { properties = properties; pushed = c.in_ok-push-3.ensures.pushed } in
     record {
-      rises = omega (arith, c.nodes.invariant.rises, properties.rises);
-      within = properties.within;
-      room = node-room t place end _ _ _ c.nodes.invariant.room read;
-      so_far = λ k after held opening.
-          sequence-next t place end c.nodes.read.as_written is_written k _ _ (c.nodes.invariant.so_far k after held opening) c.nodes-test.true c.if-text-read-eq59.true read written;
-      kept = elim c.match-short_properties.branch [
-        | in-Some w ↦ rw w.long-is c.nodes.invariant.kept
-        | in-None+in_ok-read-in-None w ↦ rw w.long-is w.in_ok-read-in-None.ensures.kept
-      ];
+      so_far =
+          own-more t c.args.at (keeps c.args.keeper.now) (keeps c.nodes.keeper) (keeps c.take_node-else-in_place-eq-TWO_MOVES.new.keeper) c.nodes.next c.nodes.own own.own joined.read
+          c.nodes.invariant.so_far c.nodes-test.true c.if-text-next-eq59.true facts.0 facts.1 (own.ensures.taken t) own.ensures.end own.ensures.count;
+      long = facts.2;
     }
 
-pub returns-else-text-read-eq59-clause-read : goal.returns-else-text-read-eq59-clause-read
-returns-else-text-read-eq59-clause-read c k after held opening =
-    sequence-done c.args.text.now c.nodes.read.end c.nodes.read.as_written k _ (c.nodes.invariant.so_far k after held opening) (λ _. c.if-text-read-eq59.false)
+pub returns-then-own-eq0-clause-fault : goal.returns-then-own-eq0-clause-fault
+returns-then-own-eq0-clause-fault g c k after =
+    let t = c.args.text.now in
+    let next = c.nodes.next in
+    let own = c.nodes.invariant.so_far.each k after in
+    let other : next < length t → get_or t next 0 ≢ 59 = elim c.nodes-test.branch [
+      | then-nodes-test+else-text-next-eq59 w ↦ λ _. w.if-text-next-eq59.false
+      | else-nodes-test w ↦ λ lt. absurd (omega (arith, w.nodes-test.false))
+    ] in
+    read-faulty t c.args.at k after next own.nodes own.read (sym own.are.counted ∙ c.if-own-eq0.true) other
 
-pub returns-after-nodes-clause-read : goal.returns-after-nodes-clause-read
-returns-after-nodes-clause-read c k after held opening =
-    sequence-done c.args.text.now c.nodes.read.end c.nodes.read.as_written k _ (c.nodes.invariant.so_far k after held opening) (λ lt. absurd (omega (arith, c.nodes-test.false)))
+pub stretch-requires-clause-low : goal.stretch-requires-clause-low
+stretch-requires-clause-low g c =
+    let o = c.requires.opened in
+    let own = c.nodes.invariant.so_far.each o.0 o.1 in
+    rw c.last_stretch.ensures (omega (arith, c.requires.short, last-within c.args.text.now c.nodes.own own.nodes own.ended own.are))
+
+pub stretch-requires-clause-rises : goal.stretch-requires-clause-rises
+stretch-requires-clause-rises g c =
+    let o = c.requires.opened in
+    let own = c.nodes.invariant.so_far.each o.0 o.1 in
+    rw c.last_stretch.ensures (last-rises c.args.text.now c.nodes.own own.nodes own.ended own.are)
+
+pub stretch-requires-clause-few : goal.stretch-requires-clause-few
+stretch-requires-clause-few g c =
+    let t = c.args.text.now in
+    let o = c.requires.opened in
+    let so_far = c.nodes.invariant.so_far in
+    let own = so_far.each o.0 o.1 in
+    (t, o.0, coming_of own.nodes own.ended, own.holds o.2, omega (arith, o.3, so_far.few, own.are.within, c.requires.short, ended-few t c.nodes.own own.nodes own.ended own.are (omega (arith, c.if-own-eq0.false))))
+
+pub own_nodes-requires-clause-few : goal.own_nodes-requires-clause-few
+own_nodes-requires-clause-few g c =
+    let t = c.args.text.now in
+    let keeps = g.K.Keeper.keeps t in
+    let kept = keeps c.args.keeper.now in
+    let o = c.requires.opened in
+    let so_far = c.nodes.invariant.so_far in
+    let all : AreAllTold (keeps c.nodes.keeper) (keeps c.if-not-is_written.keeper) c.nodes.own = elim c.if-not-is_written.branch [
+      | then-not-is_written+in_ok-stretch w ↦ inr (sym c.is_written.ensures ∙ w.if-not-is_written.true, λ k coming held. rw (w.keeper-is, ← w.last_stretch.ensures) (w.in_ok-stretch.ensures.kept t k coming held))
+      | else-not-is_written w ↦ inl (sym c.is_written.ensures ∙ w.if-not-is_written.false, λ k coming held. rw w.keeper-is held)
+    ] in
+    let own = own-game t c.args.at kept (keeps c.nodes.keeper) c.nodes.next c.nodes.own o.0 (so_far.each o.0 o.1) (omega (arith, c.if-own-eq0.false)) in
+    let ends = own-told t (keeps c.nodes.keeper) (keeps c.if-not-is_written.keeper) c.nodes.own (omega (arith, c.if-own-eq0.false)) all o.0 (own_of own.game) own.ended own.are (own.holds o.2) in
+    (t, o.0, own.game, ends.0, ends.1.0, ends.1.1, omega (arith, o.3, so_far.few))
+
+pub returns-clause-read : goal.returns-clause-read
+returns-clause-read g c =
+    let t = c.args.text.now in
+    let keeps = g.K.Keeper.keeps t in
+    let kept = keeps c.args.keeper.now in
+    let next = c.nodes.next in
+    let other : next < length t → get_or t next 0 ≢ 59 = elim c.nodes-test.branch [
+      | then-nodes-test+else-text-next-eq59 w ↦ λ _. w.if-text-next-eq59.false
+      | else-nodes-test w ↦ λ lt. absurd (omega (arith, w.nodes-test.false))
+    ] in
+    let all : AreAllTold (keeps c.nodes.keeper) (keeps c.if-not-is_written.keeper) c.nodes.own = elim c.if-not-is_written.branch [
+      | then-not-is_written+in_ok-stretch w ↦ inr (sym c.is_written.ensures ∙ w.if-not-is_written.true, λ k coming held. rw (w.keeper-is, ← w.last_stretch.ensures) (w.in_ok-stretch.ensures.kept t k coming held))
+      | else-not-is_written w ↦ inl (sym c.is_written.ensures ∙ w.if-not-is_written.false, λ k coming held. rw w.keeper-is held)
+    ] in
+    own-done t c.args.at kept (keeps c.nodes.keeper) (keeps c.if-not-is_written.keeper) (keeps c.own_nodes.new.self) next c.nodes.own c.nodes.invariant.so_far (omega (arith, c.if-own-eq0.false)) other all
+    (c.in_ok-own_nodes.ensures.kept t)

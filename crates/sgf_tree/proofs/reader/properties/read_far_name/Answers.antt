@@ -11,11 +11,11 @@ returns-then-end-text-clause-fault c n h =
       | then-end-text-via-then-end-text w ↦ λ lt. absurd (omega (arith, w.if-end-text.true))
       | then-end-text-via-else-end-text+then-text-end-ne91 w ↦ λ _. w.if-text-end-ne91.true
     ] in
-    name-faulty t end n _ (name-after t c.args.start c.letters_end.result end n c.requires.within c.requires.capital c.letters_end.ensures c.skip_white_space-end.ensures h)
+    name-faulty t end n _ (name-after t c.args.start c.letters_end-text_end.result end n c.requires.within c.requires.capital c.letters_end-text_end.ensures c.skip_white_space-end.ensures h)
     c.skip_white_space-end.ensures.within other
 
 pub returns-clause-read : goal.returns-clause-read
 returns-clause-read c =
     let end = c.skip_white_space-end.result in
-    name-read c.args.text.now c.args.start c.letters_end.result end c.requires.within c.requires.capital c.letters_end.ensures c.skip_white_space-end.ensures
+    name-read c.args.text.now c.args.start c.letters_end-text_end.result end c.requires.within c.requires.capital c.letters_end-text_end.ensures c.skip_white_space-end.ensures
     (record { within = omega (arith, c.skip_white_space-end.ensures.within); bracket = c.if-text-end-ne91.false })

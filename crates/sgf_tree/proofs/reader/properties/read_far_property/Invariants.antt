@@ -8,11 +8,11 @@ use Rattle.sgf_tree.proofs.reader.properties.read_far_property.Given as goal
 
 abbrev pub invariant-values : goal.invariant-values
 invariant-values l = record {
-  stands : IsBracket l.text l.at;
-  so_far : ValuesSoFar l.text l.initial.at l.at;
-  written : IsTrue l.as_written → IsSpan is_upper l.text l.start l.initial.at × AreValuesWritten l.text l.initial.at l.at;
+  stands : IsBracket l.text l.bracket;
+  so_far : ValuesSoFar l.text l.initial.bracket l.bracket;
+  written : IsTrue l.as_written → IsSpan is_upper l.text l.start l.initial.bracket × AreValuesWritten l.text l.initial.bracket l.bracket;
   kept : AreKeptEnds l.text l.long.items;
 }
 
 abbrev pub decreases-values : goal.decreases-values
-decreases-values l = length l.text - l.at
+decreases-values l = length l.text - l.bracket

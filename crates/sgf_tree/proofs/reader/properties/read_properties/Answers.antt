@@ -1,18 +1,14 @@
-use Rattle.std.proofs.Common.{◌≡◌, ◌∙◌, sym, arith}
-use Rattle.std.proofs.lemmas.Bool.{and_parts, eqb-true}
+use Rattle.std.proofs.Common.{◌∙◌, sym, arith}
 use Rattle.std.proofs.lemmas.Result.{err_from_is_err_and}
-use Rattle.sgf_tree.proofs.NodeEnds.{node-name, properties-begin, properties-more, properties-done}
-use Rattle.sgf_tree.proofs.WrittenParts.{written-none, written-more}
+use Rattle.sgf_tree.proofs.NodeEnds.{node-name}
+use Rattle.sgf_tree.proofs.ShortProperties.{so-far-begin, so-far-more, so-far-done, so-far-text}
 use Rattle.sgf_tree.specs.inner.PropertiesRead.{IsWholePropertyRead}
 use Rattle.sgf_tree.proofs.reader.properties.read_properties.Goals as goal
 use Rattle.sgf_tree.proofs.reader.properties.read_properties.Goals.{in-Some, in-None+in_ok-property-in-None}
 
 pub properties-init : goal.properties-init
 properties-init c = record {
-  so_far = properties-begin c.args.text.now c.args.at c.skip_white_space-end.result c.skip_white_space-end.ensures;
-  written = λ is.
-      let same : c.skip_white_space-end.result ≡ c.args.at = eqb-true c.skip_white_space-end.result c.args.at is in
-      rw same (written-none c.args.text.now c.args.at c.requires.within);
+  so_far = so-far-begin c.args.text.now c.args.at c.skip_white_space.result c.requires.within c.skip_white_space.ensures;
   kept = c.requires.kept;
 }
 
@@ -21,23 +17,21 @@ returns-in_err-property-in-None-clause-fault c =
     let p = err_from_is_err_and c.from_residual.result c.from_residual.ensures.1 in
     let capital = sym c.is_ascii_uppercase.ensures.value ∙ c.if-is_ascii_uppercase.true in
     rw (p.1, p.2)
-    (λ n none h. c.in_err-property-in-None.ensures.fault _ (node-name c.args.text.now c.properties.end _ (c.properties.invariant.so_far.reached n none h).1 c.properties-test.true capital))
+    (λ n none h. c.in_err-property-in-None.ensures.fault _ (node-name c.args.text.now c.properties.read.end _ (c.properties.invariant.so_far.properties.reached n none h).1 c.properties-test.true capital))
 
 pub properties-preserved : goal.properties-preserved
 properties-preserved c =
     let t = c.args.text.now in
-    let end = c.properties.end in
     let property = c.match-read_short_property.property in
     let capital = sym c.is_ascii_uppercase.ensures.value ∙ c.if-is_ascii_uppercase.true in
-    let read : IsWholePropertyRead t end property = elim c.match-read_short_property.branch [
+    let read : IsWholePropertyRead t c.properties.read.end property = elim c.match-read_short_property.branch [
       | in-Some w ↦ rw w.property-is w.in-Some.ensures
       | in-None+in_ok-property-in-None w ↦ rw w.property-is w.in_ok-property-in-None.ensures.read
     ] in
     record {
-      so_far = properties-more t c.args.at end property.end c.properties.invariant.so_far c.properties-test.true capital read.property;
-      written = λ is.
-          let (before, last) = and_parts c.properties.as_written property.as_written is in
-          written-more t c.args.at end property.end (c.properties.invariant.written before) (read.written last);
+      so_far =
+          so-far-more t c.args.at c.properties.read property c.with-read.result c.properties.invariant.so_far c.properties-test.true capital read
+          c.with-read.ensures.text_end c.with-read.ensures.end c.with-read.ensures.written.0;
       kept = elim c.match-read_short_property.branch [
         | in-Some w ↦ rw w.long-is c.properties.invariant.kept
         | in-None+in_ok-property-in-None w ↦ rw w.long-is w.in_ok-property-in-None.ensures.kept
@@ -46,8 +40,16 @@ properties-preserved c =
 
 pub returns-else-is_ascii_uppercase-clause-read : goal.returns-else-is_ascii_uppercase-clause-read
 returns-else-is_ascii_uppercase-clause-read c =
-    properties-done c.args.text.now c.args.at c.properties.end c.properties.invariant.so_far (λ lt. sym c.is_ascii_uppercase.ensures.value ∙ c.if-is_ascii_uppercase.false)
+    so-far-done c.args.text.now c.args.at c.properties.read c.properties.invariant.so_far (λ lt. sym c.is_ascii_uppercase.ensures.value ∙ c.if-is_ascii_uppercase.false)
+
+pub returns-else-is_ascii_uppercase-clause-text : goal.returns-else-is_ascii_uppercase-clause-text
+returns-else-is_ascii_uppercase-clause-text c =
+    so-far-text c.args.text.now c.args.at c.properties.read c.properties.invariant.so_far (λ lt. sym c.is_ascii_uppercase.ensures.value ∙ c.if-is_ascii_uppercase.false)
 
 pub returns-after-properties-clause-read : goal.returns-after-properties-clause-read
 returns-after-properties-clause-read c =
-    properties-done c.args.text.now c.args.at c.properties.end c.properties.invariant.so_far (λ lt. absurd (omega (arith, c.properties-test.false)))
+    so-far-done c.args.text.now c.args.at c.properties.read c.properties.invariant.so_far (λ lt. absurd (omega (arith, c.properties-test.false)))
+
+pub returns-after-properties-clause-text : goal.returns-after-properties-clause-text
+returns-after-properties-clause-text c =
+    so-far-text c.args.text.now c.args.at c.properties.read c.properties.invariant.so_far (λ lt. absurd (omega (arith, c.properties-test.false)))

@@ -1,0 +1,17 @@
+-- The line is judged from its root.
+use Rattle.std.proofs.Common.{◌<◌, length, refl, arith}
+use Rattle.sgf_lines.specs.inner.Following.{line_before, nodes_before}
+use Rattle.sgf_lines.proofs.Judged.{told_of}
+use Rattle.sgf_lines.proofs.RunRecords.{verdict_is}
+use Rattle.sgf_lines.proofs.SequenceCursors.{some_end}
+use Rattle.sgf_lines.proofs.judging.one_line.judge_before.Goals as goal
+
+pub judge_line-requires-clause-front : goal.judge_line-requires-clause-front
+judge_line-requires-clause-front c = record { more = omega (arith, c.sequences-sequences.ensures.some c.requires, c.sequences-sequences.ensures.count); count = refl }
+
+pub returns : goal.returns
+returns c =
+    let at = c.args.cursor.now.at in
+    let some : 0 < length c.args.cursor.now.ends = omega (arith, c.sequences-sequences.ensures.some c.requires, c.sequences-sequences.ensures.count) in
+    told_of (line_before at) c.verdict.result (some_end c.args.cursor.now.ends _ c.sequences-sequences.ensures.divided some)
+    (verdict_is (nodes_before at) c.judge_line.new.judge.judgement c.verdict.result c.verdict.ensures c.in_ok-judge_line.ensures.judged)

@@ -1,0 +1,83 @@
+-- What is kept of all nodes: with one more open game, and after a game that ends.
+use Rattle.std.proofs.Common.{◌≡◌, ℕ, ◌+◌, ◌-◌, true, List, [], ◌∷◌, ◌++◌, length, set, Some, refl, sym, ap, ◌∙◌, arith, append-nil}
+use Rattle.std.proofs.lemmas.List.{length-map, map-append, set_at}
+use Rattle.sgf_tree.specs.Tree.{Node, Games, no_games, node_count}
+use Rattle.sgf_tree.specs.FileOrder.{OrderedNode, further_nodes}
+use Rattle.sgf_tree.specs.inner.Machine.{OpenGame, Stack, after_game, whole_game, close}
+use Rattle.sgf_tree.specs.inner.GamesRead.{open_count, tip, open_nodes, lasts, open_lasts}
+use Rattle.sgf_tree.specs.inner.OwnNodes.{Coming, nothing, own_of, places_of, with_game}
+use Rattle.sgf_tree.specs.inner.Outlining.{HoldsSequences}
+use Rattle.sgf_tree.specs.inner.Placing.{ordered_places, HoldsNodes}
+use Rattle.sgf_tree.specs.declared.layout.Stretch.{Stretch}
+use Rattle.sgf_tree.specs.declared.numbered.Numbered.{Numbered}
+use Rattle.sgf_tree.proofs.Completion.{add_games}
+use Rattle.sgf_tree.proofs.GameEnds.{game-ends}
+use Rattle.sgf_tree.proofs.Listed.{before, open_lasts-listed}
+use Rattle.sgf_tree.proofs.Stacks.{length-open_nodes, open_nodes-closed, open_lasts-closed}
+
+further-places : (last : ℕ) (ns : List Node) → ordered_places (further_nodes last ns) ≡ places_of ns
+further-places last [] = refl
+further-places last (n ∷ ns) = ap (λ ps. n.place ∷ ps) (further-places (last + 1) ns)
+
+-- the places of one more open game
+places-opened : (closed : Games) (gs : List OpenGame) (g : OpenGame) → g.below ≡ no_games
+    → ordered_places (open_nodes closed gs) ++ places_of (own_of g) ≡ ordered_places (open_nodes closed (g ∷ gs)) ++ []
+places-opened closed gs g none =
+    let r : OrderedNode = record { node = g.first; parent = tip closed gs; opens = true } in
+    let ns : List OrderedNode = further_nodes (open_count closed gs) g.more in
+    rw none
+    (ap (λ ps. ordered_places (open_nodes closed gs) ++ g.first.place ∷ ps) (sym (further-places (open_count closed gs) g.more))
+    ∙ sym (map-append (λ (ordered : OrderedNode). ordered.node.place) (open_nodes closed gs) (r ∷ ns))
+    ∙ ap (λ rs. ordered_places (open_nodes closed gs ++ r ∷ rs)) (sym (append-nil ns))
+    ∙ sym (append-nil (ordered_places (open_nodes closed gs ++ r ∷ (ns ++ [])))))
+
+module _ (text : List ℕ) (kept : Numbered) where
+  -- there are as many places as nodes
+  pub length-places : (k : Stack) → HoldsNodes text kept k nothing → length kept.places.items ≡ open_count k.closed k.unclosed
+  length-places k holds =
+      ap length (holds.places_are ∙ append-nil (ordered_places (open_nodes k.closed k.unclosed)))
+      ∙ length-map (open_nodes k.closed k.unclosed) (λ (ordered : OrderedNode). ordered.node.place) ∙ length-open_nodes k.closed k.unclosed
+
+  -- and a last node for each sequence
+  pub length-lasts : (k : Stack) (coming : Coming) → HoldsNodes text kept k coming → length kept.last_nodes.items ≡ length kept.sequences.table.items
+  length-lasts k coming holds = ap length holds.lasts_are ∙ open_lasts-listed k.closed k.unclosed ∙ sym holds.sequences.are.count
+
+  -- one more game is open
+  pub nodes-opened : (after : Numbered) (k : Stack) (g : OpenGame) (stretches : List Stretch)
+      → HoldsNodes text kept k (record { places = places_of (own_of g); stretches = stretches }) → g.below ≡ no_games
+      → HoldsSequences text after.sequences (with_game k g) nothing → after.places ≡ kept.places → after.last_nodes.items ≡ kept.last_nodes.items ++ 0 ∷ []
+      → HoldsNodes text after (with_game k g) nothing
+  nodes-opened after k g stretches holds none sequences places lasts_are = record {
+    sequences = sequences;
+    places_are = rw places (holds.places_are ∙ places-opened k.closed k.unclosed g none);
+    places_within = rw places holds.places_within;
+    lasts_are = rw none (lasts_are ∙ ap (λ ls. ls ++ 0 ∷ []) holds.lasts_are);
+  }
+
+  -- a game that ends: the last node so far is the last one below its first
+  module _ (after : Numbered)
+      (closes : (i : ℕ) → kept.sequences.innermost ≡ Some i
+      → (after.places ≡ kept.places) × (after.last_nodes.items ≡ set kept.last_nodes.items i (length kept.places.items - 1))) where
+    abbrev Ends : Stack → Stack → Type 0
+    Ends k next = HoldsNodes text kept k nothing → HoldsSequences text after.sequences next nothing → HoldsNodes text after next nothing
+
+    each-ended : (closed : Games) (g : OpenGame) (gs : List OpenGame) → Ends (record { closed = closed; unclosed = g ∷ gs }) (add_games closed gs (whole_game g))
+    each-ended closed g gs holds sequences =
+        let i : ℕ = length (before closed gs) in
+        let at : ℕ = open_count closed gs in
+        let later : List ℕ = lasts (at + 1 + length g.more) g.below in
+        let last : length kept.places.items - 1 ≡ at + length g.more + node_count g.below =
+        omega (arith, length-places (record { closed = closed; unclosed = g ∷ gs }) holds) in
+        let (places, lasts_are) = closes i holds.sequences.innermost_is in
+        record {
+          sequences = sequences;
+          places_are = rw places (holds.places_are ∙ ap (λ ns. ordered_places ns ++ []) (sym (open_nodes-closed closed g gs)));
+          places_within = rw places holds.places_within;
+          lasts_are =
+              lasts_are ∙ ap (λ ls. set ls i (length kept.places.items - 1)) holds.lasts_are
+              ∙ set_at (open_lasts closed gs) 0 later (length kept.places.items - 1) i (open_lasts-listed closed gs)
+              ∙ ap (λ n. open_lasts closed gs ++ n ∷ later) last ∙ sym (open_lasts-closed closed g gs);
+        }
+
+    pub nodes-ended : (k next : Stack) → close k ≡ Some (after_game next) → Ends k next
+    nodes-ended = game-ends Ends each-ended

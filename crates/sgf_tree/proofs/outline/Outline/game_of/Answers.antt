@@ -1,0 +1,31 @@
+use Rattle.std.proofs.Common.{◌≡◌, None, sym, ◌∙◌, arith}
+use Rattle.sgf_tree.specs.inner.Outlining.{outer_by, stretches_by}
+use Rattle.sgf_tree.proofs.Outlined.{IsEntryOf, table-length, entry-in, game-outer, outer-none}
+use Rattle.sgf_tree.proofs.outline.Outline.game_of.Goals as goal
+use Rattle.sgf_tree.proofs.outline.Outline.game_of.Goals.{After-index}
+
+pub climb-preserved : goal.climb-preserved
+climb-preserved c =
+    let before = c.climb.invariant in
+    let outer = c.in-Some.ensures in
+    record {
+      within = omega (arith, before.within, outer.0);
+      same = game-outer c.args.self.now c.in-Some.outer (omega (arith, before.within, outer.0)) c.climb.at outer.1 ∙ before.same;
+    }
+
+pub index-requires : goal.index-requires
+index-requires c = omega (arith, c.climb.invariant.within, table-length c.self.inside.text.now c.self.inside.sequences c.self.invariant.0 _ c.self.view_is)
+
+entry : (c : After-index) → IsEntryOf c.self.inside.text.now (stretches_by c.self.inside.sequences) c.args.self.now c.climb.at c.index.result.now
+entry c = entry-in c.self.inside.text.now c.self.inside.sequences c.self.invariant.0 _ c.self.view_is c.climb.at c.index.result.now c.climb.invariant.within c.index.ensures
+
+root : (c : After-index) → outer_by c.index.result.now ≡ None
+root c = outer-none c.self.inside.text.now (stretches_by c.self.inside.sequences) c.args.self.now c.climb.at c.index.result.now (entry c) c.in_default.ensures
+
+pub game-requires : goal.game-requires
+game-requires c = root (goal.at.game-requires c).After-index
+
+pub returns : goal.returns
+returns c =
+    let at = (goal.at.returns c).After-index in
+    c.game.ensures ∙ sym ((entry at).root_is (root at)).1 ∙ c.climb.invariant.same

@@ -1,0 +1,18 @@
+-- All nodes stand before the end of the last sequence.
+use Rattle.std.proofs.Common.{arith}
+use Rattle.std.proofs.lemmas.List.{get_or_past}
+use Rattle.sgf_tree.specs.Tree.{node_count}
+use Rattle.sgf_tree.specs.FileOrder.{sequence_starts}
+use Rattle.sgf_tree.proofs.Outlined.{starts-first}
+use Rattle.sgf_tree.proofs.outline.Outline.sequence_of.Goals as goal
+
+pub halves-init : goal.halves-init
+halves-init c =
+    let count = c.sequences-high.ensures.count in
+    let first = starts-first c.args.self.now c.args.number c.requires in
+    record {
+      order = omega (arith, count, first.0);
+      within = omega (arith, count);
+      start = first.1;
+      end = omega (arith, c.requires, get_or_past (sequence_starts c.args.self.now) c.sequences-high.result (node_count c.args.self.now) (omega (arith, count)));
+    }

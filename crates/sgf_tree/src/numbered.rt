@@ -1,0 +1,71 @@
+//! The nodes of a collection by their numbers: beside its sequences, the place of each node in 4 bytes, and for each sequence the last
+//! node below it.
+
+ghost use Rattle.std.specs.Prelude.{ℕ, List, IfOk};
+ghost use Rattle.sgf_tree.specs.inner.OwnNodes.{nothing};
+ghost use Rattle.sgf_tree.specs.Tree.{no_games};
+ghost use Rattle.sgf_tree.specs.inner.GamesRead.{whole};
+ghost use Rattle.sgf_tree.specs.inner.Placing.{HoldsNodes};
+
+use crate::fault::MemoryFault;
+use crate::layout::{OwnNodes, Stretch};
+use crate::reader::keeper::Keeper;
+use crate::sequences::Sequences;
+use std::alloc::Global;
+
+/// The most nodes that there is room for at once. Most games have fewer, and otherwise the nodes would be moved again and again
+/// while their vector grows.
+const ROOM_FOR_NODES: usize = 128;
+
+/// The bytes of a short node, such as `;B[pd]`. Few nodes have fewer.
+const NODE_BYTES: usize = 6;
+
+/// The nodes of the games that were read, numbered from 0.
+#[derive(Drop)]
+pub(crate) struct Numbered {
+    pub sequences: Sequences,
+    /// The places of the nodes, in file order.
+    pub places: Vec<u32>,
+    /// For each sequence the greatest number among its nodes and the nodes below them; 0 as long as its game is open.
+    pub last_nodes: Vec<u32>,
+}
+
+impl Numbered {
+    /// No nodes, with room for those of a usual game in a text of so many bytes. So those of a short text take little memory.
+    pub(crate) fn with_room(alloc: Global, bytes: usize) -> Result<Numbered, MemoryFault>
+        ensures { IfOk result (λ nodes. (text : List ℕ) → HoldsNodes text nodes (whole no_games) nothing) }
+    {
+        let room = ROOM_FOR_NODES.min(bytes / NODE_BYTES + 1);
+        Ok(Numbered {
+            sequences: Sequences::with_room(alloc, bytes)?,
+            places: Vec::with_capacity(alloc, room)?,
+            last_nodes: Vec::new(alloc),
+        })
+    }
+}
+
+impl Keeper for Numbered {
+    ghost keeps = { λ text nodes stack coming. HoldsNodes text nodes stack coming };
+
+    #[inline(always)]
+    fn node(&mut self, place: usize) -> Result<(), MemoryFault> {
+        self.places.push(place as u32)?;
+        Ok(())
+    }
+
+    fn stretch(&mut self, stretch: Stretch) -> Result<(), MemoryFault> {
+        self.sequences.stretch(stretch)
+    }
+
+    fn own_nodes(&mut self, own: OwnNodes) -> Result<(), MemoryFault> {
+        self.last_nodes.push(0)?;
+        self.sequences.own_nodes(own)
+    }
+
+    fn game_ends(&mut self, depth: usize) {
+        if let Some(innermost) = self.sequences.innermost {
+            self.last_nodes[innermost as usize] = (self.places.len() - 1) as u32;
+        }
+        self.sequences.game_ends(depth);
+    }
+}

@@ -1,0 +1,334 @@
+//! The outline of a collection: its sequences in file order, numbered from 0.
+
+ghost use Rattle.std.specs.Prelude.{◌≡◌, ◌-◌, ◌<◌, ◌≤◌, ◌++◌, ◌↔◌, ℕ, [], Some, None, length, IsTrue, IfSome, OnOk, OnErr, MatchOption};
+ghost use Rattle.std.specs.List.{flat_map};
+ghost use Rattle.sgf_tree.specs.declared.fault.TheConstants.{MAX_LENGTH};
+ghost use Rattle.sgf_tree.specs.Tree.{Node, game_count, node_count, lone_property};
+ghost use Rattle.sgf_tree.specs.Lead.{IsLedBy};
+ghost use Rattle.sgf_tree.specs.Written.{node_text};
+ghost use Rattle.sgf_tree.specs.FileOrder.{node_at, nodes_at, place_at, parent_at, IsLeaf, game_of, PlacesRise};
+ghost use Rattle.sgf_tree.specs.FileOrder.{sequence_starts, sequence_start, sequence_end, sequence_numbers};
+ghost use Rattle.sgf_tree.specs.inner.NodeText.{GoesOn, IsNodeIn};
+ghost use Rattle.sgf_tree.specs.inner.KeptEnds.{AreKeptEnds};
+ghost use Rattle.sgf_tree.specs.inner.Walking.{IsNextPlace, IsNodeEnded};
+
+use crate::fault::MemoryFault;
+use crate::layout::LongValue;
+use crate::node::NodeRef;
+use crate::reader::lead::led_end;
+use crate::reader::properties::near_property_close;
+use crate::reader::scan::{identifier_end, part, rest_from, skip_white_space};
+use crate::reader::value::value_end;
+use crate::sequences::Sequences;
+use crate::walk::SequenceNodes;
+use std::marker::Model;
+
+/// The first property of a node that is recognized at a glance.
+#[derive(Clone, Copy)]
+pub(crate) struct Lead<'a> {
+    /// The letter that is its name.
+    pub letter: u8,
+    /// Its raw value.
+    pub value: &'a [u8],
+    /// Where the node ends, after any white space.
+    pub next: usize,
+}
+
+/// The sequences of the collection that a text spells (SGF FF[4], EBNF). A sequence has the nodes between a `(` and the next
+/// parenthesis. It refers to the text, and doesn't copy names or values. Only `push_sequence` takes memory.
+#[derive(Drop)]
+pub struct Outline<'a> {
+    pub(crate) text: &'a [u8],
+    sequences: Sequences,
+    /// The long values, in file order. So a binary search finds the one at a given offset.
+    pub(crate) long: Vec<LongValue>,
+}
+
+impl<'a> Model for Outline<'a> {
+    ghost use Rattle.sgf_tree.specs.Tree.{Games};
+    ghost use Rattle.sgf_tree.specs.inner.TreeCode.{games_code};
+
+    ghost Value = { Games };
+
+    ghost coded = { games_code };
+
+    ghost use Rattle.sgf_tree.specs.inner.Machine.{games_in};
+    ghost use Rattle.sgf_tree.specs.inner.Outlining.{IsOutlined};
+    ghost use Rattle.sgf_tree.specs.inner.KeptEnds.{AreKeptEnds};
+
+    ghost view = { λ c. games_in c.text.now };
+
+    ghost invariant = { λ c. IsOutlined c.text.now c.sequences × AreKeptEnds c.text.now c.long.items };
+}
+
+impl<'a> Outline<'a> {
+    ghost use Rattle.sgf_tree.specs.inner.Machine.{games_in};
+    ghost use Rattle.sgf_tree.specs.inner.Outlining.{IsOutlined};
+
+    /// The outline of the collection that the text spells. The table must hold its sequences.
+    pub(crate) fn new(text: &'a [u8], sequences: Sequences, long: Vec<LongValue>) -> Outline<'a>
+        requires outlined { IsOutlined text.now sequences }
+        requires kept { AreKeptEnds text.now long.items }
+        ensures { result ≡ games_in text.now }
+    {
+        Outline {
+            text,
+            sequences,
+            long,
+        }
+    }
+
+    /// The number of games. The games below others aren't counted.
+    pub fn games(&self) -> usize
+        ensures { result ≡ game_count self.now }
+    {
+        self.sequences.games as usize
+    }
+
+    /// The number of nodes of all games, at every depth. Their places rise in file order, and are less than `MAX_LENGTH`.
+    pub fn nodes(&self) -> usize
+        ensures count { result ≡ node_count self.now }
+        ensures few { result ≤ MAX_LENGTH }
+        ensures places_rise { PlacesRise self.now }
+        ensures places_within { (i p : ℕ) → place_at self.now i ≡ Some p → p < MAX_LENGTH }
+    {
+        self.sequences.nodes as usize
+    }
+
+    /// The number of sequences. There are no more than nodes.
+    pub fn sequences(&self) -> usize
+        ensures count { result ≡ length (sequence_starts self.now) }
+        ensures few { result ≤ node_count self.now }
+    {
+        self.sequences.table.len()
+    }
+
+    /// The number of the first node of sequence `i`, from 0 in file order. `i` must be less than `sequences()`, here and in the
+    /// calls below.
+    pub fn sequence_start(&self, i: usize) -> usize
+        requires { i < length (sequence_starts self.now) }
+        ensures { result ≡ sequence_start self.now i }
+    {
+        self.sequences.table[i].number as usize
+    }
+
+    /// The number after that of the last node of sequence `i`. It is the number of the first node of the next sequence, or `nodes()`.
+    pub fn sequence_end(&self, i: usize) -> usize
+        requires { i < length (sequence_starts self.now) }
+        ensures end { result ≡ sequence_end self.now i }
+        ensures some { sequence_start self.now i < result }
+        ensures within { result ≤ node_count self.now }
+    {
+        if i < self.sequences.table.len() - 1 {
+            self.sequences.table[i + 1].number as usize
+        } else {
+            self.sequences.nodes as usize
+        }
+    }
+
+    /// The number of the sequence that sequence `i` goes on from, which ends with the parent of its first node. None if that node is the
+    /// root of a game.
+    pub fn sequence_outer(&self, i: usize) -> Option<usize>
+        requires { i < length (sequence_starts self.now) }
+        ensures { MatchOption result (parent_at self.now (sequence_start self.now i) ≡ Some None)
+            (λ outer. (outer < i) × (parent_at self.now (sequence_start self.now i) ≡ Some (Some (sequence_end self.now outer - 1)))) }
+    {
+        match self.sequences.table[i].outer() {
+            Some(outer) => Some(outer as usize),
+            None => None,
+        }
+    }
+
+    /// Whether the last node of sequence `i` is a leaf.
+    pub fn ends_in_leaf(&self, i: usize) -> bool
+        requires { i < length (sequence_starts self.now) }
+        ensures { IsTrue result ↔ IsLeaf self.now (sequence_end self.now i - 1) }
+    {
+        i == self.sequences() - 1 || self.sequence_outer(i + 1) != Some(i)
+    }
+
+    /// The place of the last node of sequence `i`: the offset in bytes, from 0, of its `;` in the text.
+    pub fn last_place(&self, i: usize) -> usize
+        requires { i < length (sequence_starts self.now) }
+        ensures { place_at self.now (sequence_end self.now i - 1) ≡ Some result }
+    {
+        self.sequences.table[i].last as usize
+    }
+
+    /// The number, from 1, of the game that has sequence `i`.
+    pub fn game_of(&self, i: usize) -> usize
+        requires { i < length (sequence_starts self.now) }
+        ensures { result ≡ game_of self.now (sequence_start self.now i) }
+    {
+        let mut at = i;
+        'climb: while let Some(outer) = self.sequence_outer(at) {
+            at = outer;
+        }
+        self.sequences.table[at].game() as usize
+    }
+
+    /// The number of the sequence that has node `number`, which must be less than `nodes()`.
+    pub fn sequence_of(&self, number: usize) -> usize
+        requires { number < node_count self.now }
+        ensures within { result < length (sequence_starts self.now) }
+        ensures start { sequence_start self.now result ≤ number }
+        ensures end { number < sequence_end self.now result }
+    {
+        let mut low = 0;
+        let mut high = self.sequences();
+        'halves: while high - low > 1 {
+            let middle = low + (high - low) / 2;
+            if self.sequence_start(middle) <= number {
+                low = middle;
+            } else {
+                high = middle;
+            }
+        }
+        low
+    }
+
+    /// The first node of sequence `i`.
+    pub fn first_node(&self, i: usize) -> NodeRef<'_, 'a>
+        requires { i < length (sequence_starts self.now) }
+        ensures { node_at self.now (sequence_start self.now i) ≡ Some result }
+    {
+        self.node_at(self.sequences.table[i].first)
+    }
+
+    /// The node with this place.
+    pub(crate) fn node_at(&self, place: u32) -> NodeRef<'_, 'a>
+        requires { (i : ℕ) × (place_at self.now i ≡ Some place) }
+        ensures { (i : ℕ) → place_at self.now i ≡ Some place → node_at self.now i ≡ Some result }
+    {
+        NodeRef {
+            place,
+            text: rest_from(self.text, place as usize),
+            long: &self.long,
+        }
+    }
+
+    /// If the node at `place` is recognized at a glance (`SequenceNodes::next`), its first property, and the place where the next node of its
+    /// sequence is, if there is one.
+    #[inline(always)]
+    pub(crate) fn lead_at(&self, place: usize, names: &[[u8; 2]]) -> Option<Lead<'a>>
+        requires { (i : ℕ) × (place_at self.now i ≡ Some place) }
+        ensures lead { (i : ℕ) (node : Node) → place_at self.now i ≡ Some place → node_at self.now i ≡ Some node
+            → IfSome result (λ lead. IsLedBy names.now (lone_property lead.letter lead.value.now) node.properties) }
+        ensures next { IfSome result (λ lead. IsNextPlace self.now place lead.next) }
+        ensures within { IfSome result (λ lead. lead.next ≤ MAX_LENGTH) }
+    {
+        let text = rest_from(self.text, place);
+        let end = led_end(text, names)?;
+        Some(Lead {
+            letter: text[1],
+            value: part(text, 3, 5),
+            next: place + end,
+        })
+    }
+
+    /// The place where the next node of the sequence of the node at `place` is, if there is one.
+    #[inline(never)]
+    pub(crate) fn place_after(&self, place: usize) -> usize
+        requires { (i : ℕ) × (place_at self.now i ≡ Some place) }
+        ensures next { IsNextPlace self.now place result }
+        ensures within { result ≤ MAX_LENGTH }
+    {
+        place + node_end(rest_from(self.text, place), &self.long)
+    }
+
+    /// The nodes of sequence `i`, one after another.
+    pub fn sequence_nodes(&self, i: usize) -> SequenceNodes<'_, 'a>
+        requires { i < length (sequence_starts self.now) }
+        ensures { result ≡ nodes_at self.now (sequence_numbers self.now i) }
+    {
+        SequenceNodes {
+            outline: self,
+            place: self.sequences.table[i].first as usize,
+            number: self.sequence_start(i),
+            end: self.sequence_end(i),
+        }
+    }
+
+    /// No nodes.
+    pub fn no_nodes(&self) -> SequenceNodes<'_, 'a>
+        ensures { result ≡ [] }
+    {
+        SequenceNodes {
+            outline: self,
+            place: 0,
+            number: 0,
+            end: 0,
+        }
+    }
+
+    /// Appends the nodes of sequence `i` to `out` as the sgf form writes them. If they stand like that in the text, they are copied in one piece.
+    /// If memory is refused, `out` is unchanged.
+    pub fn push_sequence(&self, i: usize, out: &mut Vec<u8>) -> Result<(), MemoryFault>
+        requires { i < length (sequence_starts self.now) }
+        ensures appended { OnOk result (out.new.items
+            ≡ out.old.items ++ flat_map node_text (nodes_at self.now (sequence_numbers self.now i))) }
+        ensures unchanged { OnErr result (out.new.items ≡ out.old.items) }
+    {
+        let before = out.len();
+        let pushed = self.push_stretches(i, out);
+        if pushed.is_err() {
+            out.truncate(before);
+        }
+        pushed
+    }
+
+    /// The same, but a refusal of memory may leave some of the nodes appended. If they aren't known to stand like that, it goes stretch by stretch.
+    fn push_stretches(&self, i: usize, out: &mut Vec<u8>) -> Result<(), MemoryFault>
+        requires { i < length (sequence_starts self.now) }
+        ensures appended { OnOk result (out.new.items
+            ≡ out.old.items ++ flat_map node_text (nodes_at self.now (sequence_numbers self.now i))) }
+        ensures goes_on { GoesOn out.old.items out.new.items }
+    {
+        let sequence = &self.sequences.table[i];
+        if sequence.is_written() {
+            let written = part(self.text, sequence.first as usize, sequence.end as usize);
+            out.extend_from_slice(written)?;
+            return Ok(());
+        }
+        let mut at = sequence.end as usize;
+        'stretches: loop {
+            let stretch = &self.sequences.stretches[at];
+            let start = stretch.start() as usize;
+            let end = stretch.end as usize;
+            if start < end {
+                out.extend_from_slice(part(self.text, start, end))?;
+            } else {
+                self.node_at(stretch.start()).push_to(out)?;
+            }
+            if stretch.is_last() {
+                return Ok(());
+            }
+            at += 1;
+        }
+    }
+}
+
+/// Where the node that the text begins with ends, after any white space.
+fn node_end(text: &[u8], long: &Vec<LongValue>) -> usize
+    requires node { IsNodeIn text.now }
+    requires kept { AreKeptEnds text.now long.now.items }
+    ensures { IsNodeEnded text.now result }
+{
+    let mut at = 1;
+    'parts: loop {
+        let next = skip_white_space(text, at);
+        if next == text.len() {
+            return next;
+        }
+        if text[next].is_ascii_uppercase() {
+            at = match near_property_close(text, next) {
+                Some(close) => close + 1,
+                None => identifier_end(text, next),
+            };
+        } else if text[next] == b'[' {
+            at = value_end(text, next + 1, Some(long)).unwrap() + 1;
+        } else {
+            return next;
+        }
+    }
+}

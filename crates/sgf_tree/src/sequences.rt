@@ -1,0 +1,186 @@
+//! The sequences of a collection in file order, in 20 bytes each. A sequence has the nodes between a `(` and the next parenthesis.
+
+ghost use Rattle.std.specs.Prelude.{◌≡◌, ℕ, List, None, IfOk};
+ghost use Rattle.sgf_tree.specs.inner.OwnNodes.{nothing};
+ghost use Rattle.sgf_tree.specs.inner.GamesRead.{whole};
+ghost use Rattle.sgf_tree.specs.inner.Outlining.{outer_by, game_by, is_written_by, stretch_by, HoldsSequences};
+ghost use Rattle.sgf_tree.specs.Tree.{no_games};
+
+use crate::fault::MemoryFault;
+use crate::layout::{OwnNodes, Stretch};
+use crate::reader::keeper::Keeper;
+use std::alloc::Global;
+
+/// The most sequences that there is room for at once. Most texts have one game and few variations, so the table seldom
+/// grows.
+const ROOM_FOR_SEQUENCES: usize = 16;
+
+/// The bytes of a short game or variation, such as `(;B[pd])`. Few have fewer.
+const SEQUENCE_BYTES: usize = 8;
+
+/// The numbers of sequences and of games are less than this. It is the flag of a sequence that begins a game of the collection.
+const ROOT: u32 = 1 << 30;
+
+/// The flag of a sequence that the sgf form writes as it stands in the text.
+const WRITTEN: u32 = 1 << 31;
+
+/// A sequence.
+#[derive(Clone, Copy)]
+pub(crate) struct Sequence {
+    /// The offset of its first `;`.
+    pub first: u32,
+    /// The offset of its last `;`.
+    pub last: u32,
+    /// The offset after the text of its last node, if the sgf form writes it as it stands in the text; else the index of its first stretch.
+    pub end: u32,
+    /// The number of its first node.
+    pub number: u32,
+    /// The number of the sequence that it goes on from, or of the game that it begins, plus its flags. As fields, the flags would take 4
+    /// bytes more.
+    pub outer_and_flags: u32,
+}
+
+impl Sequence {
+    /// The number of the sequence that it goes on from, which ends with the parent of its first node. None if it begins a game of the collection.
+    #[inline(always)]
+    pub(crate) fn outer(&self) -> Option<u32>
+        ensures { result ≡ outer_by self.now }
+    {
+        if self.outer_and_flags / ROOT % 2 == 1 {
+            None
+        } else {
+            Some(self.outer_and_flags % ROOT)
+        }
+    }
+
+    /// The number, from 1, of the game that it begins.
+    #[inline(always)]
+    pub(crate) fn game(&self) -> u32
+        requires { outer_by self.now ≡ None }
+        ensures { result ≡ game_by self.now }
+    {
+        self.outer_and_flags % ROOT
+    }
+
+    /// Whether the sgf form writes it as it stands in the text. False says nothing.
+    #[inline(always)]
+    pub(crate) fn is_written(&self) -> bool
+        ensures { result ≡ is_written_by self.now }
+    {
+        self.outer_and_flags / WRITTEN == 1
+    }
+}
+
+/// The mark of the last stretch of a sequence. Places are less than this.
+const LAST: u32 = 1 << 31;
+
+/// A stretch of a sequence that isn't written as it stands, in 8 bytes.
+#[derive(Clone, Copy)]
+pub(crate) struct KeptStretch {
+    /// The offset of its first `;`, plus the mark if it is the last one of its sequence.
+    pub start_and_mark: u32,
+    /// The offset after the text of its last node; that of its first `;` if the sgf form may not write it as it stands.
+    pub end: u32,
+}
+
+impl KeptStretch {
+    /// The offset of its first `;`.
+    #[inline(always)]
+    pub(crate) fn start(&self) -> u32
+        ensures { result ≡ (stretch_by self.now).start }
+    {
+        self.start_and_mark % LAST
+    }
+
+    /// Whether it is the last one of its sequence.
+    #[inline(always)]
+    pub(crate) fn is_last(&self) -> bool
+        ensures { result ≡ (stretch_by self.now).is_last }
+    {
+        self.start_and_mark / LAST == 1
+    }
+}
+
+/// The sequences of the games that were read.
+#[derive(Drop)]
+pub(crate) struct Sequences {
+    pub table: Vec<Sequence>,
+    /// The stretches of the sequences that the sgf form doesn't write as they stand in the text, in file order.
+    pub stretches: Vec<KeptStretch>,
+    /// How many of them are of sequences in the table.
+    pub begun: u32,
+    /// The number of nodes.
+    pub nodes: u32,
+    /// The number of games that have ended. The games below others aren't counted.
+    pub games: u32,
+    /// The number of the sequence that the innermost open game begins with.
+    pub innermost: Option<u32>,
+}
+
+impl Sequences {
+    /// No sequences, with room for those of a usual game in a text of so many bytes. So those of a short text take little memory.
+    pub(crate) fn with_room(alloc: Global, bytes: usize) -> Result<Sequences, MemoryFault>
+        ensures { IfOk result (λ sequences. (text : List ℕ) → HoldsSequences text sequences (whole no_games) nothing) }
+    {
+        let room = ROOM_FOR_SEQUENCES.min(bytes / SEQUENCE_BYTES + 1);
+        Ok(Sequences {
+            table: Vec::with_capacity(alloc, room)?,
+            stretches: Vec::new(alloc),
+            begun: 0,
+            nodes: 0,
+            games: 0,
+            innermost: None,
+        })
+    }
+}
+
+impl Keeper for Sequences {
+    ghost keeps = { λ text sequences stack coming. HoldsSequences text sequences stack coming };
+
+    #[inline(always)]
+    fn node(&mut self, _place: usize) -> Result<(), MemoryFault> {
+        Ok(())
+    }
+
+    fn stretch(&mut self, stretch: Stretch) -> Result<(), MemoryFault> {
+        let mark = if stretch.is_last { LAST } else { 0 };
+        self.stretches.push(KeptStretch {
+            start_and_mark: stretch.start as u32 + mark,
+            end: stretch.end as u32,
+        })?;
+        Ok(())
+    }
+
+    fn own_nodes(&mut self, own: OwnNodes) -> Result<(), MemoryFault> {
+        let number = self.table.len() as u32;
+        let outer = match self.innermost {
+            Some(outer) => outer,
+            None => self.games + 1 + ROOT,
+        };
+        let (end, written) = if own.is_written() {
+            (own.end as u32, WRITTEN)
+        } else {
+            (self.begun, 0)
+        };
+        self.table.push(Sequence {
+            first: own.first as u32,
+            last: own.last as u32,
+            end,
+            number: self.nodes,
+            outer_and_flags: outer + written,
+        })?;
+        self.begun = self.stretches.len() as u32;
+        self.nodes += own.count as u32;
+        self.innermost = Some(number);
+        Ok(())
+    }
+
+    fn game_ends(&mut self, depth: usize) {
+        if let Some(innermost) = self.innermost {
+            self.innermost = self.table[innermost as usize].outer();
+        }
+        if depth == 0 {
+            self.games += 1;
+        }
+    }
+}
