@@ -10,7 +10,7 @@ cc -shared -fPIC -O1 -o refuse.so "$top/tests/refuse.c" -ldl 2> cc.txt || skippe
 # Some calls are there because they need more room than is taken at first (crates/sgf_lines_tests/src/seen.rt). At least so many of their
 # requests must have been refused, and reported. If there are fewer, some room became larger: make the text or the game larger too.
 declare -A wants least=(
-    ['reading games']=41 ['reading variations']=42 ['reading nodes']=34 ['measuring long values']=4 ['counting long texts']=52
+    ['reading games']=77 ['reading variations']=80 ['reading nodes']=41 ['measuring long values']=4 ['counting long texts']=52
     ['turns of a list']=9 ['setups of a list']=9 ['turns of prints']=10 ['setups of prints']=9
 )
 number=0 wanted=0

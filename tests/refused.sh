@@ -103,19 +103,19 @@ grown_by_form() {
 
 times() { printf "%.0s$2" $(seq "$1"); }  # TEXT, N times
 
-# Games without a referee, in list form: more nodes than there is room for at first, and more first nodes of variations. With the 129th node
-# both vectors must grow, and the second of these requests is refused too. A comment makes each text long enough for the most room.
+# Games without a referee, in list form: more nodes with white space between them than there is room for at first, and more variations. A comment
+# makes each text long enough for the most room.
 remark=$(times 1200 x)
-for count in 5 10; do
-    printf '(;GM[2]C[%s]%s)' "$remark" "$(times "$count" "($(times 20 ';'))")" > input.sgf
-    each "$count times 20 nodes" REFUSE_MEMORY 4 "$memory" "$nl" split
+for count in 3 300; do
+    printf '(;GM[2]C[%s]%s)' "$remark" "$(times "$count" ' ;')" > input.sgf
+    each "$count nodes apart" REFUSE_MEMORY 4 "$memory" "$nl" split
 done
-grown '10 times 20 nodes' '5 times 20 nodes' 1
+grown '300 nodes apart' '3 nodes apart' 7
 for count in 10 140; do
     printf '(;GM[2]C[%s]%s)' "$remark" "$(times "$count" '(;)')" > input.sgf
     each "$count variations" REFUSE_MEMORY 4 "$memory" "$nl" split
 done
-grown '140 variations' '10 variations' 5
+grown '140 variations' '10 variations' 4
 
 # turns N: Black fills the points with odd numbers one after another, and White those with even numbers. From the second row on, each black
 # stone takes off the stone above it.
