@@ -1,5 +1,5 @@
 #!/usr/bin/env bash
-# The completions that bash offers for the words of the program: each subcommand, option and form of its help, and files.
+# The completions that bash offers for the words of the program: the commands, options and forms of packaging/words.txt, and files.
 . "$(dirname "$0")/lib.sh"
 . "$top/completion/sgfsplit.bash"
 touch game.sgf
@@ -18,17 +18,14 @@ wants() {
     [ "$(offered "$@")" = "$want " ] || failed "offered for '$*': $(offered "$@")"
 }
 
-wants '--help count split' ''
+commands=$(words command) options=$(words option --) forms=$(words form)
+wants "$(sorted --help $commands)" ''
 wants 'split' s
-wants '--after --form --help --limit' split --
-wants 'gtp list sgf' split --form ''
-wants 'gtp list sgf' split --form =
+wants "$(sorted --help $options)" split --
+wants "$(sorted $forms)" split --form ''
+wants "$(sorted $forms)" split --form =
 wants 'sgf' split --form = s
 wants '' split --limit ''
 wants '' split --limit =
 wants 'game.sgf' split --form sgf g
 wants 'game.sgf' count ''
-"$SGFSPLIT" split --help | sed -n '/^Options:/,/^$/p' | grep -oE -- '--[a-z]+' | sort -u > options
-for option in $(cat options); do
-    [[ " $(offered split --) " == *" $option "* ]] || failed "$option isn't offered"
-done

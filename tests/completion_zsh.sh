@@ -31,9 +31,9 @@ wants() {
     [ "$got" = "$want " ] || failed "offered for '$line': $got"
 }
 
-wants 'count split' 'sgfsplit '
-wants '--after --form --help --limit' 'sgfsplit split --'
-wants 'gtp list sgf' 'sgfsplit split --form '
-wants 'gtp list sgf' 'sgfsplit split --form='
+wants "$(sorted $(words command))" 'sgfsplit '
+wants "$(sorted --help $(words option --))" 'sgfsplit split --'
+wants "$(sorted $(words form))" 'sgfsplit split --form '
+wants "$(sorted $(words form))" 'sgfsplit split --form='
 wants 'game.sgf' 'sgfsplit split --form sgf g'
 wants 'game.sgf' 'sgfsplit count g'

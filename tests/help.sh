@@ -109,3 +109,12 @@ TEXT
 grep -qx "\.Os sgfsplit $version" "$top/man/sgfsplit.1" || failed "the manual page's foot isn't of version $version"
 grep -q "^sgfsplit ($version) " <(head -n 1 "$top/packaging/changelog") || failed "packaging/changelog doesn't begin with version $version"
 [ "$(grep -m 1 '^## ' "$top/CHANGELOG.md")" = "## $version" ] || failed "CHANGELOG.md doesn't begin with version $version"
+
+# It is also the text that packaging/words.py makes of the words of packaging/words.txt, laid out as clap does.
+needs python3
+for command in '' $(words command); do
+    "$top/packaging/words.py" --help-of "$name" $command > want
+    "$SGFSPLIT" $command --help > got 2> err || failed "the help of '$command' ends with $?"
+    [ ! -s err ] || failed "the help of '$command' says $(cat err)"
+    same want got "the help of '$command'"
+done

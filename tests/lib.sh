@@ -27,6 +27,12 @@ needs() {
     done
 }
 
+# words KIND [BEFORE]: the words of this kind in packaging/words.txt, one a row, each with this text before it.
+words() { awk -v kind="$1" -v before="${2-}" '$1 == kind { print before $2 }' "$top/packaging/words.txt"; }
+
+# sorted WORD..: the words in one row, sorted.
+sorted() { printf '%s\n' "$@" | sort | paste -s -d ' '; }
+
 # The files WANT and GOT have the same bytes.
 same() {
     diff "$1" "$2" >&2 || failed "${3:-$2} isn't ${1##*/}"

@@ -65,11 +65,11 @@ judged() {
     [ "$status" = $? ] && cmp -s want got && cmp -s want.err got.err || echo "judged: status $status, $(cat got.err)"
 }
 
-forms=(list sgf gtp)
+forms=($(words form))
 for file in inputs/*.sgf; do
     name=$(basename "$file" .sgf)
     problems=$(agrees count count "$file" -- count "$file")
-    for form in 0 1 2; do
+    for form in "${!forms[@]}"; do
         problems+=$(agrees "${forms[form]}" split $form - - "$file" -- split --form ${forms[form]} "$file")
     done
     places=(0 $("$SGFSPLIT" split "$file" 2> /dev/null | cut -d ' ' -f 1 | awk 'NR <= 3 { print } { last = $1 } END { print last }'))
@@ -127,7 +127,7 @@ if cc "${strict[@]}" -g -fsanitize=address -o sanitized "$top/tests/library.c" "
     ./sanitized memory lines.sgf > out 2> err
     check 'the memory of a split into no room' '0  3' "$? $(cat err) $(grep -c '^form' out)"
     for file in inputs/*.sgf; do
-        for form in 0 1 2; do
+        for form in "${!forms[@]}"; do
             ./sanitized split $form - - "$file" > out 2> err
             [ $? -lt 2 ] && ! grep -q Sanitizer err || { check "$file, form $form, sanitized" '' "$(cat err)"; }
         done
@@ -140,7 +140,7 @@ else
 fi
 if command -v valgrind > /dev/null; then
     for file in ko corner escapes cut20; do
-        for form in 0 1 2; do
+        for form in "${!forms[@]}"; do
             valgrind -q --error-exitcode=9 --leak-check=full ./called split $form - - inputs/$file.sgf > out 2> err
             [ $? -lt 2 ] && ! grep -q '^==' err
             check "$file, form $form: each byte that is read was written, and all memory is given back" 0 $?

@@ -86,7 +86,7 @@ def compare(path):
     name = os.path.basename(path)
     counted = module(lambda: b"%d %d %d\n" % sgflines.count(text))
     agree(f"{name}, counted", program("count", path), counted)
-    for form in ("list", "sgf", "gtp"):
+    for form in sgflines.FORMS:
         want = program("split", "--form", form, path)
         if isinstance(want, str):
             agree(f"{name}, judged", want, module(lambda: sgflines.judge(text, 0)))

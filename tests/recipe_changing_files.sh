@@ -25,7 +25,7 @@ while_doing() {
 
 # Another file takes the place of the first one.
 cp "$top/examples/corner.sgf" game.sgf
-for form in sgf gtp list; do
+for form in $(words form); do
     cp "$top/examples/corner.sgf" game.sgf
     "$recipes/files.py" --form "$form" "want.$form" game.sgf
     while_doing 'mv other game.sgf' files.py --form "$form" "got.$form" game.sgf

@@ -18,7 +18,7 @@ boardsize 9
 (;\])
 ](;B[dd])))
 SGF
-for form in sgf gtp list; do
+for form in $(words form); do
     "$tool" --form "$form" "out.$form" games
     for file in games/*.sgf; do
         name=${file%.sgf}

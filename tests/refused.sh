@@ -166,7 +166,7 @@ check '300 setups' 'score 186 137 open' "$(cut -d ' ' -f 4- '300 setups.out')"
 grown '300 setups' '100 setups' 5
 
 # More pieces of a record than there is room for at first: 300 sequences of a node each on one line, and on two lines.
-for form in list sgf gtp; do
+for form in $(words form); do
     printf '(;%s%s)' "$(times 299 '(;')" "$(times 299 ')')" > input.sgf
     each "300 sequences on a line, $form" REFUSE_MEMORY 4 "$memory" "$nl" split --form "$form"
     printf '(;%s%s%s%s)' "$(times 150 '(;')" "$(times 150 ')')" "$(times 149 '(;')" "$(times 149 ')')" > input.sgf
@@ -205,7 +205,7 @@ cp good.sgf input.sgf
 
 # Short reads and short writes change nothing. Each of many reads fails in turn, and each failure is reported.
 for short in SHORT_READS SHORT_WRITES; do
-    for form in list sgf gtp; do
+    for form in $(words form); do
         env LD_PRELOAD="$PWD/refuse.so" "$short=1" "$SGFSPLIT" split --form "$form" input.sgf > out 2> err
         check "$short, $form: status" 0 $?
         check "$short, $form: output" '' "$(cmp out "$form.out" 2>&1)"
@@ -241,7 +241,7 @@ unset SHORT_WRITES
     yes ';B[]C[x];W[]C[y];AE[aa]' | head -n 10000 | tr -d '\n'
     printf '))'
 } > input.sgf
-for form in list sgf gtp; do
+for form in $(words form); do
     "$SGFSPLIT" split --form "$form" input.sgf > large.out 2> large.err
     echo $? > large.status
     end=$nl

@@ -13,7 +13,7 @@ use Rattle.go_board.specs.inner.Rows.{has_bit, is_set, IsAmong, IsClosed, Grows}
 use Rattle.go_board.specs.inner.Regions.{is_either, AreRowsOf, reaches_through_own}
 use Rattle.go_board.specs.inner.Halves.{low_halves, high_halves, ArePaired, AreOthersPaired}
 use Rattle.go_board.proofs.CountLemmas.{below_from_bits}
-use Rattle.go_board.proofs.RegionLemmas.{AreOthers, AreRowsOf-others, AreRowsOf-filled, room_is, seed_is}
+use Rattle.go_board.proofs.RegionLemmas.{AreOthers, AreRowsOf-others, AreRowsOf-filled, region_is, seed_is}
 use Rattle.go_board.proofs.HalvesLemmas.{low_from, among_by_halves, Grows-low, Grows-high, IsClosed-low, IsClosed-high}
 
 -- a word of few columns
@@ -65,44 +65,44 @@ others_paired_all black white rows long_black long_white each = record {
 moved : (side : ℕ) (test : Point → Bool) (rows other : List ℕ) → ((p : Point) → is_set other p ≡ is_set rows p) → AreRowsOf side test rows → AreRowsOf side test other
 moved side test rows other same are = record { on = λ p on. same p ∙ are.on p on; off = λ p is. are.off p (sym (same p) ∙ is) }
 
-module _ (g : Grid) (black white first room : List ℕ) (small : g.side < 32) (is_black : AreRowsOf g.side (λ p. same_cell (cell_at g p) BlackStone) black) (is_white : AreRowsOf g.side (λ p. same_cell (cell_at g p) WhiteStone) white) (all_black : length black ≡ g.side) (all_white : length white ≡ g.side) (pair : ArePaired black white first) (others : AreOthersPaired black white room) where
-  room_low : AreRowsOf g.side (λ p. is_either (cell_at g p) Empty BlackStone) (low_halves room)
-  room_low = room_is g Black black white (low_halves room) is_black is_white all_white others.low
+module _ (g : Grid) (black white first region : List ℕ) (small : g.side < 32) (is_black : AreRowsOf g.side (λ p. same_cell (cell_at g p) BlackStone) black) (is_white : AreRowsOf g.side (λ p. same_cell (cell_at g p) WhiteStone) white) (all_black : length black ≡ g.side) (all_white : length white ≡ g.side) (pair : ArePaired black white first) (others : AreOthersPaired black white region) where
+  region_low : AreRowsOf g.side (λ p. is_either (cell_at g p) Empty BlackStone) (low_halves region)
+  region_low = region_is g Black black white (low_halves region) is_black is_white all_white others.low
 
-  room_high : AreRowsOf g.side (λ p. is_either (cell_at g p) Empty WhiteStone) (high_halves room)
-  room_high = room_is g White white black (high_halves room) is_white is_black all_black others.high
+  region_high : AreRowsOf g.side (λ p. is_either (cell_at g p) Empty WhiteStone) (high_halves region)
+  region_high = region_is g White white black (high_halves region) is_white is_black all_black others.high
 
   seed_low : AreRowsOf g.side (λ p. is_either (cell_at g p) BlackStone BlackStone) (low_halves first)
-  seed_low = moved g.side _ black (low_halves first) pair.low (seed_is g Black black white (low_halves room) is_black is_white all_white others.low)
+  seed_low = moved g.side _ black (low_halves first) pair.low (seed_is g Black black white (low_halves region) is_black is_white all_white others.low)
 
   seed_high : AreRowsOf g.side (λ p. is_either (cell_at g p) WhiteStone WhiteStone) (high_halves first)
-  seed_high = moved g.side _ white (high_halves first) pair.high (seed_is g White white black (high_halves room) is_white is_black all_black others.high)
+  seed_high = moved g.side _ white (high_halves first) pair.high (seed_is g White white black (high_halves region) is_white is_black all_black others.high)
 
-  pub stones_within : IsAmong (is_set first) (is_set room)
+  pub stones_within : IsAmong (is_set first) (is_set region)
   stones_within =
-      among_by_halves first room
+      among_by_halves first region
       (λ p is.
       let stone = sym (pair.low p) ∙ is in
       let on = is_black.off p stone in
-      room_low.on p on ∙ or_right (same_cell (cell_at g p) Empty) _ (sym (is_black.on p on) ∙ stone))
+      region_low.on p on ∙ or_right (same_cell (cell_at g p) Empty) _ (sym (is_black.on p on) ∙ stone))
       (λ p is.
       let stone = sym (pair.high p) ∙ is in
       let on = is_white.off p stone in
-      room_high.on p on ∙ or_right (same_cell (cell_at g p) Empty) _ (sym (is_white.on p on) ∙ stone))
+      region_high.on p on ∙ or_right (same_cell (cell_at g p) Empty) _ (sym (is_white.on p on) ∙ stone))
 
-  gap : (p : Point) → is_set room p ≡ true → p.col ≢ 31
+  gap : (p : Point) → is_set region p ≡ true → p.col ≢ 31
   gap p is at =
       let below : p.col < 32 = omega (arith, at) in
-      let on = room_low.off p (low_from room p below is) in
+      let on = region_low.off p (low_from region p below is) in
       omega (arith, on.0, small, at)
 
-  module _ (rows : List ℕ) (grows : Grows (is_set room) (is_set first) (is_set rows)) (closed : IsClosed (is_set room) (is_set rows)) where
+  module _ (rows : List ℕ) (grows : Grows (is_set region) (is_set first) (is_set rows)) (closed : IsClosed (is_set region) (is_set rows)) where
     pub area_low : AreRowsOf g.side (reaches_through_own g Empty BlackStone) (low_halves rows)
     area_low =
-        AreRowsOf-filled g Empty BlackStone (low_halves room) (low_halves first) (low_halves rows) room_low seed_low
-        (Grows-low room first rows gap grows closed) (IsClosed-low room first rows gap grows closed)
+        AreRowsOf-filled g Empty BlackStone (low_halves region) (low_halves first) (low_halves rows) region_low seed_low
+        (Grows-low region first rows gap grows closed) (IsClosed-low region first rows gap grows closed)
 
     pub area_high : AreRowsOf g.side (reaches_through_own g Empty WhiteStone) (high_halves rows)
     area_high =
-        AreRowsOf-filled g Empty WhiteStone (high_halves room) (high_halves first) (high_halves rows) room_high seed_high
-        (Grows-high room first rows gap grows closed) (IsClosed-high room first rows gap grows closed)
+        AreRowsOf-filled g Empty WhiteStone (high_halves region) (high_halves first) (high_halves rows) region_high seed_high
+        (Grows-high region first rows gap grows closed) (IsClosed-high region first rows gap grows closed)

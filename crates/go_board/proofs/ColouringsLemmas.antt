@@ -5,8 +5,8 @@ use Rattle.std.proofs.lemmas.List.Elements.{All-take, All-append}
 use Rattle.std.proofs.lemmas.Bool.{cases_lt}
 use Rattle.std.proofs.lemmas.Bool.Decides.{nat_tests}
 use Rattle.std.proofs.lemmas.Slice.{between_is}
-use Rattle.go_board.specs.declared.past.changes.Change.{Change}
-use Rattle.go_board.specs.declared.past.changes.Older.{Older}
+use Rattle.go_board.specs.declared.quick.print_past.changes.Change.{Change}
+use Rattle.go_board.specs.declared.quick.print_past.changes.Older.{Older}
 use Rattle.go_board.specs.Grid.{Grid}
 use Rattle.go_board.specs.Clearing.{has_unreaching}
 use Rattle.go_board.specs.Past.{Held, PastColourings, all_of, stretch_of, with_next}

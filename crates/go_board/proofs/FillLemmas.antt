@@ -16,21 +16,21 @@ zero_of n none =
     [ inl is ↦ (Decides-eqb n 0).0 is | inr other ↦ absurd (true≢false (sym (ap not other) ∙ none)) ]
 
 -- nothing of a word is lacked
-pub none_lacking : (word room here : ℕ) → room < 2 ^ 64 → here < 2 ^ 64 → not (nat_eq (bit_and (bit_and word room) (bit_not w64 here)) 0) ≡ false → (col : ℕ) → has_bit room col ≡ true → has_bit word col ≡ true → has_bit here col ≡ true
-none_lacking word room here low_room low_here none col there is =
-    in_the_other (has_bit (bit_and word room) col) (has_bit here col) (has_bit-and word room col ∙ and_from _ _ is there)
-    (sym (has_bit-without (bit_and word room) here col low_here (column_below 64 room col low_room there))
-    ∙ ap (λ n. has_bit n col) (zero_of (bit_and (bit_and word room) (bit_not w64 here)) none) ∙ has_bit-zero col)
+pub none_lacking : (word region here : ℕ) → region < 2 ^ 64 → here < 2 ^ 64 → not (nat_eq (bit_and (bit_and word region) (bit_not w64 here)) 0) ≡ false → (col : ℕ) → has_bit region col ≡ true → has_bit word col ≡ true → has_bit here col ≡ true
+none_lacking word region here low_room low_here none col there is =
+    in_the_other (has_bit (bit_and word region) col) (has_bit here col) (has_bit-and word region col ∙ and_from _ _ is there)
+    (sym (has_bit-without (bit_and word region) here col low_here (column_below 64 region col low_room there))
+    ∙ ap (λ n. has_bit n col) (zero_of (bit_and (bit_and word region) (bit_not w64 here)) none) ∙ has_bit-zero col)
 
--- where a word has none of what a row lacks, the row has what the word has of the room
+-- where a word has none of what a row lacks, the row has what the word has of the region
 and_left : (a b : Bool) → b ≡ true → (a && b) ≡ false → a ≡ false
 and_left true b is none = sym is ∙ none
 and_left false b is none = refl
 
-pub none_left : (word room here left : ℕ) → room < 2 ^ 64 → here < 2 ^ 64 → left ≡ bit_and room (bit_not w64 here) → not (nat_eq (bit_and left word) 0) ≡ false → (col : ℕ) → has_bit room col ≡ true → has_bit word col ≡ true → has_bit here col ≡ true
-none_left word room here left low_room low_here left_is none col there is =
-    in_the_other (has_bit room col) (has_bit here col) there
-    (sym (has_bit-without room here col low_here (column_below 64 room col low_room there))
+pub none_left : (word region here left : ℕ) → region < 2 ^ 64 → here < 2 ^ 64 → left ≡ bit_and region (bit_not w64 here) → not (nat_eq (bit_and left word) 0) ≡ false → (col : ℕ) → has_bit region col ≡ true → has_bit word col ≡ true → has_bit here col ≡ true
+none_left word region here left low_room low_here left_is none col there is =
+    in_the_other (has_bit region col) (has_bit here col) there
+    (sym (has_bit-without region here col low_here (column_below 64 region col low_room there))
     ∙ ap (λ n. has_bit n col) (sym left_is)
     ∙ and_left (has_bit left col) (has_bit word col) is
     (sym (has_bit-and left word col) ∙ ap (λ n. has_bit n col) (zero_of (bit_and left word) none) ∙ has_bit-zero col))
@@ -51,14 +51,14 @@ module _ (word next col : ℕ) (b : Bool) (there : has_bit next col ≡ (has_bit
   from_with elsewhere k is = elim (cases_eq k col) [ inl same ↦ inr same | inr other ↦ inl (sym (elsewhere k other) ∙ is) ]
 
 -- with no row that waits, all is filled
-pub IsClosed-all : (room first rows : List ℕ) (waiting : ℕ) → IsFilledBut room first rows waiting → waiting ≡ 0 → IsClosed (is_set room) (is_set rows)
-IsClosed-all room first rows waiting done none =
+pub IsClosed-all : (region first rows : List ℕ) (waiting : ℕ) → IsFilledBut region first rows waiting → waiting ≡ 0 → IsClosed (is_set region) (is_set rows)
+IsClosed-all region first rows waiting done none =
     λ p q adjacent there is.
-    done.closed p.row (row_below room p there) (ap (λ w. has_bit w p.row) none ∙ has_bit-zero p.row) p q refl adjacent there is
+    done.closed p.row (row_below region p there) (ap (λ w. has_bit w p.row) none ∙ has_bit-zero p.row) p q refl adjacent there is
 
 -- where another row grew of which a row lacks nothing, the row is closed as before
-pub closed_still : (room rows next : List ℕ) (row r : ℕ) → IsAmong (is_set rows) (is_set next) → ((k : ℕ) → k ≢ row → slice_index next k ≡ slice_index rows k) → r ≢ row → IsRowClosed (is_set room) (is_set rows) r → (DifferByOne r row → IsTaken room next r (slice_index next row)) → IsRowClosed (is_set room) (is_set next) r
-closed_still room rows next row r kept others other was taken =
+pub closed_still : (region rows next : List ℕ) (row r : ℕ) → IsAmong (is_set rows) (is_set next) → ((k : ℕ) → k ≢ row → slice_index next k ≡ slice_index rows k) → r ≢ row → IsRowClosed (is_set region) (is_set rows) r → (DifferByOne r row → IsTaken region next r (slice_index next row)) → IsRowClosed (is_set region) (is_set next) r
+closed_still region rows next row r kept others other was taken =
     λ p q same adjacent there is.
     elim (cases_eq q.row row) [
       | inl at ↦
@@ -69,22 +69,22 @@ closed_still room rows next row r kept others other was taken =
                 let here : has_bit (slice_index next row) q.col ≡ true = ap (λ k. has_bit (slice_index next k) q.col) (sym at) ∙ is in
                 ap (λ k. has_bit (slice_index next k) p.col) same
                 ∙ taken beside p.col
-                (ap (λ k. has_bit (slice_index room k) p.col) (sym same) ∙ there)
+                (ap (λ k. has_bit (slice_index region k) p.col) (sym same) ∙ there)
                 (ap (has_bit (slice_index next row)) column.0 ∙ here)
           ]
       | inr elsewhere_row ↦ kept p (was p q same adjacent there (ap (λ w. has_bit w q.col) (sym (others q.row elsewhere_row)) ∙ is))
     ]
 
 -- one row grown
-module _ (room first rows next : List ℕ) (waiting left row : ℕ) (was : IsFilledBut room first rows waiting) (gone : has_bit left row ≡ false) (elsewhere : (k : ℕ) → k ≢ row → has_bit left k ≡ has_bit waiting k) (long : length next ≡ length rows) (grows : Grows (is_set room) (is_set rows) (is_set next)) (closed : IsRowClosed (is_set room) (is_set next) row) where
-  still_in : (r : ℕ) → has_bit left r ≡ true → r < length room
+module _ (region first rows next : List ℕ) (waiting left row : ℕ) (was : IsFilledBut region first rows waiting) (gone : has_bit left row ≡ false) (elsewhere : (k : ℕ) → k ≢ row → has_bit left k ≡ has_bit waiting k) (long : length next ≡ length rows) (grows : Grows (is_set region) (is_set rows) (is_set next)) (closed : IsRowClosed (is_set region) (is_set next) row) where
+  still_in : (r : ℕ) → has_bit left r ≡ true → r < length region
   still_in r is =
       elim (cases_eq r row) [
         | inl same ↦ absurd (false≢true (sym gone ∙ ap (has_bit left) (sym same) ∙ is))
         | inr other ↦ was.rows_in r (sym (elsewhere r other) ∙ is)
       ]
 
-  twice : Grows (is_set room) (is_set first) (is_set next)
+  twice : Grows (is_set region) (is_set first) (is_set next)
   twice = record {
     within = grows.within;
     kept = λ p is. grows.kept p (was.grows.kept p is);
@@ -92,30 +92,30 @@ module _ (room first rows next : List ℕ) (waiting left row : ℕ) (was : IsFil
   }
 
   -- it had all that there is beside it
-  pub filled_same : next ≡ rows → IsFilledBut room first next left
+  pub filled_same : next ≡ rows → IsFilledBut region first next left
   filled_same same = record {
     all = long ∙ was.all;
     grows = twice;
     rows_in = still_in;
     closed = λ r below none.
         elim (cases_eq r row) [
-          | inl e ↦ subst (IsRowClosed (is_set room) (is_set next)) (sym e) closed
+          | inl e ↦ subst (IsRowClosed (is_set region) (is_set next)) (sym e) closed
           | inr other ↦
-              subst (λ rs. IsRowClosed (is_set room) (is_set rs) r) (sym same) (was.closed r below (sym (elsewhere r other) ∙ none))
+              subst (λ rs. IsRowClosed (is_set region) (is_set rs) r) (sym same) (was.closed r below (sym (elsewhere r other) ∙ none))
         ];
   }
 
   -- the rows beside it that lack a point of it wait
-  pub filled_more : (after : ℕ) → ((k : ℕ) → k ≢ row → slice_index next k ≡ slice_index rows k) → IsPart (has_bit left) (has_bit after) → ((r : ℕ) → has_bit after r ≡ true → (has_bit left r ≡ true) ⊎ (r < length next)) → ((r : ℕ) → DifferByOne r row → r < length next → has_bit after r ≡ false → IsTaken room next r (slice_index next row)) → IsFilledBut room first next after
+  pub filled_more : (after : ℕ) → ((k : ℕ) → k ≢ row → slice_index next k ≡ slice_index rows k) → IsPart (has_bit left) (has_bit after) → ((r : ℕ) → has_bit after r ≡ true → (has_bit left r ≡ true) ⊎ (r < length next)) → ((r : ℕ) → DifferByOne r row → r < length next → has_bit after r ≡ false → IsTaken region next r (slice_index next row)) → IsFilledBut region first next after
   filled_more after others kept from taken = record {
     all = long ∙ was.all;
     grows = twice;
     rows_in = λ r is. elim (from r is) [ inl old ↦ still_in r old | inr below ↦ subst (λ n. r < n) (long ∙ was.all) below ];
     closed = λ r below none.
         elim (cases_eq r row) [
-          | inl e ↦ subst (IsRowClosed (is_set room) (is_set next)) (sym e) closed
+          | inl e ↦ subst (IsRowClosed (is_set region) (is_set next)) (sym e) closed
           | inr other ↦
-              closed_still room rows next row r grows.kept others other (was.closed r below (sym (elsewhere r other) ∙ not_left r none))
+              closed_still region rows next row r grows.kept others other (was.closed r below (sym (elsewhere r other) ∙ not_left r none))
               (λ differ. taken r differ (subst (λ n. r < n) (sym (long ∙ was.all)) below) none)
         ];
   }
@@ -125,23 +125,23 @@ module _ (room first rows next : List ℕ) (waiting left row : ℕ) (was : IsFil
           elim (cases_Bool (has_bit left r)) [ inl is ↦ absurd (false≢true (sym none ∙ kept r is)) | inr out ↦ out ]
 
 -- the first rows are filled, but for some that wait
-pub record AreFilledTo (room first rows : List ℕ) (waiting count : ℕ) : Type 0 where
-  pub all : length rows ≡ length room
-  pub grows : Grows (is_set room) (is_set first) (is_set rows)
-  pub rows_in : (row : ℕ) → has_bit waiting row ≡ true → row < length room
-  pub closed : (row : ℕ) → row < count → has_bit waiting row ≡ false → IsRowClosed (is_set room) (is_set rows) row
+pub record AreFilledTo (region first rows : List ℕ) (waiting count : ℕ) : Type 0 where
+  pub all : length rows ≡ length region
+  pub grows : Grows (is_set region) (is_set first) (is_set rows)
+  pub rows_in : (row : ℕ) → has_bit waiting row ≡ true → row < length region
+  pub closed : (row : ℕ) → row < count → has_bit waiting row ≡ false → IsRowClosed (is_set region) (is_set rows) row
 
 -- one row more
-pub filled_to_more : (room first rows next : List ℕ) (waiting after row : ℕ) → row < length rows → AreFilledTo room first rows waiting row → length next ≡ length rows → Grows (is_set room) (is_set rows) (is_set next) → IsRowClosed (is_set room) (is_set next) row → ((k : ℕ) → k ≢ row → slice_index next k ≡ slice_index rows k) → IsPart (has_bit waiting) (has_bit after) → ((r : ℕ) → has_bit after r ≡ true → (has_bit waiting r ≡ true) ⊎ (r + 1 ≡ row)) → ((r : ℕ) → r + 1 ≡ row → has_bit after r ≡ false → IsTaken room next r (slice_index next row)) → AreFilledTo room first next after (row + 1)
-filled_to_more room first rows next waiting after row within was long grows closed others kept from taken = record {
+pub filled_to_more : (region first rows next : List ℕ) (waiting after row : ℕ) → row < length rows → AreFilledTo region first rows waiting row → length next ≡ length rows → Grows (is_set region) (is_set rows) (is_set next) → IsRowClosed (is_set region) (is_set next) row → ((k : ℕ) → k ≢ row → slice_index next k ≡ slice_index rows k) → IsPart (has_bit waiting) (has_bit after) → ((r : ℕ) → has_bit after r ≡ true → (has_bit waiting r ≡ true) ⊎ (r + 1 ≡ row)) → ((r : ℕ) → r + 1 ≡ row → has_bit after r ≡ false → IsTaken region next r (slice_index next row)) → AreFilledTo region first next after (row + 1)
+filled_to_more region first rows next waiting after row within was long grows closed others kept from taken = record {
   all = long ∙ was.all;
-  grows = Grows-twice room first rows next was.grows grows;
+  grows = Grows-twice region first rows next was.grows grows;
   rows_in = λ r is. elim (from r is) [ inl old ↦ was.rows_in r old | inr before ↦ omega (arith, before, within, was.all) ];
   closed = λ r below none.
       elim (cases_eq r row) [
-        | inl e ↦ subst (IsRowClosed (is_set room) (is_set next)) (sym e) closed
+        | inl e ↦ subst (IsRowClosed (is_set region) (is_set next)) (sym e) closed
         | inr other ↦
-            closed_still room rows next row r grows.kept others other (was.closed r (omega (arith, below, other)) (not_waiting r none))
+            closed_still region rows next row r grows.kept others other (was.closed r (omega (arith, below, other)) (not_waiting r none))
             (λ differ. elim differ [ inl before ↦ taken r before none | inr after_it ↦ absurd (omega (arith, after_it, below)) ])
       ];
 }

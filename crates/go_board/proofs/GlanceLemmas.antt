@@ -5,7 +5,7 @@ use Rattle.std.proofs.lemmas.Bool.{or_cases, or_parts, and_parts, and_from, not-
 use Rattle.go_board.specs.declared.stones.Cell.TheVariants.{Empty}
 use Rattle.go_board.specs.declared.stones.Colour.{Colour}
 use Rattle.go_board.specs.declared.points.Point.{Point}
-use Rattle.go_board.specs.declared.board.glance.RowStones.{RowStones}
+use Rattle.go_board.specs.declared.board.liberty.RowStones.{RowStones}
 use Rattle.go_board.specs.Colour.{opponent, stone_of, same_cell}
 use Rattle.go_board.specs.Point.{IsOn, DifferByOne, AreAdjacent}
 use Rattle.go_board.specs.Grid.{Grid, cell_at, with_cell}

@@ -17,15 +17,15 @@ row_below rows p is =
       | inr above ↦ absurd (false≢true (sym (ap (λ w. has_bit w p.col) (get_or-eq_default rows 0 {n = p.row} above) ∙ has_bit-zero p.col) ∙ is))
     ]
 
-pub Grows-twice : (room a b c : List ℕ) → Grows (is_set room) (is_set a) (is_set b) → Grows (is_set room) (is_set b) (is_set c) → Grows (is_set room) (is_set a) (is_set c)
-Grows-twice room a b c first second = record {
+pub Grows-twice : (region a b c : List ℕ) → Grows (is_set region) (is_set a) (is_set b) → Grows (is_set region) (is_set b) (is_set c) → Grows (is_set region) (is_set a) (is_set c)
+Grows-twice region a b c first second = record {
   within = second.within;
   kept = λ p is. second.kept p (first.kept p is);
   least = λ set closed part. second.least set closed (first.least set closed part);
 }
 
-pub Grows-none : (room rows : List ℕ) → IsAmong (is_set rows) (is_set room) → Grows (is_set room) (is_set rows) (is_set rows)
-Grows-none room rows within = record {
+pub Grows-none : (region rows : List ℕ) → IsAmong (is_set rows) (is_set region) → Grows (is_set region) (is_set rows) (is_set rows)
+Grows-none region rows within = record {
   within = within;
   kept = λ p is. is;
   least = λ set closed part. part;
@@ -37,9 +37,9 @@ above_at rows zero col q next at is = absurd (omega arith)
 above_at rows (suc r) col q next at is =
     let below : r ≡ q.row = omega arith in ap (λ k. has_bit (get_or rows k 0) col) below ∙ ap (has_bit (get_or rows q.row 0)) (sym at) ∙ is
 
--- what a row may grow from: its own bits and those around it, where there is room
+-- what a row may grow from: its own bits and those around it, where there is region
 abbrev pub seed_of : List ℕ → List ℕ → ℕ → ℕ → ℕ
-seed_of rows room row beside = bit_and (bit_or (get_or rows row 0) beside) (get_or room row 0)
+seed_of rows region row beside = bit_and (bit_or (get_or rows row 0) beside) (get_or region row 0)
 
 -- rows of which one has more than before lack less
 pub lacking-more : (rows : List ℕ) (row grown : ℕ) → row < length rows → get_or rows row 0 ≤ grown → grown < 2 ^ 64 → grown ≢ get_or rows row 0 → lacking (set rows row grown) < lacking rows
@@ -47,7 +47,7 @@ lacking-more rows row grown within more low other =
     let sums = sum_by-set (λ word. 2 ^ 64 - word) rows row grown 0 within in
     omega (arith, other)
 
-module _ (rows room : List ℕ) (row beside grown : ℕ) (within_row : row < length rows) (within : IsAmong (is_set rows) (is_set room)) (beside_in : IsPart (has_bit beside) (has_bit (bit_or (row_above rows row) (slice_index rows (row + 1))))) (in_room : IsPart (has_bit grown) (has_bit (get_or room row 0))) (from_seed : IsPart (has_bit (seed_of rows room row beside)) (has_bit grown)) (closed : HasBeside (has_bit (get_or room row 0)) (has_bit grown)) (least : (set : ℕ → Bool) → HasBeside (has_bit (get_or room row 0)) set → IsPart (has_bit (seed_of rows room row beside)) set → IsPart (has_bit grown) set) where
+module _ (rows region : List ℕ) (row beside grown : ℕ) (within_row : row < length rows) (within : IsAmong (is_set rows) (is_set region)) (beside_in : IsPart (has_bit beside) (has_bit (bit_or (row_above rows row) (slice_index rows (row + 1))))) (in_room : IsPart (has_bit grown) (has_bit (get_or region row 0))) (from_seed : IsPart (has_bit (seed_of rows region row beside)) (has_bit grown)) (closed : HasBeside (has_bit (get_or region row 0)) (has_bit grown)) (least : (set : ℕ → Bool) → HasBeside (has_bit (get_or region row 0)) set → IsPart (has_bit (seed_of rows region row beside)) set → IsPart (has_bit grown) set) where
   abbrev grown_rows : List ℕ
   grown_rows = set rows row grown
 
@@ -59,20 +59,20 @@ module _ (rows room : List ℕ) (row beside grown : ℕ) (within_row : row < len
   elsewhere : (p : Point) → p.row ≢ row → is_set grown_rows p ≡ is_set rows p
   elsewhere p other = ap (λ w. has_bit w p.col) (get_or-set_other rows row p.row grown 0 other)
 
-  own_seed : (col : ℕ) → has_bit (get_or rows row 0) col ≡ true → has_bit (seed_of rows room row beside) col ≡ true
+  own_seed : (col : ℕ) → has_bit (get_or rows row 0) col ≡ true → has_bit (seed_of rows region row beside) col ≡ true
   own_seed col is =
       has_bit-and _ _ col
       ∙ and_from _ _ (has_bit-or (get_or rows row 0) beside col ∙ or_left _ _ is) (within (record { col = col; row = row }) is)
 
-  beside_seed : (col : ℕ) → has_bit beside col ≡ true → has_bit (get_or room row 0) col ≡ true → has_bit (seed_of rows room row beside) col ≡ true
-  beside_seed col is room_there =
-      has_bit-and _ _ col ∙ and_from _ _ (has_bit-or (get_or rows row 0) beside col ∙ or_right _ _ is) room_there
+  beside_seed : (col : ℕ) → has_bit beside col ≡ true → has_bit (get_or region row 0) col ≡ true → has_bit (seed_of rows region row beside) col ≡ true
+  beside_seed col is region_there =
+      has_bit-and _ _ col ∙ and_from _ _ (has_bit-or (get_or rows row 0) beside col ∙ or_right _ _ is) region_there
 
   above_set : (set : Point → Bool) → IsAmong (is_set rows) set → (r col : ℕ) → r ≡ row → has_bit (row_above rows r) col ≡ true → (q : Point) × (q.col ≡ col) × (q.row + 1 ≡ r) × (set q ≡ true)
   above_set set part zero col same is = absurd (false≢true (sym (has_bit-zero col) ∙ is))
   above_set set part (suc r) col same is = (record { col = col; row = r }, refl, omega arith, part (record { col = col; row = r }) is)
 
-  seed_least : (set : Point → Bool) → IsClosed (is_set room) set → IsAmong (is_set rows) set → IsPart (has_bit (seed_of rows room row beside)) (λ col. set (record { col = col; row = row }))
+  seed_least : (set : Point → Bool) → IsClosed (is_set region) set → IsAmong (is_set rows) set → IsPart (has_bit (seed_of rows region row beside)) (λ col. set (record { col = col; row = row }))
   seed_least set shut part =
       λ col is.
       let both = and_parts _ _ (sym (has_bit-and _ _ col) ∙ is) in
@@ -90,11 +90,11 @@ module _ (rows room : List ℕ) (row beside grown : ℕ) (within_row : row < len
             ]
       ]
 
-  pub Grows-row : Grows (is_set room) (is_set rows) (is_set grown_rows)
+  pub Grows-row : Grows (is_set region) (is_set rows) (is_set grown_rows)
   Grows-row = record {
     within = λ p is.
         elim (cases_eq p.row row) [
-          | inl same ↦ ap (λ r. has_bit (get_or room r 0) p.col) same ∙ in_room p.col (sym (here p same) ∙ is)
+          | inl same ↦ ap (λ r. has_bit (get_or region r 0) p.col) same ∙ in_room p.col (sym (here p same) ∙ is)
           | inr other ↦ within p (sym (elsewhere p other) ∙ is)
         ];
     kept = λ p is.
@@ -114,16 +114,16 @@ module _ (rows room : List ℕ) (row beside grown : ℕ) (within_row : row < len
         ];
   }
 
-  pub IsRowClosed-row : beside ≡ bit_or (row_above rows row) (slice_index rows (row + 1)) → IsRowClosed (is_set room) (is_set grown_rows) row
+  pub IsRowClosed-row : beside ≡ bit_or (row_above rows row) (slice_index rows (row + 1)) → IsRowClosed (is_set region) (is_set grown_rows) row
   IsRowClosed-row beside_is =
       λ p q same adjacent there is.
-      let room_there : has_bit (get_or room row 0) p.col ≡ true = ap (λ r. has_bit (get_or room r 0) p.col) (sym same) ∙ there in
+      let region_there : has_bit (get_or region row 0) p.col ≡ true = ap (λ r. has_bit (get_or region r 0) p.col) (sym same) ∙ there in
       here p same
       ∙ (elim adjacent [
         | inl column ↦
             (let old : is_set rows q ≡ true = sym (elsewhere q (λ e. apart p.row q.row column.1 (same ∙ sym e))) ∙ is in
-            from_seed p.col (beside_seed p.col (ap (λ w. has_bit w p.col) beside_is ∙ has_bit-or (row_above rows row) (slice_index rows (row + 1)) p.col ∙ near p q same column old) room_there))
-        | inr line ↦ closed p.col q.col line.1 room_there (sym (here q (sym line.0 ∙ same)) ∙ is)
+            from_seed p.col (beside_seed p.col (ap (λ w. has_bit w p.col) beside_is ∙ has_bit-or (row_above rows row) (slice_index rows (row + 1)) p.col ∙ near p q same column old) region_there))
+        | inr line ↦ closed p.col q.col line.1 region_there (sym (here q (sym line.0 ∙ same)) ∙ is)
       ])
     where
       apart : (a b : ℕ) → DifferByOne a b → a ≡ b → ⊥

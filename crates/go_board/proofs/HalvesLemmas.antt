@@ -1,4 +1,4 @@
--- Sets of points in the halves of words: a path within such a room stays in its half.
+-- Sets of points in the halves of words: a path within such a region stays in its half.
 use Rattle.std.proofs.Common.{◌≡◌, ◌≢◌, inl, inr, ℕ, ◌+◌, ◌-◌, ◌*◌, ◌/◌, ◌%◌, ◌^◌, ◌<◌, ◌≤◌, ◌==◌, ◌||◌, ◌&&◌, Bool, true, nat_lt, nat_le, List, slice_index, sym, ap, ◌∙◌, arith}
 use Rattle.std.proofs.lemmas.Bool.{or_cases, or_left, or_right, and_parts, and_from, cases_lt, le-leb, leb-true}
 use Rattle.std.proofs.lemmas.Bool.Decides.{Decides-ltb}
@@ -100,43 +100,43 @@ stays_high p q (inr (row, inl next)) from apart = omega (arith, next, from)
 stays_high p q (inr (row, inr next)) from apart = omega (arith, next, from, apart)
 
 -- a filling, and each of its halves
-module _ (room seed rows : List ℕ) (gap : (p : Point) → is_set room p ≡ true → p.col ≢ 31) (grows : Grows (is_set room) (is_set seed) (is_set rows)) (closed : IsClosed (is_set room) (is_set rows)) where
-  seed_in : IsAmong (is_set seed) (is_set room)
+module _ (region seed rows : List ℕ) (gap : (p : Point) → is_set region p ≡ true → p.col ≢ 31) (grows : Grows (is_set region) (is_set seed) (is_set rows)) (closed : IsClosed (is_set region) (is_set rows)) where
+  seed_in : IsAmong (is_set seed) (is_set region)
   seed_in p is = grows.within p (grows.kept p is)
 
-  pub IsClosed-low : IsClosed (is_set (low_halves room)) (is_set (low_halves rows))
+  pub IsClosed-low : IsClosed (is_set (low_halves region)) (is_set (low_halves rows))
   IsClosed-low p q adjacent there is =
-      let at = low_parts room p there in
+      let at = low_parts region p there in
       low_from rows p at.0 (closed p q adjacent at.1 (low_parts rows q is).1)
 
-  pub IsClosed-high : IsClosed (is_set (high_halves room)) (is_set (high_halves rows))
+  pub IsClosed-high : IsClosed (is_set (high_halves region)) (is_set (high_halves rows))
   IsClosed-high p q adjacent there is =
       in_high rows p
-      ∙ closed (shifted p) (shifted q) (adjacent_shifted p q adjacent) (sym (in_high room p) ∙ there) (sym (in_high rows q) ∙ is)
+      ∙ closed (shifted p) (shifted q) (adjacent_shifted p q adjacent) (sym (in_high region p) ∙ there) (sym (in_high rows q) ∙ is)
 
   -- a set of the low halves, with all of the high ones; and the other way round
   module _ (set : Point → Bool) where
     with_high : Point → Bool
-    with_high p = is_set room p && (nat_le 32 p.col || set p)
+    with_high p = is_set region p && (nat_le 32 p.col || set p)
 
     with_low : Point → Bool
-    with_low p = is_set room p && (nat_lt p.col 32 || set (unshifted p))
+    with_low p = is_set region p && (nat_lt p.col 32 || set (unshifted p))
 
-    with_high_closed : IsClosed (is_set (low_halves room)) set → IsClosed (is_set room) with_high
+    with_high_closed : IsClosed (is_set (low_halves region)) set → IsClosed (is_set region) with_high
     unfolding with_high
     with_high_closed shut p q adjacent there is =
-        let both = and_parts (is_set room q) (nat_le 32 q.col || set q) is in
+        let both = and_parts (is_set region q) (nat_le 32 q.col || set q) is in
         and_from _ _ there
         (elim (cases_lt p.col 32) [
           | inr from ↦ or_left _ _ (le-leb 32 p.col from)
           | inl below ↦
               let near : q.col < 32 = stays_low p q adjacent below (gap p there) in
               or_right _ _
-              (shut p q adjacent (low_from room p below there)
+              (shut p q adjacent (low_from region p below there)
               (elim (or_cases (nat_le 32 q.col) (set q) both.1) [ inl high ↦ absurd (let far : 32 ≤ q.col = leb-true 32 q.col high in omega (arith, near, far)) | inr in_set ↦ in_set ]))
         ])
 
-    with_low_closed : IsClosed (is_set (high_halves room)) set → IsClosed (is_set room) with_low
+    with_low_closed : IsClosed (is_set (high_halves region)) set → IsClosed (is_set region) with_low
     unfolding with_low
     with_low_closed shut p q adjacent there is =
         let both = and_parts _ _ is in
@@ -146,14 +146,14 @@ module _ (room seed rows : List ℕ) (gap : (p : Point) → is_set room p ≡ tr
           | inr from ↦
               let near : 32 ≤ q.col = stays_high p q adjacent from (gap q both.0) in
               or_right _ _
-              (shut (unshifted p) (unshifted q) (adjacent_unshifted p q from near adjacent) (high_from room p from there)
+              (shut (unshifted p) (unshifted q) (adjacent_unshifted p q from near adjacent) (high_from region p from there)
               (elim (or_cases (nat_lt q.col 32) (set (unshifted q)) both.1) [ inl low ↦ absurd (let far : q.col < 32 = (Decides-ltb q.col 32).0 low in omega (arith, near, far)) | inr in_set ↦ in_set ]))
         ])
 
-  pub Grows-low : Grows (is_set (low_halves room)) (is_set (low_halves seed)) (is_set (low_halves rows))
+  pub Grows-low : Grows (is_set (low_halves region)) (is_set (low_halves seed)) (is_set (low_halves rows))
   unfolding with_high
   Grows-low = record {
-    within = λ p is. let at = low_parts rows p is in low_from room p at.0 (grows.within p at.1);
+    within = λ p is. let at = low_parts rows p is in low_from region p at.0 (grows.within p at.1);
     kept = λ p is. let at = low_parts seed p is in low_from rows p at.0 (grows.kept p at.1);
     least = λ set shut part.
         λ p is.
@@ -168,10 +168,10 @@ module _ (room seed rows : List ℕ) (gap : (p : Point) → is_set room p ≡ tr
         elim (or_cases (nat_le 32 p.col) (set p) (and_parts _ _ found).1) [ inl high ↦ absurd (let far : 32 ≤ p.col = leb-true 32 p.col high in omega (arith, at.0, far)) | inr in_set ↦ in_set ];
   }
 
-  pub Grows-high : Grows (is_set (high_halves room)) (is_set (high_halves seed)) (is_set (high_halves rows))
+  pub Grows-high : Grows (is_set (high_halves region)) (is_set (high_halves seed)) (is_set (high_halves rows))
   unfolding with_low
   Grows-high = record {
-    within = λ p is. in_high room p ∙ grows.within (shifted p) (sym (in_high rows p) ∙ is);
+    within = λ p is. in_high region p ∙ grows.within (shifted p) (sym (in_high rows p) ∙ is);
     kept = λ p is. in_high rows p ∙ grows.kept (shifted p) (sym (in_high seed p) ∙ is);
     least = λ set shut part.
         λ p is.

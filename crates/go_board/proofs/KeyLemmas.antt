@@ -7,7 +7,7 @@ use Rattle.go_board.specs.declared.stones.Cell.{Cell}
 use Rattle.go_board.specs.declared.stones.Cell.TheVariants.{Black, White, Empty}
 use Rattle.go_board.specs.Colour.{same_cell}
 use Rattle.go_board.specs.Grid.{Grid, cell_at}
-use Rattle.go_board.specs.inner.Key.{has_stone, key_bit, key_row}
+use Rattle.go_board.specs.inner.Key.{has_stone, key_bit, key_bits}
 use Rattle.go_board.specs.inner.Rows.{has_bit}
 use Rattle.go_board.specs.inner.Trie.{Agree}
 use Rattle.go_board.proofs.ChangesLemmas.{one_colouring}
@@ -30,7 +30,7 @@ other_bits a b i e same =
     let low : bit_at a i < 2 = bit_at-lt a i in
     grind arith
 
--- one word more of two rows of bits
+-- one word more of two keys
 module _ (x y : ℕ → Bool) (a b index : ℕ) (is_a : (col : ℕ) → col < 64 → has_bit a col ≡ x (64 * index + col)) (is_b : (col : ℕ) → col < 64 → has_bit b col ≡ y (64 * index + col)) (before : Agree x y (64 * index)) where
   pub agree_farther : (n : ℕ) → n ≤ 64 → ((i : ℕ) → i < n → bit_at (bit_xor a b) i ≡ 0) → Agree x y (64 * index + n)
   agree_farther n few same = record {
@@ -49,20 +49,20 @@ module _ (x y : ℕ → Bool) (a b index : ℕ) (is_a : (col : ℕ) → col < 64
 
 -- The front of a key: the print, and the start of the stretch.
 
-key_at : (start print : ℕ) (grid : Grid) (index col : ℕ) → col < 64 → key_row start print grid (64 * index + col) ≡ key_bit start print grid index col
+key_at : (start print : ℕ) (grid : Grid) (index col : ℕ) → col < 64 → key_bits start print grid (64 * index + col) ≡ key_bit start print grid index col
 key_at start print grid index col low =
     let word : (64 * index + col) / 64 ≡ index = omega (arith, low) in
     let place : (64 * index + col) % 64 ≡ col = omega (arith, low) in
     ap (λ n. key_bit start print grid n ((64 * index + col) % 64)) word ∙ ap (λ n. key_bit start print grid index n) place
 
 -- the first bits of a key are those of its print
-pub print_bit : (start print : ℕ) (grid : Grid) (place : ℕ) → place < 64 → key_row start print grid place ≡ has_bit print place
+pub print_bit : (start print : ℕ) (grid : Grid) (place : ℕ) → place < 64 → key_bits start print grid place ≡ has_bit print place
 print_bit start print grid place low =
     let at : 64 * 0 + place ≡ place = omega arith in
-    ap (λ n. key_row start print grid n) (sym at) ∙ key_at start print grid 0 place low
+    ap (λ n. key_bits start print grid n) (sym at) ∙ key_at start print grid 0 place low
 
 module _ (start start' print print' : ℕ) (grid grid' : Grid) where
-  pub front_same : start < 2 ^ 64 → start' < 2 ^ 64 → print < 2 ^ 64 → print' < 2 ^ 64 → Agree (key_row start print grid) (key_row start' print' grid') 128 → (start ≡ start') × (print ≡ print')
+  pub front_same : start < 2 ^ 64 → start' < 2 ^ 64 → print < 2 ^ 64 → print' < 2 ^ 64 → Agree (key_bits start print grid) (key_bits start' print' grid') 128 → (start ≡ start') × (print ≡ print')
   front_same few few' small small' a = (
     same_from_bits_below 64 start start' few few' (λ i h. bit_same start start' i (
         sym (key_at start print grid 1 i h) ∙ a.each (64 * 1 + i) (omega (arith, h)) ∙ key_at start' print' grid' 1 i h
@@ -72,18 +72,18 @@ module _ (start start' print print' : ℕ) (grid grid' : Grid) where
         )),
   )
 
-  pub front_agrees : start ≡ start' → print ≡ print' → Agree (key_row start print grid) (key_row start' print' grid') 128
+  pub front_agrees : start ≡ start' → print ≡ print' → Agree (key_bits start print grid) (key_bits start' print' grid') 128
   front_agrees e f = record {
     each = λ p h. elim (cases_lt p 64) [
       | inl low ↦
           let at : 64 * 0 + p ≡ p = omega arith in
-          subst (λ m. key_row start print grid m ≡ key_row start' print' grid' m) at
+          subst (λ m. key_bits start print grid m ≡ key_bits start' print' grid' m) at
           (key_at start print grid 0 p low ∙ ap (λ n. has_bit n p) f ∙ sym (key_at start' print' grid' 0 p low))
       | inr high ↦
           let col = p - 64 in
           let low : col < 64 = omega (arith, h, high) in
           let at : 64 * 1 + col ≡ p = omega (arith, high) in
-          subst (λ m. key_row start print grid m ≡ key_row start' print' grid' m) at
+          subst (λ m. key_bits start print grid m ≡ key_bits start' print' grid' m) at
           (key_at start print grid 1 col low ∙ ap (λ n. has_bit n col) e ∙ sym (key_at start' print' grid' 1 col low))
     ];
   }
@@ -108,7 +108,7 @@ cells_one Empty Empty e f = refl
 
 -- the word of a row for Black, and the one for White
 module _ (start print : ℕ) (grid : Grid) (row col : ℕ) (left : col < 64) where
-  black_at : key_row start print grid (64 * (2 * row + 2) + col) ≡ has_stone grid Black row col
+  black_at : key_bits start print grid (64 * (2 * row + 2) + col) ≡ has_stone grid Black row col
   black_at =
       let index : 2 * row + 2 ≡ suc (suc (2 * row)) = omega arith in
       let even : (2 * row) % 2 ≡ 0 = omega arith in
@@ -118,7 +118,7 @@ module _ (start print : ℕ) (grid : Grid) (row col : ℕ) (left : col < 64) whe
       ∙ ap (λ n. has_stone grid (if n == 0 then Black else White) ((2 * row) / 2) col) even
       ∙ ap (λ n. has_stone grid Black n col) half
 
-  white_at : key_row start print grid (64 * (2 * row + 3) + col) ≡ has_stone grid White row col
+  white_at : key_bits start print grid (64 * (2 * row + 3) + col) ≡ has_stone grid White row col
   white_at =
       let index : 2 * row + 3 ≡ suc (suc (2 * row + 1)) = omega arith in
       let odd : (2 * row + 1) % 2 ≡ 1 = omega arith in
@@ -129,7 +129,7 @@ module _ (start print : ℕ) (grid : Grid) (row col : ℕ) (left : col < 64) whe
       ∙ ap (λ n. has_stone grid White n col) half
 
 pub whole_same : (start start' print print' : ℕ) (grid grid' : Grid) → grid.side ≡ grid'.side → grid.side ≤ 52 → length grid.cells ≡ grid.side * grid.side → length grid'.cells ≡ grid'.side * grid'.side
-    → Agree (key_row start print grid) (key_row start' print' grid') 6784 → grid ≡ grid'
+    → Agree (key_bits start print grid) (key_bits start' print' grid') 6784 → grid ≡ grid'
 whole_same start start' print print' grid grid' side few all all' a =
     one_colouring grid grid' side all all'
     (λ p on.

@@ -4,7 +4,7 @@ use Rattle.std.proofs.lemmas.Bool.{or_cases, or_left, or_right, and_parts, false
 use Rattle.std.specs.Int.{trailing_zeros}
 use Rattle.std.proofs.lemmas.List.{length-set, get_or-set_same, get_or-set_other}
 use Rattle.go_board.specs.declared.points.Point.{Point}
-use Rattle.go_board.specs.declared.board.glance.RowStones.{RowStones}
+use Rattle.go_board.specs.declared.board.liberty.RowStones.{RowStones}
 use Rattle.go_board.specs.Point.{IsOn, DifferByOne, AreAdjacent}
 use Rattle.go_board.specs.inner.Rows.{has_bit, is_set, IsPart, HasBeside, IsRowClosed, IsTaken, Grows, IsInOrBeside}
 use Rattle.go_board.specs.inner.Linked.{HasLiberty, IsLiberty, IsLinked}

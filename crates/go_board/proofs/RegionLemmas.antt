@@ -123,19 +123,19 @@ either_second : (c one other : Cell) → c ≡ other → is_either c one other �
 either_second c one other is = or_right _ _ ((Decides-same_cell c other).1 is)
 
 -- a colour's points, and the points that haven't the other colour
-module _ (g : Grid) (k : Colour) (rows others room : List ℕ) (is_own : AreRowsOf g.side (λ p. same_cell (cell_at g p) (stone_of k)) rows) (is_other : AreRowsOf g.side (λ p. same_cell (cell_at g p) (stone_of (opponent k))) others) (all : length others ≡ g.side) (is_room : AreRowsOf (length others) (λ p. not (is_set others p)) room) where
+module _ (g : Grid) (k : Colour) (rows others region : List ℕ) (is_own : AreRowsOf g.side (λ p. same_cell (cell_at g p) (stone_of k)) rows) (is_other : AreRowsOf g.side (λ p. same_cell (cell_at g p) (stone_of (opponent k))) others) (all : length others ≡ g.side) (is_room : AreRowsOf (length others) (λ p. not (is_set others p)) region) where
   pub seed_is : AreRowsOf g.side (λ p. is_either (cell_at g p) (stone_of k) (stone_of k)) rows
   seed_is = AreRowsOf-same g.side _ _ rows (λ p on. sym (or_self (same_cell (cell_at g p) (stone_of k)))) is_own
 
-  pub room_is : AreRowsOf g.side (λ p. is_either (cell_at g p) Empty (stone_of k)) room
-  room_is =
-      AreRowsOf-same g.side _ _ room (λ p on. ap not (is_other.on p on) ∙ not_other k (cell_at g p))
-      (subst (λ n. AreRowsOf n (λ p. not (is_set others p)) room) all is_room)
+  pub region_is : AreRowsOf g.side (λ p. is_either (cell_at g p) Empty (stone_of k)) region
+  region_is =
+      AreRowsOf-same g.side _ _ region (λ p on. ap not (is_other.on p on) ∙ not_other k (cell_at g p))
+      (subst (λ n. AreRowsOf n (λ p. not (is_set others p)) region) all is_room)
 
-module _ (g : Grid) (own wanted : Cell) (room seed result : List ℕ) (is_room : AreRowsOf g.side (λ p. is_either (cell_at g p) own wanted) room) (is_seed : AreRowsOf g.side (λ p. is_either (cell_at g p) wanted wanted) seed) (grows : Grows (is_set room) (is_set seed) (is_set result)) (closed : IsClosed (is_set room) (is_set result)) where
-  -- those of the room that reach the colour
+module _ (g : Grid) (own wanted : Cell) (region seed result : List ℕ) (is_room : AreRowsOf g.side (λ p. is_either (cell_at g p) own wanted) region) (is_seed : AreRowsOf g.side (λ p. is_either (cell_at g p) wanted wanted) seed) (grows : Grows (is_set region) (is_set seed) (is_set result)) (closed : IsClosed (is_set region) (is_set result)) where
+  -- those of the region that reach the colour
   reaching_in : Point → Bool
-  reaching_in p = is_set room p && reaches g wanted p
+  reaching_in p = is_set region p && reaches g wanted p
 
   step_back : (p q : Point) → IsOn g.side p → IsOn g.side q → AreAdjacent p q → (cell_at g p ≡ own) ⊎ (cell_at g p ≡ wanted) → (cell_at g q ≡ own) ⊎ (cell_at g q ≡ wanted) → Reaches g wanted q → Reaches g wanted p
   step_back p q on at adjacent (inr goal) cell way = ([], (on, goal))
@@ -143,7 +143,7 @@ module _ (g : Grid) (own wanted : Cell) (room seed result : List ℕ) (is_room :
   step_back p q on at adjacent (inl own_p) (inl own_q) way =
       (q ∷ way.0, (on, refl, adjacent, subst (λ k. Leads g k wanted q way.0) (own_q ∙ sym own_p) way.1))
 
-  reaching_closed : IsClosed (is_set room) reaching_in
+  reaching_closed : IsClosed (is_set region) reaching_in
   unfolding reaching_in
   reaching_closed =
       λ p q adjacent there is.

@@ -117,10 +117,6 @@ AllReach-settled g k settled =
           (sym ((Decides-has_unreaching g).1 (p, on, (λ e. stone_of≢Empty k (sym own ∙ e)), shut)) ∙ settled))
     ]
 
--- so clearing a colour changes nothing there
-pub clear-settled : (g : Grid) (k : Colour) → length g.cells ≡ g.side * g.side → has_unreaching g ≡ false → clear g k ≡ g
-clear-settled g k all settled = clear-AllReach g k all (AllReach-settled g k settled)
-
 -- nothing stands on an empty grid
 pub settled-empty_grid : (side : ℕ) → has_unreaching (empty_grid side) ≡ false
 settled-empty_grid side =

@@ -4,22 +4,22 @@ use Rattle.std.specs.Int.{bit_at}
 use Rattle.std.specs.Vec.{vec_capacity}
 use Rattle.std.proofs.lemmas.Bool.{cases_lt, cases_Bool, false≢true}
 use Rattle.std.proofs.lemmas.List.{drop-drop, length-drop, reverse-append, length-map}
-use Rattle.go_board.specs.declared.past.key.TheConstants.{WIDTH}
-use Rattle.go_board.specs.declared.past.table.Gap.{Gap}
-use Rattle.go_board.specs.declared.past.table.Table.{Table}
-use Rattle.go_board.specs.declared.past.trie.Node.{Node}
+use Rattle.go_board.specs.declared.quick.print_past.key.TheConstants.{WIDTH}
+use Rattle.go_board.specs.declared.quick.print_past.table.Gap.{Gap}
+use Rattle.go_board.specs.declared.quick.print_past.table.Table.{Table}
+use Rattle.go_board.specs.declared.quick.print_past.trie.Node.{Node}
 use Rattle.go_board.specs.Grid.{Grid}
 use Rattle.go_board.specs.Past.{Held, stretch_of, AllHaveSide}
 use Rattle.go_board.specs.inner.Changes.{first_grid, IsNumber, HasNumber}
-use Rattle.go_board.specs.inner.Key.{key_row, start_of, since, oldest, keys_of}
+use Rattle.go_board.specs.inner.Key.{key_bits, start_of, since, oldest, keys_of}
 use Rattle.go_board.specs.inner.Print.{print_of, prints_of}
 use Rattle.go_board.specs.inner.Rows.{has_bit}
 use Rattle.go_board.specs.inner.Table.{IsGap, IsTable}
-use Rattle.go_board.specs.inner.Trie.{Agree, IsTrie, IsTree, IsNearest, IsParting, row_of, depth_of, kid_of, without_newest}
+use Rattle.go_board.specs.inner.Trie.{Agree, IsTrie, IsTree, IsNearest, IsParting, bits_at, depth_of, kid_of, without_newest}
 use Rattle.go_board.proofs.KeyLemmas.{same_bit, other_bits, print_bit, front_same, front_agrees, whole_same}
 use Rattle.go_board.proofs.PrintLemmas.{print_small}
 use Rattle.go_board.proofs.PrintPastLemmas.{some_same, index-of, of-index, same_length, print-number}
-use Rattle.go_board.proofs.TrieLemmas.{agree_self, agree_on, agree_back, agree_less, trie_tree, trie_length, row_first, row_before, way_equal, way_parts}
+use Rattle.go_board.proofs.TrieLemmas.{agree_self, agree_on, agree_back, agree_less, trie_tree, trie_length, bits_first, bits_before, way_equal, way_parts}
 
 -- Starts of stretches.
 
@@ -84,19 +84,19 @@ number_there (x ∷ xs) number low = elim (cases_lt number (length xs)) [
   | inl older ↦ let there = number_there xs number older in (there.0, ap first_grid (since-older number x xs older) ∙ there.1)
 ]
 
-key_of : (held : List Held) (number : ℕ) (g : Grid) → number < length held → IsNumber held number g → row_of (keys_of held) number ≡ key_row (start_of (since number held)) (print_of g) g
+key_of : (held : List Held) (number : ℕ) (g : Grid) → number < length held → IsNumber held number g → bits_at (keys_of held) number ≡ key_bits (start_of (since number held)) (print_of g) g
 key_of [] number g low is = absurd (omega (arith, low))
 key_of (x ∷ xs) number g low is = elim (cases_lt number (length xs)) [
   | inr newest ↦
       let at : number ≡ length xs = omega (arith, low, newest) in
       let one : x.colouring ≡ g = some_same x.colouring g (sym (ap (λ n. first_grid (since n (x ∷ xs))) at ∙ ap first_grid (since-newest x xs)) ∙ is) in
-      row_first (key_row (start_of (x ∷ xs)) (print_of x.colouring) x.colouring) (keys_of xs) number (omega (arith, at, length-keys xs))
-      ∙ ap (λ (y : Grid). key_row (start_of (x ∷ xs)) (print_of y) y) one
-      ∙ ap (λ n. key_row n (print_of g) g) (sym (ap (λ n. start_of (since n (x ∷ xs))) at ∙ ap start_of (since-newest x xs)))
+      bits_first (key_bits (start_of (x ∷ xs)) (print_of x.colouring) x.colouring) (keys_of xs) number (omega (arith, at, length-keys xs))
+      ∙ ap (λ (y : Grid). key_bits (start_of (x ∷ xs)) (print_of y) y) one
+      ∙ ap (λ n. key_bits n (print_of g) g) (sym (ap (λ n. start_of (since n (x ∷ xs))) at ∙ ap start_of (since-newest x xs)))
   | inl older ↦
-      row_before (key_row (start_of (x ∷ xs)) (print_of x.colouring) x.colouring) (keys_of xs) number (omega (arith, older, length-keys xs))
+      bits_before (key_bits (start_of (x ∷ xs)) (print_of x.colouring) x.colouring) (keys_of xs) number (omega (arith, older, length-keys xs))
       ∙ key_of xs number g older (sym (ap first_grid (since-older number x xs older)) ∙ is)
-      ∙ ap (λ n. key_row n (print_of g) g) (sym (ap start_of (since-older number x xs older)))
+      ∙ ap (λ n. key_bits n (print_of g) g) (sym (ap start_of (since-older number x xs older)))
 ]
 
 length-oldest : (count : ℕ) (held : List Held) → count ≤ length held → length (oldest count held) ≡ count
@@ -110,11 +110,11 @@ since-oldest count number held le low =
 
 -- the key of a number in the trie
 pub linked_key : (count : ℕ) (held : List Held) (number : ℕ) (g : Grid) → count ≤ length held → number < count → IsNumber held number g
-    → row_of (keys_of (oldest count held)) number ≡ key_row (start_of (since number held)) (print_of g) g
+    → bits_at (keys_of (oldest count held)) number ≡ key_bits (start_of (since number held)) (print_of g) g
 linked_key count held number g le low is =
     let same = since-oldest count number held le low in
     key_of (oldest count held) number g (omega (arith, low, length-oldest count held le)) (ap first_grid same ∙ is)
-    ∙ ap (λ (hs : List Held). key_row (start_of hs) (print_of g) g) same
+    ∙ ap (λ (hs : List Held). key_bits (start_of hs) (print_of g) g) same
 
 drop-one : (n : ℕ) (held : List Held) (first : Held) (rest : List Held) → drop n held ≡ first ∷ rest → drop (suc n) held ≡ rest
 drop-one zero [] first rest is = cc
@@ -124,21 +124,21 @@ drop-one (suc n) (x ∷ xs) first rest is = drop-one n xs first rest is
 
 -- one more of the oldest colourings
 pub oldest-next : (count : ℕ) (held : List Held) (g : Grid) → count < length held → IsNumber held count g
-    → keys_of (oldest (count + 1) held) ≡ key_row (start_of (since count held)) (print_of g) g ∷ keys_of (oldest count held)
+    → keys_of (oldest (count + 1) held) ≡ key_bits (start_of (since count held)) (print_of g) g ∷ keys_of (oldest count held)
 oldest-next count held g low is =
     let n = length held - 1 - count in
     let here : length held - (count + 1) ≡ n = omega (arith, low) in
     let below : length held - count ≡ suc n = omega (arith, low) in
     ap (λ m. keys_of (drop m held)) here
     ∙ parts (drop n held) refl is
-    ∙ ap (λ m. key_row (start_of (drop n held)) (print_of g) g ∷ keys_of (drop m held)) (sym below)
+    ∙ ap (λ m. key_bits (start_of (drop n held)) (print_of g) g ∷ keys_of (drop m held)) (sym below)
   where
-    parts : (hs : List Held) → drop (length held - 1 - count) held ≡ hs → first_grid hs ≡ Some g → keys_of hs ≡ key_row (start_of hs) (print_of g) g ∷ keys_of (drop (suc (length held - 1 - count)) held)
+    parts : (hs : List Held) → drop (length held - 1 - count) held ≡ hs → first_grid hs ≡ Some g → keys_of hs ≡ key_bits (start_of hs) (print_of g) g ∷ keys_of (drop (suc (length held - 1 - count)) held)
     parts [] at one = cc
     parts (x ∷ xs) at one =
         let same : x.colouring ≡ g = some_same x.colouring g one in
-        ap (λ (y : Grid). key_row (start_of (x ∷ xs)) (print_of y) y ∷ keys_of xs) same
-        ∙ ap (λ (hs : List Held). key_row (start_of (x ∷ xs)) (print_of g) g ∷ keys_of hs) (sym (drop-one (length held - 1 - count) held x xs at))
+        ap (λ (y : Grid). key_bits (start_of (x ∷ xs)) (print_of y) y ∷ keys_of xs) same
+        ∙ ap (λ (hs : List Held). key_bits (start_of (x ∷ xs)) (print_of g) g ∷ keys_of hs) (sym (drop-one (length held - 1 - count) held x xs at))
 
 -- What a table of these colourings tells.
 module _ (held : List Held) (table : Table) (is : IsTable held table) where
@@ -156,160 +156,160 @@ module _ (held : List Held) (table : Table) (is : IsTable held table) where
   print_there number g low at = print-number held table.prints.items is.printed number g low at
 
   -- the trie of the colourings that are in it
-  abbrev pub linked_rows : List (ℕ → Bool)
-  linked_rows = keys_of (oldest (length table.nodes.items) held)
+  abbrev pub linked_keys : List (ℕ → Bool)
+  linked_keys = keys_of (oldest (length table.nodes.items) held)
 
   -- the key of a colouring in the trie
   key_there : (number start print : ℕ) (grid : Grid) → number < length table.nodes.items → IsNumber held number grid → start_of (since number held) ≡ start → print_of grid ≡ print
-      → row_of linked_rows number ≡ key_row start print grid
+      → bits_at linked_keys number ≡ key_bits start print grid
   key_there number start print grid low at same_start same_print =
-      linked_key (length table.nodes.items) held number grid linked_few low at ∙ ap (λ n. key_row n (print_of grid) grid) same_start ∙ ap (λ n. key_row start n grid) same_print
+      linked_key (length table.nodes.items) held number grid linked_few low at ∙ ap (λ n. key_bits n (print_of grid) grid) same_start ∙ ap (λ n. key_bits start n grid) same_print
 
   -- What the item tells that a look-up for a key finds, by the bits before `end`.
   module _ (some : 0 < length table.nodes.items) (key : ℕ → Bool) (near : ℕ) where
     abbrev pub Nearest : ℕ → Type 0
-    Nearest end = IsNearest linked_rows table.nodes.items key end near
+    Nearest end = IsNearest linked_keys table.nodes.items key end near
 
-    tree : IsTree WIDTH (length table.nodes.items) (row_of linked_rows) (depth_of table.nodes.items) (kid_of table.nodes.items)
-    tree = trie_tree linked_rows table.nodes.items is.linked some
+    tree : IsTree WIDTH (length table.nodes.items) (bits_at linked_keys) (depth_of table.nodes.items) (kid_of table.nodes.items)
+    tree = trie_tree linked_keys table.nodes.items is.linked some
 
     pub near_in : {end : ℕ} → Nearest end → near < length table.nodes.items
     near_in {end} n = subst (λ x. x < length table.nodes.items) (sym n.names) (tree.kids n.node n.side n.way.slot).there
 
     -- if any item is as the key, this one is
-    found_equal : {end : ℕ} → Nearest end → end ≤ WIDTH → (number : ℕ) → number < length table.nodes.items → Agree (row_of linked_rows number) key end → Agree (row_of linked_rows near) key end
-    found_equal {end} n within number low a = subst (λ x. Agree (row_of linked_rows x) key end) (sym n.names) (way_equal tree n.way n.stop within number low a)
+    found_equal : {end : ℕ} → Nearest end → end ≤ WIDTH → (number : ℕ) → number < length table.nodes.items → Agree (bits_at linked_keys number) key end → Agree (bits_at linked_keys near) key end
+    found_equal {end} n within number low a = subst (λ x. Agree (bits_at linked_keys x) key end) (sym n.names) (way_equal tree n.way n.stop within number low a)
 
     -- and if it parts from the key, no other is as the key any farther
-    found_parts : {end : ℕ} → Nearest end → end ≤ WIDTH → (place : ℕ) (other : ℕ → Bool) → row_of linked_rows near ≡ other → place < end → Agree key other place → key place ≢ other place
-        → IsParting (length table.nodes.items) (row_of linked_rows) key near place
+    found_parts : {end : ℕ} → Nearest end → end ≤ WIDTH → (place : ℕ) (other : ℕ → Bool) → bits_at linked_keys near ≡ other → place < end → Agree key other place → key place ≢ other place
+        → IsParting (length table.nodes.items) (bits_at linked_keys) key near place
     found_parts {end} n within place other is_other low same differ =
-        let one : row_of linked_rows (kid_of table.nodes.items n.node n.side) ≡ other = ap (row_of linked_rows) (sym n.names) ∙ is_other in
-        subst (λ x. IsParting (length table.nodes.items) (row_of linked_rows) key x place) (sym n.names)
+        let one : bits_at linked_keys (kid_of table.nodes.items n.node n.side) ≡ other = ap (bits_at linked_keys) (sym n.names) ∙ is_other in
+        subst (λ x. IsParting (length table.nodes.items) (bits_at linked_keys) key x place) (sym n.names)
         (way_parts tree place n.way n.stop within low (subst (λ x. Agree x key place) (sym one) (agree_back same)) (subst (λ (x : ℕ → Bool). x place ≢ key place) (sym one) (λ e. differ (sym e))))
 
     -- its start and its print, if it has the front of the key
-    found_front : {end : ℕ} → Nearest end → (start print : ℕ) (any : Grid) → key ≡ key_row start print any → start < 2 ^ 64 → print < 2 ^ 64 → Agree (row_of linked_rows near) key 128
+    found_front : {end : ℕ} → Nearest end → (start print : ℕ) (any : Grid) → key ≡ key_bits start print any → start < 2 ^ 64 → print < 2 ^ 64 → Agree (bits_at linked_keys near) key 128
         → (start ≤ near) × (get_or table.prints.items near 0 ≡ print)
     found_front {end} n start print any is_key small fits a =
         let low : near < length table.nodes.items = near_in n in
         let high : near < length held = omega (arith, low, linked_few) in
         let there = number_there held near high in
         let grid = there.0 in
-        let front : Agree (key_row (start_of (since near held)) (print_of grid) grid) (key_row start print any) 128 =
-        subst (λ x. Agree x (key_row start print any) 128) (key_there near (start_of (since near held)) (print_of grid) grid low there.1 refl refl) (subst (λ x. Agree (row_of linked_rows near) x 128) is_key a) in
+        let front : Agree (key_bits (start_of (since near held)) (print_of grid) grid) (key_bits start print any) 128 =
+        subst (λ x. Agree x (key_bits start print any) 128) (key_there near (start_of (since near held)) (print_of grid) grid low there.1 refl refl) (subst (λ x. Agree (bits_at linked_keys near) x 128) is_key a) in
         let before = start-before held near high in
         let same = front_same (start_of (since near held)) start (print_of grid) print grid any (omega (arith, before, low, few_nodes)) small (print_small grid) fits front in
         (omega (arith, before, same.0), print_there near grid high there.1 ∙ same.1)
 
     -- If a colouring in the trie has that start and print, so has this one.
-    pub nearest_front : Nearest 128 → (start print number : ℕ) (any grid : Grid) → key ≡ key_row start print any → start < 2 ^ 64 → print < 2 ^ 64
+    pub nearest_front : Nearest 128 → (start print number : ℕ) (any grid : Grid) → key ≡ key_bits start print any → start < 2 ^ 64 → print < 2 ^ 64
         → number < length table.nodes.items → IsNumber held number grid → start_of (since number held) ≡ start → print_of grid ≡ print
         → (start ≤ near) × (get_or table.prints.items near 0 ≡ print)
     nearest_front n start print number any grid is_key small fits low at same_start same_print =
-        let agrees : Agree (row_of linked_rows number) key 128 = subst (λ x. Agree x key 128) (sym (key_there number start print grid low at same_start same_print)) (subst (λ x. Agree (key_row start print grid) x 128) (sym is_key)
+        let agrees : Agree (bits_at linked_keys number) key 128 = subst (λ x. Agree x key 128) (sym (key_there number start print grid low at same_start same_print)) (subst (λ x. Agree (key_bits start print grid) x 128) (sym is_key)
         (front_agrees start start print print grid any refl refl)) in
         found_front n start print any is_key small fits (found_equal n (omega arith) number low agrees)
 
     -- If a colouring in the trie has these bits, so has this one.
-    nearest_equal : Nearest WIDTH → (start print number : ℕ) (grid : Grid) → key ≡ key_row start print grid
-        → number < length table.nodes.items → IsNumber held number grid → start_of (since number held) ≡ start → print_of grid ≡ print → Agree (row_of linked_rows near) key WIDTH
+    nearest_equal : Nearest WIDTH → (start print number : ℕ) (grid : Grid) → key ≡ key_bits start print grid
+        → number < length table.nodes.items → IsNumber held number grid → start_of (since number held) ≡ start → print_of grid ≡ print → Agree (bits_at linked_keys near) key WIDTH
     nearest_equal n start print number grid is_key low at same_start same_print =
-        let same_key : row_of linked_rows number ≡ key = key_there number start print grid low at same_start same_print ∙ sym is_key in
-        found_equal n (omega arith) number low (subst (λ x. Agree (row_of linked_rows number) x WIDTH) same_key (agree_self (row_of linked_rows number) WIDTH))
+        let same_key : bits_at linked_keys number ≡ key = key_there number start print grid low at same_start same_print ∙ sym is_key in
+        found_equal n (omega arith) number low (subst (λ x. Agree (bits_at linked_keys number) x WIDTH) same_key (agree_self (bits_at linked_keys number) WIDTH))
 
-    pub nearest_start : Nearest WIDTH → (start print number : ℕ) (grid : Grid) → key ≡ key_row start print grid → start < 2 ^ 64 → print < 2 ^ 64
+    pub nearest_start : Nearest WIDTH → (start print number : ℕ) (grid : Grid) → key ≡ key_bits start print grid → start < 2 ^ 64 → print < 2 ^ 64
         → number < length table.nodes.items → IsNumber held number grid → start_of (since number held) ≡ start → print_of grid ≡ print → start ≤ near
     nearest_start n start print number grid is_key small fits low at same_start same_print =
         (found_front n start print grid is_key small fits (agree_less 128 (omega arith) (nearest_equal n start print number grid is_key low at same_start same_print))).0
 
-    pub nearest_whole : Nearest WIDTH → (start print number : ℕ) (grid grid' : Grid) → key ≡ key_row start print grid
+    pub nearest_whole : Nearest WIDTH → (start print number : ℕ) (grid grid' : Grid) → key ≡ key_bits start print grid
         → number < length table.nodes.items → IsNumber held number grid → start_of (since number held) ≡ start → print_of grid ≡ print → IsNumber held near grid'
         → grid.side ≡ grid'.side → grid.side ≤ 52 → length grid.cells ≡ grid.side * grid.side → length grid'.cells ≡ grid'.side * grid'.side → grid ≡ grid'
     nearest_whole n start print number grid grid' is_key low at same_start same_print near_at one_side few all all' =
         let near_key = key_there near (start_of (since near held)) (print_of grid') grid' (near_in n) near_at refl refl in
         let found = nearest_equal n start print number grid is_key low at same_start same_print in
         whole_same start (start_of (since near held)) print (print_of grid') grid grid' one_side few all all'
-        (agree_back (subst (λ x. Agree x (key_row start print grid) WIDTH) near_key (subst (λ x. Agree (row_of linked_rows near) x WIDTH) is_key found)))
+        (agree_back (subst (λ x. Agree x (key_bits start print grid) WIDTH) near_key (subst (λ x. Agree (bits_at linked_keys near) x WIDTH) is_key found)))
 
     -- Where the next colouring parts, if its start or its print parts it from this one.
-    pub nearest_parts : Nearest 128 → (start print place : ℕ) (other : ℕ → Bool) (any any' grid grid' : Grid) → key ≡ key_row start print any
-        → IsNumber held near grid' → other ≡ key_row (start_of (since near held)) (print_of grid') any' → place < 128 → Agree key other place → key place ≢ other place
-        → Agree key (key_row start print grid) (place + 1) × IsParting (length table.nodes.items) (row_of linked_rows) (key_row start print grid) near place
+    pub nearest_parts : Nearest 128 → (start print place : ℕ) (other : ℕ → Bool) (any any' grid grid' : Grid) → key ≡ key_bits start print any
+        → IsNumber held near grid' → other ≡ key_bits (start_of (since near held)) (print_of grid') any' → place < 128 → Agree key other place → key place ≢ other place
+        → Agree key (key_bits start print grid) (place + 1) × IsParting (length table.nodes.items) (bits_at linked_keys) (key_bits start print grid) near place
     nearest_parts n start print place other any any' grid grid' is_key at is_other low same differ =
         let start' = start_of (since near held) in
         let print' = print_of grid' in
-        let row = key_row start print grid in
-        let as_row : Agree key row 128 = subst (λ x. Agree x row 128) (sym is_key) (front_agrees start start print print any grid refl refl) in
+        let bits = key_bits start print grid in
+        let as_bits : Agree key bits 128 = subst (λ x. Agree x bits 128) (sym is_key) (front_agrees start start print print any grid refl refl) in
         let near_key = key_there near start' print' grid' (near_in n) at refl refl in
-        let as_near : Agree other (row_of linked_rows near) 128 = subst (λ x. Agree x (row_of linked_rows near) 128) (sym is_other) (subst (λ x. Agree (key_row start' print' any') x 128) (sym near_key)
+        let as_near : Agree other (bits_at linked_keys near) 128 = subst (λ x. Agree x (bits_at linked_keys near) 128) (sym is_other) (subst (λ x. Agree (key_bits start' print' any') x 128) (sym near_key)
         (front_agrees start' start' print' print' any' grid' refl refl)) in
-        let parting = found_parts n (omega arith) place (row_of linked_rows near) refl low (agree_on same (agree_less place (omega (arith, low)) as_near)) (λ e. differ (e ∙ sym (as_near.each place low))) in (
-          agree_less (place + 1) (omega (arith, low)) as_row,
+        let parting = found_parts n (omega arith) place (bits_at linked_keys near) refl low (agree_on same (agree_less place (omega (arith, low)) as_near)) (λ e. differ (e ∙ sym (as_near.each place low))) in (
+          agree_less (place + 1) (omega (arith, low)) as_bits,
           record {
             there = parting.there;
-            same = agree_on parting.same (agree_less place (omega (arith, low)) as_row);
-            differ = λ e. parting.differ (e ∙ sym (as_row.each place low));
-            best = λ j h a. parting.best j h (agree_on a (agree_back (agree_less (place + 1) (omega (arith, low)) as_row)));
+            same = agree_on parting.same (agree_less place (omega (arith, low)) as_bits);
+            differ = λ e. parting.differ (e ∙ sym (as_bits.each place low));
+            best = λ j h a. parting.best j h (agree_on a (agree_back (agree_less (place + 1) (omega (arith, low)) as_bits)));
           },
         )
 
     -- Where a colouring comes in, if its print parts it from this one.
-    module _ (n : Nearest 64) (all : length table.nodes.items ≡ length held) (start print : ℕ) (any : Grid) (is_key : key ≡ key_row start print any) where
-      near_print : (g : Grid) → IsNumber held near g → (p : ℕ) → p < 64 → row_of linked_rows near p ≡ has_bit (print_of g) p
+    module _ (n : Nearest 64) (all : length table.nodes.items ≡ length held) (start print : ℕ) (any : Grid) (is_key : key ≡ key_bits start print any) where
+      near_print : (g : Grid) → IsNumber held near g → (p : ℕ) → p < 64 → bits_at linked_keys near p ≡ has_bit (print_of g) p
       near_print g at p low = ap (λ (x : ℕ → Bool). x p) (key_there near (start_of (since near held)) (print_of g) g (near_in n) at refl refl) ∙ print_bit (start_of (since near held)) (print_of g) g p low
 
       key_print : (p : ℕ) → p < 64 → key p ≡ has_bit print p
       key_print p low = ap (λ (x : ℕ → Bool). x p) is_key ∙ print_bit start print any p low
 
-      pub print_parts : (place : ℕ) (row : ℕ → Bool) → place < 64 → ((p : ℕ) → p < 64 → row p ≡ has_bit print p)
+      pub print_parts : (place : ℕ) (bits : ℕ → Bool) → place < 64 → ((p : ℕ) → p < 64 → bits p ≡ has_bit print p)
           → ((p : ℕ) → p < place → bit_at (bit_xor print (get_or table.prints.items near 0)) p ≡ 0) → bit_at (bit_xor print (get_or table.prints.items near 0)) place ≡ 1
-          → Agree key row (place + 1) × IsParting (length table.nodes.items) (row_of linked_rows) row near place
-      print_parts place row low is_row same differ =
+          → Agree key bits (place + 1) × IsParting (length table.nodes.items) (bits_at linked_keys) bits near place
+      print_parts place bits low is_bits same differ =
           let high : near < length held = omega (arith, near_in n, linked_few) in
           let there = number_there held near high in
           let printed = print_there near there.0 high there.1 in
-          let as_row : Agree key row 64 = record { each = λ p h. key_print p h ∙ sym (is_row p h) } in
-          let alike : Agree key (row_of linked_rows near) place = record {
+          let as_bits : Agree key bits 64 = record { each = λ p h. key_print p h ∙ sym (is_bits p h) } in
+          let alike : Agree key (bits_at linked_keys near) place = record {
             each = λ p h.
                 key_print p (omega (arith, h, low)) ∙ same_bit print (get_or table.prints.items near 0) p (same p h) ∙ ap (λ m. has_bit m p) printed ∙ sym (near_print there.0 there.1 p (omega (arith, h, low)));
           } in
-          let apart : key place ≢ row_of linked_rows near place = λ e. other_bits print (get_or table.prints.items near 0) place differ
+          let apart : key place ≢ bits_at linked_keys near place = λ e. other_bits print (get_or table.prints.items near 0) place differ
           (sym (key_print place low) ∙ e ∙ near_print there.0 there.1 place low ∙ ap (λ m. has_bit m place) (sym printed)) in
-          let parting = found_parts n (omega arith) place (row_of linked_rows near) refl low alike apart in (
-            agree_less (place + 1) (omega (arith, low)) as_row,
+          let parting = found_parts n (omega arith) place (bits_at linked_keys near) refl low alike apart in (
+            agree_less (place + 1) (omega (arith, low)) as_bits,
             record {
               there = parting.there;
-              same = agree_on parting.same (agree_less place (omega (arith, low)) as_row);
-              differ = λ e. parting.differ (e ∙ sym (as_row.each place low));
-              best = λ j h a. parting.best j h (agree_on a (agree_back (agree_less (place + 1) (omega (arith, low)) as_row)));
+              same = agree_on parting.same (agree_less place (omega (arith, low)) as_bits);
+              differ = λ e. parting.differ (e ∙ sym (as_bits.each place low));
+              best = λ j h a. parting.best j h (agree_on a (agree_back (agree_less (place + 1) (omega (arith, low)) as_bits)));
             },
           )
 
     -- The same by all bits.
-    module _ (n : Nearest WIDTH) (other : ℕ → Bool) (grid' : Grid) (at : IsNumber held near grid') (is_other : other ≡ key_row (start_of (since near held)) (print_of grid') grid') where
-      near_key : row_of linked_rows near ≡ other
+    module _ (n : Nearest WIDTH) (other : ℕ → Bool) (grid' : Grid) (at : IsNumber held near grid') (is_other : other ≡ key_bits (start_of (since near held)) (print_of grid') grid') where
+      near_key : bits_at linked_keys near ≡ other
       near_key = key_there near (start_of (since near held)) (print_of grid') grid' (near_in n) at refl refl ∙ sym is_other
 
-      pub nearest_parts_whole : (place : ℕ) → place < WIDTH → Agree key other place → key place ≢ other place → IsParting (length table.nodes.items) (row_of linked_rows) key near place
+      pub nearest_parts_whole : (place : ℕ) → place < WIDTH → Agree key other place → key place ≢ other place → IsParting (length table.nodes.items) (bits_at linked_keys) key near place
       nearest_parts_whole place low same differ = found_parts n (omega arith) place other near_key low same differ
 
       -- and if it parts nowhere, it is the same
-      pub nearest_same : Agree key other WIDTH → Agree (row_of linked_rows near) key WIDTH
+      pub nearest_same : Agree key other WIDTH → Agree (bits_at linked_keys near) key WIDTH
       nearest_same same = subst (λ x. Agree x key WIDTH) (sym near_key) (agree_back same)
 
 -- one colouring more in the trie
 linked_next : (held : List Held) (count : ℕ) (g : Grid) (nodes : List Node) → count < length held → IsNumber held count g
-    → IsTrie WIDTH (key_row (start_of (since count held)) (print_of g) g ∷ keys_of (oldest count held)) nodes → (length nodes ≡ count + 1) × IsTrie WIDTH (keys_of (oldest (length nodes) held)) nodes
+    → IsTrie WIDTH (key_bits (start_of (since count held)) (print_of g) g ∷ keys_of (oldest count held)) nodes → (length nodes ≡ count + 1) × IsTrie WIDTH (keys_of (oldest (length nodes) held)) nodes
 linked_next held count g nodes low at trie =
     let all : length nodes ≡ count + 1 = trie.0 ∙ omega (arith, length-keys (oldest count held), length-oldest count held (omega (arith, low))) in
-    let rows : key_row (start_of (since count held)) (print_of g) g ∷ keys_of (oldest count held) ≡ keys_of (oldest (length nodes) held) =
+    let keys : key_bits (start_of (since count held)) (print_of g) g ∷ keys_of (oldest count held) ≡ keys_of (oldest (length nodes) held) =
     sym (oldest-next count held g low at) ∙ ap (λ n. keys_of (oldest n held)) (sym all) in
-    (all, subst (λ (xs : List (ℕ → Bool)). IsTrie WIDTH xs nodes) rows trie)
+    (all, subst (λ (xs : List (ℕ → Bool)). IsTrie WIDTH xs nodes) keys trie)
 
 pub tabled_next : (held : List Held) (table next : Table) (g : Grid) → IsTable held table → length table.nodes.items < length table.prints.items
     → next.prints ≡ table.prints → next.filter ≡ table.filter → vec_capacity next.nodes ≡ vec_capacity table.nodes → IsNumber held (length table.nodes.items) g
-    → IsTrie WIDTH (key_row (start_of (since (length table.nodes.items) held)) (print_of g) g ∷ keys_of (oldest (length table.nodes.items) held)) next.nodes.items
+    → IsTrie WIDTH (key_bits (start_of (since (length table.nodes.items) held)) (print_of g) g ∷ keys_of (oldest (length table.nodes.items) held)) next.nodes.items
     → IsTable held next × (length next.nodes.items ≡ length table.nodes.items + 1)
 tabled_next held table next g is more prints filter room at trie =
     let low : length table.nodes.items < length held = omega (arith, more, tabled held table is) in
@@ -340,13 +340,13 @@ linked_none held nodes none =
 
 pub tabled_first : (held : List Held) (table next : Table) (g : Grid) → IsTable held table → length table.nodes.items < length table.prints.items
     → next.prints ≡ table.prints → next.filter ≡ table.filter → vec_capacity next.nodes ≡ vec_capacity table.nodes → IsNumber held (length table.nodes.items) g → length table.nodes.items ≡ 0
-    → IsTrie WIDTH (key_row (start_of (since (length table.nodes.items) held)) (print_of g) g ∷ []) next.nodes.items
+    → IsTrie WIDTH (key_bits (start_of (since (length table.nodes.items) held)) (print_of g) g ∷ []) next.nodes.items
     → IsTable held next × (length next.nodes.items ≡ length table.nodes.items + 1)
 tabled_first held table next g is more prints filter room at none trie =
     let count = length table.nodes.items in
     let first : oldest count held ≡ [] = no_items (oldest count held) (length-oldest count held (omega (arith, none)) ∙ none) in
     tabled_next held table next g is more prints filter room at
-    (subst (λ (hs : List Held). IsTrie WIDTH (key_row (start_of (since count held)) (print_of g) g ∷ keys_of hs) next.nodes.items) (sym first) trie)
+    (subst (λ (hs : List Held). IsTrie WIDTH (key_bits (start_of (since count held)) (print_of g) g ∷ keys_of hs) next.nodes.items) (sym first) trie)
 
 -- The trie of one colouring more, and of one less.
 
@@ -409,10 +409,10 @@ any_number (x ∷ xs) g (suc j, h, e) = later x.begins (λ low at. any_number xs
 gap_lacks : (held : List Held) (nodes : List Node) (gap : Gap) (g : Grid) → IsGap held nodes gap → gap.print ≡ print_of g → ¬ Contains (stretch_of held) g
 gap_lacks held nodes gap g is print has =
     let number = any_number held g has in
-    let row = row_of (keys_of held) number.0 in
-    let front : (p : ℕ) → p < 64 → row p ≡ has_bit gap.print p = λ p low.
+    let bits = bits_at (keys_of held) number.0 in
+    let front : (p : ℕ) → p < 64 → bits p ≡ has_bit gap.print p = λ p low.
     ap (λ (x : ℕ → Bool). x p) (key_of held number.0 g number.1 number.2) ∙ print_bit (start_of (since number.0 held)) (print_of g) g p low ∙ ap (λ n. has_bit n p) (sym print) in
-    (is.opens row front).part.best number.0 (omega (arith, is.all, number.1)) (agree_self row (gap.place + 1))
+    (is.opens bits front).part.best number.0 (omega (arith, is.all, number.1)) (agree_self bits (gap.place + 1))
 
 pub gap_found : (held : List Held) (nodes : List Node) (print : ℕ) (gap : Option Gap) → IfSome gap (λ one. IsGap held nodes one × (one.print ≡ print))
     → IfSome gap (IsGap held nodes) × ((g : Grid) → IsSome gap → print ≡ print_of g → ¬ Contains (stretch_of held) g)

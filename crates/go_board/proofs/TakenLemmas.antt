@@ -111,19 +111,6 @@ takes_nothing g p k on all settled live =
     takes_off_own g p k on all settled [] (omega arith) (λ q is. absurd (false≢true (sym (has_bit-zero q.col) ∙ is)))
     (IsWithoutLiberty-none (with_cell g p (stone_of k)) k (is_set []) (λ q. has_bit-zero q.col)) live.1 (λ stone. inr (live.0 stone))
 
--- a stone that takes off the points of rows with no point takes nothing off
-pub takes_none : (g : Grid) (k : Colour) (p : Point) (rows : List ℕ) → ((q : Point) → is_set rows q ≡ false) → TakesOff g k p rows → TakesOff g k p []
-takes_none g k p rows none takes = record {
-  few = omega arith;
-  on_grid = λ q is. absurd (false≢true (sym (has_bit-zero q.col) ∙ is));
-  played = record {
-    same_side = takes.played.same_side;
-    all = takes.played.all;
-    emptied = λ q on is. absurd (false≢true (sym (has_bit-zero q.col) ∙ is));
-    kept = λ q on left. takes.played.kept q on (λ gone. false≢true (sym (none q) ∙ gone));
-  };
-}
-
 -- a stone that takes nothing off is the whole move
 pub takes_nothing-alone : (g : Grid) (p : Point) (k : Colour) (rows : List ℕ) → length g.cells ≡ g.side * g.side → length rows ≡ 0 → TakesOff g k p rows → play g k p ≡ with_cell g p (stone_of k)
 takes_nothing-alone g p k rows all none takes =

@@ -3,11 +3,11 @@ use Rattle.std.proofs.Common.{◌≡◌, ◌≢◌, ◌⊎◌, ℕ, ◌+◌, ◌
 use Rattle.std.proofs.lemmas.Bool.{cases_lt, cases_eq, cases_order, false≢true, true≢false, eq-eqb, ne_eqb}
 use Rattle.std.proofs.lemmas.List.{get_or-set_same, get_or-set_other, get_or_append_left, set-get_or, length-set}
 use Rattle.std.proofs.Math.Seq.{get_or-append_seam, take-append_seam}
-use Rattle.go_board.specs.declared.past.trie.Node.{Node}
-use Rattle.go_board.specs.declared.past.trie.Slot.{Slot}
-use Rattle.go_board.specs.inner.Trie.{Agree, IsUnder, IsSlot, IsReach, IsKid, IsTree, IsOnWay, IsParting, IsOpening, IsTrie, row_of, no_node, node_at, depth_of, kid_of, named, with_kid, with_named, displaced, without_newest}
+use Rattle.go_board.specs.declared.quick.print_past.trie.Node.{Node}
+use Rattle.go_board.specs.declared.quick.print_past.trie.Slot.{Slot}
+use Rattle.go_board.specs.inner.Trie.{Agree, IsUnder, IsSlot, IsReach, IsKid, IsTree, IsOnWay, IsParting, IsOpening, IsTrie, bits_at, no_node, node_at, depth_of, kid_of, named, with_kid, with_named, displaced, without_newest}
 
--- Rows of bits.
+-- Keys.
 
 pub agree_self : (x : ℕ → Bool) (end : ℕ) → Agree x x end
 agree_self x end = record { each = λ p h. refl }
@@ -214,7 +214,7 @@ module _ {b b' : ℕ → ℕ → Bool} {d d' : ℕ → ℕ} {i : ℕ} {s : Bool}
 
 same_tree : {w n : ℕ} {b b' : ℕ → ℕ → Bool} {d d' : ℕ → ℕ} {k : ℕ → Bool → ℕ} → IsTree w n b d k
     → ((i : ℕ) → i < n → b i ≡ b' i) → ((i : ℕ) → i < n → d i ≡ d' i) → IsTree w n b' d' k
-same_tree {w} {n} {b} {b'} {d} {d'} {k} tree rows depths = record {
+same_tree {w} {n} {b} {b'} {d} {d'} {k} tree keys depths = record {
   root = λ some. sym (depths 0 some) ∙ tree.root some;
   within = λ o h. subst (λ m. m ≤ w) (depths o h) (tree.within o h);
   kids = λ o t slot.
@@ -223,14 +223,14 @@ same_tree {w} {n} {b} {b'} {d} {d'} {k} tree rows depths = record {
       let r = k o t in
       record {
         there = kid.there;
-        under = under_same (rows r kid.there) (rows o slot.there) depth kid.under;
+        under = under_same (keys r kid.there) (keys o slot.there) depth kid.under;
         reach = kid.reach;
         far = subst (λ m. IsReach w (d' o) m kid.reach) (depths r kid.there) (subst (λ m. IsReach w m (d r) kid.reach) depth kid.far);
-        alike = λ j h u. subst (λ x. Agree x (b' r) kid.reach) (rows j h) (subst (λ x. Agree (b j) x kid.reach) (rows r kid.there)
-            (kid.alike j h (under_same (sym (rows j h)) (sym (rows o slot.there)) (sym depth) u)));
+        alike = λ j h u. subst (λ x. Agree x (b' r) kid.reach) (keys j h) (subst (λ x. Agree (b j) x kid.reach) (keys r kid.there)
+            (kid.alike j h (under_same (sym (keys j h)) (sym (keys o slot.there)) (sym depth) u)));
       };
   alone = λ one other h g some same a. tree.alone one other h g (omega (arith, some, depths one h)) (depths one h ∙ same ∙ sym (depths other g))
-      (subst (λ x. Agree x (b other) (d one - 1)) (sym (rows one h)) (subst (λ x. Agree (b' one) x (d one - 1)) (sym (rows other g)) (subst (λ m. Agree (b' one) (b' other) (m - 1)) (sym (depths one h)) a)));
+      (subst (λ x. Agree x (b other) (d one - 1)) (sym (keys one h)) (subst (λ x. Agree (b' one) x (d one - 1)) (sym (keys other g)) (subst (λ m. Agree (b' one) (b' other) (m - 1)) (sym (depths one h)) a)));
 }
 
 -- One item more.
@@ -449,19 +449,19 @@ first_tree w b d k depth named = record {
 -- The nodes as they are kept.
 
 -- nodes that are a trie of some items make a tree of them
-pub trie_tree : {w : ℕ} (rows : List (ℕ → Bool)) (nodes : List Node) → IsTrie w rows nodes → 0 < length nodes → IsTree w (length nodes) (row_of rows) (depth_of nodes) (kid_of nodes)
+pub trie_tree : {w : ℕ} (keys : List (ℕ → Bool)) (nodes : List Node) → IsTrie w keys nodes → 0 < length nodes → IsTree w (length nodes) (bits_at keys) (depth_of nodes) (kid_of nodes)
 trie_tree {w} [] nodes none some = absurd (omega (arith, ap (λ (xs : List Node). length xs) none, some))
-trie_tree {w} (row ∷ older) nodes trie some = subst (λ n. IsTree w n (row_of (row ∷ older)) (depth_of nodes) (kid_of nodes)) (sym trie.0) trie.1
+trie_tree {w} (bits ∷ older) nodes trie some = subst (λ n. IsTree w n (bits_at (bits ∷ older)) (depth_of nodes) (kid_of nodes)) (sym trie.0) trie.1
 
-pub trie_length : (w : ℕ) (rows : List (ℕ → Bool)) (nodes : List Node) → IsTrie w rows nodes → length nodes ≡ length rows
+pub trie_length : (w : ℕ) (keys : List (ℕ → Bool)) (nodes : List Node) → IsTrie w keys nodes → length nodes ≡ length keys
 trie_length w [] nodes none = ap (λ (xs : List Node). length xs) none
-trie_length w (row ∷ older) nodes trie = trie.0
+trie_length w (bits ∷ older) nodes trie = trie.0
 
-pub row_first : (key : ℕ → Bool) (rows : List (ℕ → Bool)) (n : ℕ) → n ≡ length rows → row_of (key ∷ rows) n ≡ key
-row_first key rows n e = ap (λ (t : Bool). if t then key else row_of rows n) (eq-eqb n (length rows) e)
+pub bits_first : (key : ℕ → Bool) (keys : List (ℕ → Bool)) (n : ℕ) → n ≡ length keys → bits_at (key ∷ keys) n ≡ key
+bits_first key keys n e = ap (λ (t : Bool). if t then key else bits_at keys n) (eq-eqb n (length keys) e)
 
-pub row_before : (key : ℕ → Bool) (rows : List (ℕ → Bool)) (n : ℕ) → n < length rows → row_of (key ∷ rows) n ≡ row_of rows n
-row_before key rows n h = ap (λ (t : Bool). if t then key else row_of rows n) (ne_eqb n (length rows) (λ e. omega (arith, e, h)))
+pub bits_before : (key : ℕ → Bool) (keys : List (ℕ → Bool)) (n : ℕ) → n < length keys → bits_at (key ∷ keys) n ≡ bits_at keys n
+bits_before key keys n h = ap (λ (t : Bool). if t then key else bits_at keys n) (ne_eqb n (length keys) (λ e. omega (arith, e, h)))
 
 depth-with_kid : (node : Node) (s : Bool) (x : ℕ) → (with_kid node s x).depth ≡ node.depth
 depth-with_kid node true x = refl
@@ -524,22 +524,22 @@ displaced-parted node true n r own rest less =
 displaced-parted node false n r own rest less =
     ap (λ (t : Bool). if t then node.on else node.off) (eq-eqb node.off n own) ∙ rest
 
-module _ {w : ℕ} (rows : List (ℕ → Bool)) (nodes : List Node) (key : ℕ → Bool) (trie : IsTrie w rows nodes) (some : 0 < length nodes) where
-  pub trie_parted : {i l p : ℕ} {s : Bool} (node : Node) → IsSlot (length nodes) (depth_of nodes) i s → depth_of nodes i ≤ p → IsUnder (row_of rows) (depth_of nodes) i s l
+module _ {w : ℕ} (keys : List (ℕ → Bool)) (nodes : List Node) (key : ℕ → Bool) (trie : IsTrie w keys nodes) (some : 0 < length nodes) where
+  pub trie_parted : {i l p : ℕ} {s : Bool} (node : Node) → IsSlot (length nodes) (depth_of nodes) i s → depth_of nodes i ≤ p → IsUnder (bits_at keys) (depth_of nodes) i s l
       → (depth_of nodes i < depth_of nodes (kid_of nodes i s) → p < depth_of nodes (kid_of nodes i s)) → p < w
-      → IsParting (length nodes) (row_of rows) key l p → IsParted nodes key p i s node
-      → IsTrie w (key ∷ rows) (with_named nodes i s (length nodes) ++ node ∷ [])
+      → IsParting (length nodes) (bits_at keys) key l p → IsParted nodes key p i s node
+      → IsTrie w (key ∷ keys) (with_named nodes i s (length nodes) ++ node ∷ [])
   trie_parted {i} {l} {p} {s} node old low old_under stop within part parted =
       let n = length nodes in
-      let count : n ≡ length rows = trie_length w rows nodes trie in
-      let tree = trie_tree rows nodes trie some in
+      let count : n ≡ length keys = trie_length w keys nodes trie in
+      let tree = trie_tree keys nodes trie some in
       let front = with_named nodes i s n in
       let new = front ++ node ∷ [] in
-      let b = row_of (key ∷ rows) in
+      let b = bits_at (key ∷ keys) in
       let d = depth_of new in
       let all : length front ≡ n = length-set nodes i (with_kid (node_at nodes i) s n) in
-      let first : b n ≡ key = row_first key rows n count in
-      let before : (j : ℕ) → j < n → row_of rows j ≡ b j = λ j h. sym (row_before key rows j (omega (arith, h, count))) in
+      let first : b n ≡ key = bits_first key keys n count in
+      let before : (j : ℕ) → j < n → bits_at keys j ≡ b j = λ j h. sym (bits_before key keys j (omega (arith, h, count))) in
       let at : (o : ℕ) → o < n → node_at new o ≡ node_at front o = λ o h. get_or_append_left front (node ∷ []) no_node o (omega (arith, h, all)) in
       let changed : node_at front i ≡ with_kid (node_at nodes i) s n = get_or-set_same nodes i (with_kid (node_at nodes i) s n) no_node old.there in
       let other : (o : ℕ) → o ≢ i → node_at front o ≡ node_at nodes o = λ o apart. get_or-set_other nodes i o (with_kid (node_at nodes i) s n) no_node apart in
@@ -578,54 +578,54 @@ module _ {w : ℕ} (rows : List (ℕ → Bool)) (nodes : List Node) (key : ℕ �
       ∙ ap (λ (t : Bool). with_named front i t (displaced n node)) parted.up_side
       ∙ ap (λ m. with_named front i s m) (displaced-parted node (key p) n (kid_of nodes i s) parted.own parted.rest kid.there)
       ∙ named-back nodes i s n old.there in
-      let total : length new ≡ length rows + 1 = omega (arith, length-append front (node ∷ []), all, count) in (
+      let total : length new ≡ length keys + 1 = omega (arith, length-append front (node ∷ []), all, count) in (
         omega (arith, total),
         subst (λ m. IsTree w m b d (kid_of new)) (omega (arith, count)) grown_tree,
         subst (λ m. (node_at new m).up ≤ m) count (subst (λ (x : Node). x.up ≤ n) (sym last) (omega (arith, parted.up, old.there))),
-        subst (λ (xs : List Node). IsTrie w rows xs) (sym undo) trie,
+        subst (λ (xs : List Node). IsTrie w keys xs) (sym undo) trie,
       )
 
   -- an item that equals an earlier one
-  pub trie_repeated : {l : ℕ} (node : Node) → l < length nodes → Agree (row_of rows l) key w → node.depth ≡ 0 → node.up ≡ length nodes → IsTrie w (key ∷ rows) (nodes ++ node ∷ [])
+  pub trie_repeated : {l : ℕ} (node : Node) → l < length nodes → Agree (bits_at keys l) key w → node.depth ≡ 0 → node.up ≡ length nodes → IsTrie w (key ∷ keys) (nodes ++ node ∷ [])
   trie_repeated {l} node there same depth up =
       let n = length nodes in
-      let count : n ≡ length rows = trie_length w rows nodes trie in
+      let count : n ≡ length keys = trie_length w keys nodes trie in
       let new = nodes ++ node ∷ [] in
-      let b = row_of (key ∷ rows) in
+      let b = bits_at (key ∷ keys) in
       let d = depth_of new in
-      let first : b n ≡ key = row_first key rows n count in
-      let before : (j : ℕ) → j < n → row_of rows j ≡ b j = λ j h. sym (row_before key rows j (omega (arith, h, count))) in
+      let first : b n ≡ key = bits_first key keys n count in
+      let before : (j : ℕ) → j < n → bits_at keys j ≡ b j = λ j h. sym (bits_before key keys j (omega (arith, h, count))) in
       let at : (o : ℕ) → o < n → node_at new o ≡ node_at nodes o = λ o h. get_or_append_left nodes (node ∷ []) no_node o h in
       let last : node_at new n ≡ node = get_or-append_seam nodes node [] no_node in
-      let tree_new = same_tree {b' = b} {d' = d} (trie_tree rows nodes trie some) before (λ o h. sym (ap (λ (x : Node). x.depth) (at o h))) in
+      let tree_new = same_tree {b' = b} {d' = d} (trie_tree keys nodes trie some) before (λ o h. sym (ap (λ (x : Node). x.depth) (at o h))) in
       let grown_tree = repeated_tree tree_new there (subst (λ x. Agree (b l) x w) (sym first) (subst (λ x. Agree x key w) (before l there) same)) (ap (λ (x : Node). x.depth) last ∙ depth)
       (kid_of new) (λ o t h. ap (λ (x : Node). named x t) (at o h)) in
       let undo : without_newest new ≡ nodes =
       without_last nodes node n refl
       ∙ ap (λ (t : Bool). if t then nodes else with_named nodes node.up node.up_side (displaced n node)) (eq-eqb node.up n up) in
-      let total : length new ≡ length rows + 1 = omega (arith, length-append nodes (node ∷ []), count) in (
+      let total : length new ≡ length keys + 1 = omega (arith, length-append nodes (node ∷ []), count) in (
         omega (arith, total),
         subst (λ m. IsTree w m b d (kid_of new)) (omega (arith, count)) grown_tree,
         subst (λ m. (node_at new m).up ≤ m) count (subst (λ (x : Node). x.up ≤ n) (sym last) (omega (arith, up))),
-        subst (λ (xs : List Node). IsTrie w rows xs) (sym undo) trie,
+        subst (λ (xs : List Node). IsTrie w keys xs) (sym undo) trie,
       )
 
 pub trie_first : (w : ℕ) (key : ℕ → Bool) (node : Node) → node.depth ≡ 0 → node.up ≡ 0 → node.off ≡ 0 → IsTrie w (key ∷ []) (node ∷ [])
 trie_first w key node depth up off =
-    (refl, first_tree w (row_of (key ∷ [])) (depth_of (node ∷ [])) (kid_of (node ∷ [])) depth off, omega (arith, up), without_last [] node 0 refl ∙ ap (λ (t : Bool). if t then [] else with_named [] node.up node.up_side (displaced 0 node)) (eq-eqb node.up 0 up))
+    (refl, first_tree w (bits_at (key ∷ [])) (depth_of (node ∷ [])) (kid_of (node ∷ [])) depth off, omega (arith, up), without_last [] node 0 refl ∙ ap (λ (t : Bool). if t then [] else with_named [] node.up node.up_side (displaced 0 node)) (eq-eqb node.up 0 up))
 
 -- the slot that named the newest node is there
-pub trie_up : (w : ℕ) (rows : List (ℕ → Bool)) (nodes : List Node) (n : ℕ) → IsTrie w rows nodes → length nodes ≡ n + 1 → (node_at nodes n).up ≤ n
+pub trie_up : (w : ℕ) (keys : List (ℕ → Bool)) (nodes : List Node) (n : ℕ) → IsTrie w keys nodes → length nodes ≡ n + 1 → (node_at nodes n).up ≤ n
 trie_up w [] nodes n none count = absurd (omega (arith, ap (λ (xs : List Node). length xs) none, count))
-trie_up w (row ∷ older) nodes n trie count =
+trie_up w (bits ∷ older) nodes n trie count =
     let last : length older ≡ n = omega (arith, trie.0, count) in
     subst (λ m. (node_at nodes m).up ≤ m) last trie.2
 
 -- where a walk by the bits of an item ends before the place where the item parts, it comes in
-pub way_opens : {rows : List (ℕ → Bool)} {nodes : List Node} {key row : ℕ → Bool} {item : ℕ} (slot : Slot) (place : ℕ) → IsOnWay (length nodes) (row_of rows) (depth_of nodes) key place slot.node slot.side
+pub way_opens : {keys : List (ℕ → Bool)} {nodes : List Node} {key bits : ℕ → Bool} {item : ℕ} (slot : Slot) (place : ℕ) → IsOnWay (length nodes) (bits_at keys) (depth_of nodes) key place slot.node slot.side
     → (depth_of nodes slot.node < depth_of nodes (kid_of nodes slot.node slot.side) → place < depth_of nodes (kid_of nodes slot.node slot.side))
-    → Agree key row (place + 1) → IsParting (length nodes) (row_of rows) row item place → IsOpening rows nodes row slot place
-way_opens {rows} {nodes} {key} {row} {item} slot place way stop same part = record {
+    → Agree key bits (place + 1) → IsParting (length nodes) (bits_at keys) bits item place → IsOpening keys nodes bits slot place
+way_opens {keys} {nodes} {key} {bits} {item} slot place way stop same part = record {
   item = item;
   there = way.slot;
   low = way.low;
@@ -635,14 +635,14 @@ way_opens {rows} {nodes} {key} {row} {item} slot place way stop same part = reco
 }
 
 -- and so does an item that parts behind the last node of the walk
-pub end_opens : (w : ℕ) (rows : List (ℕ → Bool)) (nodes : List Node) {key row : ℕ → Bool} {end : ℕ} (slot : Slot) (place : ℕ) → IsTrie w rows nodes → IsOnWay (length nodes) (row_of rows) (depth_of nodes) key end slot.node slot.side
+pub end_opens : (w : ℕ) (keys : List (ℕ → Bool)) (nodes : List Node) {key bits : ℕ → Bool} {end : ℕ} (slot : Slot) (place : ℕ) → IsTrie w keys nodes → IsOnWay (length nodes) (bits_at keys) (depth_of nodes) key end slot.node slot.side
     → (depth_of nodes slot.node < depth_of nodes (kid_of nodes slot.node slot.side) → end < depth_of nodes (kid_of nodes slot.node slot.side))
-    → place < end → depth_of nodes slot.node ≤ place → IsParting (length nodes) (row_of rows) row (kid_of nodes slot.node slot.side) place → IsOpening rows nodes row slot place
-end_opens w rows nodes {key} {row} {end} slot place trie way stop before low part = record {
+    → place < end → depth_of nodes slot.node ≤ place → IsParting (length nodes) (bits_at keys) bits (kid_of nodes slot.node slot.side) place → IsOpening keys nodes bits slot place
+end_opens w keys nodes {key} {bits} {end} slot place trie way stop before low part = record {
   item = kid_of nodes slot.node slot.side;
   there = way.slot;
   low = low;
-  under = ((trie_tree rows nodes trie (omega (arith, way.slot.there))).kids slot.node slot.side way.slot).under;
+  under = ((trie_tree keys nodes trie (omega (arith, way.slot.there))).kids slot.node slot.side way.slot).under;
   stop = λ inner. omega (arith, stop inner, before);
   part = part;
 }

@@ -1,20 +1,17 @@
 //! The board: reading and setting points, moves and the score (Tromp-Taylor).
 
 mod areas;
-mod both_areas;
-pub(crate) mod capture;
-mod fill;
+pub(crate) mod fill;
 mod flood;
-mod glance;
-mod group;
+pub(crate) mod liberty;
 pub(crate) mod regions;
 mod search;
 pub(crate) mod stone_rows;
 
-use crate::board::both_areas::HALF;
 use crate::board::regions::{columns_left, count_apart, no_rows, with_column};
 use crate::board::stone_rows::{cell_in, with_columns};
 use crate::points::Point;
+use crate::quick::both_areas::HALF;
 use crate::size::{MAX_POINTS, MAX_ROWS, Size};
 use crate::stones::{Cell, Colour};
 use std::marker::Model;
@@ -27,8 +24,8 @@ pub struct Board {
     black: [u64; MAX_ROWS],
     /// The points with a white stone.
     white: [u64; MAX_ROWS],
-    /// Whether every stone is known to reach empty. This is known after a
-    /// move. A setup can leave a stone that doesn't reach empty.
+    /// Whether every stone is known to have a liberty. `quick` and `has_unreaching` use it. A change of a point clears it. `PrintPast`
+    /// sets it after a move, and works it out after a setup.
     settled: bool,
 }
 
@@ -188,7 +185,7 @@ impl Board {
         self.settled
     }
 
-    /// Restores what `is_settled` returned for this same colouring. The view doesn't change.
+    /// Sets what `is_settled` returns. It may be true only if every stone reaches empty. The view doesn't change.
     pub(crate) fn restore(&mut self, settled: bool)
         requires { IsTrue settled → has_unreaching self.old ≡ false }
         ensures { self.new ≡ self.old }
@@ -203,14 +200,12 @@ impl Board {
         self.settled = !self.has_unreaching();
     }
 
-    /// Empties all points of a colour that don't reach empty, each tested on the board as it was (Tromp-Taylor).
+    /// Clears a colour (Tromp-Taylor): captures its groups without a liberty. Empties all points of the colour that don't reach empty,
+    /// each tested on the board as it was.
     pub fn clear(&mut self, colour: Colour)
         ensures value { self.new ≡ clear self.old colour }
         ensures side { self.new.side ≡ self.old.side }
     {
-        if self.settled {
-            return;
-        }
         let mut words = no_rows();
         let shut = &mut words[..usize::from(self.size.side())];
         self.shut_stones(colour, shut);
@@ -218,8 +213,10 @@ impl Board {
     }
 
     /// Makes a whole move (Tromp-Taylor). The point, which must be empty and on the board, takes the player's colour. Then the
-    /// opponent's colour is cleared, and then the player's own, which is suicide.
-    #[tactic(auto, using(crate::proofs::SettledLemmas::settled_by_play, crate::proofs::SettledLemmas::side_play), unfolding(crate::specs::Clearing::play))]
+    /// opponent's colour is cleared, which is capture, and then the player's own, which is suicide.
+    ///
+    /// This is the plain way. `PrintPast` finds what a stone takes off near the stone alone (`find_taken`).
+    #[tactic(auto, unfolding(crate::specs::Clearing::play))]
     pub fn place(&mut self, colour: Colour, point: Point)
         requires on_board { IsOn self.old.side point }
         requires empty { cell_at self.old point ≡ Empty }
@@ -229,11 +226,12 @@ impl Board {
         self.set(point, colour.stone());
         self.clear(colour.opponent());
         self.clear(colour);
-        self.settled = true;
     }
 
     /// The area scores of Black and of White, in points (Tromp-Taylor): a player's points, and the empty points that reach her
     /// colour and not the other's. An empty point that reaches both or neither counts for nobody.
+    ///
+    /// After the first test, which is a shortcut for small boards, this is the plain way.
     pub fn score(&self) -> (u32, u32)
         ensures black { result.0 ≡ score_of self.now Black }
         ensures white { result.1 ≡ score_of self.now White }

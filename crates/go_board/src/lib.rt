@@ -14,6 +14,9 @@
 //! referee.undo();
 //! ```
 //!
+//! The code outside `quick` plays by the rules and can be read by itself, with `ListPast` as the past. `quick` has faster ways to the
+//! same answers, and may be skipped.
+//!
 //! | Module | What it has |
 //! |---|---|
 //! | `stones` | players and what stands on a point |
@@ -26,20 +29,27 @@
 //! | `board/stone_rows` | the stones of a row as bits |
 //! | `board/flood`, `board/search` | the flood that counts its steps, and its worklist |
 //! | `board/regions`, `board/fill` | sets of points as rows of bits; filling them, which shows the score and who reaches empty |
-//! | `board/both_areas` | the areas of both colours on a small board, filled at once |
-//! | `board/group`, `board/capture` | whether a stone's group has a liberty, by rows of bits; what a stone takes off |
-//! | `board/glance` | a glance at the rows around a stone, which usually shows that the stone takes nothing off |
+//! | `board/liberty` | which points of a row have a liberty |
 //! | `board/areas` | colouring areas and emptying sets of points |
-//! | `past` | the colourings that a game has been through; `past/list_past` and `past/print_past` keep them |
-//! | `past/colourings`, `past/changes` | past colourings as rows that lead back |
-//! | `past/emptied` | the points that were emptied, where a colouring can come back |
-//! | `past/print`, `past/powers` | the print of a colouring, a number in base 31; the powers of 31 |
-//! | `past/table` | how a past colouring is looked up, and what that costs |
-//! | `past/filter` | a filter of prints, which answers most look-ups |
-//! | `past/key`, `past/trie` | a colouring as a row of bits; the trie of such rows |
+//! | `past` | the colourings that a game has been through; `past/list_past` keeps them as they are |
 //! | `reason`, `fault` | why a turn, or a node, isn't allowed; the errors |
 //! | `referee` | the referee and undo; below it `plays`, `setup` and `turn` |
 //! | `laws` | what follows from the definitions |
+//! | `quick` | shortcuts; `quick/print_past` keeps colourings so that they are found by a number |
+//!
+//! | Rule (docs/RULES.md) | Function |
+//! |---|---|
+//! | reaching a colour | `Board::reaching`; by rows of bits, `fill` |
+//! | clearing a colour, which captures its groups without a liberty | `Board::clear` |
+//! | a stone: capture, then suicide | `Board::place`; shortcut: `Board::find_taken` |
+//! | the area score | `Board::score` |
+//! | a turn; `over`, `turn` and `occupied` | `Referee::turn`; `Referee::reason_before_repeat` |
+//! | `repeat` (positional superko) | `Past::play`; shortcut: `PrintPast::play_looked_up` |
+//! | a pass; two passes end the game | `Referee::take_pass`; `Referee::over` |
+//! | a setup of stones; a setup of the player | `Referee::begin_anew`; `Referee::set_player` |
+//! | undo | `Referee::undo` |
+//! | points and rectangles that values name | `point`, `rect` |
+//! | vertices | `vertex` |
 //!
 //! A point *reaches* a colour if a path of adjacent points of the point's own colour leads
 //! from it to a point of that colour. A stone that reaches empty has a liberty.
@@ -56,6 +66,7 @@ pub mod laws;
 mod marks;
 mod past;
 mod points;
+mod quick;
 mod reason;
 mod referee;
 mod size;
@@ -67,8 +78,9 @@ mod vertices;
 pub use board::Board;
 pub use fault::{MemoryFault, TurnFault};
 pub use marks::Marks;
-pub use past::{ListPast, Past, PrintPast};
+pub use past::{ListPast, Past};
 pub use points::{Point, Rect};
+pub use quick::PrintPast;
 pub use reason::Reason;
 pub use referee::{Play, Referee, SetupOp};
 pub use size::{MAX_POINTS, MAX_SIDE, Size};

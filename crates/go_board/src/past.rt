@@ -1,17 +1,6 @@
-//! The colourings that a game has been through.
+//! The colourings that a game has been through, which positional superko forbids to repeat.
 
-mod bytes;
-mod changes;
-mod colourings;
-mod emptied;
-mod filter;
-mod key;
 mod list_past;
-mod powers;
-pub(crate) mod print;
-mod print_past;
-mod table;
-mod trie;
 
 ghost use Rattle.std.specs.Prelude.{◌≡◌, ◌<◌, ◌↔◌, ◌∷◌, true, false, All, fold, length, IsTrue, IfOk, OnOk, OnErr, Contains};
 ghost use Rattle.go_board.specs.declared.stones.Cell.TheVariants.{Empty};
@@ -26,7 +15,6 @@ use crate::points::Point;
 use crate::referee::SetupOp;
 use crate::stones::Colour;
 pub use list_past::ListPast;
-pub use print_past::PrintPast;
 use std::alloc::Global;
 
 /// The colourings that a game has been through, at least one. Each is marked if it begins a stretch.
@@ -74,7 +62,10 @@ pub trait Past: Drop {
         ensures err { OnErr result (held self.new ≡ held self.old) };
 
     /// Plays a stone on an empty point of the newest colouring, with its captures or its suicide (Tromp-Taylor). Adds the
-    /// colouring that this makes to the present stretch, unless the stretch has it already. Returns whether it was added.
+    /// colouring that this makes to the present stretch, unless the stretch has it already (positional superko). Returns whether it
+    /// was added.
+    ///
+    /// This body is the plain way, and `ListPast` goes it. `PrintPast` has its own.
     ///
     /// This fails with `MemoryFault` only if the stretch doesn't have the colouring.
     fn play(&mut self, colour: Colour, point: Point) -> Result<bool, MemoryFault>
@@ -102,7 +93,6 @@ pub trait Past: Drop {
     {
         let mut made = self.newest().copy();
         made.colour_areas(ops);
-        made.work_settled_out();
         self.restart(&made)
     }
 

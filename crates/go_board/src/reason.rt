@@ -28,7 +28,7 @@ pub enum Reason {
 }
 
 impl Reason {
-    /// The word that is written for the reason, as in list rows.
+    /// The word that is written for the reason, as in records of the list form.
     pub fn word(self) -> &'static str
         ensures { result.now ≡ word_of self }
     {

@@ -144,7 +144,7 @@ impl<P: Past> Referee<P> {
         self.turns
     }
 
-    /// Whether two passes in a row ended the game.
+    /// Whether the game is over: two passes in a row end it (`take_pass` counts them).
     pub fn over(&self) -> bool
         ensures value { result ≡ is_over self.now.present }
         ensures at_most { self.now.present.passes ≤ 2 }

@@ -8,8 +8,10 @@ use Rattle.std.proofs.lemmas.List.{map-append}
 use Rattle.std.proofs.lemmas.List.Folds.{find-append}
 use Rattle.std.proofs.lemmas.Bool.{cases_Bool, false_from_ne_true}
 use Rattle.std.proofs.lemmas.Slice.Eq.{bytes_eq-Decides}
-use Rattle.std.proofs.lemmas.List.Elements.{All-head, All-tail, All-weaker}
-use Rattle.sgf_tree.specs.Tree.{Property, values}
+use Rattle.std.proofs.lemmas.List.Elements.{All-nil, All-head, All-tail, All-weaker}
+use Rattle.sgf_tree.specs.Tree.{Property, Node, values, lone_property}
+use Rattle.sgf_tree.specs.declared.walk.NextNode.{NextNode}
+use Rattle.sgf_tree.specs.declared.walk.NextNode.TheVariants.{Led, Empty as EmptyNode, Open}
 use Rattle.sgf_tree.specs.Lead.{IsOtherName, IsLedBy}
 use Rattle.go_board.specs.declared.stones.Colour.{Colour}
 use Rattle.go_board.specs.declared.stones.Cell.{Cell}
@@ -26,7 +28,7 @@ use Rattle.sgf_lines.specs.declared.judging.contents.Kind.{Kind}
 use Rattle.sgf_lines.specs.declared.judging.contents.Kind.TheVariants.{Move as move_kind, Stones as stones_kind, Player as player_kind, Comment as comment_kind}
 use Rattle.sgf_lines.specs.NodeContents.{Move, Stones, moves_in, moves_by, stones_in, stones_of, players_in, is_named, first_value}
 use Rattle.sgf_lines.specs.NodeValues.{player_value, operation, operations, last_player}
-use Rattle.sgf_lines.specs.inner.Gathered.{kind_of, AreMoves, IsSetup, setup_with_stones, setup_with_player, AddsAreas, HoldsAlone, IsGathered}
+use Rattle.sgf_lines.specs.inner.Gathered.{kind_of, AreMoves, IsSetup, setup_with_stones, setup_with_player, AddsAreas, HoldsAlone, IsGathered, told_property, ComesAs}
 
 -- one operation before others, and all of two lists, where each is there
 abbrev before_all : Option SetupOp → Option (List SetupOp) → Option (List SetupOp)
@@ -297,3 +299,11 @@ other_kind p other =
 pub led_alone : (first : Property) (properties : List Property) → IsLedBy setup_names first properties → HoldsAlone first properties
 led_alone first properties led =
     record { rest = led.rest; all = led.all; nothing = All-weaker (λ (p : Property). IsOtherName setup_names p.name) (λ (p : Property). kind_of p ≡ None) other_kind led.rest led.others }
+
+-- there is a node that comes so
+pub coming : (left : List Property) (next : NextNode) → (node : Node) × ComesAs node left next
+coming left (Led place letter value) =
+    let lone : Property = lone_property letter value.now in
+    (record { place = place; properties = lone ∷ [] }, (refl, record { rest = []; all = refl; nothing = All-nil (λ (p : Property). kind_of p ≡ None) }))
+coming left (EmptyNode place) = (record { place = place; properties = [] }, (refl, refl))
+coming left (Open place front) = (record { place = place; properties = told_property front ++ left }, (refl, refl))

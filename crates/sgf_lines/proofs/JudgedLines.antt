@@ -1,15 +1,15 @@
 -- How many nodes are judged of a front of a line, and of the whole.
-use Rattle.std.proofs.Common.{◌≡◌, ℕ, ◌+◌, ◌-◌, ◌≤◌, List, length, min, take, slice_get, Some, Result, Ok, Err, OnOk, sym, ap, ◌∙◌, arith}
+use Rattle.std.proofs.Common.{◌≡◌, ℕ, ◌+◌, ◌-◌, ◌≤◌, List, length, min, take, drop, ◌++◌, slice_get, Some, Result, Ok, Err, OnOk, sym, ap, subst, ◌∙◌, arith}
 use Rattle.std.specs.Result.{IsErr}
-use Rattle.std.proofs.lemmas.List.{take_all, length-take}
+use Rattle.std.proofs.lemmas.List.{take_all, take-append-drop, length-take}
 use Rattle.sgf_tree.specs.Tree.{Node}
 use Rattle.sgf_lines.specs.JudgedGames.{game_kind, root_properties}
 use Rattle.sgf_lines.specs.Verdict.{judged_on}
-use Rattle.sgf_lines.specs.inner.Judging.{Judging, judging, after, next_plays}
+use Rattle.sgf_lines.specs.inner.Judging.{Judging, IsSettled, judging, after, next_plays}
 use Rattle.sgf_lines.specs.inner.Keeping.{judging_front, fresh_plays, PlaysUpTo}
 use Rattle.sgf_lines.proofs.Lists.{front_more}
 use Rattle.sgf_lines.proofs.Walking.{judged_of_front}
-use Rattle.sgf_lines.proofs.Judgements.{judging_more, plays_more, one_at_most}
+use Rattle.sgf_lines.proofs.Judgements.{judging_more, plays_more, settled_all, one_at_most}
 
 -- how many nodes of a line are judged
 abbrev judged_count : List Node → ℕ
@@ -60,13 +60,35 @@ pub fresh_of_err : {B E F : Type 0} (A : Type 0) {old new count : ℕ} (e : E) (
 fresh_of_err A e (Ok x) bad h = absurd cc
 fresh_of_err A e (Err f) is h = record { not_fewer = h.not_fewer; not_more = h.not_more; each = tt }
 
--- all nodes
-module _ (nodes : List Node) (held old i : ℕ) (judge : Judging) (h : JudgesTo nodes held old i judge) (past : length nodes ≤ i) where
-  pub judged_all : judge.judgement ≡ judging_front nodes (length nodes)
-  judged_all = h.judged ∙ ap (judging (game_kind (root_properties nodes))) (take_all i nodes past ∙ sym (take_all (length nodes) nodes (omega arith)))
+-- no node more is judged than the first `i`, and the judgement stays
+module _ (nodes : List Node) (held old i : ℕ) (judge : Judging) (h : JudgesTo nodes held old i judge) where
+  pub record IsWhole : Type 0 where
+    pub judged : judging_front nodes (length nodes) ≡ judging_front nodes i
+    pub count : judged_count nodes ≡ min i (judged_count nodes)
 
-  pub fresh_all : {A E : Type 0} (r : Result A E) → PlaysUpTo old judge.plays (fresh_plays nodes held) r
-  fresh_all r =
+  -- all nodes
+  pub all_whole : length nodes ≤ i → IsWhole
+  all_whole past =
       let kind = game_kind (root_properties nodes) in
-      let all : judged_count nodes ≡ min i (judged_count nodes) = ap (λ ns. length (judged_on kind ns)) (sym (take_all i nodes past)) ∙ front_count nodes i in
-      record { not_fewer = omega (arith, h.plays); not_more = omega (arith, h.plays, all); each = on_any r (omega (arith, h.plays, all)) }
+      record {
+        judged = ap (judging kind) (take_all (length nodes) nodes (omega arith) ∙ sym (take_all i nodes past));
+        count = ap (λ ns. length (judged_on kind ns)) (sym (take_all i nodes past)) ∙ front_count nodes i;
+      }
+
+  -- a verdict that is known
+  pub settled_whole : IsSettled judge.judgement → IsWhole
+  settled_whole settled =
+      let kind = game_kind (root_properties nodes) in
+      let on = settled_all kind (take i nodes) (drop i nodes) (subst IsSettled h.judged settled) in
+      let parts : nodes ≡ take i nodes ++ drop i nodes = sym (take-append-drop i nodes) in
+      record {
+        judged = ap (judging kind) (take_all (length nodes) nodes (omega arith) ∙ parts) ∙ on.0;
+        count = ap (λ ns. length (judged_on kind ns)) parts ∙ on.1 ∙ front_count nodes i;
+      }
+
+  pub judged_all : IsWhole → judge.judgement ≡ judging_front nodes (length nodes)
+  judged_all whole = h.judged ∙ sym whole.judged
+
+  pub fresh_all : IsWhole → {A E : Type 0} (r : Result A E) → PlaysUpTo old judge.plays (fresh_plays nodes held) r
+  fresh_all whole r =
+      record { not_fewer = omega (arith, h.plays); not_more = omega (arith, h.plays, whole.count); each = on_any r (omega (arith, h.plays, whole.count)) }

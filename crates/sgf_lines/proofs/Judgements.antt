@@ -1,5 +1,5 @@
 -- A line's judgement goes on by a node, and back to its first nodes.
-use Rattle.std.proofs.Common.{◌≡◌, ℕ, ◌<◌, ◌≤◌, List, [], ◌∷◌, length, refl, ap, ◌∙◌, arith, suc, ◌+◌, ◌++◌, take, drop, Option, Some, None, Result, Ok, Err, sym, subst, length-append, append-nil}
+use Rattle.std.proofs.Common.{◌≡◌, ℕ, ◌<◌, ◌≤◌, List, [], ◌∷◌, length, refl, ap, ◌∙◌, arith, suc, ◌+◌, ◌++◌, take, drop, Option, Some, None, Result, Ok, Err, sym, subst, length-append, append-nil, append_assoc}
 use Rattle.std.proofs.lemmas.Bool.{le-leb, lt-leb}
 use Rattle.go_board.specs.State.{State, States, followed_by}
 use Rattle.sgf_lines.specs.inner.Back.{back_from, back_to}
@@ -14,7 +14,7 @@ use Rattle.sgf_lines.specs.JudgedGames.{GameKind, not_go, bad_size, board}
 use Rattle.sgf_lines.specs.Step.{step}
 use Rattle.sgf_lines.specs.Walk.{TakenNode, IllegalNode, Walk, before_root, next_by, next, walk, judged_by}
 use Rattle.sgf_lines.specs.Verdict.{verdict_at, verdict_by, judged_on}
-use Rattle.sgf_lines.specs.inner.Judging.{Judgement, Judging, unjudged, judged, judgement_of, side_in, begun_game, stepped, after, judging, back, verdict_in, board_in, state_after, state_of, taken_by, next_plays}
+use Rattle.sgf_lines.specs.inner.Judging.{Judgement, Judging, IsSettled, unjudged, judged, judgement_of, side_in, begun_game, stepped, after, judging, back, verdict_in, board_in, state_after, state_of, taken_by, next_plays}
 use Rattle.sgf_lines.proofs.Walking.{StandsAfter, scores_there, next_is, one_judged}
 use Rattle.sgf_lines.specs.Walk as along
 
@@ -226,6 +226,31 @@ plays_more bad_size nodes node = omega (arith, ap next_plays (unjudged_stays Bad
 plays_more (board side) nodes node =
     ap (λ w. length (judged_by w)) (walk_step side nodes node) ∙ one_played (judging (board side) nodes) (walk side nodes) node (of_walk side nodes)
 
+-- none, once the verdict is known
+settled_stays : (j : Judgement) (node : Node) → IsSettled j → after j node ≡ j
+settled_stays (unjudged told) node h = refl
+settled_stays (judged states (Some told)) node h = refl
+settled_stays (judged states None) node h = absurd h
+
+pub settled_none : (j : Judgement) (node : Node) → IsSettled j → (state_after j node ≡ None) × (next_plays j ≡ 0)
+settled_none (unjudged told) node h = (refl, refl)
+settled_none (judged states (Some told)) node h = (refl, refl)
+settled_none (judged states None) node h = absurd h
+
+pub settled_more : (kind : GameKind) (nodes : List Node) (node : Node) → IsSettled (judging kind nodes) → judging kind (nodes ++ node ∷ []) ≡ judging kind nodes
+settled_more kind nodes node h = judging_more kind nodes node ∙ settled_stays (judging kind nodes) node h
+
+pub settled_all : (kind : GameKind) (nodes more : List Node) → IsSettled (judging kind nodes)
+    → (judging kind (nodes ++ more) ≡ judging kind nodes) × (length (judged_on kind (nodes ++ more)) ≡ length (judged_on kind nodes))
+settled_all kind nodes [] h = (ap (judging kind) (append-nil nodes), ap (λ ns. length (judged_on kind ns)) (append-nil nodes))
+settled_all kind nodes (n ∷ ns) h =
+    let same = settled_more kind nodes n h in
+    let on = settled_all kind (nodes ++ n ∷ []) ns (subst IsSettled (sym same) h) in
+    let split : nodes ++ n ∷ ns ≡ (nodes ++ n ∷ []) ++ ns = sym (append_assoc nodes (n ∷ []) ns) in (
+      ap (judging kind) split ∙ on.0 ∙ same,
+      ap (λ ms. length (judged_on kind ms)) split ∙ on.1 ∙ plays_more kind nodes n ∙ omega (arith, (settled_none (judging kind nodes) n h).1),
+    )
+
 -- what a judge says of one node more
 pub one_at_most : (j : Judgement) → next_plays j ≤ 1
 one_at_most (unjudged told) = omega arith
@@ -241,3 +266,20 @@ module _ (ended : Option Verdict) (referee : Option States) (r : States) (plays 
 
   pub leads_to : (node : Node) (s : State) → ended ≡ None → step r.present node ≡ Ok s → state_after now.judgement node ≡ Some s
   leads_to node s none took = ap (λ j. state_after j node) (stood ∙ ap (judged r) none) ∙ ap state_of took
+
+  -- a step that was refused settles the verdict
+  pub refused : (node : Node) (reason : Reason) (turn place : ℕ) (new : States) → ended ≡ None → step r.present node ≡ Err reason → new ≡ r → turn ≡ new.present.turns → node.place ≡ place
+      → judged new (Some (Illegal (turn + 1) place reason)) ≡ after now.judgement node
+  refused node reason turn place new none took same turn_is place_is =
+      ap (λ (s : States). judged s (Some (Illegal (turn + 1) place reason))) same
+      ∙ ap (λ t. judged r (Some (Illegal (t + 1) place reason))) (turn_is ∙ ap (λ (s : States). s.present.turns) same)
+      ∙ ap (λ p. judged r (Some (Illegal (r.present.turns + 1) p reason))) (sym place_is)
+      ∙ sym (ap (λ j. after j node) (stood ∙ ap (judged r) none) ∙ ap (stepped r node) took)
+
+  pub leads_nowhere : (node : Node) (reason : Reason) → ended ≡ None → step r.present node ≡ Err reason → state_after now.judgement node ≡ None
+  leads_nowhere node reason none took = ap (λ j. state_after j node) (stood ∙ ap (judged r) none) ∙ ap state_of took
+
+  -- the same as before
+  pub untaken : (new : States) → new ≡ r → record { judgement = judgement_of ended (Some new); plays = plays } ≡ now
+  untaken new same =
+      ap (λ (s : States). record { judgement = judgement_of ended (Some s); plays = plays }) same ∙ ap (λ o. record { judgement = judgement_of ended o; plays = plays }) (sym is) ∙ view

@@ -37,6 +37,7 @@ pub mod Running
 pub mod LeafLines
 pub mod LineCounts
 pub mod Keeping
+pub mod GoingOn
 pub mod LineNodes
 pub mod RunRecords
 pub mod JudgedLines

@@ -1,27 +1,28 @@
 -- How many lines a collection has at most, and the answer of a count.
-use Rattle.std.proofs.Common.{◌≡◌, ℕ, ◌+◌, ◌<◌, ◌≤◌, length, map, sym, ap, ◌∙◌, arith, List, [], ◌++◌, take, drop, Result, Ok, Err, refl, append_assoc, append-nil, length-append}
+use Rattle.std.proofs.Common.{◌≡◌, ℕ, ◌+◌, ◌<◌, ◌≤◌, length, map, ap, ◌∙◌, arith, List, ◌++◌, take, Result, Ok, Err, refl, append_assoc, length-append}
 use Rattle.std.specs.Prelude.{codes}
-use Rattle.std.proofs.lemmas.List.{length-map, take-append-drop}
+use Rattle.std.specs.Result.{IsErr}
+use Rattle.std.proofs.lemmas.List.{length-map, take-append-le}
 use Rattle.sgf_tree.specs.Tree.{Games, game_count, node_count}
 use Rattle.sgf_lines.specs.Lines.{lines}
 use Rattle.sgf_lines.specs.Paths.{paths, leaf_of}
 use Rattle.sgf_lines.proofs.Visits.{rises_parts, leaves_in_order}
 use Rattle.sgf_lines.proofs.Named.{length-paths}
 use Rattle.std.specs.Io.KnownBytes.{Appends}
-use Rattle.std.proofs.KnownBytes.{Appends-kept, Appends-trans}
+use Rattle.std.proofs.KnownBytes.{Appends-trans}
 use Rattle.std.proofs.Math.Seq.{take-append-add}
 use Rattle.sgf_tree.specs.declared.fault.TheConstants.{MAX_LENGTH}
 use Rattle.sgf_tree.specs.Spelling.{Spells}
 use Rattle.sgf_tree.specs.Refusal.{IsFaultyWhereNotSgf}
 use Rattle.sgf_tree.specs.declared.fault.ReadFault.{ReadFault}
 use Rattle.sgf_tree.specs.declared.fault.ReadFault.TheVariants.{TooLong as TextTooLong, NotSgf as TextNotSgf, Memory as TextMemory}
-use Rattle.sgf_lines.specs.Ends.{SourceState, SinkState, Delivers, TakesNothing}
-use Rattle.sgf_lines.specs.Answer.{read_failures}
-use Rattle.sgf_lines.specs.Counts.{counts_of, AnswersCount, IsCount, IsWriting}
-use Rattle.sgf_lines.specs.inner.Running.{HasReadAll, PutsAll, unread}
+use Rattle.sgf_lines.specs.Ends.{SourceState, SinkState, PutsAll}
+use Rattle.sgf_lines.specs.Answer.{read_failures, unread}
+use Rattle.sgf_lines.specs.Counts.{counts_of, AnswersCount, IsCount}
+use Rattle.sgf_lines.specs.inner.Running.{HasReadAll}
 use Rattle.sgf_lines.specs.declared.counting.Counts.{Counts}
 use Rattle.sgf_lines.specs.declared.fault.RunFault.{RunFault}
-use Rattle.sgf_lines.specs.declared.fault.RunFault.TheVariants.{NotSgf, Write, Memory}
+use Rattle.sgf_lines.specs.declared.fault.RunFault.TheVariants.{NotSgf, Memory}
 
 -- no more lines than nodes
 pub lines_within : (c : Games) → length (lines c) ≤ node_count c
@@ -49,32 +50,6 @@ module _ (source new_source : SourceState) (text : List ℕ) (h : HasReadAll sou
       → IsCount source new_source (Err met)
   count_of_unread fault met is long faulty = rw is (unread_says fault long faulty)
 
--- the sink failed within a piece of the row
-pub row_cut : {A : Type 0} (row : List ℕ) (old now new : SinkState) (done piece rest : List ℕ) (n : ℕ) → row ≡ done ++ (piece ++ rest) → Appends old.taken now.taken done → now.failures ≡ old.failures
-    → Appends now.taken new.taken (take n piece) → new.failures ≡ now.failures + 1 → IsWriting {A = A} row old new (Err (Write 0))
-row_cut row old now new done piece rest n is front same more failed =
-    let cut : done ++ (piece ++ rest) ≡ (done ++ take n piece) ++ (drop n piece ++ rest) =
-    ap (λ bs. done ++ (bs ++ rest)) (sym (take-append-drop n piece)) ∙ ap (λ bs. done ++ bs) (append_assoc (take n piece) (drop n piece) rest)
-    ∙ sym (append_assoc done (take n piece) (drop n piece ++ rest)) in
-    record {
-      answers = (refl, (done ++ take n piece, drop n piece ++ rest, is ∙ cut, Appends-trans old.taken now.taken new.taken done (take n piece) front more));
-      sink_failures = omega (arith, same, failed);
-    }
-
--- the whole row was taken, and the flush was answered
-pub row_flushed : {A : Type 0} (row : List ℕ) (old now new : SinkState) (u : A) → Appends old.taken now.taken row → now.failures ≡ old.failures → Delivers now new → IsWriting {A = A} row old new (Ok u)
-row_flushed row old now new u h same f = record {
-  answers = (Appends-kept old.taken now.taken new.taken row h f.taken, f.delivered);
-  sink_failures = omega (arith, same, f.failures);
-}
-
--- and where the flush failed
-pub row_not_flushed : {A : Type 0} (row : List ℕ) (old now new : SinkState) → Appends old.taken now.taken row → now.failures ≡ old.failures → TakesNothing now new → IsWriting {A = A} row old new (Err (Write 0))
-row_not_flushed row old now new h same f = record {
-  answers = (refl, (row, [], sym (append-nil row), Appends-kept old.taken now.taken new.taken row h f.taken));
-  sink_failures = omega (arith, same, f.failures);
-}
-
 -- two pieces are put as one
 pub both_put : {B F : Type 0} (old now new : SinkState) (first second : List ℕ) (result : Result B F) → Appends old.taken now.taken first → now.failures ≡ old.failures
     → PutsAll now new second result → PutsAll old new (first ++ second) result
@@ -86,10 +61,16 @@ both_put old now new first second (Err e) h same k = (
   k.3 ∙ ap (λ n. n + 1) same,
 )
 
+-- or the sink failed within the first one
+pub first_cut : {B E F : Type 0} (A : Type 0) (old new : SinkState) (first second : List ℕ) (e : E) (result : Result B F) → IsErr result → PutsAll {A = A} old new first (Err e) → PutsAll old new (first ++ second) result
+first_cut A old new first second e (Ok v) bad k = absurd cc
+first_cut A old new first second e (Err f) is k = (
+  k.0,
+  omega (arith, length-append first second, k.1),
+  rw (take-append-le k.0 first second (omega (arith, k.1))) k.2,
+  k.3,
+)
+
 -- the row in three pieces
 pub row_pieces : (a b c : List ℕ) → a ++ codes " " ++ b ++ codes " " ++ c ++ codes "\n" ≡ (a ++ codes " ") ++ ((b ++ codes " ") ++ (c ++ codes "\n"))
 row_pieces a b c = simp append_assoc
-
--- and the last piece with nothing after it
-pub row_end : (a b c : List ℕ) → a ++ codes " " ++ b ++ codes " " ++ c ++ codes "\n" ≡ ((a ++ codes " ") ++ (b ++ codes " ")) ++ ((c ++ codes "\n") ++ [])
-row_end a b c = simp (append_assoc, append-nil)

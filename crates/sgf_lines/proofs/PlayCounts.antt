@@ -1,5 +1,5 @@
 -- How many nodes a run plays for its page: a line adds those of its judged nodes that it doesn't share with the line before it.
-use Rattle.std.proofs.Common.{◌≡◌, ℕ, zero, suc, ◌+◌, ◌<◌, ◌≤◌, List, [], ◌∷◌, ◌++◌, length, take, map, inl, inr, refl, ap, ◌∙◌, arith, ◌-◌, true, drop, slice_get, Some, sym, subst, length-append, Option, None, Result, Ok, Err, add-one, append_assoc}
+use Rattle.std.proofs.Common.{◌≡◌, ℕ, zero, suc, ◌+◌, ◌<◌, ◌≤◌, List, [], ◌∷◌, ◌++◌, length, take, map, inl, inr, refl, ap, ◌∙◌, arith, ◌-◌, drop, slice_get, Some, sym, subst, length-append, Option, None, Result, Ok, Err, add-one, append_assoc}
 use Rattle.std.specs.List.{range_with_len, flat_map}
 use Rattle.std.proofs.lemmas.Bool.{cases_lt}
 use Rattle.sgf_tree.specs.Tree.{Games, node_count}
@@ -22,7 +22,7 @@ use Rattle.sgf_lines.proofs.LineNodes.{named_in}
 use Rattle.sgf_lines.proofs.Keeping.{same_front}
 use Rattle.sgf_lines.proofs.Joins.{more_texts, as_many}
 use Rattle.sgf_lines.proofs.Walking.{judged_front, judged_alike}
-use Rattle.std.specs.Prelude.{unwrap_or, filter}
+use Rattle.std.specs.Prelude.{Bool, true, false, if◌then◌else◌, unwrap_or, filter}
 use Rattle.std.specs.Io.KnownBytes.{Appends}
 use Rattle.std.proofs.KnownBytes.{Appends-trans, Appends-kept}
 use Rattle.sgf_lines.specs.Page.{limited}
@@ -31,7 +31,7 @@ use Rattle.sgf_lines.specs.Ends.{SinkState, TakesNothing}
 use Rattle.sgf_lines.specs.Cursor.{CursorState, advanced}
 use Rattle.sgf_lines.specs.Answer.{IsCutShort}
 use Rattle.sgf_lines.specs.RunPlays.{plays_of, plays_in, ArePlaysFor}
-use Rattle.sgf_lines.specs.inner.Running.{WritesLines, HasRecord}
+use Rattle.sgf_lines.specs.inner.Running.{WritesLines}
 use Rattle.sgf_lines.specs.declared.options.Form.{Form}
 use Rattle.sgf_lines.specs.declared.fault.RunFault.{RunFault}
 use Rattle.sgf_lines.proofs.Pages.{get_dropped, get_taken, get_none, limited_is}
@@ -39,12 +39,11 @@ use Rattle.sgf_lines.proofs.LineCounts.{lines_within}
 use Rattle.sgf_lines.proofs.Running.{one_more, cut_in, all_taken}
 use Rattle.std.proofs.lemmas.Grind.{flat_map-append}
 use Rattle.sgf_tree.specs.declared.fault.MemoryFault.{MemoryFault}
-use Rattle.sgf_lines.specs.declared.options.Form.TheVariants.{List as list_form, Sgf as sgf_form, Gtp as gtp_form}
+use Rattle.sgf_lines.specs.Form.{entry_of}
 use Rattle.sgf_lines.specs.declared.fault.RunFault.TheVariants.{Read, TooLong, NotSgf, NoSuchLine, Write, Memory}
-use Rattle.sgf_lines.specs.inner.GoingOn.{GoesOnBy}
-use Rattle.sgf_lines.specs.inner.Keeping.{HasPlays, PlaysLine}
-use Rattle.sgf_lines.specs.declared.going_on.Before.{Before}
-use Rattle.sgf_lines.specs.declared.going_on.Before.TheVariants.{Unheld, Held}
+use Rattle.sgf_lines.specs.inner.GoingOn.{AreHeld, HasPlays, PlaysLine, index_by, next_by}
+use Rattle.sgf_lines.specs.declared.over_lines.Before.{Before}
+use Rattle.sgf_lines.specs.declared.over_lines.Before.TheVariants.{Unheld, Held}
 
 pub rises_take : (low k : ℕ) (ns : List ℕ) → RisesFrom low ns → RisesFrom low (take k ns)
 rises_take low zero ns h = tt
@@ -235,28 +234,22 @@ module _ (form : Form) (c : Games) (first limit : ℕ) (old : SinkState) (k : �
       get_taken (drop first (lines c)) limit k lt ∙ get_dropped (lines c) first k ∙ there
 
   -- the next record is written too
-  pub one_written : (new : CursorState) (sink : SinkState) (bytes : List ℕ) → k < limit → HasRecord form at new bytes → Appends now.taken sink.taken bytes → sink.failures ≡ now.failures
-      → IsSoFar form c first limit old (k + 1) new sink
-  one_written new sink bytes lt r more failures =
-      let there = next_of_page r.line lt r.found in
-      let text : output form (take (k + 1) (page_from c first limit)) ≡ output form (take k (page_from c first limit)) ++ bytes =
-      one_more form (page_from c first limit) k r.line there ∙ ap (λ bs. output form (take k (page_from c first limit)) ++ bs) (sym r.bytes_are) in
+  pub one_written : (new : CursorState) (sink : SinkState) (line : Line) → k < limit → slice_get (lines at.games) at.index ≡ Some line → new ≡ advanced at
+      → Appends now.taken sink.taken (record_of form line) → sink.failures ≡ now.failures → IsSoFar form c first limit old (k + 1) new sink
+  one_written new sink line lt found moved more failures =
+      let there = next_of_page line lt found in
       record {
-        same = ap (λ p. p.games) r.goes_on ∙ h.same;
-        index = ap (λ p. p.index) r.goes_on ∙ omega (arith, h.index);
-        within = omega (arith, slice_get_within (page_from c first limit) k r.line there);
-        takes = rw text (Appends-trans old.taken now.taken sink.taken (output form (take k (page_from c first limit))) bytes h.takes more);
+        same = ap (λ p. p.games) moved ∙ h.same;
+        index = ap (λ p. p.index) moved ∙ omega (arith, h.index);
+        within = omega (arith, slice_get_within (page_from c first limit) k line there);
+        takes = rw (one_more form (page_from c first limit) k line there) (Appends-trans old.taken now.taken sink.taken (output form (take k (page_from c first limit))) (record_of form line) h.takes more);
         failures = failures ∙ h.failures;
       }
 
   -- the sink failed within the next record
-  pub cut_short : (new : CursorState) (sink : SinkState) (bytes : List ℕ) (n : ℕ) → k < limit → HasRecord form at new bytes → n < length bytes
-      → Appends now.taken sink.taken (take n bytes) → IsCutShort form (page_from c first limit) k old sink
-  cut_short new sink bytes n lt r less more =
-      let there = next_of_page r.line lt r.found in
-      let fewer : n < length (record_of form r.line) = rw (← r.bytes_are) less in
-      let taken : Appends now.taken sink.taken (take n (record_of form r.line)) = rw r.bytes_are at more in
-      cut_in form (page_from c first limit) k r.line n old now sink there fewer h.takes taken
+  pub cut_short : (sink : SinkState) (line : Line) (n : ℕ) → k < limit → slice_get (lines at.games) at.index ≡ Some line → n < length (record_of form line)
+      → Appends now.taken sink.taken (take n (record_of form line)) → IsCutShort form (page_from c first limit) k old sink
+  cut_short sink line n lt found less more = cut_in form (page_from c first limit) k line n old now sink (next_of_page line lt found) less h.takes more
 
   -- all lines of the page were written
   all_of : (plays : ℕ) → plays ≡ plays_of form (take k (page_from c first limit)) → length (page_from c first limit) ≤ k → WritesLines form (page_from c first limit) old now plays (Ok k)
@@ -281,21 +274,27 @@ for_options form c first asked limit old new plays result is h =
     let fewer : length (drop first (lines c)) ≤ node_count c = omega (arith, lines_within c, length-drop first (lines c)) in
     rw (limited_is asked (node_count c) (drop first (lines c)) fewer, ← is) h
 
--- in a form that judges what is added is added, and in the other nothing is
+-- in a form that judges what is added is added, and in another nothing is
 added_in : (form : Form) (all some more : ℕ) → all ≡ some + more → plays_in form all ≡ plays_in form some + plays_in form more
-added_in list_form all some more e = e
-added_in sgf_form all some more e = refl
-added_in gtp_form all some more e = e
+added_in form all some more e = by (entry_of form).judges
+  where
+    by : (judges : Bool) → (if judges then all else 0) ≡ (if judges then some else 0) + (if judges then more else 0)
+    by true = e
+    by false = refl
 
 fewer_in : (form : Form) (some all : ℕ) → some ≤ all → plays_in form some ≤ plays_in form all
-fewer_in list_form some all le = le
-fewer_in sgf_form some all le = omega arith
-fewer_in gtp_form some all le = le
+fewer_in form some all le = by (entry_of form).judges
+  where
+    by : (judges : Bool) → (if judges then some else 0) ≤ (if judges then all else 0)
+    by true = le
+    by false = omega arith
 
 not_more_in : (form : Form) (all : ℕ) → plays_in form all ≤ all
-not_more_in list_form all = omega arith
-not_more_in sgf_form all = omega arith
-not_more_in gtp_form all = omega arith
+not_more_in form all = by (entry_of form).judges
+  where
+    by : (judges : Bool) → (if judges then all else 0) ≤ all
+    by true = omega arith
+    by false = omega arith
 
 -- a line more plays no less
 plays_grow : (form : Form) (ls : List Line) (k : ℕ) → plays_of form (take k ls) ≤ plays_of form (take (k + 1) ls)
@@ -355,33 +354,40 @@ module _ (c : Games) (rise : PlacesRise c) (first limit : ℕ) where
 
 -- what a line shares with the one before it, by where the cursor stands
 pub shares_by : (c : Games) (rise : PlacesRise c) (first limit k : ℕ) (before : Before) (at : CursorState) (held : ℕ) → at.games ≡ c → at.index ≡ first + k → (k ≡ 0 → before ≡ Unheld) → (0 < k → before ≡ Held)
-    → GoesOnBy before at (advanced at) held → Shares c rise first limit k held
-shares_by c rise first limit zero before at held same index first_line later h = let go : GoesOnBy Unheld at (advanced at) held = rw (first_line refl) at h in go.1
+    → AreHeld before at held → Shares c rise first limit k held
+shares_by c rise first limit zero before at held same index first_line later h = rw (first_line refl) at h
 shares_by c rise first limit (suc k) before at held same index first_line later h =
-    let there : GoesOnBy Held at (advanced at) held = rw (later (omega arith)) at h in
-    let go : Continues (numbers_before at.games at.index) held (numbers_before at.games (at.index + 1)) = there.1 in
+    let go : Continues (numbers_before at.games at.index) held (numbers_before at.games (at.index + 1)) = rw (later (omega arith)) at h in
     rw (same, index, add-one) at go
 
-module _ (form : Form) (c : Games) (rise : PlacesRise c) (first limit k : ℕ) (before : Before) (at : CursorState) (old sink : SinkState) (written : IsSoFar form c first limit old k at sink)
-    (first_line : k ≡ 0 → before ≡ Unheld) (later : 0 < k → before ≡ Held) (lt : k < limit) (now : ℕ) (h : now ≡ plays_of form (take k (page_from c first limit))) where
-  next_adds : (n : ℕ) → HasPlays form before at n → plays_of form (take (k + 1) (page_from c first limit)) ≡ plays_of form (take k (page_from c first limit)) + n
+-- a run never goes back to a line for which memory was refused
+pub goes_forth : (k : ℕ) (before : Before) (at : CursorState) → (k ≡ 0 → before ≡ Unheld) → (0 < k → before ≡ Held) → next_by before at ≡ at
+goes_forth zero before at first_line later = ap (λ b. next_by b at) (first_line refl)
+goes_forth (suc k) before at first_line later = ap (λ b. next_by b at) (later (omega arith))
+
+module _ (form : Form) (counts : ℕ → ℕ) (counts_are : (n : ℕ) → counts n ≡ plays_in form n) (c : Games) (rise : PlacesRise c) (first limit k : ℕ) (before : Before) (at : CursorState) (old sink : SinkState)
+    (written : IsSoFar form c first limit old k at sink) (first_line : k ≡ 0 → before ≡ Unheld) (later : 0 < k → before ≡ Held) (lt : k < limit) (now : ℕ) (h : now ≡ plays_of form (take k (page_from c first limit))) where
+  pub found_there : (line : Line) → slice_get (lines at.games) (index_by before at.index) ≡ Some line → slice_get (lines at.games) at.index ≡ Some line
+  found_there line found = ap (λ (p : CursorState). slice_get (lines at.games) p.index) (sym (goes_forth k before at first_line later)) ∙ found
+
+  next_adds : (n : ℕ) → HasPlays counts before at n → plays_of form (take (k + 1) (page_from c first limit)) ≡ plays_of form (take k (page_from c first limit)) + n
   next_adds n p =
-      let there : slice_get (lines c) (first + k) ≡ Some p.line = rw (written.same, written.index) at p.found in
+      let there : slice_get (lines c) (first + k) ≡ Some p.line = rw (written.same, written.index) at (found_there p.line p.found) in
       let here : slice_get (page_from c first limit) k ≡ Some p.line = get_taken (drop first (lines c)) limit k lt ∙ get_dropped (lines c) first k ∙ there in
-      rw (← p.count_is) at
-      (adds c rise first limit form k p.held p.line here (shares_by c rise first limit k before at p.held written.same written.index first_line later p.goes_on))
+      let count : n ≡ plays_in form (length (judged_nodes p.line) - p.held) = p.count_is ∙ counts_are (length (judged_nodes p.line) - p.held) in
+      rw count (adds c rise first limit form k p.held p.line here (shares_by c rise first limit k before at p.held written.same written.index first_line later p.are_held))
 
   -- the next line was played whole
-  pub one_played : (new : ℕ) → PlaysLine {E = MemoryFault} form before at now new (Ok true) → new ≡ plays_of form (take (k + 1) (page_from c first limit))
+  pub one_played : (new : ℕ) → PlaysLine {E = MemoryFault} counts before at now new (Ok true) → new ≡ plays_of form (take (k + 1) (page_from c first limit))
   one_played new p = omega (arith, p.2, h, next_adds p.0 p.1)
 
   -- but its record wasn't taken whole
-  pub played_then_cut : (new : ℕ) → PlaysLine {E = MemoryFault} form before at now new (Ok true) → ArePlaysFor form (page_from c first limit) k new
+  pub played_then_cut : (new : ℕ) → PlaysLine {E = MemoryFault} counts before at now new (Ok true) → ArePlaysFor form (page_from c first limit) k new
   played_then_cut new p =
       let all = one_played new p in record { at_least = omega (arith, all, plays_grow form (page_from c first limit) k); at_most = omega (arith, all) }
 
   -- no memory for all of it
-  pub played_in_part : (e : MemoryFault) (new : ℕ) → PlaysLine form before at now new (Err e) → ArePlaysFor form (page_from c first limit) k new
+  pub played_in_part : (e : MemoryFault) (new : ℕ) → PlaysLine counts before at now new (Err e) → ArePlaysFor form (page_from c first limit) k new
   played_in_part e new (inl none) = record { at_least = omega (arith, none, h); at_most = omega (arith, none, h, plays_grow form (page_from c first limit) k) }
   played_in_part e new (inr p) = record { at_least = omega (arith, p.2, h); at_most = omega (arith, p.3, h, next_adds p.0 p.1) }
 

@@ -1,4 +1,4 @@
--- The record that a run made is that of the line before its cursor.
+-- The record that a form made is that of the line before the cursor.
 use Rattle.std.proofs.Common.{◌≡◌, ℕ, ◌<◌, List, ◌++◌, length, Option, Some, None, refl, sym, ap, ◌∙◌, arith, append_assoc}
 use Rattle.std.specs.Prelude.{option_map, codes}
 use Rattle.std.specs.List.{concat}
@@ -13,16 +13,16 @@ use Rattle.sgf_lines.specs.Cursor.{CursorState}
 use Rattle.sgf_lines.specs.JudgedGames.{game_kind, root_properties}
 use Rattle.sgf_lines.specs.declared.form.row.LineShown.{LineShown}
 use Rattle.sgf_lines.specs.declared.verdict.Verdict.{Verdict}
+use Rattle.sgf_lines.specs.declared.options.Form.{Form}
 use Rattle.sgf_lines.specs.declared.options.Form.TheVariants.{List as list_form, Sgf as sgf_form, Gtp as gtp_form}
-use Rattle.sgf_lines.specs.declared.run.Run.{Run}
-use Rattle.sgf_lines.specs.inner.Views.{built_text, line_shown}
+use Rattle.sgf_lines.specs.inner.Views.{line_shown}
 use Rattle.sgf_lines.specs.inner.Following.{nodes_of, line_before, nodes_before}
 use Rattle.sgf_lines.specs.inner.Judging.{Judgement, judging, verdict_in}
 use Rattle.sgf_lines.specs.inner.Pieces.{PiecesState}
 use Rattle.sgf_lines.specs.inner.Recording.{whole_record}
-use Rattle.sgf_lines.specs.inner.Scripting.{script_of, script_ended, script_text}
-use Rattle.sgf_lines.specs.inner.Sequences.{RiseTo, sequences_of}
-use Rattle.sgf_lines.specs.inner.Keeping.{HoldsJudgement, judging_front, script_front, record_by}
+use Rattle.sgf_lines.specs.inner.Scripting.{ScriptState, script_of, script_ended, script_text}
+use Rattle.sgf_lines.specs.inner.Sequences.{RiseTo, SequencesState, sequences_of}
+use Rattle.sgf_lines.specs.inner.Keeping.{HoldsJudgement, IsRecord, judging_front, script_front}
 use Rattle.sgf_lines.proofs.Judgements.{judging_verdict}
 use Rattle.sgf_lines.proofs.Recordings.{record_text}
 use Rattle.sgf_lines.proofs.Scripts.{script_put}
@@ -47,26 +47,25 @@ module _ (at : CursorState) (own : Line) (before : line_before at ≡ Some own) 
         rw (← same) (ap (λ w. row_text (place_of own) own.game_number (length own.nodes) w) verdict)
 
     -- in list form
-    pub made_row : (new : Run) → built_text new.row ≡ row_text line.place line.game line.nodes v ++ codes "\n"
-        → Some (record_by list_form (built_text new.row) new.game new.script) ≡ option_map (record_of list_form) (line_before at)
-    made_row new row = rw before (ap Some (row ∙ ap (λ t. t ++ codes "\n") row_is))
+    pub made_row : (row : List ℕ) → row ≡ row_text line.place line.game line.nodes v ++ codes "\n" → Some row ≡ option_map (record_of list_form) (line_before at)
+    made_row row is = rw before (ap Some (is ∙ ap (λ t. t ++ codes "\n") row_is))
 
     -- in gtp form: its row as a comment, its commands, and an empty line
-    pub made_script : (new : Run) → new.script ≡ script_ended (script_front (nodes_before at) (length (nodes_before at))) → built_text new.row ≡ comment_row (row_text line.place line.game line.nodes v)
-        → Some (record_by gtp_form (built_text new.row) new.game new.script) ≡ option_map (record_of gtp_form) (line_before at)
-    made_script new said row =
+    pub made_script : (row : List ℕ) (script : ScriptState) → script ≡ script_ended (script_front (nodes_before at) (length (nodes_before at)))
+        → row ≡ comment_row (row_text line.place line.game line.nodes v) → Some (row ++ script_text script) ≡ option_map (record_of gtp_form) (line_before at)
+    made_script row script said is =
         let nodes = nodes_before at in
         let kind = game_kind (root_properties own.nodes) in
-        let script : new.script ≡ script_ended (script_of kind own.nodes) =
+        let ended : script ≡ script_ended (script_of kind own.nodes) =
         said ∙ ap (λ ns. script_ended (script_of (game_kind (root_properties nodes)) ns)) (take_all (length nodes) nodes (omega arith)) ∙ ap (λ ns. script_ended (script_of (game_kind (root_properties ns)) ns)) nodes_are in
-        let first : built_text new.row ≡ comment_row (list_row own) = row ∙ ap comment_row row_is in
-        rw before (ap Some (ap (λ t. t ++ script_text new.script) first ∙ ap (λ s. comment_row (list_row own) ++ script_text s) script
+        let first : row ≡ comment_row (list_row own) = is ∙ ap comment_row row_is in
+        rw before (ap Some (ap (λ t. t ++ script_text script) first ∙ ap (λ s. comment_row (list_row own) ++ script_text s) ended
         ∙ ap (λ t. comment_row (list_row own) ++ t) (script_put kind own.nodes) ∙ sym (append_assoc (comment_row (list_row own)) (commands_by kind own.nodes) (codes "\n"))))
 
   -- in sgf form
-  pub made_record : (new : Run) (ends : List ℕ) → RiseTo 0 ends (length (nodes_before at)) → new.game ≡ whole_record (sequences_of ends (nodes_before at))
-      → Some (record_by sgf_form (built_text new.row) new.game new.script) ≡ option_map (record_of sgf_form) (line_before at)
-  made_record new ends rise is =
+  pub made_record : (game : PiecesState) (ends : List ℕ) → RiseTo 0 ends (length (nodes_before at)) → game ≡ whole_record (sequences_of ends (nodes_before at))
+      → Some (concat game.pieces ++ game.begun) ≡ option_map (record_of sgf_form) (line_before at)
+  made_record game ends rise is =
       rw before (ap Some (ap (λ (p : PiecesState). concat p.pieces ++ p.begun) is ∙ record_text ends (nodes_before at) rise ∙ ap sgf_record nodes_are))
 
 -- where it has a node there is a line
@@ -76,3 +75,7 @@ some_line at some = by (line_before at) refl
     by : (o : Option Line) → line_before at ≡ o → (l : Line) × (line_before at ≡ Some l)
     by None e = absurd (omega (arith, some, ap (λ o. length (nodes_of o)) e))
     by (Some l) e = (l, e)
+
+-- the record that was made is that of the line
+pub record_is : (form : Form) (cursor : SequencesState) (line : Line) (text : List ℕ) → IsRecord form cursor text → line_before cursor.at ≡ Some line → text ≡ record_of form line
+record_is form cursor line text made before = let same : Some text ≡ Some (record_of form line) = rw before at made in cc

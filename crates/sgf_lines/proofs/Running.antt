@@ -7,8 +7,8 @@ use Rattle.std.proofs.lemmas.List.{take_all, take-append-drop, length-drop}
 use Rattle.sgf_lines.specs.Lines.{Line, lines}
 use Rattle.sgf_lines.specs.Record.{record_of, output}
 use Rattle.sgf_lines.specs.Ends.{SinkState, SourceState, HasDelivered}
-use Rattle.sgf_lines.specs.Answer.{IsCutShort, read_failures, IsWhole, IsGood, Answers, write_failures}
-use Rattle.sgf_lines.specs.inner.Running.{WritesLines, HasReadAll, IsStart, unread}
+use Rattle.sgf_lines.specs.Answer.{IsCutShort, read_failures, IsWhole, IsGood, Answers, write_failures, unread}
+use Rattle.sgf_lines.specs.inner.Running.{WritesLines, HasReadAll, IsStart}
 use Rattle.sgf_lines.specs.declared.options.Form.{Form}
 use Rattle.sgf_lines.specs.declared.fault.RunFault.{RunFault}
 use Rattle.sgf_lines.specs.declared.fault.RunFault.TheVariants.{Read, TooLong, NotSgf, NoSuchLine, Write, Memory}

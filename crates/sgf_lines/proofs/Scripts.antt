@@ -1,5 +1,5 @@
 -- A script goes on by a node, and back to the first ones; and what is put of it.
-use Rattle.std.proofs.Common.{◌≡◌, ℕ, zero, suc, ◌+◌, ◌≤◌, ◌==◌, min, if◌then◌else◌, Bool, true, false, ◌||◌, not, cond, List, [], ◌∷◌, ◌++◌, length, take, map, Option, Some, None, Result, Ok, Err, inl, inr, refl, sym, ap, subst, ◌∙◌, arith, add-one, append-nil}
+use Rattle.std.proofs.Common.{◌≡◌, ℕ, zero, suc, ◌+◌, ◌≤◌, ◌==◌, min, if◌then◌else◌, Bool, true, false, ◌||◌, not, cond, List, [], ◌∷◌, ◌++◌, length, take, map, Option, Some, None, Result, Ok, Err, inl, inr, refl, sym, ap, subst, ◌∙◌, arith, add-one, append-nil, append_assoc}
 use Rattle.std.specs.Prelude.{nat_lt, codes, fold, option_copied}
 use Rattle.std.specs.List.{flat_map, list_any, concat, position_or_len}
 use Rattle.std.proofs.lemmas.Bool.{cases_lt, lt-ltb, le-ltb}
@@ -20,11 +20,11 @@ use Rattle.sgf_lines.specs.Step.{step}
 use Rattle.sgf_lines.specs.Walk.{TakenNode, Walk, walk}
 use Rattle.sgf_lines.specs.Script.{comment_rows, play_command, setup_commands, move_commands, taken_script, text_rows, comment_text, leaves_unreaching, leaves_unreaching_by, board_commands, commands_of, commands_by}
 use Rattle.sgf_lines.specs.inner.Pieces.{pushed, closed, cut}
-use Rattle.sgf_lines.specs.inner.Judging.{Judgement, unjudged, judged, side_in, judging, begun_game, after, stepped, state_after, taken_by, board_in, IsEffectBy, IsStepOf, IsTakenFrom}
+use Rattle.sgf_lines.specs.inner.Judging.{Judgement, IsSettled, unjudged, judged, side_in, judging, begun_game, after, stepped, state_after, taken_by, board_in, IsEffectBy, IsStepOf, IsTakenFrom}
 use Rattle.sgf_lines.specs.inner.Scripting.{ScriptState, effect_script, step_script, IsPlayable, is_unreaching, no_script, script_on, said_on, said_by, said_after, script_back, script_ended, script_text, script_along, script_of, IsLettered}
 use Rattle.sgf_lines.proofs.Commanding.{side-step}
 use Rattle.sgf_lines.proofs.Recordings.{joined}
-use Rattle.sgf_lines.proofs.Judgements.{unjudged_stays, taken_more, taken_cut, taken_only, board_after}
+use Rattle.sgf_lines.proofs.Judgements.{settled_none, settled_more, unjudged_stays, taken_more, taken_cut, taken_only, board_after}
 
 -- the pieces before those that can't be said
 lt_suc : (a n : ℕ) → nat_lt (suc a) (suc n) ≡ nat_lt a n
@@ -143,6 +143,14 @@ script_more (board side) nodes n = by (state_after (judging (board side) nodes) 
     by : (o : Option State) → said_by (script_along side (walk side nodes).taken) o n ≡ script_along side ((walk side nodes).taken ++ taken_by o n)
     by None = ap (script_along side) (sym (append-nil (walk side nodes).taken))
     by (Some state) = along_more side (walk side nodes).taken (record { node = n; after = state })
+
+-- nothing more is said once the verdict is known
+pub script_settled : (kind : GameKind) (nodes more : List Node) → IsSettled (judging kind nodes) → script_of kind (nodes ++ more) ≡ script_of kind nodes
+script_settled kind nodes [] h = ap (script_of kind) (append-nil nodes)
+script_settled kind nodes (n ∷ ns) h =
+    let none = settled_none (judging kind nodes) n h in
+    ap (script_of kind) (sym (append_assoc nodes (n ∷ []) ns)) ∙ script_settled kind (nodes ++ n ∷ []) ns (subst IsSettled (sym (settled_more kind nodes n h)) h)
+    ∙ sym (script_more kind nodes n) ∙ ap (λ o. said_by (script_of kind nodes) o n) none.0
 
 pub script_begins : (kind : GameKind) → script_on (board_in (begun_game kind)) ≡ script_of kind []
 script_begins not_go = refl

@@ -1,11 +1,13 @@
 -- The result of a run: what it says of the bytes that the source gave and that the sink took.
-use Rattle.std.specs.Prelude.{◌≡◌, ℕ, ◌+◌, ◌<◌, ◌≤◌, ◌⊎◌, List, [], ◌++◌, length, take, slice_get, Option, Some, None, Result, Ok, Err}
+use Rattle.std.specs.Prelude.{◌≡◌, ◌==◌, ℕ, ◌+◌, ◌<◌, ◌≤◌, ◌⊎◌, Bool, false, List, [], ◌++◌, length, take, slice_get, Option, Some, None, Result, Ok, Err}
 use Rattle.std.specs.Result.{result_err}
 use Rattle.std.specs.Io.KnownBytes.{Appends, Consumes, IsAtEnd}
 use Rattle.sgf_tree.specs.Tree.{Games}
 use Rattle.sgf_tree.specs.Spelling.{Spells}
 use Rattle.sgf_tree.specs.Refusal.{IsFaultyAt}
 pub use Rattle.sgf_tree.specs.declared.fault.TheConstants.{MAX_LENGTH}
+use Rattle.sgf_tree.specs.declared.fault.ReadFault.{ReadFault}
+use Rattle.sgf_tree.specs.declared.fault.ReadFault.TheVariants.{TooLong as TextTooLong, NotSgf as TextNotSgf, Memory as TextMemory}
 use Rattle.sgf_lines.specs.Lines.{Line, HasNoLineAt}
 use Rattle.sgf_lines.specs.Page.{page}
 use Rattle.sgf_lines.specs.Record.{record_of, output}
@@ -63,6 +65,17 @@ Answers options given to_come sink new_sink (Err (Write count)) = (page : List L
 Answers options given to_come sink new_sink (Err (Memory count)) =
     ((page : List Line) × IsGood options given to_come page × (count ≤ length page) × Appends sink.taken new_sink.taken (output options.form (take count page)))
     ⊎ ((length given ≤ MAX_LENGTH) × (count ≡ 0) × (new_sink ≡ sink))
+
+-- the fault of a run whose source gave a text of `len` bytes that wasn't read
+abbrev pub unread : ReadFault → ℕ → RunFault
+unread TextTooLong len = TooLong
+unread (TextNotSgf at) len = NotSgf at len
+unread TextMemory len = Memory 0
+
+-- the source gave the beginning of a text of the grammar, but not all of it
+abbrev pub ends_too_early : RunFault → Bool
+ends_too_early (NotSgf at len) = at == len
+ends_too_early _ = false
 
 -- how many failures of the source a fault stands for, and how many of the sink
 abbrev pub reads_failed : Option RunFault → ℕ

@@ -103,3 +103,8 @@ IsPut old new bytes (Err _) = TakesNothing old new
 abbrev pub IsFlush : {A E : Type 0} → SinkState → SinkState → Result A E → Type 0
 IsFlush old new (Ok _) = Delivers old new
 IsFlush old new (Err _) = TakesNothing old new
+
+-- the result of putting bytes until a sink has taken all of them, or has failed: then it took fewer, from their front
+abbrev pub PutsAll : {A E : Type 0} → SinkState → SinkState → List ℕ → Result A E → Type 0
+PutsAll old new bytes (Ok _) = Appends old.taken new.taken bytes × (new.failures ≡ old.failures)
+PutsAll old new bytes (Err _) = (count : ℕ) × (count < length bytes) × Appends old.taken new.taken (take count bytes) × (new.failures ≡ old.failures + 1)

@@ -23,3 +23,7 @@ row_text place game_number count told =
 
 abbrev pub list_row : Line → List ℕ
 list_row line = row_text (place_of line) line.game_number (length line.nodes) (verdict line)
+
+-- the record of a line in list form
+abbrev pub list_record : Line → List ℕ
+list_record line = list_row line ++ codes "\n"

@@ -1,25 +1,15 @@
--- The record of a line: what is written for it, in each form. The output of a run: the records of its lines, one after the other.
-use Rattle.std.specs.Prelude.{ℕ, List, ◌++◌, codes}
+-- The record of a line: what is written for it. The output of a run: the records of its lines, one after the other.
+use Rattle.std.specs.Prelude.{ℕ, List}
 use Rattle.std.specs.List.{flat_map}
 pub use Rattle.sgf_tree.specs.Written.{value_text, property_text, node_text}
-use Rattle.sgf_tree.specs.Tree.{Node}
 use Rattle.sgf_lines.specs.declared.options.Form.{Form}
-use Rattle.sgf_lines.specs.declared.options.Form.TheVariants.{List as list_form, Sgf as sgf_form, Gtp as gtp_form}
+use Rattle.sgf_lines.specs.Form.{entry_of}
 use Rattle.sgf_lines.specs.Lines.{Line}
-use Rattle.sgf_lines.specs.ListRow.{list_row}
-use Rattle.sgf_lines.specs.Script.{script}
+pub use Rattle.sgf_lines.specs.SgfRecord.{sgf_record}
 
--- The line as a game of its own (SGF FF[4], without white space between its parts).
-
--- the nodes between parentheses, and a line feed
-abbrev pub sgf_record : List Node → List ℕ
-sgf_record nodes = codes "(" ++ flat_map node_text nodes ++ codes ")\n"
-
--- a row, a game or a script
+-- the record of a line in a form
 abbrev pub record_of : Form → Line → List ℕ
-record_of list_form line = list_row line ++ codes "\n"
-record_of sgf_form line = sgf_record line.nodes
-record_of gtp_form line = script line
+record_of form line = (entry_of form).text line
 
 -- the records of lines, joined in order
 abbrev pub output : Form → List Line → List ℕ

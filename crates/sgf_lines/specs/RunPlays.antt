@@ -1,20 +1,18 @@
 -- A run that counts the nodes that it plays: what its result says of them, besides what it says of the bytes.
-use Rattle.std.specs.Prelude.{◌≡◌, ℕ, ◌+◌, ◌≤◌, ◌⊎◌, List, length, take, Option, Result, Ok, Err}
+use Rattle.std.specs.Prelude.{◌≡◌, ℕ, ◌+◌, ◌≤◌, ◌⊎◌, if◌then◌else◌, List, length, take, Option, Result, Ok, Err}
 use Rattle.sgf_lines.specs.Lines.{Line}
 use Rattle.sgf_lines.specs.Plays.{all_judged_places}
 use Rattle.sgf_lines.specs.Ends.{SourceState, SinkState}
 use Rattle.sgf_lines.specs.Answer.{IsGood, IsRun}
 use Rattle.sgf_lines.specs.declared.options.Form.{Form}
-use Rattle.sgf_lines.specs.declared.options.Form.TheVariants.{List as list_form, Sgf as sgf_form, Gtp as gtp_form}
+use Rattle.sgf_lines.specs.Form.{entry_of}
 use Rattle.sgf_lines.specs.declared.options.Options.{Options}
 use Rattle.sgf_lines.specs.declared.fault.RunFault.{RunFault}
 use Rattle.sgf_lines.specs.declared.fault.RunFault.TheVariants.{Read, TooLong, NotSgf, NoSuchLine, Write, Memory}
 
--- of `count` judged nodes, how many are played: none in the sgf form, which has no verdict
+-- of `count` judged nodes, how many are played: none in a form that doesn't judge
 abbrev pub plays_in : Form → ℕ → ℕ
-plays_in list_form count = count
-plays_in sgf_form count = 0
-plays_in gtp_form count = count
+plays_in form count = if (entry_of form).judges then count else 0
 
 -- how many nodes are played for these lines: each node that is judged on at least one of them, once
 abbrev pub plays_of : Form → List Line → ℕ

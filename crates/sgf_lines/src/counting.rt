@@ -3,8 +3,8 @@
 ghost use Rattle.std.specs.Prelude.{◌≡◌, ◌<◌, ◌≤◌, ◌+◌, ◌++◌, ℕ, List, decimal};
 ghost use Rattle.sgf_tree.specs.Extent.{HasExtent};
 ghost use Rattle.sgf_lines.specs.Counts.{IsCount, IsWriting, counts_of, counts_row};
-ghost use Rattle.sgf_lines.specs.Ends.{SourceState};
-ghost use Rattle.sgf_lines.specs.inner.Running.{HasReadAll, PutsAll};
+ghost use Rattle.sgf_lines.specs.Ends.{PutsAll, SourceState};
+ghost use Rattle.sgf_lines.specs.inner.Running.{HasReadAll};
 
 use crate::ends::sink::{Sink, SinkFault, put_all};
 use crate::ends::source::Source;
@@ -44,10 +44,7 @@ pub fn count<S: Source>(alloc: Global, source: &mut S) -> Result<Counts, RunFaul
         return count_text(alloc, text);
     }
     let mut text = Vec::new(alloc);
-    match read_all(source, &mut text) {
-        Ok(()) => {}
-        Err(fault) => return Err(fault),
-    }
+    read_all(source, &mut text)?;
     count_text(alloc, &text)
 }
 
@@ -81,19 +78,23 @@ pub fn write_counts<T: Sink>(sink: &mut T, counts: &Counts) -> Result<(), RunFau
     ensures { IsWriting (counts_row counts.now) (T.state sink.old) (T.state sink.new) result }
 {
     let fault = RunFault::Write { lines: 0 };
-    let Ok(()) = put_number(counts.games, b" ", sink) else {
-        return Err(fault);
-    };
-    let Ok(()) = put_number(counts.nodes, b" ", sink) else {
-        return Err(fault);
-    };
-    let Ok(()) = put_number(counts.lines, b"\n", sink) else {
+    let Ok(()) = put_counts(counts, sink) else {
         return Err(fault);
     };
     match sink.flush() {
         Ok(()) => Ok(()),
         Err(SinkFault) => Err(fault),
     }
+}
+
+/// Puts the row of the counts.
+fn put_counts<T: Sink>(counts: &Counts, sink: &mut T) -> Result<(), SinkFault>
+    requires { (T.state sink.old).failures < u64.MAX }
+    ensures { PutsAll (T.state sink.old) (T.state sink.new) (counts_row counts.now) result }
+{
+    put_number(counts.games, b" ", sink)?;
+    put_number(counts.nodes, b" ", sink)?;
+    put_number(counts.lines, b"\n", sink)
 }
 
 /// Puts a number in decimal digits, and what ends it.

@@ -60,10 +60,13 @@ impl<'c, 'a> Cursor<'c, 'a> {
         ensures* goes_on { sem 𝓛 (OnceReturned self.entry (LeavesCursor self.entry.now result)) }
         ensures line { IfOk result (GivesLine self.old) }
     {
-        match advance(&mut self.sequences, &mut self.path)? {
-            Some(_) => Ok(Some(line(&self.sequences, &self.path))),
-            None => Ok(None),
-        }
+        let room = self.sequences.next_len().saturating_sub(self.path.len());
+        self.path.reserve(room)?;
+        let Some(shared) = self.sequences.advance()? else {
+            return Ok(None);
+        };
+        write_path(&self.sequences, shared, &mut self.path);
+        Ok(Some(line(&self.sequences, &self.path)))
     }
 
     /// Moves the cursor to just after the line with this place, wherever it was before. A line's
@@ -87,28 +90,6 @@ impl<'c, 'a> Cursor<'c, 'a> {
     }
 }
 
-/// Moves a cursor on by one line, and with it the path of the line before it. Returns what this line shares with the line
-/// before it; None if no line is left. After a refusal of memory both are unchanged.
-pub(crate) fn advance(
-    sequences: &mut SequenceCursor<'_, '_>,
-    path: &mut Vec<usize>,
-) -> Result<Option<Front>, MemoryFault>
-    requires path { path.old.items ≡ path_before sequences.old.at }
-    ensures moved { IfOk result (λ shared. MatchOption shared (sequences.new ≡ sequences.old) (λ _. sequences.new.at ≡ advanced sequences.old.at)) }
-    ensures none_left { IfOk result (λ shared. IfNone shared (slice_get (lines sequences.old.at.games) sequences.old.at.index ≡ None)) }
-    ensures shared { IfOk result (λ shared. IfSome shared (SharesFront sequences.old sequences.new)) }
-    ensures unchanged { OnErr result (sequences.new ≡ sequences.old) }
-    ensures path { path.new.items ≡ path_before sequences.new.at }
-{
-    let room = sequences.next_len().saturating_sub(path.len());
-    path.reserve(room)?;
-    let Some(shared) = sequences.advance()? else {
-        return Ok(None);
-    };
-    write_path(sequences, shared, path);
-    Ok(Some(shared))
-}
-
 /// The line before a cursor, with this path.
 pub(crate) fn line<'l>(sequences: &SequenceCursor<'_, '_>, path: &'l [usize]) -> LineRef<'l>
     requires some { 0 < sequences.now.at.index }
@@ -125,7 +106,7 @@ pub(crate) fn line<'l>(sequences: &SequenceCursor<'_, '_>, path: &'l [usize]) ->
 }
 
 /// Cuts a path back to a front of the line before a cursor, and appends the nodes after it. There must be room for all nodes.
-fn write_path(sequences: &SequenceCursor<'_, '_>, front: Front, path: &mut Vec<usize>)
+pub(crate) fn write_path(sequences: &SequenceCursor<'_, '_>, front: Front, path: &mut Vec<usize>)
     requires within { front.sequences ≤ length sequences.now.ends }
     requires count { front.nodes ≡ nodes_in sequences.now.ends front.sequences }
     requires held { take front.nodes path.old.items ≡ take front.nodes (path_before sequences.now.at) }

@@ -54,10 +54,10 @@ impl From<AllocError> for RunFault {
 }
 
 impl RunFault {
-    ghost use Rattle.sgf_lines.specs.inner.Running.{unread};
+    ghost use Rattle.sgf_lines.specs.Answer.{ends_too_early, unread};
 
-    /// Why a text of `len` bytes wasn't read.
-    pub(crate) fn unread(fault: ReadFault, len: usize) -> RunFault
+    /// The fault of a run whose source gave a text of `len` bytes, if `read` refused this text.
+    pub fn unread(fault: ReadFault, len: usize) -> RunFault
         ensures { result ≡ unread fault len }
     {
         match fault {
@@ -65,5 +65,12 @@ impl RunFault {
             ReadFault::NotSgf { at } => RunFault::NotSgf { at, len },
             ReadFault::Memory => RunFault::Memory { lines: 0 },
         }
+    }
+
+    /// Whether the input ends too early: it is the beginning of some text of the grammar, but no whole text.
+    pub fn ends_too_early(&self) -> bool
+        ensures { result ≡ ends_too_early self.now }
+    {
+        matches!(self, RunFault::NotSgf { at, len } if at == len)
     }
 }

@@ -2,38 +2,54 @@
 
 ghost use Rattle.std.specs.Prelude.{◌≡◌, ◌<◌, ◌-◌, length, IfOk};
 ghost use Rattle.sgf_lines.specs.Plays.{all_judged_places};
+ghost use Rattle.sgf_lines.specs.inner.Following.{nodes_before, path_before};
+ghost use Rattle.sgf_lines.specs.inner.Keeping.{HoldsJudgement};
 
-use crate::cursor::{Cursor, line};
-use crate::form::judged::judge_line;
-use crate::going_on::{Before, go_on};
+use crate::cursor::{Cursor, line, write_path};
 use crate::judging::judge::Judge;
+use crate::judging::judged::judge_line;
 use crate::line::LineRef;
-use crate::sequence_cursor::SequenceCursor;
+use crate::over_lines::{Before, LineKeeper, OverLines};
+use crate::sequence_cursor::{Front, SequenceCursor};
 use crate::verdict::Verdict;
 use sgf_tree::MemoryFault;
 use std::alloc::Global;
 use std::marker::Model;
+
+/// Keeps the judgement on a line, and the numbers of its nodes.
+#[derive(Drop)]
+struct JudgedLine {
+    judge: Judge,
+    path: Vec<usize>,
+}
+
+impl LineKeeper for JudgedLine {
+    ghost holds = { λ kept cursor. HoldsJudgement (nodes_before cursor.at) kept.judge.judgement × (kept.path.items ≡ path_before cursor.at) };
+
+    ghost played = { λ kept. kept.judge.plays };
+
+    ghost counts = { λ count. count };
+
+    fn follow(&mut self, cursor: &SequenceCursor<'_, '_>, held: Front) -> Result<(), MemoryFault> {
+        let room = cursor.len().saturating_sub(self.path.len());
+        self.path.reserve(room)?;
+        write_path(cursor, held, &mut self.path);
+        judge_line(cursor, held, &mut self.judge)
+    }
+}
 
 /// A follower goes over the lines after a cursor, in file order, and judges each. Nodes that a
 /// line shares with the line before it are not played again. Contracts see it as the collection, the
 /// index (from 0) of its next line, and how many lines directly before that one were judged in a row.
 #[derive(Drop)]
 pub struct Follower<'c, 'a> {
-    sequences: SequenceCursor<'c, 'a>,
-
-    /// The numbers of the nodes of the line before the cursor.
-    path: Vec<usize>,
-
-    judge: Judge,
-
-    before: Before,
+    lines: OverLines<'c, 'a, JudgedLine>,
 
     /// The number of lines that were judged in a row.
     row: u64,
 }
 
 impl<'c, 'a> Model for Follower<'c, 'a> {
-    ghost use Rattle.std.specs.Prelude.{◌≡◌};
     ghost use Rattle.sgf_lines.specs.Follower.{FollowerState};
     ghost use Rattle.sgf_lines.specs.inner.Following.{path_before};
     ghost use Rattle.sgf_lines.specs.inner.Followers.{follower_state_code, state_by, Follows};
@@ -42,9 +58,9 @@ impl<'c, 'a> Model for Follower<'c, 'a> {
 
     ghost coded = { follower_state_code };
 
-    ghost view = { λ f. state_by f.before f.sequences.at f.row };
+    ghost view = { λ f. state_by f.lines.before f.lines.cursor.at f.row };
 
-    ghost invariant = { λ f. Follows f.before f.sequences.at f.judge f.row × (f.path.items ≡ path_before f.sequences.at) };
+    ghost invariant = { λ f. Follows f.lines.before f.lines.cursor.at f.lines.keeper.judge f.lines.keeper.path.items f.row };
 }
 
 impl<'c, 'a> Follower<'c, 'a> {
@@ -55,13 +71,16 @@ impl<'c, 'a> Follower<'c, 'a> {
     pub fn new(alloc: Global, cursor: Cursor<'c, 'a>) -> Follower<'c, 'a>
         ensures { result ≡ record { games = cursor.entry.games; index = cursor.entry.index; row = 0 } }
     {
-        Follower {
-            sequences: cursor.sequences,
-            path: cursor.path,
+        let keeper = JudgedLine {
             judge: Judge::new(alloc),
+            path: cursor.path,
+        };
+        let lines = OverLines {
+            cursor: cursor.sequences,
             before: Before::Unheld,
-            row: 0,
-        }
+            keeper,
+        };
+        Follower { lines, row: 0 }
     }
 
     /// Goes on by one line, and returns its verdict, the same as `judge` returns. After the last line it returns None, however
@@ -70,23 +89,20 @@ impl<'c, 'a> Follower<'c, 'a> {
         ensures verdict { IfOk result (GivesVerdict self.old) }
         ensures left { LeavesFollower self.old self.new result }
     {
-        let Some(held) = go_on(&mut self.sequences, &mut self.path, self.before)? else {
-            return Ok(None);
-        };
-        // There are no more lines than nodes, and no more nodes than bytes. Each sequence has a node.
-        let _nodes = self.sequences.outline().nodes();
-        let _sequences = self.sequences.sequences();
-        let _len = self.sequences.len();
-        let row = self.row;
-        self.row = 0;
-        self.before = Before::Refused;
-        let Ok(()) = judge_line(&self.sequences, held, &mut self.judge) else {
-            self.judge.count_anew();
-            return Err(MemoryFault);
-        };
-        self.before = Before::Held;
-        self.row = row + 1;
-        Ok(Some(self.judge.verdict()))
+        // There are no more lines than nodes, and no more nodes than bytes.
+        let _nodes = self.lines.cursor.outline().nodes();
+        match self.lines.next() {
+            Ok(true) => {
+                self.row += 1;
+                Ok(Some(self.lines.keeper.judge.verdict()))
+            }
+            Ok(false) => Ok(None),
+            Err(MemoryFault) => {
+                self.row = 0;
+                self.lines.keeper.judge.count_anew();
+                Err(MemoryFault)
+            }
+        }
     }
 
     /// The line whose verdict `next` returned last. There must be such a verdict, and memory mustn't have been refused since then.
@@ -94,7 +110,7 @@ impl<'c, 'a> Follower<'c, 'a> {
         requires { 0 < self.now.row }
         ensures { IsLine self.now.games (self.now.index - 1) result }
     {
-        line(&self.sequences, &self.path)
+        line(&self.lines.cursor, &self.lines.keeper.path)
     }
 
     /// The number of nodes that were played for the lines judged in a row: each node that is judged on at least one of them,
@@ -102,6 +118,6 @@ impl<'c, 'a> Follower<'c, 'a> {
     pub fn plays(&self) -> u64
         ensures { result ≡ length (all_judged_places (lines_judged self.now)) }
     {
-        self.judge.plays()
+        self.lines.keeper.judge.plays()
     }
 }

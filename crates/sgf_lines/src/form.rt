@@ -1,16 +1,52 @@
-//! The forms in which a line is written, and what they keep of a line's text for the next line.
+//! The forms in which a line is written, and what they keep of a line for the next line.
 //!
 //! | Module | What it has |
 //! |---|---|
+//! | `list`, `sgf`, `gtp` | the forms: what each keeps of a line, and the record that it makes |
 //! | `row` | the row of a line, alone or as a comment |
-//! | `record` | the record of a line in sgf form |
 //! | `script`, `commands` | the script of a line in gtp form; the commands of a node |
-//! | `judged` | judging a line from the first node that isn't shared with the line before it |
 //! | `pieces` | a text in pieces |
 
+ghost use Rattle.std.specs.Prelude.{◌≡◌, ◌<◌, ℕ, Some};
+ghost use Rattle.sgf_lines.specs.Lines.{Line};
+ghost use Rattle.sgf_lines.specs.Record.{record_of};
+ghost use Rattle.sgf_lines.specs.RunPlays.{plays_in};
+ghost use Rattle.sgf_lines.specs.declared.options.Form.{Form};
+ghost use Rattle.sgf_lines.specs.inner.Following.{line_before};
+ghost use Rattle.sgf_lines.specs.Ends.{PutsAll};
+ghost use Rattle.sgf_lines.specs.inner.Sequences.{SequencesState};
+
+use crate::ends::sink::{Sink, SinkFault};
+use crate::over_lines::LineKeeper;
+use std::alloc::Global;
+
 pub(crate) mod commands;
-pub(crate) mod judged;
+pub(crate) mod gtp;
+pub(crate) mod list;
 pub(crate) mod pieces;
-pub(crate) mod record;
 pub(crate) mod row;
 pub(crate) mod script;
+pub(crate) mod sgf;
+
+/// A form of records. It keeps of each line what the line's record needs.
+pub(crate) trait LineForm: LineKeeper {
+    // Which form it is.
+    ghost form: { Form };
+
+    /// The form before any line. This takes no memory.
+    fn new(alloc: Global) -> Self
+        ensures { Self.played result ≡ 0 };
+
+    /// Puts the record of the line that is kept.
+    fn put<T: Sink>(&self, sink: &mut T) -> Result<(), SinkFault>
+        requires countable { (T.state sink.old).failures < u64.MAX }
+        ensures { (cursor : SequencesState) (line : Line) → Self.holds self.now cursor → line_before cursor.at ≡ Some line
+            → PutsAll (T.state sink.old) (T.state sink.new) (record_of form line) result };
+
+    /// The number of nodes that were played.
+    fn plays(&self) -> u64
+        ensures { result ≡ Self.played self.now };
+
+    // Its judged nodes are played or not, as the form says.
+    ghost counts_are: { (count : ℕ) → Self.counts count ≡ plays_in form count };
+}

@@ -34,13 +34,14 @@
 //! | `options`, `fault` | what a run is asked for; how it may fail |
 //! | `verdict`, `judging` | the verdict of a line; judging lines, in the modules below |
 //! | `judging/one_line`, `judging/judge` | one line, by its leaf or its place; a judge that goes along a line's nodes, and back |
+//! | `judging/judged` | judging a line from the first node that it does not share with the line before it |
 //! | `judging/root`, `judging/contents`, `judging/step` | the board of a root's game; what a node holds; playing a node |
-//! | `going_on` | going on to the next line, and how much of it is held already |
-//! | `follower` | going over the lines that follow a cursor, and judging each |
+//! | `over_lines` | going over the lines that follow a cursor, and what is kept from line to line |
+//! | `follower` | judging each of these lines |
 //! | `node_values` | what the values of a node say |
-//! | `form` | the forms in which a line is written, and what lines share of a text |
+//! | `form` | the forms in which a line is written: what each keeps of a line, and the record that it makes |
 //! | `ends` | where the bytes of a run come from, and where they go |
-//! | `run` | splitting what a source gives into records for a sink; what a run holds from line to line |
+//! | `run` | splitting what a source gives into records for a sink |
 //! | `plays` | the count of nodes played |
 //! | `counting` | the games, nodes and lines of what a source gives |
 //! | `laws` | what follows from the definitions |
@@ -54,13 +55,13 @@ mod ends;
 mod fault;
 mod follower;
 mod form;
-mod going_on;
 mod judging;
 pub mod laws;
 mod line;
 mod line_nodes;
 mod node_values;
 mod options;
+mod over_lines;
 mod plays;
 mod run;
 mod seek;
@@ -70,7 +71,7 @@ mod verdict;
 pub use counting::{Counts, count, write_counts};
 pub use cursor::Cursor;
 pub use ends::buffered_sink::BufferedSink;
-pub use ends::sink::{ArraySink, Sink, SinkFault, WriteSink};
+pub use ends::sink::{ArraySink, Sink, SinkFault, WriteSink, put_all};
 pub use ends::source::{ReadSource, SliceSource, Source, SourceFault};
 pub use fault::RunFault;
 pub use follower::Follower;

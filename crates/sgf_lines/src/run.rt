@@ -1,36 +1,29 @@
 //! A run: what a source gives is split into the records of its lines, which a sink takes.
 
-ghost use Rattle.std.specs.Prelude.{◌≡◌, ◌<◌, ◌≤◌, ◌+◌, ℕ, List, Some, None, [], length, take, drop, slice_get, option_map, IfOk, OnOk, MatchBool};
+ghost use Rattle.std.specs.Prelude.{◌≡◌, ◌<◌, ◌≤◌, ◌+◌, ℕ, List, [], length, IfOk, OnOk};
 ghost use Rattle.sgf_tree.specs.declared.fault.TheConstants.{MAX_LENGTH};
+ghost use Rattle.sgf_tree.specs.FileOrder.{PlacesRise};
 ghost use Rattle.sgf_tree.specs.Spelling.{Spells};
 ghost use Rattle.sgf_tree.specs.Tree.{node_count};
 ghost use Rattle.sgf_lines.specs.Ends.{HasDelivered, SourceState};
 ghost use Rattle.sgf_lines.specs.Answer.{IsRun, read_failures, write_failures};
-ghost use Rattle.sgf_lines.specs.Lines.{lines};
-ghost use Rattle.sgf_lines.specs.Record.{record_of};
-ghost use Rattle.sgf_lines.specs.RunPlays.{IsRunWithPlays, plays_in};
-ghost use Rattle.sgf_lines.specs.declared.going_on.Before.TheVariants.{Held};
-ghost use Rattle.sgf_lines.specs.inner.Following.{line_before, nodes_before};
-ghost use Rattle.sgf_lines.specs.inner.Fronts.{HasFront};
-ghost use Rattle.sgf_lines.specs.inner.Keeping.{Holds, HoldsBy, IsFresh, KeepsBy, PlaysLine, PlaysUpTo, fresh_plays, kept_in, record_by, record_in};
-ghost use Rattle.sgf_lines.specs.inner.Views.{built_text};
-ghost use Rattle.sgf_lines.specs.inner.Running.{AnswersSome, HasRead, HasReadAll, HasRecord, IsReading, IsStart, PutsAll, WritesLines};
+ghost use Rattle.sgf_lines.specs.RunPlays.{IsRunWithPlays};
+ghost use Rattle.sgf_lines.specs.declared.over_lines.Before.TheVariants.{Unheld};
+ghost use Rattle.sgf_lines.specs.inner.Running.{AnswersSome, HasRead, HasReadAll, IsReading, IsStart, WritesLines, WritesPage, page_after};
 
-use crate::ends::sink::{Sink, SinkFault, put_all};
+use crate::ends::sink::{Sink, SinkFault};
 use crate::ends::source::Source;
 use crate::fault::RunFault;
-use crate::form::judged::judge_line;
-use crate::form::pieces::Pieces;
-use crate::form::row::{LineShown, Row};
-use crate::form::script::Script;
-use crate::form::{record, script};
-use crate::going_on::Before;
-use crate::judging::judge::Judge;
+use crate::form::LineForm;
+use crate::form::gtp::GtpForm;
+use crate::form::list::ListForm;
+use crate::form::sgf::SgfForm;
 use crate::laws::rise;
 use crate::options::{Form, Options};
+use crate::over_lines::{Before, OverLines};
 use crate::plays::Plays;
 use crate::seek::SeekFault;
-use crate::sequence_cursor::{Front, SequenceCursor};
+use crate::sequence_cursor::SequenceCursor;
 use sgf_tree::{MAX_LENGTH, MemoryFault, Outline, read_outline};
 use std::alloc::Global;
 
@@ -129,10 +122,7 @@ fn split_text<T: Sink>(
     };
     // There are no more lines than nodes.
     let limit = options.limit.unwrap_or(outline.nodes() as u64);
-    let mut run = Run::new(alloc, cursor, options.form);
-    let result = run.write(limit, sink);
-    plays.add(run.judge.plays());
-    result
+    write_in(alloc, cursor, options.form, limit, sink, plays)
 }
 
 /// Appends all that a source gives to an empty text. The buffer is this function's own, so it is set to zeros only for a source that
@@ -209,163 +199,105 @@ fn cursor_after<'c, 'a>(
     }
 }
 
-/// What a run holds from one line to the next.
-#[derive(Drop)]
-pub(crate) struct Run<'c, 'a> {
-    cursor: SequenceCursor<'c, 'a>,
-
+/// Writes the records of the lines after a cursor, at most `limit`, in a form, and flushes the sink. Returns the number of lines
+/// written, and adds to `plays` the number of nodes played.
+fn write_in<T: Sink>(
+    alloc: Global,
+    cursor: SequenceCursor<'_, '_>,
     form: Form,
-
-    /// What is known of the line before the cursor. Nothing of it is held before the first line and after a refusal of memory.
-    before: Before,
-
-    /// The judgement on that line, in the forms that judge.
-    judge: Judge,
-
-    /// That line as a game, in the sgf form.
-    game: Pieces,
-
-    /// The commands of that line, in the gtp form.
-    script: Script,
-
-    /// Its row, in the forms that judge.
-    row: Row,
+    limit: u64,
+    sink: &mut T,
+    plays: &mut Plays,
+) -> Result<u64, RunFault>
+    requires rise { PlacesRise cursor.at.games }
+    requires few { node_count cursor.at.games ≤ MAX_LENGTH }
+    requires sink_countable { (T.state sink.old).failures < u64.MAX }
+    requires plays_countable { plays.old + MAX_LENGTH ≤ u64.MAX }
+    ensures answer { WritesPage form (page_after cursor.entry.at limit) (T.state sink.old) (T.state sink.new) plays.old plays.new result }
+    ensures delivered { OnOk result (HasDelivered (T.state sink.new)) }
+    ensures failures { (T.state sink.new).failures ≡ (T.state sink.old).failures + write_failures result }
+{
+    match form {
+        Form::List => write_page::<ListForm, T>(alloc, cursor, limit, sink, plays),
+        Form::Sgf => write_page::<SgfForm, T>(alloc, cursor, limit, sink, plays),
+        Form::Gtp => write_page::<GtpForm, T>(alloc, cursor, limit, sink, plays),
+    }
 }
 
-impl<'c, 'a> Run<'c, 'a> {
-    /// A run over the lines after a cursor.
-    fn new(alloc: Global, cursor: SequenceCursor<'c, 'a>, form: Form) -> Run<'c, 'a>
-        ensures cursor { result.cursor ≡ cursor.entry }
-        ensures form { result.form ≡ form }
-        ensures fresh { IsFresh result }
-    {
-        Run {
-            cursor,
-            form,
-            before: Before::Unheld,
-            judge: Judge::new(alloc),
-            game: Pieces::new(alloc),
-            script: Script::new(alloc),
-            row: Row::new(),
+/// Does the same as `write_in` in the form `F`.
+fn write_page<F: LineForm, T: Sink>(
+    alloc: Global,
+    cursor: SequenceCursor<'_, '_>,
+    limit: u64,
+    sink: &mut T,
+    plays: &mut Plays,
+) -> Result<u64, RunFault>
+    requires rise { PlacesRise cursor.at.games }
+    requires few { node_count cursor.at.games ≤ MAX_LENGTH }
+    requires sink_countable { (T.state sink.old).failures < u64.MAX }
+    requires plays_countable { plays.old + MAX_LENGTH ≤ u64.MAX }
+    ensures answer { WritesPage F.form (page_after cursor.entry.at limit) (T.state sink.old) (T.state sink.new) plays.old plays.new result }
+    ensures delivered { OnOk result (HasDelivered (T.state sink.new)) }
+    ensures failures { (T.state sink.new).failures ≡ (T.state sink.old).failures + write_failures result }
+{
+    let mut lines = OverLines {
+        cursor,
+        before: Before::Unheld,
+        keeper: F::new(alloc),
+    };
+    let result = write(&mut lines, limit, sink);
+    plays.add(lines.keeper.plays());
+    result
+}
+
+/// Writes the records of the next lines, at most `limit`, and flushes the sink. Returns the number of lines written.
+fn write<F: LineForm, T: Sink>(
+    lines: &mut OverLines<'_, '_, F>,
+    limit: u64,
+    sink: &mut T,
+) -> Result<u64, RunFault>
+    requires rise { PlacesRise lines.old.cursor.at.games }
+    requires few { node_count lines.old.cursor.at.games ≤ MAX_LENGTH }
+    requires fresh { (lines.old.before ≡ Unheld) × (F.played lines.old.keeper ≡ 0) }
+    requires countable { (T.state sink.old).failures < u64.MAX }
+    ensures answer { WritesLines F.form (page_after lines.old.cursor.at limit) (T.state sink.old) (T.state sink.new) (F.played lines.new.keeper) result }
+    ensures delivered { OnOk result (HasDelivered (T.state sink.new)) }
+    ensures failures { (T.state sink.new).failures ≡ (T.state sink.old).failures + write_failures result }
+{
+    let written = match write_lines(lines, limit, sink) {
+        Ok(written) => written,
+        Err(fault) => return Err(fault),
+    };
+    match sink.flush() {
+        Ok(()) => Ok(written),
+        Err(SinkFault) => Err(RunFault::Write { lines: written }),
+    }
+}
+
+/// Does the same as `write`, but doesn't flush the sink.
+fn write_lines<F: LineForm, T: Sink>(
+    lines: &mut OverLines<'_, '_, F>,
+    limit: u64,
+    sink: &mut T,
+) -> Result<u64, RunFault>
+    requires rise { PlacesRise lines.old.cursor.at.games }
+    requires few { node_count lines.old.cursor.at.games ≤ MAX_LENGTH }
+    requires fresh { (lines.old.before ≡ Unheld) × (F.played lines.old.keeper ≡ 0) }
+    requires countable { (T.state sink.old).failures < u64.MAX }
+    ensures answer { WritesLines F.form (page_after lines.old.cursor.at limit) (T.state sink.old) (T.state sink.new) (F.played lines.new.keeper) result }
+    ensures failures { (T.state sink.new).failures ≡ (T.state sink.old).failures + write_failures result }
+{
+    let mut written = 0u64;
+    'page: while written < limit {
+        match lines.next() {
+            Ok(true) => {}
+            Ok(false) => return Ok(written),
+            Err(MemoryFault) => return Err(RunFault::Memory { lines: written }),
+        }
+        match lines.keeper.put(sink) {
+            Ok(()) => written += 1,
+            Err(SinkFault) => return Err(RunFault::Write { lines: written }),
         }
     }
-
-    /// Writes the records of the lines after the cursor, at most `limit`, and
-    /// flushes the sink. Returns the number of lines written.
-    fn write<T: Sink>(&mut self, limit: u64, sink: &mut T) -> Result<u64, RunFault>
-        requires fresh { IsFresh self.old }
-        requires countable { (T.state sink.old).failures < u64.MAX }
-        ensures answer { WritesLines self.old.form (take limit (drop self.old.cursor.at.index (lines self.old.cursor.at.games)))
-            (T.state sink.old) (T.state sink.new) self.new.judge.plays result }
-        ensures delivered { OnOk result (HasDelivered (T.state sink.new)) }
-        ensures failures { (T.state sink.new).failures
-            ≡ (T.state sink.old).failures + write_failures result }
-    {
-        let lines = match self.write_lines(limit, sink) {
-            Ok(lines) => lines,
-            Err(fault) => return Err(fault),
-        };
-        match sink.flush() {
-            Ok(()) => Ok(lines),
-            Err(SinkFault) => Err(RunFault::Write { lines }),
-        }
-    }
-
-    /// Does the same as `write`, but doesn't flush the sink.
-    fn write_lines<T: Sink>(&mut self, limit: u64, sink: &mut T) -> Result<u64, RunFault>
-        requires fresh { IsFresh self.old }
-        requires countable { (T.state sink.old).failures < u64.MAX }
-        ensures answer { WritesLines self.old.form (take limit (drop self.old.cursor.at.index (lines self.old.cursor.at.games)))
-            (T.state sink.old) (T.state sink.new) self.new.judge.plays result }
-        ensures failures { (T.state sink.new).failures
-            ≡ (T.state sink.old).failures + write_failures result }
-    {
-        // Places rise, and there are no more nodes than bytes.
-        let _nodes = self.cursor.outline().nodes();
-        let mut lines = 0u64;
-        'page: while lines < limit {
-            match self.next() {
-                Ok(true) => {}
-                Ok(false) => return Ok(lines),
-                Err(MemoryFault) => return Err(RunFault::Memory { lines }),
-            }
-            match self.put(sink) {
-                Ok(()) => lines += 1,
-                Err(SinkFault) => return Err(RunFault::Write { lines }),
-            }
-        }
-        Ok(lines)
-    }
-
-    /// Goes on by one line, and makes its record; false if no line is left.
-    fn next(&mut self) -> Result<bool, MemoryFault>
-        requires holds { Holds self.old }
-        requires countable { self.old.judge.plays + node_count self.old.cursor.at.games < u64.MAX }
-        ensures made { IfOk result (λ found. MatchBool found
-            (HasRecord self.old.form self.old.cursor.at self.new.cursor.at (record_in self.new))
-            (slice_get (lines self.old.cursor.at.games) self.old.cursor.at.index ≡ None)) }
-        ensures holds { Holds self.new }
-        ensures form { self.new.form ≡ self.old.form }
-        ensures before { IfOk result (λ found. MatchBool found (self.new.before ≡ Held) (self.new.before ≡ self.old.before)) }
-        ensures plays { PlaysLine self.old.form self.old.before self.old.cursor.at self.old.judge.plays self.new.judge.plays result }
-    {
-        let Some(shared) = self.cursor.advance()? else {
-            return Ok(false);
-        };
-        // The ends of the sequences rise to the number of nodes.
-        let _sequences = self.cursor.sequences();
-        let _nodes = self.cursor.len();
-        let held = self.before.held(shared);
-        self.before = Before::Unheld;
-        self.make(held)?;
-        self.before = Before::Held;
-        Ok(true)
-    }
-
-    /// Makes the record of the line before the cursor. What a run keeps of this front of the line is there already.
-    fn make(&mut self, held: Front) -> Result<(), MemoryFault>
-        requires front { HasFront self.old.cursor.ends held }
-        requires keeps { KeepsBy self.old.form self.old.cursor held (kept_in self.old) }
-        requires countable { self.old.judge.plays + length (nodes_before self.old.cursor.at) < u64.MAX }
-        ensures made { OnOk result (Some (record_by self.old.form (built_text self.new.row) self.new.game self.new.script) ≡ option_map (record_of self.old.form) (line_before self.old.cursor.at)) }
-        ensures holds { OnOk result (HoldsBy self.old.form self.old.cursor (kept_in self.new)) }
-        ensures plays { PlaysUpTo self.old.judge.plays self.new.judge.plays
-            (plays_in self.old.form (fresh_plays (nodes_before self.old.cursor.at) held.nodes)) result }
-        ensures cursor { self.new.cursor ≡ self.old.cursor }
-        ensures form { self.new.form ≡ self.old.form }
-        ensures before { self.new.before ≡ self.old.before }
-    {
-        // The texts of the sequences are that of the nodes, since the ends of the sequences rise to the number of nodes.
-        let _sequences = self.cursor.sequences();
-        match self.form {
-            Form::List => {
-                judge_line(&self.cursor, held, &mut self.judge)?;
-                self.row
-                    .lay_out(LineShown::of(&self.cursor), self.judge.verdict());
-                Ok(())
-            }
-            Form::Sgf => record::follow(&self.cursor, held.sequences, &mut self.game),
-            Form::Gtp => {
-                script::follow(&self.cursor, held, &mut self.judge, &mut self.script)?;
-                self.row
-                    .lay_out_comment(LineShown::of(&self.cursor), self.judge.verdict());
-                Ok(())
-            }
-        }
-    }
-
-    /// Puts the record that was made last.
-    fn put<T: Sink>(&self, sink: &mut T) -> Result<(), SinkFault>
-        requires countable { (T.state sink.old).failures < u64.MAX }
-        ensures { PutsAll (T.state sink.old) (T.state sink.new) (record_in self.now) result }
-    {
-        match self.form {
-            Form::List => put_all(self.row.text(), sink),
-            Form::Sgf => put_all(self.game.text(), sink),
-            Form::Gtp => {
-                put_all(self.row.text(), sink)?;
-                put_all(self.script.text(), sink)
-            }
-        }
-    }
+    Ok(written)
 }

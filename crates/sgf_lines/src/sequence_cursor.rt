@@ -124,6 +124,8 @@ impl<'c, 'a> SequenceCursor<'c, 'a> {
 
     /// Moves on by one line, and returns what this line shares with the line before it; None if no line is left. After a refusal of
     /// memory the cursor is unchanged.
+    // Inlined: each form calls it once for each line.
+    #[inline(always)]
     pub(crate) fn advance(&mut self) -> Result<Option<Front>, MemoryFault>
         ensures moved { IfOk result (λ shared. MatchOption shared (self.new ≡ self.old) (λ _. self.new.at ≡ advanced self.old.at)) }
         ensures none_left { IfOk result (λ shared. IfNone shared (slice_get (lines self.old.at.games) self.old.at.index ≡ None)) }
@@ -208,7 +210,7 @@ impl<'c, 'a> SequenceCursor<'c, 'a> {
     /// The nodes of a sequence of that line.
     pub(crate) fn nodes(&self, index: usize) -> SequenceNodes<'c, 'a>
         requires { index < length self.now.ends }
-        ensures { Some result ≡ slice_get (sequences_of self.now.ends (nodes_before self.now.at)) index }
+        ensures { Some result.nodes ≡ slice_get (sequences_of self.now.ends (nodes_before self.now.at)) index }
     {
         self.outline
             .sequence_nodes(self.path[index].sequence as usize)

@@ -67,7 +67,7 @@ count_refused text source new_source fault starts count = by fault count.answers
     by Read a = tt
     by TooLong a = let short = given_short text left count.given consumes in omega (arith, a.0, short)
     by (NotSgf at len) a = let all = all_given text left count.given consumes a.0 in (all.1, rw all.0 at a.1, rw all.0 at a.2)
-    by (NoSuchLine place) a = tt
+    by (NoSuchLine place) a = absurd a
     by (Write count) a = tt
     by (Memory count) a = tt
 

@@ -27,26 +27,8 @@ impl Answer {
     pub(crate) fn nothing() -> Answer
         ensures { result ≡ told 0 0 0 }
     {
-        Answer::at(0)
-    }
-
-    /// An answer that has only `at`.
-    pub(crate) fn at(at: u64) -> Answer
-        ensures { result ≡ told 0 0 at }
-    {
         Answer {
             lines: 0,
-            bytes: 0,
-            at,
-        }
-    }
-
-    /// An answer that has only a number of lines.
-    pub(crate) fn lines(lines: u64) -> Answer
-        ensures { result ≡ told lines 0 0 }
-    {
-        Answer {
-            lines,
             bytes: 0,
             at: 0,
         }

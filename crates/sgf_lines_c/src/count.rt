@@ -5,6 +5,7 @@ ghost use Rattle.sgf_lines_c.specs.CountAnswer.{IsCount, Says};
 ghost use Rattle.sgf_lines_c.specs.inner.Running.{IsUncounted};
 
 use crate::answer::CountAnswer;
+use crate::refusal;
 use crate::status::Status;
 use sgf_lines::{RunFault, SliceSource, count};
 use std::alloc::Global;
@@ -39,21 +40,13 @@ fn count_text(alloc: Global, text: &[u8]) -> (Status, CountAnswer)
                 at: 0,
             },
         ),
-        Err(fault) => refusal(fault),
+        Err(fault) => refused(&fault),
     }
 }
 
 /// What a failed count reports. The source is a text in memory, so no read fails.
-fn refusal(fault: RunFault) -> (Status, CountAnswer)
-    ensures { (text : List ℕ) → IsUncounted text fault → Says text result.1 result.0 }
+fn refused(fault: &RunFault) -> (Status, CountAnswer)
+    ensures { (text : List ℕ) → IsUncounted text fault.now → Says text result.1 result.0 }
 {
-    match fault {
-        RunFault::TooLong => (Status::TooLong, CountAnswer::at(0)),
-        RunFault::NotSgf { at, len } if at == len => (
-            Status::EndsEarly,
-            CountAnswer::at(at as u64),
-        ),
-        RunFault::NotSgf { at, .. } => (Status::NotSgf, CountAnswer::at(at as u64)),
-        _ => (Status::OutOfMemory, CountAnswer::at(0)),
-    }
+    (refusal::status(fault), CountAnswer::at(refusal::at(fault)))
 }

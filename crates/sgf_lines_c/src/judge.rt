@@ -5,9 +5,10 @@ ghost use Rattle.sgf_tree.specs.Spelling.{Spells};
 ghost use Rattle.sgf_lines_c.specs.JudgeAnswer.{IsJudged, MAX_LENGTH, Says};
 
 use crate::answer::JudgeAnswer;
+use crate::refusal;
 use crate::status::Status;
-use sgf_lines::{SeekFault, judge_at};
-use sgf_tree::{Collection, ReadFault, read};
+use sgf_lines::{RunFault, SeekFault, judge_at};
+use sgf_tree::{Collection, read};
 use std::alloc::Global;
 
 /// Judges a line of the collection that the text spells (SGF FF[4], EBNF), by the Tromp-Taylor rules. The line is named by its
@@ -38,12 +39,13 @@ fn judge_text(alloc: Global, text: &[u8], place: u64) -> (Status, JudgeAnswer)
 {
     match read(alloc, text) {
         Ok(collection) => judge_line(alloc, &collection, place),
-        Err(ReadFault::TooLong) => (Status::TooLong, JudgeAnswer::at(0)),
-        Err(ReadFault::NotSgf { at }) if at == text.len() => {
-            (Status::EndsEarly, JudgeAnswer::at(at as u64))
+        Err(fault) => {
+            let fault = RunFault::unread(fault, text.len());
+            (
+                refusal::status(&fault),
+                JudgeAnswer::at(refusal::at(&fault)),
+            )
         }
-        Err(ReadFault::NotSgf { at }) => (Status::NotSgf, JudgeAnswer::at(at as u64)),
-        Err(ReadFault::Memory) => (Status::OutOfMemory, JudgeAnswer::at(0)),
     }
 }
 

@@ -9,13 +9,14 @@
 //! | `split`, `count`, `judge` | the three calls |
 //! | `asked` | what a caller asks for |
 //! | `answer` | what the three calls report |
-//! | `status` | how a call ended |
+//! | `status`, `refusal` | how a call ended; what a fault says to the caller |
 #![tactic(auto)]
 
 mod answer;
 mod asked;
 mod count;
 mod judge;
+mod refusal;
 mod split;
 mod status;
 

@@ -7,6 +7,7 @@ ghost use Rattle.sgf_lines_c.specs.inner.Running.{IsRefusal, Puts};
 
 use crate::answer::Answer;
 use crate::asked::Asked;
+use crate::refusal;
 use crate::status::Status;
 use sgf_lines::{Options, RunFault, SliceSource, WriteSink, split};
 use std::alloc::Global;
@@ -50,7 +51,7 @@ fn split_into(alloc: Global, text: &[u8], options: &Options, room: &mut [u8]) ->
     let mut sink = WriteSink::new(Vec::new(alloc));
     match split(alloc, &mut source, &mut sink, options) {
         Ok(lines) => put(&sink.into_inner(), lines, room),
-        Err(fault) => refusal(fault),
+        Err(fault) => refused(&fault),
     }
 }
 
@@ -73,17 +74,14 @@ fn put(records: &[u8], lines: u64, room: &mut [u8]) -> (Status, Answer)
 
 /// What a failed run reports. The run reads a text in memory, which never
 /// fails, and writes to a vector, which fails only if memory is refused.
-fn refusal(fault: RunFault) -> (Status, Answer)
+fn refused(fault: &RunFault) -> (Status, Answer)
     ensures { (options : Options) → (text room : List ℕ)
-        → IsRefusal options text fault → Says options text room room result.1 result.0 }
+        → IsRefusal options text fault.now → Says options text room room result.1 result.0 }
 {
-    match fault {
-        RunFault::TooLong => (Status::TooLong, Answer::nothing()),
-        RunFault::NotSgf { at, len } if at == len => (Status::EndsEarly, Answer::at(at as u64)),
-        RunFault::NotSgf { at, .. } => (Status::NotSgf, Answer::at(at as u64)),
-        RunFault::NoSuchLine { place } => (Status::NoSuchLine, Answer::at(place)),
-        RunFault::Write { lines } => (Status::OutOfMemory, Answer::lines(lines)),
-        RunFault::Memory { lines } => (Status::OutOfMemory, Answer::lines(lines)),
-        RunFault::Read => (Status::OutOfMemory, Answer::nothing()),
-    }
+    let told = Answer {
+        lines: refusal::lines(fault),
+        bytes: 0,
+        at: refusal::at(fault),
+    };
+    (refusal::status(fault), told)
 }

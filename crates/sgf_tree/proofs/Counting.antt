@@ -1,5 +1,6 @@
 -- What a tally of games counts.
-use Rattle.std.proofs.Common.{◌≡◌, ℕ, ◌+◌, ◌≤◌, false, cond, List, [], ◌∷◌, length, Some, refl, sym, ap, ◌∙◌, arith}
+use Rattle.std.proofs.lemmas.Grind.{common_steps}
+use Rattle.std.proofs.Common.{◌≡◌, ℕ, ◌+◌, ◌≤◌, false, cond, List, [], ◌∷◌, length, Some, refl, arith}
 use Rattle.std.proofs.Math.Dec.{eqb}
 use Rattle.sgf_tree.specs.Tree.{Games, no_games, game, joined, node_count, leaf_count}
 use Rattle.sgf_tree.specs.inner.Machine.{OpenGame, Stack, after_game, whole_game, close}
@@ -31,11 +32,7 @@ fewer-leaves closed (g ∷ gs) depth is_open = omega (arith, open_leaves-least c
 
 -- a game without games below it is one leaf more
 leaves-whole : (g : OpenGame) → leaf_count (whole_game g) ≡ leaf_count g.below + cond (are_none g.below) 1 0
-leaves-whole g = leaves-of g.below
-  where
-    leaves-of : (below : Games) → leaf_count (game g.first g.more below no_games) ≡ leaf_count below + cond (are_none below) 1 0
-    leaves-of no_games = refl
-    leaves-of (game first more below after) = refl
+leaves-whole g = grind (arith, common_steps)
 
 joined-some : (a : Games) (g : OpenGame) → are_none (joined a (whole_game g)) ≡ false
 joined-some no_games g = refl
@@ -62,14 +59,7 @@ module _ (tally : Tally) (depth one_game one_leaf : ℕ) where
       → IsTallyOf next (record { games = tally.games + one_game; nodes = tally.nodes; leaves = tally.leaves + one_leaf; is_bare = false })
 
   each-closed : (closed : Games) (g : OpenGame) (gs : List OpenGame) → Counts (record { closed = closed; unclosed = g ∷ gs }) (after closed g gs)
-  each-closed closed g gs counts is_open is_game is_leaf =
-      let one_leaf_more : one_leaf ≡ cond (are_none g.below) 1 0 = is_leaf ∙ ap (λ b. cond b 1 0) counts.bare in
-      record {
-        games_counted = omega (arith, counts.games_counted, is_game, game_count-closed closed g gs depth is_open);
-        nodes_counted = counts.nodes_counted ∙ sym (open_count-closed closed g gs);
-        leaves_counted = omega (arith, counts.leaves_counted, one_leaf_more, open_leaves-closed closed g gs);
-        bare = sym (bare-closed closed g gs);
-      }
+  each-closed closed g gs counts is_open is_game is_leaf = grind (arith, common_steps, game_count-closed, open_count-closed, open_leaves-closed, bare-closed)
 
   pub tally-closed : (k next : Stack) → close k ≡ Some (after_game next) → Counts k next
   tally-closed = game-ends Counts each-closed

@@ -1,4 +1,5 @@
 -- The value of digits: at one more digit, and how large it is.
+use Rattle.std.proofs.lemmas.Grind.{common_steps}
 use Rattle.std.proofs.Common.{◌≡◌, ℕ, suc, ◌+◌, ◌-◌, ◌*◌, ◌^◌, ◌<◌, ◌≤◌, true, ◌&&◌, List, [], ◌∷◌, ◌++◌, length, take, get_or, ap, ◌∙◌, arith, length-append}
 use Rattle.std.proofs.Math.Bool.{and-true}
 use Rattle.std.proofs.Math.Nat.{pow-suc, mul-le-mul_right, pow-le-pow_right}
@@ -18,13 +19,10 @@ decimal_value-append_digit (x ∷ ds) d =
     omega (arith, ap (λ p. (x - 48) * p) size)
 
 pub decimal_value-more : (ds : List ℕ) (i : ℕ) → i < length ds → decimal_value (take (i + 1) ds) ≡ 10 * decimal_value (take i ds) + (get_or ds i 0 - 48)
-decimal_value-more ds i h =
-    ap decimal_value (take_more ds i 0 h) ∙ decimal_value-append_digit (take i ds) (get_or ds i 0)
+decimal_value-more ds i h = grind (arith, common_steps, take_more, decimal_value-append_digit)
 
 pub digits-more : (ds : List ℕ) (i : ℕ) → i < length ds → list_all is_digit (take (i + 1) ds) ≡ (list_all is_digit (take i ds) && is_digit (get_or ds i 0))
-digits-more ds i h =
-    ap (list_all is_digit) (take_more ds i 0 h) ∙ list_all-append is_digit (take i ds) (get_or ds i 0 ∷ [])
-    ∙ ap (λ b. list_all is_digit (take i ds) && b) (and-true (is_digit (get_or ds i 0)))
+digits-more ds i h = grind (arith, common_steps, take_more, list_all-append, and-true)
 
 decimal_value-lt : (ds : List ℕ) → list_all is_digit ds ≡ true → decimal_value ds < 10 ^ length ds
 decimal_value-lt [] h = omega arith
@@ -37,8 +35,4 @@ decimal_value-lt (d ∷ ds) h =
 
 -- at most n digits
 pub decimal_value-take : (ds : List ℕ) (i n : ℕ) → i ≤ length ds → i ≤ n → list_all is_digit (take i ds) ≡ true → decimal_value (take i ds) < 10 ^ n
-decimal_value-take ds i n h k a =
-    let lt = decimal_value-lt (take i ds) a in
-    let size : 10 ^ length (take i ds) ≡ 10 ^ i = ap (λ m. 10 ^ m) (length-take-le i ds h) in
-    let more : 10 ^ i ≤ 10 ^ n = pow-le-pow_right {n = 10} (omega arith) k in
-    omega arith
+decimal_value-take ds i n h k a = grind (arith, common_steps, decimal_value-lt, length-take-le, pow-le-pow_right)

@@ -1,4 +1,5 @@
 -- The rules of decoding, and the function that computes by them.
+use Rattle.std.proofs.lemmas.Grind.{common_steps}
 use Rattle.std.proofs.Common.{◌≡◌, ◌≢◌, ℕ, Bool, true, false, ◌==◌, List, [], ◌∷◌, ◌++◌, refl, sym, ap, subst, ◌∙◌, append-nil, arith}
 use Rattle.std.proofs.lemmas.Bool.{eqb-true}
 use Rattle.sgf_tree.specs.Text.{is_break, is_pair, spaced, MakesNoPair, IsDecoded, nothing, last_backslash, escaped_pair, escaped_break, escaped_byte, pair, line_break, plain_byte, unescaped, after_backslash, text_of}
@@ -17,10 +18,7 @@ not_backslash b h = grind arith
 
 no-pair : (b : ℕ) (rest : List ℕ) → is_break b ≡ false → MakesNoPair b rest
 no-pair b [] h = tt
-no-pair b (n ∷ rest) h = no_pair b n h
-  where
-    no_pair : (a c : ℕ) → is_break a ≡ false → is_pair a c ≡ false
-    no_pair a c k = grind arith
+no-pair b (n ∷ rest) h = grind (arith, common_steps)
 
 -- a byte that no `\` stands before
 front-byte : (b : ℕ) (rest text : List ℕ) → (b == 92) ≡ false → MakesNoPair b rest → IsDecoded rest text → IsDecoded (b ∷ rest) (unescaped b ∷ text)

@@ -1,4 +1,5 @@
 -- The machine refuses a byte exactly where a text stops being the front of a text of the grammar.
+use Rattle.std.proofs.lemmas.Grind.{common_steps}
 use Rattle.std.proofs.Common.{◌≡◌, ℕ, ◌+◌, ◌<◌, ◌≤◌, List, ◌++◌, length, get_or, take, Some, None, sym, ◌∙◌, ⊎_elim, arith, take-take, take_all, length-append}
 use Rattle.std.proofs.lemmas.Bool.{cases_lt}
 use Rattle.std.proofs.lemmas.Option.{none-some, option_and_then_some}
@@ -14,14 +15,11 @@ use Rattle.sgf_tree.proofs.SpelledAccepted.{spelled-accepted}
 -- a text that spells a collection is taken to a state
 pub spelled-runs : (c : Games) (t : List ℕ) → Spells c t → (z : MachineState) × (run 0 start t ≡ Some z)
 unfolding collection_of
-spelled-runs c t h =
-    option_and_then_some accepted (run 0 start t) c (spelled-accepted c t h) (λ z e f. (z, e))
+spelled-runs c t h = grind (arith, common_steps, option_and_then_some, spelled-accepted)
 
 -- so is each front of one
 pub begins-runs : (t : List ℕ) → BeginsCollection t → (z : MachineState) × (run 0 start t ≡ Some z)
-begins-runs t (more, c, all, h) =
-    let (y, e) = spelled-runs c (t ++ more) h in
-    option_and_then_some (λ next. run (0 + length t) next more) (run 0 start t) y (sym (run-append 0 start t more) ∙ e) (λ z f g. (z, f))
+begins-runs t (more, c, all, h) = grind (arith, common_steps, spelled-runs, option_and_then_some, run-append)
 
 -- a text that is taken to a state is such a front
 pub runs-begins : (t : List ℕ) (z : MachineState) → run 0 start t ≡ Some z → BeginsCollection t
@@ -54,11 +52,4 @@ refused-fault t at z lt h s =
 
 pub ended-fault : (t : List ℕ) (z : MachineState) → run 0 start t ≡ Some z → accepted z ≡ None
     → IsFirstFault t (length t) × ((c : Games) → Spells c t → ⊥)
-ended-fault t z h a = (
-  record {
-    within = omega arith;
-    begins = rw (take_all (length t) t (omega arith)) (runs-begins t z h);
-    greatest = λ n le _. le;
-  },
-  λ c i. none-some c (sym a ∙ sym (collection-run t z h) ∙ spelled-accepted c t i),
-)
+ended-fault t z h a = grind (arith, common_steps, take_all, runs-begins, none-some, collection-run, spelled-accepted)

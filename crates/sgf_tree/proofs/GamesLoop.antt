@@ -1,4 +1,5 @@
 -- How the machine goes from game to game.
+use Rattle.std.proofs.lemmas.Grind.{common_steps}
 use Rattle.std.proofs.Common.{◌≡◌, ◌≢◌, ℕ, ◌+◌, ◌<◌, ◌≤◌, false, List, [], ◌∷◌, length, get_or, Some, None, refl, ap, subst, ◌∙◌, arith, ne_eqb}
 use Rattle.sgf_tree.specs.Tree.{Games, no_games, game, game_count}
 use Rattle.sgf_tree.specs.Spelling.{is_white_space}
@@ -50,18 +51,15 @@ module _ (t : List ℕ) where
   module _ (at : ℕ) (k : Stack) (stands : StandsBetween t at k) where
     -- a `(`
     pub games-open : at < length t → get_or t at 0 ≡ 40 → ComesTo t (at + 1) (opened k)
-    games-open lt e =
-        run-take-step t at stands.state (opened k) stands.reached lt (stands.next lt ∙ ap (between_games k) e)
+    games-open lt e = grind (arith, common_steps, run-take-step)
 
     -- another byte
     pub games-faulty : at < length t → get_or t at 0 ≢ 40 → get_or t at 0 ≢ 41 → IsFaultyAt t at
-    games-faulty lt ne40 ne41 =
-        refused-faulty t at stands.state lt stands.reached (stands.next lt ∙ between-refused k (get_or t at 0) (stands.not_white_space lt) ne40 ne41)
+    games-faulty lt ne40 ne41 = grind (arith, common_steps, refused-faulty, between-refused)
 
     -- a `)` with no game open
     pub close-faulty : at < length t → get_or t at 0 ≡ 41 → k.unclosed ≡ [] → IsFaultyAt t at
-    close-faulty lt e none =
-        refused-faulty t at stands.state lt stands.reached (stands.next lt ∙ ap (between_games k) e ∙ ap (close_in k.closed) none)
+    close-faulty lt e none = grind (arith, common_steps, refused-faulty)
 
     -- a `)` that ends a game
     pub close-stands : (g : OpenGame) (gs : List OpenGame) (next : ℕ) → k.unclosed ≡ g ∷ gs → at < length t → get_or t at 0 ≡ 41 → IsSpan is_white_space t (at + 1) next
@@ -81,12 +79,10 @@ module _ (t : List ℕ) where
     -- the end of the text
     module _ (ends : at ≡ length t) where
       pub games-unfinished : accepted (after_game k) ≡ None → IsFaultyAt t (length t)
-      games-unfinished none =
-          ends-faulty t stands.state (subst (λ i. ComesTo t i stands.state) ends stands.reached) (stands.end ∙ none)
+      games-unfinished none = grind (arith, common_steps, ends-faulty)
 
       pub games-whole : ComesTo t (length t) stands.state
       games-whole = subst (λ i. ComesTo t i stands.state) ends stands.reached
 
       pub games-accepted : k.unclosed ≡ [] → 0 < game_count k.closed → accepted stands.state ≡ Some k.closed
-      games-accepted all some =
-          stands.end ∙ ap (λ gs. accepted (after_game (record { closed = k.closed; unclosed = gs }))) all ∙ some-accepted k.closed some
+      games-accepted all some = grind (arith, common_steps, some-accepted)

@@ -1,11 +1,12 @@
 -- A step forward over the properties in front of a text, or over the values.
+use Rattle.std.proofs.lemmas.Grind.{common_steps}
 use Rattle.std.proofs.Common.{◌≡◌, ◌≢◌, ℕ, zero, suc, ◌+◌, ◌-◌, ◌<◌, ◌≤◌, Bool, true, false, IsTrue, List, [], ◌∷◌, ◌++◌, length, get_or, take, drop, slice_range, filter, refl, sym, ap, subst, ◌∙◌, inl, inr, arith, add-one, get_or-drop, length-drop}
 use Rattle.std.proofs.lemmas.Bool.{cases_lt, false≢true}
 use Rattle.std.proofs.Math.Seq.{drop-cons}
 use Rattle.std.proofs.lemmas.List.{drop-drop, drop_all}
 use Rattle.sgf_tree.specs.Tree.{Property}
 use Rattle.sgf_tree.specs.RawValue.{IsValue}
-use Rattle.sgf_tree.specs.Spelling.{is_white_space, is_upper, WhiteSpace, no_white_space, IsPropValue, prop_value, ArePropValues, no_value, value, property, AreProperties, no_property, properties}
+use Rattle.sgf_tree.specs.Spelling.{is_white_space, is_upper, WhiteSpace, no_white_space, IsPropValue, prop_value, ArePropValues, no_value, value, IsProperty, property, AreProperties, no_property, properties}
 use Rattle.sgf_tree.specs.inner.NodeText.{is_letter, left_after, front, values_in, property_from, name_in, properties_in, NoValueFollows, NoPropertyFollows, AreValuesIn, ArePropertiesIn, IsNoPropValue, IsPastValues}
 use Rattle.sgf_tree.specs.inner.Progress.{IsSpan, SpellsValue, SpellsNoValue}
 use Rattle.sgf_tree.proofs.Classes.{upper-not_white_space}
@@ -34,18 +35,7 @@ module _ (test : ℕ → Bool) where
 
   -- a run further on
   pub run-drop : (s : List ℕ) (k e : ℕ) → IsSpan test s k e → IsSpan test (drop k s) 0 (e - k)
-  run-drop s k e run =
-      let rises : k ≤ e = run.rises in
-      let long : length (drop k s) ≡ length s - k = length-drop k s in
-      record {
-        rises = omega arith;
-        within = omega (arith, run.within);
-        passing = λ i low lt.
-            subst (λ b. IsTrue (test b)) (sym (get_or-drop k s i 0)) (run.passing (k + i) (omega arith) (omega arith));
-        stops = λ lt.
-            let at : k + (e - k) ≡ e = omega arith in
-            ap test (get_or-drop k s (e - k) 0 ∙ ap (λ i. get_or s i 0) at) ∙ run.stops (omega (arith, run.within));
-      }
+  run-drop s k e run = grind (arith, common_steps, length-drop, get_or-drop)
 
 -- the byte at an offset, and what is after it
 pub byte-at : (s : List ℕ) (k : ℕ) → k < length s → drop k s ≡ get_or s k 0 ∷ drop (k + 1) s
@@ -110,14 +100,15 @@ module _ (s : List ℕ) (k : ℕ) (run : IsSpan is_white_space s 0 k) where
     pub held : IsPropertyHeld (drop end s)
     pub left : ArePropertiesIn r
     pub is : properties_in s ≡ property_from (name_in (slice_range s k end)) (values_in (drop end s)) ∷ properties_in r
+    pub one : Property
+    pub spelled : IsProperty one s r
 
   property-at : (end : ℕ) (r : List ℕ) → ArePropertiesIn s → k < length s → IsTrue (is_upper (get_or s k 0)) → IsSpan is_letter s k end → IsPastValues (drop end s) r
       → IsPropertyAt end r
   property-at end r held lt capital letters past = next held.properties held.rest held.spelled held.ends
     where
       next : (ps : List Property) (q : List ℕ) → AreProperties ps s q → NoPropertyFollows q → IsPropertyAt end r
-      next [] q no_property ends =
-          absurd (false≢true (sym (ends (get_or s k 0) (drop (k + 1) s) (white-to lt)).1 ∙ capital))
+      next [] q no_property ends = grind (arith, common_steps, false≢true, white-to)
       next (p ∷ ps) q (properties {t = m} (property {b} {name} {v} {t = t} {u} {vs = vs} w h l first more) are) ends =
           let same = white-same (white-to lt) w (run.stops lt) (upper-not_white_space b h) in
           let here : drop k s ≡ b ∷ t = byte-at s k lt ∙ ap (λ c. c ∷ drop (k + 1) s) same.0 ∙ ap (λ x. b ∷ x) same.1 in
@@ -141,6 +132,8 @@ module _ (s : List ℕ) (k : ℕ) (run : IsSpan is_white_space s 0 k) where
                 properties-in (properties (property w h l first more) are) ends
                 ∙ ap (λ x. x ∷ ps) (sym p_is)
                 ∙ ap (λ xs. property_from (name_in (slice_range s k end)) (values_in (drop end s)) ∷ xs) (sym (properties-in left ends));
+            one = record { name = b ∷ name; first = v; more = vs };
+            spelled = subst (λ x. IsProperty (record { name = b ∷ name; first = v; more = vs }) s x) rest (property w h l first more);
           }
 
 -- a value further on, after white space from one offset to another
@@ -204,6 +197,8 @@ pub record IsNextProperty (s : List ℕ) (k end : ℕ) (v m r : List ℕ) : Type
   pub more : AreValuesIn m
   pub left : ArePropertiesIn r
   pub is : properties_in s ≡ record { name = name_in (slice_range s k end); first = v; more = values_in m } ∷ properties_in r
+  pub one : Property
+  pub spelled : IsProperty one s r
 
 module _ (s : List ℕ) (k : ℕ) (run : IsSpan is_white_space s 0 k) (held : ArePropertiesIn s) (lt : k < length s) (capital : IsTrue (is_upper (get_or s k 0))) (end : ℕ) (letters : IsSpan is_letter s k end) where
   -- it has one
@@ -223,6 +218,8 @@ module _ (s : List ℕ) (k : ℕ) (run : IsSpan is_white_space s 0 k) (held : Ar
         more = step.1;
         left = at.left;
         is = at.is ∙ ap (λ vs. property_from (name_in (slice_range s k end)) vs ∷ properties_in r) step.0;
+        one = at.one;
+        spelled = at.spelled;
       }
 
 -- there are no more of them than bytes

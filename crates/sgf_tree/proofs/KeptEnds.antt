@@ -1,27 +1,14 @@
 -- What is kept of long values, of a text and of what is left of it from an offset on.
-use Rattle.std.proofs.Common.{◌≡◌, ℕ, ◌+◌, ◌-◌, ◌≤◌, List, [], ◌∷◌, ◌++◌, length, get_or, take, drop, sym, ap, subst, ◌∙◌, length-drop, get_or-drop, arith}
+use Rattle.std.proofs.lemmas.Grind.{common_steps}
+use Rattle.std.proofs.Common.{◌≡◌, ℕ, ◌+◌, ◌-◌, ◌≤◌, List, [], ◌∷◌, ◌++◌, length, drop, subst, length-drop, get_or-drop, arith}
 use Rattle.std.proofs.lemmas.List.{drop-drop}
 use Rattle.std.proofs.lemmas.List.Elements.{All-push}
-use Rattle.sgf_tree.specs.RawValue.{IsValue}
 use Rattle.sgf_tree.specs.inner.KeptEnds.{IsRawValueAt, IsKeptEnd, AreKeptEnds}
 use Rattle.sgf_tree.specs.declared.layout.LongValue.{LongValue}
 
 module _ (t : List ℕ) (from : ℕ) where
   ends-drop : (at bytes : ℕ) → IsRawValueAt t (from + at) (from + at + bytes) → IsRawValueAt (drop from t) at (at + bytes)
-  ends-drop at bytes h =
-      let same : from + (at + bytes) ≡ from + at + bytes = omega arith in
-      let count : from + at + bytes - (from + at) ≡ at + bytes - at = omega arith in
-      let start = sym (drop-drop at from t) in
-      let rest : drop (from + at + bytes) t ≡ drop (at + bytes) (drop from t) = ap (λ i. drop i t) (sym same) ∙ sym (drop-drop (at + bytes) from t) in
-      record {
-        rises = omega arith;
-        within = omega (arith, h.within, length-drop from t);
-        bracket = get_or-drop from t (at + bytes) 0 ∙ ap (λ i. get_or t i 0) same ∙ h.bracket;
-        spelled =
-            subst (λ u. IsValue (take (at + bytes - at) u) u (drop (at + bytes) (drop from t))) start
-            (subst (IsValue (take (at + bytes - at) (drop (from + at) t)) (drop (from + at) t)) rest
-            (subst (λ n. IsValue (take n (drop (from + at) t)) (drop (from + at) t) (drop (from + at + bytes) t)) count h.spelled));
-      }
+  ends-drop at bytes h = grind (arith, common_steps, drop-drop, length-drop, get_or-drop)
 
   -- what is kept of a text holds of each part that goes up to its end
   pub kept-drop : (ls : List LongValue) → from ≤ length t → AreKeptEnds t ls → AreKeptEnds (drop from t) ls

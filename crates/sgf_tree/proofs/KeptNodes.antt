@@ -1,10 +1,11 @@
 -- What is kept of all nodes: with one more open game, and after a game that ends.
-use Rattle.std.proofs.Common.{◌≡◌, ℕ, ◌+◌, ◌-◌, true, List, [], ◌∷◌, ◌++◌, length, set, Some, refl, sym, ap, ◌∙◌, arith, append-nil}
+use Rattle.std.proofs.lemmas.Grind.{common_steps}
+use Rattle.std.proofs.Common.{◌≡◌, ℕ, ◌+◌, ◌-◌, List, [], ◌∷◌, ◌++◌, length, set, Some, refl, sym, ap, ◌∙◌, arith, append-nil}
 use Rattle.std.proofs.lemmas.List.{length-map, map-append, set_at}
 use Rattle.sgf_tree.specs.Tree.{Node, Games, no_games, node_count}
-use Rattle.sgf_tree.specs.FileOrder.{OrderedNode, further_nodes}
+use Rattle.sgf_tree.specs.FileOrder.{further_nodes}
 use Rattle.sgf_tree.specs.inner.Machine.{OpenGame, Stack, after_game, whole_game, close}
-use Rattle.sgf_tree.specs.inner.GamesRead.{open_count, tip, open_nodes, lasts, open_lasts}
+use Rattle.sgf_tree.specs.inner.GamesRead.{open_count, open_nodes, lasts, open_lasts}
 use Rattle.sgf_tree.specs.inner.OwnNodes.{Coming, nothing, own_of, places_of, with_game}
 use Rattle.sgf_tree.specs.inner.Outlining.{HoldsSequences}
 use Rattle.sgf_tree.specs.inner.Placing.{ordered_places, HoldsNodes}
@@ -22,21 +23,12 @@ further-places last (n ∷ ns) = ap (λ ps. n.place ∷ ps) (further-places (las
 -- the places of one more open game
 places-opened : (closed : Games) (gs : List OpenGame) (g : OpenGame) → g.below ≡ no_games
     → ordered_places (open_nodes closed gs) ++ places_of (own_of g) ≡ ordered_places (open_nodes closed (g ∷ gs)) ++ []
-places-opened closed gs g none =
-    let r : OrderedNode = record { node = g.first; parent = tip closed gs; opens = true } in
-    let ns : List OrderedNode = further_nodes (open_count closed gs) g.more in
-    rw none
-    (ap (λ ps. ordered_places (open_nodes closed gs) ++ g.first.place ∷ ps) (sym (further-places (open_count closed gs) g.more))
-    ∙ sym (map-append (λ (ordered : OrderedNode). ordered.node.place) (open_nodes closed gs) (r ∷ ns))
-    ∙ ap (λ rs. ordered_places (open_nodes closed gs ++ r ∷ rs)) (sym (append-nil ns))
-    ∙ sym (append-nil (ordered_places (open_nodes closed gs ++ r ∷ (ns ++ [])))))
+places-opened closed gs g none = grind (arith, common_steps, further-places, map-append, append-nil)
 
 module _ (text : List ℕ) (kept : Numbered) where
   -- there are as many places as nodes
   pub length-places : (k : Stack) → HoldsNodes text kept k nothing → length kept.places.items ≡ open_count k.closed k.unclosed
-  length-places k holds =
-      ap length (holds.places_are ∙ append-nil (ordered_places (open_nodes k.closed k.unclosed)))
-      ∙ length-map (open_nodes k.closed k.unclosed) (λ (ordered : OrderedNode). ordered.node.place) ∙ length-open_nodes k.closed k.unclosed
+  length-places k holds = grind (arith, common_steps, append-nil, length-map, length-open_nodes)
 
   -- and a last node for each sequence
   pub length-lasts : (k : Stack) (coming : Coming) → HoldsNodes text kept k coming → length kept.last_nodes.items ≡ length kept.sequences.table.items
@@ -47,12 +39,7 @@ module _ (text : List ℕ) (kept : Numbered) where
       → HoldsNodes text kept k (record { places = places_of (own_of g); stretches = stretches }) → g.below ≡ no_games
       → HoldsSequences text after.sequences (with_game k g) nothing → after.places ≡ kept.places → after.last_nodes.items ≡ kept.last_nodes.items ++ 0 ∷ []
       → HoldsNodes text after (with_game k g) nothing
-  nodes-opened after k g stretches holds none sequences places lasts_are = record {
-    sequences = sequences;
-    places_are = rw places (holds.places_are ∙ places-opened k.closed k.unclosed g none);
-    places_within = rw places holds.places_within;
-    lasts_are = rw none (lasts_are ∙ ap (λ ls. ls ++ 0 ∷ []) holds.lasts_are);
-  }
+  nodes-opened after k g stretches holds none sequences places lasts_are = grind (arith, common_steps, places-opened)
 
   -- a game that ends: the last node so far is the last one below its first
   module _ (after : Numbered)

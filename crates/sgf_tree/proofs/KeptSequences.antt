@@ -1,10 +1,11 @@
 -- What the table of sequences keeps: with one more sequence, and after a game that ends.
+use Rattle.std.proofs.lemmas.Grind.{common_steps}
 use Rattle.std.proofs.Common.{◌≡◌, ℕ, zero, suc, ◌+◌, ◌-◌, ◌/◌, ◌%◌, ◌<◌, ◌≤◌, Bool, true, false, cond, inl, inr, List, [], ◌∷◌, ◌++◌, length, get_or, take, drop, slice_get, map, Option, Some, None, refl, sym, ap, subst, ◌∙◌, arith, length-append}
 use Rattle.std.proofs.Math.Dec.{eqb}
 use Rattle.std.proofs.Math.Seq.{take-length, drop-length}
 use Rattle.std.proofs.lemmas.List.{drop-append-le, length-drop, length-map, map-append}
 use Rattle.std.proofs.lemmas.Option.{slice_get-get_or, slice_get_within}
-use Rattle.sgf_tree.specs.Tree.{Node, Games, no_games, game_count}
+use Rattle.sgf_tree.specs.Tree.{Node, Games, no_games}
 use Rattle.sgf_tree.specs.inner.Machine.{OpenGame, Stack, after_game, whole_game, close}
 use Rattle.sgf_tree.specs.inner.GamesRead.{open_count}
 use Rattle.sgf_tree.specs.inner.Listing.{Listed, open_list}
@@ -91,11 +92,7 @@ module _ (text : List ℕ) where
   stretches-least (stretch_before {stretch} {stretches} {nodes} {rest} is are) = omega (arith, is.some, stretches-least are, length-append nodes rest)
 
   pub stretches-few : (own : OwnNodes) (nodes : List Node) (stretches : List Stretch) → AreOwnNodes text own nodes stretches → length stretches ≤ length nodes
-  stretches-few own nodes stretches are = by_written (is_written own) refl
-    where
-      by_written : (b : Bool) → is_written own ≡ b → length stretches ≤ length nodes
-      by_written true e = rw (are.written e).0 (omega arith)
-      by_written false e = stretches-least (are.stretched e).0
+  stretches-few own nodes stretches are = grind (arith, common_steps, stretches-least)
 
   -- what is kept stays right with more stretches
   kept-grown : (stretches more : List Stretch) (table : List Sequence) (sequences : List Listed) → AreKept text stretches table sequences → AreKept text (stretches ++ more) table sequences
@@ -180,18 +177,11 @@ module _ (text : List ℕ) where
       where
         in_parts : (closed : Games) (gs : List OpenGame) → HoldsSequences text kept (record { closed = closed; unclosed = gs }) coming → kept.innermost ≡ Some i → i < length kept.table.items
         in_parts closed [] holds is = let none : kept.innermost ≡ None = holds.innermost_is in absurd (cc)
-        in_parts closed (g ∷ gs) holds is =
-            let same : kept.innermost ≡ Some (length (before closed gs)) = holds.innermost_is in
-            let e : i ≡ length (before closed gs) = cc in
-            let lt : length (before closed gs) < length kept.table.items = omega (arith, holds.are.count, length-append (before closed gs) (own closed g gs)) in
-            omega arith
+        in_parts closed (g ∷ gs) holds is = grind (arith, common_steps, before, length-append, own)
 
     -- there are no more sequences and games than nodes
     pub sequences-few : (k : Stack) (coming : Coming) → HoldsSequences text kept k coming → (length kept.table.items ≤ open_count k.closed k.unclosed) × (kept.games ≤ open_count k.closed k.unclosed)
-    sequences-few k coming holds = (
-      omega (arith, holds.are.count, open_list-least k.closed k.unclosed),
-      omega (arith, holds.games_counted, open_games-least k.closed k.unclosed),
-    )
+    sequences-few k coming holds = grind (arith, common_steps, open_list-least, open_games-least)
 
     -- the word of a new sequence
     module _ (written : Bool) (outer flag : ℕ) (root : kept.innermost ≡ None → outer ≡ kept.games + 1 + 1073741824) (goes_on : (i : ℕ) → kept.innermost ≡ Some i → outer ≡ i)
@@ -202,32 +192,14 @@ module _ (text : List ℕ) where
         where
           in_parts : (closed : Games) (gs : List OpenGame) → HoldsSequences text kept (record { closed = closed; unclosed = gs }) coming
               → Packs (outer + flag) written (open_list closed gs).innermost (open_list closed gs).next_ordinal
-          in_parts closed [] holds =
-              let is : outer ≡ 1 + game_count closed + 1073741824 = omega (arith, root holds.innermost_is, holds.games_counted) in
-              rw is (packs-root written flag (1 + game_count closed) flagged (omega (arith, holds.games_counted)))
-          in_parts closed (g ∷ gs) holds =
-              let i : ℕ = length (before closed gs) in
-              let is : outer ≡ i = goes_on i holds.innermost_is in
-              let lt : i < length kept.table.items = innermost-within (record { closed = closed; unclosed = g ∷ gs }) coming i holds holds.innermost_is in
-              rw is (packs-outer written flag i (open_list closed (g ∷ gs)).next_ordinal flagged (omega arith))
+          in_parts closed [] holds = grind (arith, common_steps, packs-root)
+          in_parts closed (g ∷ gs) holds = grind (arith, common_steps, before, innermost-within, packs-outer)
 
     -- where the stretches of a further game begin
     pub begun-few : (k : Stack) (coming : Coming) → HoldsSequences text kept k coming
         → length kept.stretches.items ≤ open_count k.closed k.unclosed + length coming.stretches
     begun-few k coming holds =
         omega (arith, holds.begun_few, length-map kept.stretches.items stretch_by, length-drop kept.begun (stretches_by kept), ap length holds.coming_are)
-
-    -- only the stretches that have come count
-    pub places-aside : (k : Stack) (coming next : Coming) → coming.stretches ≡ next.stretches → HoldsSequences text kept k coming → HoldsSequences text kept k next
-    places-aside k coming next same holds = record {
-      are = holds.are;
-      nodes_counted = holds.nodes_counted;
-      games_counted = holds.games_counted;
-      innermost_is = holds.innermost_is;
-      begun_few = holds.begun_few;
-      begun_within = holds.begun_within;
-      coming_are = holds.coming_are ∙ same;
-    }
 
     -- one more stretch
     pub stretch-kept : (after : Sequences) (new : KeptStretch) (stretch : Stretch) → stretch_by new ≡ stretch → after.stretches.items ≡ kept.stretches.items ++ new ∷ []

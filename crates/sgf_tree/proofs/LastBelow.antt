@@ -1,4 +1,5 @@
 -- The last node below each node, in file order.
+use Rattle.std.proofs.lemmas.Grind.{common_steps}
 use Rattle.std.proofs.Common.{◌≡◌, ℕ, zero, suc, ◌+◌, ◌-◌, ◌<◌, ◌≤◌, ◌⊎◌, inl, inr, true, List, [], ◌∷◌, ◌++◌, length, get_or, slice_get, Option, Some, None, refl, sym, ap, subst, ◌∙◌, arith, append_assoc, append-nil, length-append}
 use Rattle.std.proofs.lemmas.Bool.{cases_lt}
 use Rattle.std.proofs.lemmas.List.{get_or_append_left, get_or-append_right}
@@ -116,15 +117,7 @@ module _ (flat : List OrderedNode) where
     module _ (before : (q : ℕ) → p ≡ Some q → q < at) (apart : Apart at (at + node_count (game first more low high))) where
       -- after the game's nodes none is below one of them
       apart-first : Apart at (at + length more + 1 + node_count low)
-      apart-first j q le h =
-          elim (cases_lt j (at + node_count (game first more low high))) [
-            | inl lt ↦
-                elim (segment-parent (at + length more + 1 + node_count low) p high j q stands-after le (omega arith) h) [
-                  | inl same ↦ inl (before q same)
-                  | inr there ↦ inr there.0
-                ]
-            | inr ge ↦ elim (apart j q ge h) [ inl lt ↦ inl lt | inr past ↦ inr (omega arith) ]
-          ]
+      apart-first j q le h = grind (arith, common_steps, cases_lt, segment-parent, stands-after)
 
       -- an own node of the game
       own-span : (n : ℕ) → at ≤ n → n ≤ at + length more → IsSpanBelow flat n (at + length more + node_count low)
@@ -158,18 +151,15 @@ module _ (flat : List OrderedNode) where
                         omega (arith, there.3),
                       )
                 ];
-            outside = λ j q lt h.
-                elim (apart-first j q (omega arith) h) [ inl lo ↦ inl (omega arith) | inr hi ↦ inr (omega arith) ];
+            outside = grind (arith, common_steps, apart-first);
           }
 
       -- after the games below the game none is below one of them
       apart-below : Apart (at + length more + 1) (at + length more + 1 + node_count low)
-      apart-below j q le h =
-          elim (apart-first j q le h) [ inl lo ↦ inl (omega arith) | inr hi ↦ inr hi ]
+      apart-below j q le h = grind (arith, common_steps, apart-first)
 
       apart-after : Apart (at + length more + 1 + node_count low) (at + length more + 1 + node_count low + node_count high)
-      apart-after j q le h =
-          elim (apart j q (omega arith) h) [ inl lo ↦ inl (omega arith) | inr hi ↦ inr (omega arith) ]
+      apart-after j q le h = grind (arith, common_steps)
 
   -- the last one below each node of a sequence
   lasts-span : (at : ℕ) (p : Option ℕ) (g : Games) → Stands at p g → ((q : ℕ) → p ≡ Some q → q < at) → Apart at (at + node_count g)

@@ -1,19 +1,23 @@
 -- A move and other properties after it.
-use Rattle.std.proofs.Common.{◌≡◌, ◌≢◌, ℕ, ◌+◌, ◌<◌, ◌≤◌, IsTrue, All, List, [], ◌∷◌, ◌++◌, length, get_or, drop, slice_range, refl, sym, ap, subst, ◌∙◌, arith}
+use Rattle.std.proofs.lemmas.Grind.{common_steps}
+use Rattle.std.proofs.Common.{◌≡◌, ◌≢◌, ℕ, ◌+◌, ◌<◌, ◌≤◌, IsTrue, All, List, [], ◌∷◌, ◌++◌, length, get_or, drop, slice_range, refl, sym, ap, subst, ◌∙◌, arith, get_or-drop, length-drop}
+use Rattle.std.proofs.lemmas.List.{drop-drop}
 use Rattle.std.proofs.lemmas.List.Elements.{All-nil, All-push}
 use Rattle.sgf_tree.specs.Tree.{Property}
 use Rattle.sgf_tree.specs.Lead.{IsOtherName, IsLedBy}
 use Rattle.sgf_tree.specs.RawValue.{IsValue}
-use Rattle.sgf_tree.specs.Spelling.{is_upper, no_white_space, no_letter, upper, prop_value, no_value, IsProperty, property, AreProperties, no_property, properties}
-use Rattle.sgf_tree.specs.inner.Lead.{IsOtherProperty, AreOtherProperties, AreOthers, IsLedNode}
-use Rattle.sgf_tree.specs.inner.NodeText.{properties_in}
+use Rattle.sgf_tree.specs.Spelling.{is_white_space, is_upper, WhiteSpace, no_white_space, no_letter, upper, prop_value, no_value, IsProperty, property, AreProperties, no_property, properties}
+use Rattle.sgf_tree.specs.inner.Lead.{IsOtherProperty, AreOtherProperties, AreOthers, IsLedNode, IsEmptyNode}
+use Rattle.sgf_tree.specs.inner.Machine.{games_in}
+use Rattle.sgf_tree.specs.inner.NodeText.{properties_in, node_in}
 use Rattle.sgf_tree.specs.inner.Progress.{IsValueEnd, EndsNode}
-use Rattle.sgf_tree.specs.inner.Walking.{IsNodeEnded}
+use Rattle.sgf_tree.specs.inner.Walking.{nodes_between, AreEnded, IsWalk}
 use Rattle.sgf_tree.proofs.Classes.{between-not_upper}
-use Rattle.sgf_tree.proofs.Iterating.{byte-at}
+use Rattle.sgf_tree.proofs.Iterating.{byte-at, white-between}
 use Rattle.sgf_tree.proofs.LoneNodes.{lone, spelled, ends-node}
 use Rattle.sgf_tree.proofs.NodeEnds.{nothing-skipped}
 use Rattle.sgf_tree.proofs.NodeTexts.{properties-in}
+use Rattle.sgf_tree.proofs.Walking.{IsClosed, closed-ended, ended-held, ended-follows, ended-after, IsNextAt, next-begins, walk-on}
 use Rattle.sgf_tree.proofs.WrittenParts.{properties-more}
 
 -- a name of two capitals, and a value
@@ -60,11 +64,7 @@ module _ (names : List (List ℕ)) (t : List ℕ) where
 
   -- the last one, right before the end of the node
   pub others-end : (at end : ℕ) → AreOtherProperties names t at end → EndsNode t end → AreOthers names t at end
-  others-end at end all ends = record {
-    end = end;
-    properties = all;
-    ends = record { white_space = nothing-skipped t end ends.within ends.above; inside = ends.within; below = ends.below };
-  }
+  others-end at end all ends = grind (arith, common_steps, nothing-skipped)
 
   -- none after a move that is a node by itself
   pub others-nothing : EndsNode t 6 → AreOthers names t 6 6
@@ -86,14 +86,78 @@ module _ (names : List (List ℕ)) (s : List ℕ) (next : ℕ) (is : IsLedNode n
         others = is.others.properties.named;
       }
 
-  -- and where they end
-  pub led-ended : IsNodeEnded s next
-  led-ended =
-      let ends = is.others.ends in
-      record {
-        text_end = is.others.end;
-        properties = all;
-        spelled = all-spelled;
-        white_space = ends.white_space;
-        ends = λ _. ((λ e. omega (arith, ends.below)), between-not_upper (get_or s next 0) ends.below);
-      }
+-- where they end, in a text in which the node is at `at`
+module _ (names : List (List ℕ)) (t : List ℕ) (at next : ℕ) (is : IsLedNode names (drop at t) next) where
+  abbrev there : List ℕ
+  there = drop at t
+
+  last : get_or there next 0 ≡ get_or t (at + next) 0
+  last = get_or-drop at t next 0
+
+  inside : at + next < length t
+  inside = omega (arith, is.others.ends.inside, length-drop at t)
+
+  pub led-begins : (at < length t) × (get_or t at 0 ≡ 59)
+  led-begins =
+      let none : at + 0 ≡ at = omega arith in
+      (omega (arith, inside), ap (λ i. get_or t i 0) (sym none) ∙ sym (get_or-drop at t 0 0) ∙ is.begins)
+
+  pub led-closed : IsClosed t (at + next)
+  led-closed = record {
+    within = omega (arith, inside);
+    stops = λ _. ap is_white_space (sym last) ∙ is.others.ends.white_space.stops is.others.ends.inside;
+    ends = λ _. ((λ e. omega (arith, is.others.ends.below, last, e)), between-not_upper (get_or t (at + next) 0) (omega (arith, is.others.ends.below, last)));
+  }
+
+  pub led-on : (to : ℕ) → AreEnded t (at + next) to → AreEnded t (at + 1) to
+  led-on to =
+      ended-after t (at + 1) (at + next) to
+      (subst (λ s. AreProperties (all names there next is) s (drop is.others.end there)) (drop-drop 1 at t) (all-spelled names there next is))
+      (subst (WhiteSpace (drop is.others.end there)) (drop-drop next at t) (white-between there is.others.end next is.others.ends.white_space))
+
+  -- so a walk goes on past it
+  module _ (number end : ℕ) (w : IsWalk t at number end) (more : number < end) where
+    here : IsNextAt t at number end w more
+    here = next-begins t at number end w more led-begins.1 led-begins.0
+
+    pub led-over : IsWalk t (at + next) (number + 1) end
+    led-over =
+        let ended = closed-ended t (at + next) led-closed in
+        walk-on t at number end w more here.place (at + next)
+        (record { rises = omega arith; within = omega (arith, inside); passing = λ i low high. absurd (omega arith); stops = led-closed.stops })
+        (ended-held t (at + next) (at + next) ended) led-on
+
+    pub led-next : (nodes_between (games_in t) number end ≡ node_in t at ∷ nodes_between (games_in t) (number + 1) end) × (properties_in (drop (at + next) t) ≡ [])
+    led-next = (here.nodes, properties-in no_property (ended-follows t (at + next) (at + next) (closed-ended t (at + next) led-closed)))
+
+-- past a node without properties
+module _ (t : List ℕ) (at : ℕ) (is : IsEmptyNode (drop at t)) (number end : ℕ) (w : IsWalk t at number end) (more : number < end) where
+  after-byte : get_or (drop at t) 1 0 ≡ get_or t (at + 1) 0
+  after-byte = get_or-drop at t 1 0
+
+  room : at + 1 < length t
+  room = omega (arith, is.ends.within, length-drop at t)
+
+  empty-closed : IsClosed t (at + 1)
+  empty-closed = record {
+    within = omega (arith, room);
+    stops = λ _. (nothing-skipped t (at + 1) room (omega (arith, is.ends.above, after-byte))).stops room;
+    ends = λ _. ((λ e. omega (arith, is.ends.below, after-byte, e)), between-not_upper (get_or t (at + 1) 0) (omega (arith, is.ends.below, after-byte)));
+  }
+
+  there-empty : IsNextAt t at number end w more
+  there-empty =
+      let none : at + 0 ≡ at = omega arith in
+      next-begins t at number end w more (ap (λ i. get_or t i 0) (sym none) ∙ sym (get_or-drop at t 0 0) ∙ is.begins) (omega (arith, room))
+
+  pub empty-over : IsWalk t (at + 1) (number + 1) end
+  empty-over =
+      walk-on t at number end w more there-empty.place (at + 1) (nothing-skipped t (at + 1) room (omega (arith, is.ends.above, after-byte)))
+      (ended-held t (at + 1) (at + 1) (closed-ended t (at + 1) empty-closed)) (λ next ended. ended)
+
+  none-left : properties_in (drop (at + 1) t) ≡ []
+  none-left = properties-in no_property (ended-follows t (at + 1) (at + 1) (closed-ended t (at + 1) empty-closed))
+
+  pub empty-next : (nodes_between (games_in t) number end ≡ node_in t at ∷ nodes_between (games_in t) (number + 1) end) × (properties_in (drop 1 (drop at t)) ≡ [])
+      × (properties_in (drop (at + 1) t) ≡ [])
+  empty-next = (there-empty.nodes, ap properties_in (drop-drop 1 at t) ∙ none-left, none-left)

@@ -14,6 +14,7 @@ pub mod NearBits
 pub mod NearLiterals
 pub mod NearBrackets
 pub mod MoveBytes
+pub mod PointBytes
 pub mod KeptEnds
 pub mod ValuesRead
 pub mod NameEnds
@@ -57,6 +58,7 @@ pub mod Walking
 pub mod PlacesKept
 pub mod Taking
 pub mod WrittenParts
+pub mod Points
 pub mod LoneNodes
 pub mod Leading
 pub mod ShortBytes

@@ -1,4 +1,5 @@
 -- Where the listed sequences stand among the ordered nodes.
+use Rattle.std.proofs.lemmas.Grind.{common_steps}
 use Rattle.std.proofs.Common.{◌≡◌, ℕ, zero, suc, ◌+◌, ◌-◌, ◌<◌, ◌⊎◌, inl, inr, true, List, [], ◌∷◌, ◌++◌, length, map, get_or, slice_get, Option, Some, refl, sym, ap, subst, ◌∙◌, arith, append_assoc, length-append}
 use Rattle.std.proofs.lemmas.Bool.{cases_lt, lt-ltb, le-ltb}
 use Rattle.std.proofs.lemmas.List.{map-append, get_or-append-add, length-map}
@@ -28,11 +29,7 @@ starts-listed index at outer ordinal no_games = refl
 starts-listed index at outer ordinal (game first more below after) =
     let next : ℕ = at + 1 + length more in
     let inner : List Listed = listed (index + 1) next (Some index) 1 below in
-    let later : List Listed = listed (index + 1 + length inner) (next + node_count below) outer (ordinal + 1) after in
-    let e : next ≡ at + length more + 1 = omega arith in
-    ap (λ ns. at ∷ ns) (map-append number_of inner later ∙ ap (λ ns. ns ++ map number_of later) (starts-listed (index + 1) next (Some index) 1 below)
-    ∙ ap (λ ns. starts_from next below ++ ns) (starts-listed (index + 1 + length inner) (next + node_count below) outer (ordinal + 1) after)
-    ∙ ap (λ k. starts_from k below ++ starts_from (k + node_count below) after) e)
+    grind (arith, common_steps, map-append, starts_from, (starts-listed (index + 1) next (Some index) 1 below), (starts-listed (index + 1 + length inner) (next + node_count below) outer (ordinal + 1) after))
 
 -- they rise
 pub starts-rise : (at : ℕ) (g : Games) → Rises at (starts_from at g) (at + node_count g)
@@ -50,12 +47,7 @@ starts-rise at (game first more below after) =
 pub ends-listed : (index at : ℕ) (outer : Option ℕ) (ordinal : ℕ) (g : Games) (i end : ℕ) (s : Listed) → end ≡ at + node_count g → slice_get (listed index at outer ordinal g) i ≡ Some s
     → get_or (starts_from at g) (suc i) end ≡ last_number s + 1
 ends-listed index at outer ordinal no_games i end s all h = absurd (cc)
-ends-listed index at outer ordinal (game first more below after) zero end s all h =
-    let own : Listed = record { first = first; more = more; number = at; outer = outer; ordinal = ordinal } in
-    let same : own ≡ s = cc in
-    let next : ℕ = at + length more + 1 in
-    get_or-joined (starts_from next below) (starts_from (next + node_count below) after) 0 end (next + node_count below) (omega arith) (first-start (next + node_count below) end after (omega (arith, all)))
-    ∙ first-start next (next + node_count below) below refl ∙ ap (λ (t : Listed). last_number t + 1) same
+ends-listed index at outer ordinal (game first more below after) zero end s all h = grind (arith, common_steps, get_or-joined, starts_from, first-start)
 ends-listed index at outer ordinal (game first more below after) (suc i) end s all h =
     let next : ℕ = at + 1 + length more in
     let inner : List Listed = listed (index + 1) next (Some index) 1 below in
@@ -81,14 +73,10 @@ game-first : (first : Node) (more : List Node) (below after : Games) → game_of
 game-first first more below after = rw (lt-ltb 0 (1 + length more + node_count below) (omega arith)) refl
 
 game-after : (first : Node) (more : List Node) (below after : Games) (m k : ℕ) → m ≡ 1 + length more + node_count below + k → game_of (game first more below after) m ≡ 1 + game_of after k
-game-after first more below after m k e =
-    let size : ℕ = 1 + length more + node_count below in
-    let rest : m - size ≡ k = omega (arith, e) in
-    rw (le-ltb m size (omega (arith, e)), rest) refl
+game-after first more below after m k e = grind (arith, common_steps, le-ltb)
 
 regroup : {A : Type 0} (own b o a n : List A) → (own ++ (b ++ (o ++ a))) ++ n ≡ (own ++ b) ++ (o ++ (a ++ n))
-regroup own b o a n =
-    append_assoc own (b ++ (o ++ a)) n ∙ ap (λ x. own ++ x) (append_assoc b (o ++ a) n ∙ ap (λ x. b ++ x) (append_assoc o a n)) ∙ sym (append_assoc own b (o ++ (a ++ n)))
+regroup own b o a n = grind (arith, common_steps, append_assoc)
 
 -- it has the parent of them all, and begins one of the games that stand side by side
 pub record BeginsGame (outer parent : Option ℕ) (ordinal place : ℕ) (g : Games) (s : Listed) (own : Option ℕ) : Type 0 where
@@ -146,9 +134,7 @@ module _ (index at : ℕ) (outer parent : Option ℕ) (ordinal : ℕ) (first : N
 
   -- the game's nodes, those of the games below it, and those of the games after it
   nodes-split : nodes_from at parent (game first more below after) ≡ (own_nodes ++ nodes_from next (Some (at + length more)) below) ++ nodes_from (next + node_count below) parent after
-  nodes-split =
-      let e : at + length more + 1 ≡ next = omega arith in
-      ap (λ k. (own_nodes ++ nodes_from k (Some (at + length more)) below) ++ nodes_from (k + node_count below) parent after) e
+  nodes-split = grind (arith, common_steps)
 
   -- a sequence below the game
   below-listed : (i : ℕ) (s : Listed) → i < length inner → IsListedAt (index + 1) next (Some index) (Some (at + length more)) 1 below i s
@@ -221,10 +207,7 @@ module _ (index at : ℕ) (outer parent : Option ℕ) (ordinal : ℕ) (first : N
 pub listed-at : (index at : ℕ) (outer parent : Option ℕ) (ordinal : ℕ) (g : Games) (i : ℕ) (s : Listed) → slice_get (listed index at outer ordinal g) i ≡ Some s
     → IsListedAt index at outer parent ordinal g i s
 listed-at index at outer parent ordinal no_games i s h = absurd (cc)
-listed-at index at outer parent ordinal (game first more below after) zero s h =
-    let own : Listed = record { first = first; more = more; number = at; outer = outer; ordinal = ordinal } in
-    let same : own ≡ s = cc in
-    subst (IsListedAt index at outer parent ordinal (game first more below after) 0) same (first-listed index at outer parent ordinal first more below after)
+listed-at index at outer parent ordinal (game first more below after) zero s h = grind (arith, common_steps, first-listed)
 listed-at index at outer parent ordinal (game first more below after) (suc i) s h =
     let next : ℕ = at + 1 + length more in
     let inner : List Listed = listed (index + 1) next (Some index) 1 below in

@@ -1,5 +1,6 @@
 -- A node that begins with a property of one letter and one value of two bytes.
-use Rattle.std.proofs.Common.{◌≡◌, ◌≢◌, ℕ, ◌<◌, false, IsTrue, List, ◌∷◌, length, get_or, take, drop, slice_range, ◌∙◌, sym, ap, subst, arith}
+use Rattle.std.proofs.lemmas.Grind.{common_steps}
+use Rattle.std.proofs.Common.{◌≡◌, ◌≢◌, ℕ, false, IsTrue, List, ◌∷◌, get_or, take, drop, slice_range, sym, ap, subst, arith}
 use Rattle.sgf_tree.specs.Tree.{Property, lone_property}
 use Rattle.sgf_tree.specs.RawValue.{no_unit, plain}
 use Rattle.sgf_tree.specs.Spelling.{is_upper, no_white_space, no_letter, prop_value, no_value, IsProperty, property}
@@ -25,15 +26,10 @@ module _ (s : List ℕ) (is : IsMove s 1) where
   rest = drop 6 s
 
   value-here : drop 3 s ≡ get_or s 3 0 ∷ get_or s 4 0 ∷ 93 ∷ rest
-  value-here =
-      let within : 5 < length s = is.value.within in
-      byte-at s 3 (omega arith) ∙ ap (λ u. get_or s 3 0 ∷ u) (byte-at s 4 (omega arith))
-      ∙ ap (λ u. get_or s 3 0 ∷ get_or s 4 0 ∷ u) (byte-at s 5 (omega arith) ∙ ap (λ b. b ∷ rest) is.value.bracket)
+  value-here = grind (arith, common_steps, byte-at)
 
   here : drop 1 s ≡ letter ∷ 91 ∷ get_or s 3 0 ∷ get_or s 4 0 ∷ 93 ∷ rest
-  here =
-      let within : 5 < length s = is.value.within in
-      byte-at s 1 (omega arith) ∙ ap (λ u. letter ∷ u) (byte-at s 2 (omega arith) ∙ ap (λ b. b ∷ drop 3 s) is.bracket ∙ ap (λ u. 91 ∷ u) value-here)
+  here = grind (arith, common_steps, byte-at, value-here)
 
   first-plain : IsTrue (is_plain (get_or s 3 0))
   first-plain = is.value.plain.passing 3 (omega arith) (omega arith)

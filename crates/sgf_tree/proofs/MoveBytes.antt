@@ -1,16 +1,17 @@
 -- The bytes of two moves, all compared at once with the least one that may stand there.
-use Rattle.std.proofs.Common.{◌≡◌, ◌∙◌, ℕ, ◌+◌, ◌/◌, ◌%◌, ◌^◌, ◌<◌, ◌≤◌, nat_le, IsTrue, List, [], ◌∷◌, length, get_or, inl, inr, refl, sym, ap, subst, arith, le-leb}
+use Rattle.std.proofs.lemmas.Grind.{common_steps}
+use Rattle.std.proofs.Common.{◌≡◌, ◌∙◌, ℕ, ◌+◌, ◌/◌, ◌%◌, ◌^◌, ◌<◌, ◌≤◌, IsTrue, List, [], ◌∷◌, length, get_or, refl, sym, ap, subst, arith, le-leb}
 use Rattle.std.proofs.lemmas.Bool.{and_from, cases_lt}
-use Rattle.sgf_tree.specs.inner.Progress.{is_plain, IsMove, IsMoveNode, EndsNode}
+use Rattle.sgf_tree.specs.inner.Progress.{is_plain, IsMove, IsMoveNode}
 use Rattle.sgf_tree.proofs.PlacedBytes
 use Rattle.sgf_tree.proofs.PlacedBytes.{above}
 use Rattle.sgf_tree.proofs.ValueEnds.{other-plain}
 
-other-than : (b : ℕ) → b < 256 → above b 94 ≤ 253 → IsTrue (is_plain b)
+pub other-than : (b : ℕ) → b < 256 → above b 94 ≤ 253 → IsTrue (is_plain b)
 other-than b fits h = other-plain b (λ e. omega (arith, h)) (λ e. omega (arith, h))
 
 -- a byte that is in place, which stands at `j`
-in-place : (least most : List ℕ) (wide : length least ≡ 16) (wide' : length most ≡ 16) (t : List ℕ) (at : ℕ) (room : at + 16 ≤ length t) (i j : ℕ) → j ≡ at + i → i < 16
+pub in-place : (least most : List ℕ) (wide : length least ≡ 16) (wide' : length most ≡ 16) (t : List ℕ) (at : ℕ) (room : at + 16 ≤ length t) (i j : ℕ) → j ≡ at + i → i < 16
     → PlacedBytes.bits least most wide wide' t at room / 2 ^ i % 2 ≡ 1 → above (get_or t j 0) (get_or least i 0) ≤ get_or most i 0
 in-place least most wide wide' t at room i j is lt set =
     subst (λ k. above (get_or t k 0) (get_or least i 0) ≤ get_or most i 0) (sym is) (PlacedBytes.in-place least most wide wide' t at room i lt set)
@@ -18,25 +19,7 @@ in-place least most wide wide' t at room i j is lt set =
 -- a move, by how far its bytes are above the least ones
 move-from : (t : List ℕ) (at : ℕ) → ((i : ℕ) → get_or t i 0 < 256) → at + 4 < length t → above (get_or t at 0) 65 ≤ 25 → above (get_or t (at + 1) 0) 91 ≤ 0
     → above (get_or t (at + 2) 0) 94 ≤ 253 → above (get_or t (at + 3) 0) 94 ≤ 253 → above (get_or t (at + 4) 0) 93 ≤ 0 → IsMove t at
-move-from t at fits within first second third fourth fifth =
-    let four : at + 2 + 2 ≡ at + 4 = omega arith in
-    let range : (65 ≤ get_or t at 0) × (get_or t at 0 ≤ 90) = (omega (arith, first, fits at), omega (arith, first, fits at)) in
-    record {
-      capital = and_from (nat_le 65 (get_or t at 0)) (nat_le (get_or t at 0) 90) (le-leb 65 (get_or t at 0) range.0) (le-leb (get_or t at 0) 90 range.1);
-      bracket = omega (arith, second, fits (at + 1));
-      value = record {
-        within = omega arith;
-        plain = record { rises = omega arith; within = omega arith; passing = plain };
-        bracket = rw four (omega (arith, fifth, fits (at + 4)));
-      };
-    }
-  where
-    plain : (i : ℕ) → at + 2 ≤ i → i < at + 2 + 2 → IsTrue (is_plain (get_or t i 0))
-    plain i low high =
-        elim (cases_lt i (at + 3)) [
-          | inl lt ↦ let same : i ≡ at + 2 = omega arith in rw same (other-than (get_or t (at + 2) 0) (fits (at + 2)) third)
-          | inr le ↦ let same : i ≡ at + 3 = omega arith in rw same (other-than (get_or t (at + 3) 0) (fits (at + 3)) fourth)
-        ]
+move-from t at fits within first second third fourth fifth = grind (arith, common_steps, and_from, le-leb, cases_lt, other-than)
 
 -- the bytes of two nodes that begin with a move, and the byte after them
 module _ (t : List ℕ) (at : ℕ) (room : at + 16 ≤ length t) (fits : (i : ℕ) → get_or t i 0 < 256) where
@@ -73,8 +56,3 @@ module _ (t : List ℕ) (at : ℕ) (room : at + 16 ≤ length t) (fits : (i : �
           move = move-from t (at + 6 + 1) fits (omega arith) (all-there 7 (at + 6 + 1) (omega arith) (omega arith) refl) (all-there 8 (at + 6 + 1 + 1) (omega arith) (omega arith) refl)
               (all-there 9 (at + 6 + 1 + 2) (omega arith) (omega arith) refl) (all-there 10 (at + 6 + 1 + 3) (omega arith) (omega arith) refl) (all-there 11 (at + 6 + 1 + 4) (omega arith) (omega arith) refl);
         }
-
-    pub second-ends : EndsNode t (at + 12)
-    second-ends =
-        let after : above (get_or t (at + 12) 0) 33 ≤ 31 = all-there 12 (at + 12) refl (omega arith) refl in
-        record { within = omega arith; above = omega (arith, after, fits (at + 12)); below = omega (arith, after, fits (at + 12)) }

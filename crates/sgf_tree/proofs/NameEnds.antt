@@ -1,5 +1,6 @@
 -- How the name of a property is read, up to the `[` after it.
-use Rattle.std.proofs.Common.{◌≡◌, ◌≢◌, ℕ, ◌+◌, ◌-◌, ◌<◌, ◌≤◌, false, inl, inr, IsTrue, List, [], ◌∷◌, ◌++◌, length, get_or, drop, slice_range, Some, None, refl, sym, ap, subst, ◌∙◌, arith, if◌then◌else◌, ne_eqb, get_or-drop, length-drop}
+use Rattle.std.proofs.lemmas.Grind.{common_steps}
+use Rattle.std.proofs.Common.{◌≡◌, ◌≢◌, ℕ, ◌+◌, ◌<◌, ◌≤◌, false, inl, inr, IsTrue, List, [], ◌∷◌, ◌++◌, length, get_or, slice_range, Some, None, refl, sym, ap, subst, ◌∙◌, arith, if◌then◌else◌, ne_eqb, get_or-drop, length-drop}
 use Rattle.std.proofs.lemmas.Bool.{cases_lt, or_cases, or_parts, or_left, false≢true}
 use Rattle.std.proofs.lemmas.List.{take_more}
 use Rattle.std.proofs.lemmas.List.Elements.{filter-append}
@@ -17,29 +18,15 @@ use Rattle.sgf_tree.proofs.ValueEnds.{span-join, ends-faulty, refused-faulty}
 
 -- one byte
 pub span-one : (t : List ℕ) (at : ℕ) → at < length t → slice_range t at (at + 1) ≡ get_or t at 0 ∷ []
-span-one t at lt =
-    let e : at + 1 - at ≡ 0 + 1 = omega arith in
-    let f : at + 0 ≡ at = omega arith in
-    let short : 0 < length (drop at t) = rw length-drop (omega arith) in
-    rw e (take_more (drop at t) 0 0 short ∙ ap (λ b. b ∷ []) (get_or-drop at t 0 0 ∙ ap (λ k. get_or t k 0) f))
+span-one t at lt = grind (arith, common_steps, length-drop, take_more, get_or-drop)
 
 -- a name is read from its first letter on
 name-longer : (t : List ℕ) (start end : ℕ) → start < length t → IsTrue (is_upper (get_or t start 0)) → IsSpan is_letter t start end → start < end
-name-longer t start end lt capital letters =
-    let low : start ≤ end = letters.rises in
-    elim (cases_lt start end) [
-      | inl longer ↦ longer
-      | inr short ↦
-          let same : end ≡ start = omega arith in
-          let here : is_letter (get_or t start 0) ≡ false = subst (λ i. is_letter (get_or t i 0) ≡ false) same (letters.stops (omega arith)) in
-          absurd (false≢true (sym here ∙ or_left (is_upper (get_or t start 0)) (is_lower (get_or t start 0)) capital))
-    ]
+name-longer t start end lt capital letters = grind (arith, common_steps, cases_lt, false≢true, or_left)
 
 pub name-begins : (t : List ℕ) (start end : ℕ) → start < length t → IsTrue (is_upper (get_or t start 0)) → IsSpan is_letter t start end
     → slice_range t start end ≡ get_or t start 0 ∷ slice_range t (start + 1) end
-name-begins t start end lt capital letters =
-    let longer : start < end = name-longer t start end lt capital letters in
-    sym (span-join t start (start + 1) end (omega arith) (omega arith)) ∙ ap (λ s. s ++ slice_range t (start + 1) end) (span-one t start lt)
+name-begins t start end lt capital letters = grind (arith, common_steps, name-longer, span-join, span-one)
 
 name-reached : (t : List ℕ) (start end : ℕ) (n : Started) → start < length t → IsTrue (is_upper (get_or t start 0)) → IsSpan is_letter t start end
     → ComesTo t (start + 1) (in_name n (get_or t start 0 ∷ [])) → ComesTo t end (in_name n (name_in (slice_range t start end)))
@@ -72,8 +59,7 @@ name-bracket at n name = refl
 
 name-refused : (at : ℕ) (n : Started) (name : List ℕ) (b : ℕ) → is_letter b ≡ false → is_white_space b ≡ false → b ≢ 91 → next_state at (in_name n name) b ≡ None
 unfolding next_state
-name-refused at n name b letter white ne =
-    let parts = or_parts (is_upper b) (is_lower b) letter in rw (parts.0, parts.1, white, ne_eqb b 91 ne)
+name-refused at n name b letter white ne = grind (arith, common_steps, or_parts, ne_eqb)
 
 name-unaccepted : (n : Started) (name : List ℕ) → accepted (in_name n name) ≡ None
 unfolding accepted

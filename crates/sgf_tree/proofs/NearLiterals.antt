@@ -1,5 +1,6 @@
 -- Bytes that are neither a `\` nor below 14 stand for themselves.
-use Rattle.std.proofs.Common.{◌≡◌, ℕ, ◌+◌, ◌≤◌, true, false, eqb, ltb, List, length, get_or, arith}
+use Rattle.std.proofs.lemmas.Grind.{common_steps}
+use Rattle.std.proofs.Common.{◌≡◌, ℕ, ◌+◌, ◌≤◌, true, false, eqb, ltb, List, length, arith}
 use Rattle.std.proofs.lemmas.Bool.Decides.{nat_tests}
 use Rattle.sgf_tree.specs.inner.Literals.{is_literal, AreLiterals}
 use Rattle.sgf_tree.proofs.NearBits.{AreBefore}
@@ -9,5 +10,4 @@ literal-by-tests b other above = grind (arith, nat_tests)
 
 module _ (t : List ℕ) (at : ℕ) (room : at + 16 ≤ length t) where
   pub near-literals : (a b r : ℕ) → AreBefore (λ x. eqb x 92) t at room a → AreBefore (λ x. ltb x 14) t at room b → r ≤ a → r ≤ b → AreLiterals t at (at + r)
-  near-literals a b r escapes controls below_a below_b i low high =
-      literal-by-tests (get_or t i 0) (escapes.before i low (omega arith)) (controls.before i low (omega arith))
+  near-literals a b r escapes controls below_a below_b i low high = grind (arith, common_steps, literal-by-tests)

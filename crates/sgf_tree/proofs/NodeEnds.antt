@@ -1,14 +1,12 @@
 -- How the properties of a node are read, one after another.
-use Rattle.std.proofs.Common.{◌≡◌, ◌≢◌, ℕ, ◌+◌, ◌<◌, ◌≤◌, false, IsTrue, List, [], ◌∷◌, ◌++◌, length, get_or, Option, Some, None, refl, ap, subst, ◌∙◌, arith, ne_eqb}
+use Rattle.std.proofs.Common.{◌≡◌, ◌≢◌, ℕ, ◌+◌, ◌<◌, false, IsTrue, List, [], ◌∷◌, length, get_or, Option, Some, None, refl, ap, subst, ◌∙◌, arith, ne_eqb}
 use Rattle.sgf_tree.specs.Tree.{Property}
 use Rattle.sgf_tree.specs.Spelling.{is_white_space, is_upper}
 use Rattle.sgf_tree.specs.inner.Machine.{Started, MachineState, in_node, in_name, after_value, after_node, with_property, ended, next_state, accepted}
 use Rattle.sgf_tree.specs.inner.Progress.{ComesTo, IsSpan}
-use Rattle.sgf_tree.specs.inner.PropertiesRead.{IsPropertyRead, StandsAfterNode, with_properties, ArePropertiesRead}
-use Rattle.sgf_tree.proofs.Classes.{between-not_white_space, between-not_upper, upper-not_white_space, upper-not_bracket}
+use Rattle.sgf_tree.specs.inner.PropertiesRead.{StandsAfterNode}
+use Rattle.sgf_tree.proofs.Classes.{between-not_white_space, upper-not_white_space, upper-not_bracket}
 use Rattle.sgf_tree.proofs.Run.{run-take-step}
-use Rattle.sgf_tree.proofs.Skipping.{stays-in_node}
-use Rattle.sgf_tree.proofs.Spans.{run-white}
 
 -- the state in a node without properties, or after its last one
 abbrev pub state_of : Started → Option Property → MachineState
@@ -65,62 +63,6 @@ module _ (t : List ℕ) where
       subst (λ n. ComesTo t (at + 1) (in_name n (get_or t at 0 ∷ []))) stands.whole_is
       (run-take-step t at (state_of stands.done stands.last) (in_name (finished stands.done stands.last) (get_or t at 0 ∷ [])) stands.reached lt (name-begins at stands.done stands.last (get_or t at 0) capital))
 
-  -- the properties that were read so far
-  pub record PropertiesSoFar (at end : ℕ) : Type 0 where
-    pub rises : at ≤ end
-    pub within : end ≤ length t
-    pub not_white_space : end < length t → is_white_space (get_or t end 0) ≡ false
-    pub reached : (n : Started) → n.properties ≡ [] → ComesTo t at (in_node n) → (ps : List Property) × StandsInNode end (with_properties n ps)
-
-  pub properties-begin : (at end : ℕ) → IsSpan is_white_space t at end → PropertiesSoFar at end
-  properties-begin at end white =
-      record {
-        rises = white.rises;
-        within = white.within;
-        not_white_space = white.stops;
-        reached = λ n none h. (
-          [],
-          record {
-            done = n;
-            last = None;
-            reached = run-white t at end (in_node n) (stays-in_node n) white.rises white.within white.passing h;
-            whole_is = ap (with_properties n) none;
-            other = λ lt. tt;
-          },
-        );
-      }
-
-  -- one more property
-  pub properties-more : (at mid end : ℕ) → PropertiesSoFar at mid → mid < length t → IsTrue (is_upper (get_or t mid 0)) → IsPropertyRead t mid end → PropertiesSoFar at end
-  properties-more at mid end so_far lt capital read =
-      record {
-        rises = omega (arith, so_far.rises, read.rises);
-        within = read.within;
-        not_white_space = λ lt'. (read.stops lt').0;
-        reached = λ n none h.
-            let before = so_far.reached n none h in
-            let whole : Started = with_properties n before.0 in
-            let after = read.reached whole (node-name mid whole before.1 lt capital) in (
-              before.0 ++ after.0 ∷ [],
-              record {
-                done = whole;
-                last = Some after.0;
-                reached = after.1;
-                whole_is = refl;
-                other = λ lt'. (read.stops lt').1;
-              },
-            );
-      }
-
-  pub properties-done : (at end : ℕ) → PropertiesSoFar at end → (end < length t → is_upper (get_or t end 0) ≡ false) → ArePropertiesRead t at end
-  properties-done at end so_far upper =
-      record {
-        rises = so_far.rises;
-        within = so_far.within;
-        not_white_space = so_far.not_white_space;
-        reached = λ n none h. let before = so_far.reached n none h in (before.0, node-done end (with_properties n before.0) before.1 so_far.not_white_space upper);
-      }
-
   -- nothing is skipped before a byte above the space
   pub nothing-skipped : (at : ℕ) → at < length t → 32 < get_or t at 0 → IsSpan is_white_space t at at
   nothing-skipped at lt above =
@@ -130,8 +72,3 @@ module _ (t : List ℕ) where
         passing = λ i low high. absurd (omega arith);
         stops = λ lt'. between-not_white_space (get_or t at 0) above;
       }
-
-  -- a byte that is neither white space nor a capital ends a node at once
-  pub properties-none : (at : ℕ) → at < length t → 32 < get_or t at 0 → get_or t at 0 < 65 → ArePropertiesRead t at at
-  properties-none at lt above below =
-      properties-done at at (properties-begin at at (nothing-skipped at lt above)) (λ lt'. between-not_upper (get_or t at 0) below)

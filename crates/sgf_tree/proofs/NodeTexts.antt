@@ -1,9 +1,10 @@
 -- What stands at the front of a text, by its functions and by the grammar.
+use Rattle.std.proofs.lemmas.Grind.{common_steps}
 use Rattle.std.proofs.Common.{◌≡◌, ℕ, zero, suc, ◌+◌, ◌<◌, ◌≤◌, Bool, true, false, ◌==◌, if◌then◌else◌, IsTrue, List, [], ◌∷◌, length, filter, refl, sym, ap, subst, ◌∙◌, inl, inr, arith, ne_eqb}
 use Rattle.std.proofs.lemmas.Bool.{false≢true, or_right}
 use Rattle.sgf_tree.specs.Tree.{Property}
 use Rattle.sgf_tree.specs.RawValue.{IsValue, no_unit, plain, escaped}
-use Rattle.sgf_tree.specs.Spelling.{is_white_space, is_upper, is_lower, WhiteSpace, no_white_space, white_space, Letters, no_letter, upper, lower, IsPropValue, prop_value, ArePropValues, no_value, value, IsProperty, property, AreProperties, no_property, properties}
+use Rattle.sgf_tree.specs.Spelling.{is_white_space, is_upper, WhiteSpace, no_white_space, white_space, Letters, no_letter, upper, lower, IsPropValue, prop_value, ArePropValues, no_value, value, IsProperty, property, AreProperties, no_property, properties}
 use Rattle.sgf_tree.specs.inner.NodeText.{is_letter, left_after, front, raw_value, after_raw_value, by_front, values_up_to, after_values_up_to, values_in, property_from, name_in, properties_up_to, properties_in, NoValueFollows, NoPropertyFollows, IsNoPropValue}
 use Rattle.sgf_tree.proofs.Classes.{upper-not_white_space, upper-not_bracket, white-not_upper, white-not_lower, lower-not_upper}
 use Rattle.sgf_tree.proofs.NodesSpelled.{white-byte}
@@ -69,9 +70,7 @@ over-letters no_letter w = let h = stop-letters w in (h.0, ap (filter is_upper) 
 over-letters (upper {b} h l) w =
     let k = over-letters l w in (rw h k.0, rw (h, h) (ap (λ n. b ∷ n) k.1))
 over-letters (lower {b} h l) w =
-    let k = over-letters l w in
-    let letter : is_letter b ≡ true = or_right (is_upper b) (is_lower b) h in
-    (rw letter k.0, rw (letter, lower-not_upper b h) k.1)
+    grind (arith, common_steps, or_right, lower-not_upper, (over-letters l w))
 
 value-parts : {v s r : List ℕ} → IsValue v s (93 ∷ r) → (raw_value s ≡ v) × (after_raw_value s ≡ r)
 unfolding raw_value after_raw_value
@@ -154,12 +153,7 @@ properties-are (suc n) (properties (property {b} {name} {v} {vs = vs} w h l firs
     rw (left-white w (upper-not_white_space b h), h, is.0, is.1, is.2, is.3) (ap (λ qs. p ∷ qs) (properties-are n ps ends (omega arith)))
 
 shorter-property : {p : Property} {s r : List ℕ} → IsProperty p s r → length r < length s
-shorter-property (property w h l v vs) =
-    let a = shrinks-WhiteSpace w in
-    let b = shrinks-Letters l in
-    let c = shorter-value v in
-    let d = shrinks-ArePropValues vs in
-    omega arith
+shorter-property (property w h l v vs) = grind (arith, common_steps, shrinks-WhiteSpace, shrinks-Letters, shorter-value, shrinks-ArePropValues)
 
 pub count-properties : {ps : List Property} {s r : List ℕ} → AreProperties ps s r → length ps + length r ≤ length s
 count-properties no_property = omega arith

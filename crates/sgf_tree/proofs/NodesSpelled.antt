@@ -1,4 +1,5 @@
 -- Each node's properties are spelled in the text from its `;` on.
+use Rattle.std.proofs.lemmas.Grind.{common_steps}
 use Rattle.std.proofs.Common.{◌≡◌, ◌≢◌, ℕ, zero, suc, ◌+◌, ◌-◌, ◌≤◌, true, false, IsTrue, List, [], ◌∷◌, ◌++◌, length, drop, All, Option, Some, None, refl, sym, ap, subst, ◌∙◌, ◌⊎◌, inl, inr, arith}
 use Rattle.std.proofs.lemmas.List.Elements.{All-append}
 use Rattle.std.proofs.lemmas.Bool.{false≢true}
@@ -50,8 +51,7 @@ module _ {t : List ℕ} where
   end-ArePropValues (value v vs) e = end-ArePropValues vs (end-IsPropValue v e)
 
   end-IsProperty : {p : Property} {s r : List ℕ} → IsProperty p s r → IsEnd t s → IsEnd t r
-  end-IsProperty (property w h l v vs) e =
-      end-ArePropValues vs (end-IsPropValue v (end-Letters l (tail (end-WhiteSpace w e))))
+  end-IsProperty (property w h l v vs) e = grind (arith, common_steps, end-ArePropValues, end-IsPropValue, end-Letters, tail, end-WhiteSpace)
 
   end-AreProperties : {ps : List Property} {s r : List ℕ} → AreProperties ps s r → IsEnd t s → IsEnd t r
   end-AreProperties no_property e = e
@@ -83,11 +83,7 @@ white-byte (white_space k w) (white_space l v) h = white-byte w v h
 -- a byte that is neither ends a node
 module _ (b : ℕ) (not_white_space : is_white_space b ≡ false) (not_bracket : b ≢ 91) (not_upper : is_upper b ≡ false) where
   pub ends-at : {r t : List ℕ} → WhiteSpace r (b ∷ t) → NoPropertyFollows r
-  ends-at w c u v =
-      elim (white-byte w v not_white_space) [
-        | inl h ↦ (white-not_bracket c h, white-not_upper c h)
-        | inr e ↦ (λ f. not_bracket (sym e ∙ f), ap is_upper e ∙ not_upper)
-      ]
+  ends-at w c u v = grind (arith, common_steps, white-byte, white-not_bracket, white-not_upper)
 
 ends-nodes : {whole : ℕ} {ns : List Node} {below : Games} {s r v x : List ℕ} → AreNodes whole ns s r → AreGames whole below r v → WhiteSpace v (41 ∷ x) → NoPropertyFollows s
 ends-nodes no_node no_game w = ends-at 41 refl (λ e. absurd (omega arith)) refl w

@@ -1,4 +1,5 @@
 -- Laws on the ordered nodes of a collection: where parents stand, and in which game.
+use Rattle.std.proofs.lemmas.Grind.{common_steps}
 use Rattle.std.proofs.Common.{◌≡◌, ℕ, zero, suc, ◌+◌, ◌-◌, ◌<◌, ◌≤◌, ◌⊎◌, inl, inr, true, if◌then◌else◌, nat_lt, List, [], ◌∷◌, ◌++◌, length, slice_get, Option, Some, None, option_map, refl, sym, ap, ◌∙◌, arith, length-append}
 use Rattle.std.proofs.lemmas.Bool.{cases_lt, lt-ltb, le-ltb}
 use Rattle.sgf_tree.specs.Tree.{Node, Games, no_games, game, node_count}
@@ -28,10 +29,7 @@ pub length-nodes_from : (at : ℕ) (parent : Option ℕ) (g : Games) → length 
 length-nodes_from at parent no_games = refl
 length-nodes_from at parent (game first more below after) =
     let last : ℕ = at + length more in
-    let own : List OrderedNode = record { node = first; parent = parent; opens = true } ∷ further_nodes at more in
-    let under : List OrderedNode = nodes_from (last + 1) (Some last) below in
-    let next : List OrderedNode = nodes_from (last + 1 + node_count below) parent after in
-    omega (arith, length-append (own ++ under) next, length-append own under, length-further_nodes at more, length-nodes_from (last + 1) (Some last) below, length-nodes_from (last + 1 + node_count below) parent after)
+    grind (arith, common_steps, length-append, length-further_nodes, (length-nodes_from (last + 1) (Some last) below), (length-nodes_from (last + 1 + node_count below) parent after))
 
 pub parent_in-further : (last : ℕ) (ns : List Node) (j : ℕ) → j < length ns → parent_in (further_nodes last ns) j ≡ Some (Some (last + j))
 parent_in-further last [] j h = absurd (omega arith)

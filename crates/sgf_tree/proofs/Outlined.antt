@@ -1,4 +1,5 @@
 -- What the table of an outline says of its nodes and sequences.
+use Rattle.std.proofs.lemmas.Grind.{common_steps}
 use Rattle.std.proofs.Common.{◌≡◌, ℕ, zero, suc, ◌+◌, ◌-◌, ◌<◌, ◌≤◌, true, false, inl, inr, List, [], ◌∷◌, ◌++◌, length, map, drop, get_or, slice_get, slice_range, Option, Some, None, option_map, refl, sym, ap, subst, ◌∙◌, arith, length-append}
 use Rattle.std.specs.Prelude.{MatchOption, ◌≢◌}
 use Rattle.std.proofs.lemmas.Bool.{cases_lt}
@@ -10,7 +11,7 @@ use Rattle.sgf_tree.specs.Spelling.{Spells}
 use Rattle.sgf_tree.specs.Written.{node_text}
 use Rattle.sgf_tree.specs.FileOrder.{OrderedNode, further_nodes, ordered_nodes, node_at, nodes_at, place_at, parent_at, IsLeaf, game_of, sequence_starts, sequence_start, sequence_end, sequence_numbers}
 use Rattle.sgf_tree.specs.inner.Machine.{games_in}
-use Rattle.sgf_tree.specs.inner.NodeText.{properties_in, node_in, ArePropertiesIn, IsNodeIn}
+use Rattle.sgf_tree.specs.inner.NodeText.{node_in, IsNodeIn}
 use Rattle.sgf_tree.specs.inner.OwnNodes.{places_of, written_of}
 use Rattle.sgf_tree.specs.inner.Listing.{Listed, sequences_of}
 use Rattle.sgf_tree.specs.inner.Outlining.{outer_by, game_by, is_written_by, nodes_of, stretches_by, HasStretches, IsKept, AreKept, IsOutlined}
@@ -27,39 +28,33 @@ use Rattle.sgf_tree.proofs.ListedNodes.{number_of, last_number, own_ordered, sta
 
 -- a spelled node is the one that its place tells
 spelled-in : (text : List ℕ) (n : Node) → IsNodeSpelled text n → (n ≡ node_in text n.place) × IsNodeIn (drop n.place text)
-spelled-in text n spelled =
-    let after : drop 1 (drop n.place text) ≡ drop (n.place + 1) text = drop-drop 1 n.place text in
-    let own : properties_in (drop (n.place + 1) text) ≡ n.properties = properties-in spelled.spelled spelled.ends in (
-      ap (λ ps. record { place = n.place; properties = ps }) (sym own ∙ ap properties_in (sym after)),
-      record {
-        begins = spelled.begins ∙ ap (λ u. 59 ∷ u) (sym after);
-        properties =
-            subst ArePropertiesIn (sym after) (record { properties = n.properties; rest = spelled.rest; spelled = spelled.spelled; ends = spelled.ends });
-      },
-    )
+spelled-in text n spelled = grind (arith, common_steps, drop-drop, properties-in)
+
+-- the node at a place is the one that its place tells
+pub node-told : (text : List ℕ) (g : Games) → Spells g text → (i p : ℕ) → place_at g i ≡ Some p → (node_at g i ≡ Some (node_in text p)) × IsNodeIn (drop p text) × (p < length text)
+node-told text g spelled_by i p h = at (slice_get (ordered_nodes g) i) refl h
+  where
+    at : (o : Option OrderedNode) → slice_get (ordered_nodes g) i ≡ o → option_map (λ (r : OrderedNode). r.node.place) o ≡ Some p
+        → (node_at g i ≡ Some (node_in text p)) × IsNodeIn (drop p text) × (p < length text)
+    at None here place = absurd (cc)
+    at (Some r) here place =
+        let within : i < length (ordered_nodes g) = slice_get_within (ordered_nodes g) i r here in
+        let same : get_or (ordered_nodes g) i r ≡ r = get_or_from_slice_get (ordered_nodes g) i r r here in
+        let spelled : IsNodeSpelled text r.node = subst (λ (q : OrderedNode). IsNodeSpelled text q.node) same (ordered-spelled text g spelled_by i r within) in
+        let at_place : r.node.place ≡ p = cc in
+        let told = spelled-in text r.node spelled in
+        let some : length (drop r.node.place text) ≡ suc (length (drop (r.node.place + 1) text)) = ap length spelled.begins in (
+          ap (option_map (λ (q : OrderedNode). q.node)) here ∙ ap Some told.0 ∙ ap (λ k. Some (node_in text k)) at_place,
+          subst (λ k. IsNodeIn (drop k text)) at_place told.1,
+          omega (arith, length-drop r.node.place text, at_place),
+        )
 
 module _ (text : List ℕ) (kept : Sequences) (outlined : IsOutlined text kept) (g : Games) (is : games_in text ≡ g) where
   spelled-by : Spells g text
   spelled-by = subst (λ c. Spells c text) is outlined.spelled
 
-  -- the node at a place is the one that its place tells
   pub node-in : (i p : ℕ) → place_at g i ≡ Some p → (node_at g i ≡ Some (node_in text p)) × IsNodeIn (drop p text) × (p < length text)
-  node-in i p h = at (slice_get (ordered_nodes g) i) refl h
-    where
-      at : (o : Option OrderedNode) → slice_get (ordered_nodes g) i ≡ o → option_map (λ (r : OrderedNode). r.node.place) o ≡ Some p
-          → (node_at g i ≡ Some (node_in text p)) × IsNodeIn (drop p text) × (p < length text)
-      at None here place = absurd (cc)
-      at (Some r) here place =
-          let within : i < length (ordered_nodes g) = slice_get_within (ordered_nodes g) i r here in
-          let same : get_or (ordered_nodes g) i r ≡ r = get_or_from_slice_get (ordered_nodes g) i r r here in
-          let spelled : IsNodeSpelled text r.node = subst (λ (q : OrderedNode). IsNodeSpelled text q.node) same (ordered-spelled text g spelled-by i r within) in
-          let at_place : r.node.place ≡ p = cc in
-          let told = spelled-in text r.node spelled in
-          let some : length (drop r.node.place text) ≡ suc (length (drop (r.node.place + 1) text)) = ap length spelled.begins in (
-            ap (option_map (λ (q : OrderedNode). q.node)) here ∙ ap Some told.0 ∙ ap (λ k. Some (node_in text k)) at_place,
-            subst (λ k. IsNodeIn (drop k text)) at_place told.1,
-            omega (arith, length-drop r.node.place text, at_place),
-          )
+  node-in = node-told text g spelled-by
 
 -- what an entry of the table says of a sequence
 pub record IsEntryOf (text : List ℕ) (stretches : List Stretch) (g : Games) (i : ℕ) (entry : Sequence) : Type 0 where
@@ -204,9 +199,7 @@ module _ (g : Games) where
     pub same-game : (d : ℕ) → sequence_start g i + d < sequence_end g i → game_of g (sequence_start g i + d) ≡ game_of g (sequence_start g i)
     same-game zero less = let e : sequence_start g i + 0 ≡ sequence_start g i = omega arith in ap (game_of g) e
     same-game (suc d) less =
-        let e : sequence_start g i + suc d - 1 ≡ sequence_start g i + d = omega arith in
-        sym (game_of-parent g (sequence_start g i + suc d) (sequence_start g i + d) (sequence-further (sequence_start g i + suc d) (omega arith) less ∙ ap (λ k. Some (Some k)) e))
-        ∙ same-game d (omega (arith, less))
+        grind (arith, common_steps, game_of-parent, sequence-further, (same-game d (omega (arith, less))))
 
     -- with those of a sequence that goes on from it
     pub game-outer : (other : ℕ) → parent_at g (sequence_start g other) ≡ Some (Some (sequence_end g i - 1)) → game_of g (sequence_start g i) ≡ game_of g (sequence_start g other)
@@ -258,13 +251,10 @@ module _ (g : Games) where
         by : (outer : Option ℕ) → MatchOption outer (parent_at g (sequence_start g (i + 1)) ≡ Some None) (λ o. (o < i + 1) × (parent_at g (sequence_start g (i + 1)) ≡ Some (Some (sequence_end g o - 1))))
             → outer ≢ Some i → parent_at g (sequence_start g (i + 1)) ≡ Some (Some (sequence_end g i - 1)) → ⊥
         by None none other_one parent = cc
-        by (Some o) goes other_one parent =
-            let both : Some (Some (sequence_end g o - 1)) ≡ Some (Some (sequence_end g i - 1)) = sym goes.1 ∙ parent in
-            other_one (ap Some (same-end o i goes.0 (omega (arith, lt)) (cc)))
+        by (Some o) goes other_one parent = grind (arith, common_steps, same-end)
 
     pub if-leaf : IsLeaf g (sequence_end g i - 1) → outer ≢ Some i
-    if-leaf leaf same =
-        leaf (sequence_start g (i + 1)) (subst (λ o. MatchOption o (parent_at g (sequence_start g (i + 1)) ≡ Some None) (λ o. (o < i + 1) × (parent_at g (sequence_start g (i + 1)) ≡ Some (Some (sequence_end g o - 1))))) same is).1
+    if-leaf leaf same = grind (arith, common_steps)
 
   -- the first sequence begins with the first node
   pub starts-first : (number : ℕ) → number < node_count g → (0 < length (sequence_starts g)) × (sequence_start g 0 ≤ number)

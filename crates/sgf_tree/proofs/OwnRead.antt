@@ -5,7 +5,7 @@ use Rattle.sgf_tree.specs.Spelling.{is_white_space}
 use Rattle.sgf_tree.specs.Refusal.{IsFaultyAt}
 use Rattle.sgf_tree.specs.inner.Machine.{OpenGame, Stack, Started, opened, in_node}
 use Rattle.sgf_tree.specs.inner.Progress.{ComesTo, IsSpan, IsMoveNode, EndsNode}
-use Rattle.sgf_tree.specs.inner.PropertiesRead.{ArePropertiesRead, IsTextRead}
+use Rattle.sgf_tree.specs.inner.PropertiesRead.{ArePropertiesRead}
 use Rattle.sgf_tree.specs.inner.GamesRead.{open_count, coming_of, AreOwnSoFar, TakesNode, IsGameRead}
 use Rattle.sgf_tree.specs.inner.OwnNodes.{Coming, nothing, AreOwnNodes, own_of, with_game}
 use Rattle.sgf_tree.specs.declared.layout.OwnNodes.{OwnNodes}
@@ -42,11 +42,11 @@ module _ (t : List ℕ) (at : ℕ) where
     pub each : (k : Stack) → ComesTo t at (opened k) → AreOwnTo kept keeps end own k
 
   module _ (k : Stack) (after : ComesTo t at (opened k)) where
-    read-more : (place end : ℕ) (nodes : List Node) → AreReadTo k place nodes → place < length t → get_or t place 0 ≡ 59 → ArePropertiesRead t (place + 1) end
-        → (ps : List Property) × AreReadTo k end (nodes ++ record { place = place; properties = ps } ∷ [])
-    read-more place end [] white lt e read = nodes-first t at place end k white after lt e read
-    read-more place end (first ∷ more) so_far lt e read =
-        nodes-next t place end k (record { first = first; more = more; below = no_games }) so_far lt e read
+    read-more : (place : ℕ) (read : PartRead) (nodes : List Node) → AreReadTo k place nodes → place < length t → get_or t place 0 ≡ 59 → ArePropertiesRead t (place + 1) read
+        → (ps : List Property) × AreReadTo k read.end (nodes ++ record { place = place; properties = ps } ∷ [])
+    read-more place whole [] white lt e read = nodes-first t at place whole k white after lt e read
+    read-more place whole (first ∷ more) so_far lt e read =
+        nodes-next t place whole k (record { first = first; more = more; below = no_games }) so_far lt e read
 
     -- a `;` begins a node
     pub read-node : (place : ℕ) (nodes : List Node) → AreReadTo k place nodes → place < length t → get_or t place 0 ≡ 59
@@ -65,20 +65,19 @@ module _ (t : List ℕ) (at : ℕ) where
   module _ (kept : Stack → Coming → Type 0) where
     -- one node more
     pub own-more : (keeps keeps' : Stack → Coming → Type 0) (place : ℕ) (own own' : OwnNodes) (read : PartRead) → OwnSoFar kept keeps place own
-        → place < length t → get_or t place 0 ≡ 59 → ArePropertiesRead t (place + 1) read.end → IsTextRead t (place + 1) read
-        → TakesNode keeps keeps' t own place read own'
+        → place < length t → get_or t place 0 ≡ 59 → ArePropertiesRead t (place + 1) read → TakesNode keeps keeps' t own place read own'
         → own'.end ≡ read.text_end → own'.count ≡ own.count + 1 → OwnSoFar kept keeps' read.end own'
-    own-more keeps keeps' place own own' read so_far lt e properties text more end_is count_is =
+    own-more keeps keeps' place own own' read so_far lt e properties more end_is count_is =
         record {
-          within = properties.within;
-          few = omega (arith, so_far.few, so_far.ends, text.rises);
-          ends = omega (arith, text.white_space.rises);
+          within = properties.white_space.within;
+          few = omega (arith, so_far.few, so_far.ends, properties.rises);
+          ends = omega (arith, properties.white_space.rises);
           first = λ none. absurd (omega arith);
           each = λ k after.
               let before = so_far.each k after in
-              let next = read-more k after place read.end before.nodes before.read lt e properties in
+              let next = read-more k after place read before.nodes before.read lt e properties in
               let n : Node = record { place = place; properties = next.0 } in
-              let taken = more k before.nodes before.ended n before.are (λ none. sym (so_far.first (before.are.counted ∙ none))) so_far.ends refl lt e text in
+              let taken = more k before.nodes before.ended n before.are (λ none. sym (so_far.first (before.are.counted ∙ none))) so_far.ends refl lt e properties in
               record {
                 nodes = before.nodes ++ n ∷ [];
                 ended = taken.ended;
@@ -91,11 +90,11 @@ module _ (t : List ℕ) (at : ℕ) where
     -- one move more, as in `;B[pd]`
     pub own-move : (keeps keeps' : Stack → Coming → Type 0) (place : ℕ) (own own' : OwnNodes) (read : PartRead) → OwnSoFar kept keeps place own
         → IsMoveNode t place → EndsNode t (place + 6) → read ≡ record { text_end = place + 6; end = place + 6; as_written = true }
-        → ArePropertiesRead t (place + 1) read.end → IsTextRead t (place + 1) read → TakesNode keeps keeps' t own place read own'
+        → ArePropertiesRead t (place + 1) read → TakesNode keeps keeps' t own place read own'
         → own'.end ≡ read.text_end → own'.count ≡ own.count + 1 → OwnSoFar kept keeps' (place + 6) own'
-    own-move keeps keeps' place own own' read so_far move ends is properties text more end_is count_is =
+    own-move keeps keeps' place own own' read so_far move ends is properties more end_is count_is =
         subst (λ (i : ℕ). OwnSoFar kept keeps' i own') (ap (λ (r : PartRead). r.end) is)
-        (own-more keeps keeps' place own own' read so_far (omega (arith, ends.within)) move.begins properties text more end_is count_is)
+        (own-more keeps keeps' place own own' read so_far (omega (arith, ends.within)) move.begins properties more end_is count_is)
 
     -- there are no more nodes than bytes
     pub own-few : (keeps : Stack → Coming → Type 0) (end : ℕ) (own : OwnNodes) (so_far : OwnSoFar kept keeps end own) (k : Stack)

@@ -1,4 +1,5 @@
 -- How the own nodes of a game come in stretches.
+use Rattle.std.proofs.lemmas.Grind.{common_steps}
 use Rattle.std.proofs.Common.{rules, ◌≡◌, ℕ, zero, suc, ◌+◌, ◌-◌, ◌<◌, ◌≤◌, ◌⊎◌, Bool, true, false, if◌then◌else◌, inl, inr, List, [], ◌∷◌, ◌++◌, length, map, get_or, slice_range, refl, sym, ap, subst, ◌∙◌, arith, length-append, append_assoc, append-nil}
 use Rattle.std.proofs.Math.Dec.{eqb}
 use Rattle.std.proofs.Math.Seq.{get_or-append_seam}
@@ -11,7 +12,7 @@ use Rattle.sgf_tree.specs.Written.{node_text}
 use Rattle.sgf_tree.specs.inner.Machine.{Stack}
 use Rattle.sgf_tree.specs.inner.NodeText.{node_in}
 use Rattle.sgf_tree.specs.inner.OwnNodes.{Coming, with_place, with_stretch, places_of, written_of, is_written, IsStretch, AreStretches, no_stretch, stretch_before, AreOwnNodes}
-use Rattle.sgf_tree.specs.inner.PropertiesRead.{IsTextRead}
+use Rattle.sgf_tree.specs.inner.PropertiesRead.{ArePropertiesRead}
 use Rattle.sgf_tree.specs.inner.GamesRead.{coming_of, AreMarked, AreOwnSoFar}
 use Rattle.sgf_tree.specs.declared.layout.OwnNodes.{OwnNodes}
 use Rattle.sgf_tree.specs.declared.layout.Stretch.{Stretch}
@@ -22,8 +23,7 @@ use Rattle.sgf_tree.proofs.WrittenParts.{node-written}
 -- what a keeper keeps, with one node more
 pub with-node : (keeps : Coming → Type 0) (nodes : List Node) (ended : List Stretch) (node : Node) (place : ℕ) → node.place ≡ place
     → keeps (with_place (coming_of nodes ended) place) → keeps (coming_of (nodes ++ node ∷ []) ended)
-with-node keeps nodes ended node place same held =
-    subst (λ places. keeps (record { places = places; stretches = ended })) (ap (λ i. places_of nodes ++ i ∷ []) (sym same) ∙ sym (map-append (λ (n : Node). n.place) nodes (node ∷ []))) held
+with-node keeps nodes ended node place same held = grind (arith, common_steps, map-append)
 
 -- where the first node is, if one more comes
 first-of : (nodes : List Node) (node default : Node) (first : ℕ) → (length nodes ≡ 0 → node.place ≡ first) → (0 < length nodes → (get_or nodes 0 default).place ≡ first)
@@ -52,7 +52,7 @@ AreAllTold kept keeps own =
 module _ (t : List ℕ) where
   -- what the sgf form writes for one node more
   written-more : (from place : ℕ) (read : PartRead) (nodes : List Node) (node : Node) → slice_range t from place ≡ written_of t nodes → from ≤ place → node.place ≡ place
-      → place < length t → get_or t place 0 ≡ 59 → IsTextRead t (place + 1) read → read.as_written ≡ true → slice_range t from read.text_end ≡ written_of t (nodes ++ node ∷ [])
+      → place < length t → get_or t place 0 ≡ 59 → ArePropertiesRead t (place + 1) read → read.as_written ≡ true → slice_range t from read.text_end ≡ written_of t (nodes ++ node ∷ [])
   written-more from place read nodes node before rises same lt semicolon text is =
       let this = node-written t place read lt semicolon text is in
       sym (span-join t from place read.text_end rises (omega (arith, text.rises)))
@@ -70,29 +70,7 @@ module _ (t : List ℕ) where
 
   -- no node
   pub own-none : (first : ℕ) → first ≤ length t → AreOwnSoFar t (record { first = first; last = first; end = first; count = 0; start = first; written = true }) [] []
-  own-none first within =
-      record {
-        front = [];
-        present = [];
-        nodes_are = refl;
-        counted = refl;
-        first_is = λ default some. absurd (omega arith);
-        last_is = λ default some. absurd (omega arith);
-        start_is = λ default some. absurd (omega arith);
-        some = λ some. absurd (omega arith);
-        rises = omega arith;
-        goes_on = omega arith;
-        ends = omega arith;
-        within = within;
-        written = λ _. none-between;
-        alone = λ e. absurd (false≢true (sym e));
-        whole_or = inl (refl, refl, refl);
-        few = omega arith;
-        before = λ stretches rest are. are;
-      }
-    where
-      none-between : slice_range t first first ≡ []
-      none-between = search rules
+  own-none first within = grind (arith, common_steps, false≢true)
 
   module _ (own : OwnNodes) (nodes : List Node) (ended : List Stretch) (so_far : AreOwnSoFar t own nodes ended) where
     parted : length nodes ≡ length so_far.front + length so_far.present
@@ -120,35 +98,17 @@ module _ (t : List ℕ) where
     present-stretch is_last some = by_written own.written refl
       where
         by_written : (w : Bool) → own.written ≡ w → IsStretch t (record { start = own.start; end = if w then own.end else own.start; is_last = is_last }) so_far.present
-        by_written true is =
-            record {
-              some = (so_far.some some).0;
-              start_is = λ default. so_far.start_is default some;
-              rises = omega (arith, so_far.goes_on, so_far.ends);
-              within = so_far.within;
-              written = λ _. so_far.written is;
-              alone = λ e. absurd (omega (arith, so_far.goes_on, (so_far.some some).1));
-            }
-        by_written false is =
-            record {
-              some = (so_far.some some).0;
-              start_is = λ default. so_far.start_is default some;
-              rises = omega arith;
-              within = omega (arith, so_far.goes_on, so_far.ends, so_far.within);
-              written = λ lt. absurd (omega arith);
-              alone = λ _. so_far.alone is;
-            }
+        by_written true is = grind (arith, common_steps)
+        by_written false is = grind (arith, common_steps)
 
     -- one node more
     module _ (place : ℕ) (read : PartRead) (node : Node) (first : length nodes ≡ 0 → place ≡ own.first) (ends : own.end ≤ place) (same : node.place ≡ place)
-        (lt : place < length t) (semicolon : get_or t place 0 ≡ 59) (text : IsTextRead t (place + 1) read) where
+        (lt : place < length t) (semicolon : get_or t place 0 ≡ 59) (text : ArePropertiesRead t (place + 1) read) where
       length_is : length (nodes ++ node ∷ []) ≡ length nodes + 1
       length_is = length-append nodes (node ∷ [])
 
       last-is : (default : Node) → (get_or (nodes ++ node ∷ []) (length (nodes ++ node ∷ []) - 1) default).place ≡ place
-      last-is default =
-          let last : length (nodes ++ node ∷ []) - 1 ≡ length nodes = omega (arith, length_is) in
-          rw last (ap (λ (n : Node). n.place) (get_or-append_seam nodes node [] default) ∙ same)
+      last-is default = grind (arith, common_steps, length_is, get_or-append_seam)
 
       -- it goes on with the last stretch
       pub own-next : own.written ≡ true → own.end ≡ place → read.as_written ≡ true
@@ -213,11 +173,7 @@ module _ (t : List ℕ) where
       -- it is the first one
       pub own-begins : own.count ≡ 0
           → AreOwnSoFar t (record { first = own.first; last = place; end = read.text_end; count = own.count + 1; start = place; written = read.as_written }) (nodes ++ node ∷ []) ended
-      own-begins none =
-          let count : length nodes ≡ 0 = omega (arith, so_far.counted) in
-          let no_node : nodes ≡ [] = no-nodes nodes count in
-          let no_ended : ended ≡ [] = no-stretches ended (omega (arith, so_far.few, parted)) in
-          own-apart ended (omega (arith, so_far.few, parted)) (inl (first count, no_node, no_ended)) (λ more rest are. rw (no_node, no_ended) are)
+      own-begins none = grind (arith, common_steps, no-nodes, no-stretches, parted, own-apart)
 
       -- the stretch before it ends
       pub own-ends : 0 < own.count
@@ -236,19 +192,7 @@ module _ (t : List ℕ) where
     own-all : (stretches : List Stretch) → 0 < own.count
         → (is_written own ≡ true → (stretches ≡ []) × (slice_range t own.first own.end ≡ written_of t nodes)) → (is_written own ≡ false → AreMarked t stretches nodes)
         → AreOwnNodes t own nodes stretches
-    own-all stretches some written stretched =
-        let count : 0 < length nodes = omega (arith, so_far.counted) in
-        record {
-          counted = so_far.counted;
-          some = count;
-          first_is = λ default. so_far.first_is default count;
-          last_is = λ default. so_far.last_is default count;
-          rises = omega (arith, so_far.rises, so_far.goes_on);
-          ends = (so_far.some count).1;
-          within = so_far.within;
-          written = written;
-          stretched = stretched;
-        }
+    own-all stretches some written stretched = grind (arith, common_steps)
 
     -- they are one stretch that is written
     own-one : 0 < own.count → is_written own ≡ true → AreOwnNodes t own nodes ended

@@ -1,4 +1,5 @@
 -- Sixteen bytes, all compared at once: bit i tells whether byte i is at most so much above the least one of its place.
+use Rattle.std.proofs.lemmas.Grind.{common_steps}
 use Rattle.std.proofs.Common.{◌≡◌, ◌∙◌, ℕ, ◌+◌, ◌-◌, ◌/◌, ◌%◌, ◌^◌, ◌<◌, ◌≤◌, Bool, true, false, cond, List, map, length, get_or, inl, inr, refl, sym, ap, arith, le-leb, leb-true, w8, w64}
 use Rattle.std.proofs.Math.Dec.{leb}
 use Rattle.std.proofs.Math.ListN.{get_or-eq_default}
@@ -56,11 +57,7 @@ module _ (least most : List ℕ) (wide : length least ≡ 16) (wide' : length mo
   in-place i lt set = leb-true (distance i) (get_or most i 0) (sym (lane i lt) ∙ is-set (get_or lanes i false) (sym (bit i) ∙ set))
 
   pub out-of-place : (i : ℕ) → i < 16 → bits / 2 ^ i % 2 ≡ 0 → get_or most i 0 < distance i
-  out-of-place i lt clear =
-      elim (cases_lt (get_or most i 0) (distance i)) [
-        | inl less ↦ less
-        | inr le ↦ absurd (false≢true (sym (sym (lane i lt) ∙ is-clear (get_or lanes i false) (sym (bit i) ∙ clear)) ∙ le-leb (distance i) (get_or most i 0) le))
-      ]
+  out-of-place i lt clear = grind (arith, common_steps, cases_lt, false≢true, lane, is-clear, bit, le-leb)
 
   -- the first byte that is in place
   pub record IsFirstInPlace (r : ℕ) : Type 0 where

@@ -1,8 +1,8 @@
 -- The places of all nodes, as they are kept.
-use Rattle.std.proofs.Common.{◌≡◌, ℕ, ◌<◌, List, length, get_or, Some, refl, sym, ap, ◌∙◌, arith}
+use Rattle.std.proofs.lemmas.Grind.{common_steps}
+use Rattle.std.proofs.Common.{◌≡◌, ℕ, ◌<◌, List, length, get_or, Some, ap, ◌∙◌, arith}
 use Rattle.std.proofs.lemmas.List.{length-map}
 use Rattle.std.proofs.lemmas.Option.{slice_get_read, slice_get-map}
-use Rattle.std.specs.Prelude.{slice_get}
 use Rattle.sgf_tree.specs.Tree.{Games, node_count}
 use Rattle.sgf_tree.specs.FileOrder.{OrderedNode, ordered_nodes, place_at}
 use Rattle.sgf_tree.specs.inner.Placing.{ordered_places}
@@ -13,6 +13,4 @@ module _ (g : Games) (places : List ℕ) (kept : places ≡ ordered_places (orde
   places-count = ap length kept ∙ length-map (ordered_nodes g) (λ (r : OrderedNode). r.node.place) ∙ length-ordered_nodes g
 
   pub place-kept : (i p : ℕ) → i < node_count g → p ≡ get_or places i p → place_at g i ≡ Some p
-  place-kept i p lt here =
-      sym (slice_get-map (λ (r : OrderedNode). r.node.place) (ordered_nodes g) i) ∙ ap (λ ps. slice_get ps i) (sym kept)
-      ∙ slice_get_read places (length places) i p refl (omega (arith, places-count, lt)) here
+  place-kept i p lt here = grind (arith, common_steps, slice_get-map, slice_get_read, places-count)

@@ -1,4 +1,5 @@
 -- The places of a collection that a text spells rise strictly in file order, and each is within the text.
+use Rattle.std.proofs.lemmas.Grind.{common_steps}
 use Rattle.std.proofs.Common.{◌≡◌, ℕ, ◌+◌, ◌-◌, ◌<◌, ◌≤◌, List, [], ◌∷◌, ◌++◌, length, Option, Some, None, map, slice_get, true, refl, ap, sym, ◌∙◌, arith}
 use Rattle.std.proofs.lemmas.List.{map-append}
 use Rattle.std.proofs.lemmas.Option.{slice_get-map}
@@ -39,12 +40,10 @@ ordered-places at parent (game first more below after) =
 
 rises-node : {whole : ℕ} {n : Node} {s r : List ℕ} (a b : ℕ) → IsNode whole n s r → a + length s ≤ whole → whole ≤ b + length r
     → (a ≤ n.place) × (n.place < b)
-rises-node a b (node w e ps) h k =
-    let x = shrinks-WhiteSpace w in let y = shrinks-AreProperties ps in (omega arith, omega arith)
+rises-node a b (node w e ps) h k = grind (arith, common_steps, shrinks-WhiteSpace, shrinks-AreProperties)
 
 shrinks-IsNode : {whole : ℕ} {n : Node} {s r : List ℕ} → IsNode whole n s r → length r ≤ length s
-shrinks-IsNode (node w e ps) =
-    let x = shrinks-WhiteSpace w in let y = shrinks-AreProperties ps in omega arith
+shrinks-IsNode (node w e ps) = grind (arith, common_steps, shrinks-WhiteSpace, shrinks-AreProperties)
 
 shrinks-AreNodes : {whole : ℕ} {ns : List Node} {s r : List ℕ} → AreNodes whole ns s r → length r ≤ length s
 shrinks-AreNodes no_node = omega arith
@@ -54,13 +53,7 @@ shrinks-AreNodes (nodes n ns) =
 shrinks-AreGames : {whole : ℕ} {g : Games} {s r : List ℕ} → AreGames whole g s r → length r ≤ length s
 shrinks-AreGames no_game = omega arith
 shrinks-AreGames (games w n ns g v h) =
-    let a = shrinks-WhiteSpace w in
-    let b = shrinks-IsNode n in
-    let c = shrinks-AreNodes ns in
-    let d = shrinks-AreGames g in
-    let e = shrinks-WhiteSpace v in
-    let f = shrinks-AreGames h in
-    omega arith
+    grind (arith, common_steps, shrinks-WhiteSpace, shrinks-IsNode, shrinks-AreNodes, (shrinks-AreGames g), (shrinks-AreGames h))
 
 -- what lies between two ends of a text of `whole` bytes
 rises-nodes : {whole : ℕ} {ns : List Node} {s r : List ℕ} (a b : ℕ) → AreNodes whole ns s r → a + length s ≤ whole → whole ≤ b + length r
@@ -105,5 +98,4 @@ place_at-places c i =
     sym (slice_get-map place_in (ordered_nodes c) i) ∙ ap (λ ps. slice_get ps i) (ordered-places 0 None c)
 
 pub places-rise : (c : Games) (t : List ℕ) → Spells c t → PlacesRise c
-places-rise c t s i j p q h e f =
-    rises-pair 0 (length t) (places c) i j p q (rises-spelled c t s) h (sym (place_at-places c i) ∙ e) (sym (place_at-places c j) ∙ f)
+places-rise c t s i j p q h e f = grind (arith, common_steps, rises-pair, rises-spelled, place_at-places)

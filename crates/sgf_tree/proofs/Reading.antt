@@ -1,4 +1,5 @@
 -- How the machine reads the parts of a text, up to the properties of a node.
+use Rattle.std.proofs.lemmas.Grind.{common_steps}
 use Rattle.std.proofs.Common.{◌≡◌, ℕ, ◌+◌, ◌-◌, Bool, List, [], ◌∷◌, ◌++◌, length, Option, Some, None, option_and_then, refl, ap, ◌∙◌, append_assoc, append-nil, arith, ne_eqb}
 use Rattle.sgf_tree.specs.Tree.{Property, values}
 use Rattle.sgf_tree.specs.RawValue.{IsValue, no_unit, plain, escaped}
@@ -39,9 +40,7 @@ module _ (whole : ℕ) where
   pub one-node : (z : MachineState) (k : Stack) (opens : Bool) (place : ℕ) (t : List ℕ) → place + length (59 ∷ t) ≡ whole
       → ((at : ℕ) → next_state at z 59 ≡ Some (new_node k opens at)) → read whole z (59 ∷ t) ≡ read whole (new_node k opens place) t
   unfolding read
-  one-node z k opens place t f e =
-      let g : whole - length (59 ∷ t) ≡ place = omega arith in
-      rw g (ap (option_and_then (λ x. read whole x t)) (e place))
+  one-node z k opens place t f e = grind (arith, common_steps, option_and_then)
 
   -- white space, where the state stays
   pub over-white : {s r : List ℕ} (z : MachineState) → Stays z → WhiteSpace s r → read whole z s ≡ read whole z r
@@ -53,9 +52,7 @@ module _ (whole : ℕ) where
   unfolding next_state
   over-units n name before so_far no_unit = rw append-nil
   over-units n name before so_far (plain {b} {s} x y u) =
-      one-byte (in_value n name before so_far) (in_value n name before (so_far ++ b ∷ [])) b s
-      (λ at. rw (ne_eqb b 93 x, ne_eqb b 92 y))
-      ∙ rw append_assoc at (over-units n name before (so_far ++ b ∷ []) u)
+      grind (arith, common_steps, one-byte, ne_eqb, append_assoc, (over-units n name before (so_far ++ b ∷ []) u))
   over-units n name before so_far (escaped {b} {s} u) =
       one-byte (in_value n name before so_far) (after_escape n name before so_far) 92 (b ∷ s) (λ at. refl)
       ∙ one-byte (after_escape n name before so_far) (in_value n name before (so_far ++ 92 ∷ b ∷ [])) b s (λ at. refl)

@@ -1,4 +1,5 @@
 -- How the machine goes over one text and then another, and over one byte more.
+use Rattle.std.proofs.lemmas.Grind.{common_steps}
 use Rattle.std.proofs.Common.{◌≡◌, ℕ, ◌+◌, ◌<◌, List, [], ◌∷◌, ◌++◌, length, get_or, take, drop, Option, Some, None, option_and_then, refl, sym, ap, ◌∙◌, add-zero, arith}
 use Rattle.std.proofs.lemmas.List.{take_more, length-take-le, take-append-drop}
 use Rattle.std.proofs.lemmas.Option.{option_and_then_some}
@@ -11,9 +12,7 @@ then_run : (at : ℕ) (x : ℕ) (a b : List ℕ)
     → option_and_then (λ next. run (at + 1) next (a ++ b)) o
     ≡ option_and_then (λ next. run (at + length (x ∷ a)) next b) (option_and_then (λ next. run (at + 1) next a) o)
 then_run at x a b ih None = refl
-then_run at x a b ih (Some y) =
-    let e : at + 1 + length a ≡ at + length (x ∷ a) = omega arith in
-    rw e at ih y
+then_run at x a b ih (Some y) = grind (arith, common_steps)
 
 -- the machine goes over a, and then over b from where it stands
 pub run-append : (at : ℕ) (z : MachineState) (a b : List ℕ)
@@ -29,11 +28,7 @@ run-through at z y a b h = run-append at z a b ∙ ap (option_and_then (λ next.
 -- one byte
 pub run-one : (at : ℕ) (z : MachineState) (b : ℕ) → run at z (b ∷ []) ≡ next_state at z b
 unfolding run
-run-one at z b = some_same (next_state at z b)
-  where
-    some_same : (o : Option MachineState) → option_and_then Some o ≡ o
-    some_same None = refl
-    some_same (Some x) = refl
+run-one at z b = grind (arith, common_steps, option_and_then)
 
 -- no byte
 pub run-none : (at : ℕ) (z : MachineState) → run at z [] ≡ Some z

@@ -1,4 +1,5 @@
 -- How the machine goes over the own nodes of a game.
+use Rattle.std.proofs.lemmas.Grind.{common_steps}
 use Rattle.std.proofs.Common.{◌≡◌, ◌≢◌, ℕ, ◌+◌, ◌<◌, ◌≤◌, true, false, inl, inr, List, [], ◌∷◌, ◌++◌, length, get_or, Some, None, refl, sym, ap, subst, ◌∙◌, arith, ne_eqb}
 use Rattle.std.proofs.lemmas.Bool.{cases_lt}
 use Rattle.sgf_tree.specs.Tree.{Property, Node, Games, no_games, game}
@@ -7,6 +8,7 @@ use Rattle.sgf_tree.specs.inner.Machine.{OpenGame, Stack, Started, opened, in_no
 use Rattle.sgf_tree.specs.Refusal.{IsFaultyAt}
 use Rattle.sgf_tree.specs.inner.Progress.{ComesTo, IsSpan}
 use Rattle.sgf_tree.specs.inner.PropertiesRead.{StandsAfterNode, ArePropertiesRead, with_properties}
+use Rattle.sgf_tree.specs.declared.reader.properties.PartRead.{PartRead}
 use Rattle.sgf_tree.specs.inner.GamesRead.{StandsBetween}
 use Rattle.sgf_tree.proofs.Run.{run-take-step}
 use Rattle.sgf_tree.proofs.Skipping.{stays-opened}
@@ -57,8 +59,7 @@ module _ (t : List ℕ) where
 
   -- a further node
   pub next-node : (end : ℕ) (whole : Started) → StandsAfterNode t end whole → end < length t → get_or t end 0 ≡ 59 → ComesTo t (end + 1) (new_node (ended whole) false end)
-  next-node end whole stands lt e =
-      run-take-step t end stands.state (new_node (ended whole) false end) stands.reached lt (stands.next lt ∙ ap (after_node end (ended whole)) e)
+  next-node end whole stands lt e = grind (arith, common_steps, run-take-step)
 
   -- nodes of a game were read: the last one is `whole`, and `last` is the game so far
   pub record NodesSoFar (end : ℕ) (k : Stack) (last : OpenGame) : Type 0 where
@@ -72,9 +73,9 @@ module _ (t : List ℕ) where
   abbrev pub with_node : OpenGame → Node → OpenGame
   with_node last n = record { first = last.first; more = last.more ++ n ∷ []; below = last.below }
 
-  pub nodes-first : (at place end : ℕ) (k : Stack) → IsSpan is_white_space t at place → ComesTo t at (opened k) → place < length t → get_or t place 0 ≡ 59
-      → ArePropertiesRead t (place + 1) end → (ps : List Property) × NodesSoFar end k (new_game (record { place = place; properties = ps }))
-  nodes-first at place end k white after lt e read =
+  pub nodes-first : (at place : ℕ) (read : PartRead) (k : Stack) → IsSpan is_white_space t at place → ComesTo t at (opened k) → place < length t → get_or t place 0 ≡ 59
+      → ArePropertiesRead t (place + 1) read → (ps : List Property) × NodesSoFar read.end k (new_game (record { place = place; properties = ps }))
+  nodes-first at place whole k white after lt e read =
       let n : Started = record { stack = k; opens = true; place = place; properties = [] } in
       let own = read.reached n refl (place-node at place k white after lt e) in (
         own.0,
@@ -83,13 +84,13 @@ module _ (t : List ℕ) where
           stands = own.1;
           stack_is = refl;
           nothing_below = refl;
-          not_white_space = read.not_white_space;
+          not_white_space = read.white_space.stops;
         },
       )
 
-  pub nodes-next : (place end : ℕ) (k : Stack) (last : OpenGame) → NodesSoFar place k last → place < length t → get_or t place 0 ≡ 59
-      → ArePropertiesRead t (place + 1) end → (ps : List Property) × NodesSoFar end k (with_node last (record { place = place; properties = ps }))
-  nodes-next place end k last so_far lt e read =
+  pub nodes-next : (place : ℕ) (read : PartRead) (k : Stack) (last : OpenGame) → NodesSoFar place k last → place < length t → get_or t place 0 ≡ 59
+      → ArePropertiesRead t (place + 1) read → (ps : List Property) × NodesSoFar read.end k (with_node last (record { place = place; properties = ps }))
+  nodes-next place whole k last so_far lt e read =
       let k' : Stack = record { closed = k.closed; unclosed = last ∷ k.unclosed } in
       let n : Started = record { stack = k'; opens = false; place = place; properties = [] } in
       let begins : ComesTo t (place + 1) (in_node n) =
@@ -101,7 +102,7 @@ module _ (t : List ℕ) where
           stands = own.1;
           stack_is = refl;
           nothing_below = so_far.nothing_below;
-          not_white_space = read.not_white_space;
+          not_white_space = read.white_space.stops;
         },
       )
 

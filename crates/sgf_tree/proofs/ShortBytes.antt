@@ -1,5 +1,6 @@
 -- The bytes of a property of two capitals and one value, all compared at once.
-use Rattle.std.proofs.Common.{◌≡◌, ◌≢◌, ℕ, zero, suc, ◌+◌, ◌-◌, ◌/◌, ◌%◌, ◌^◌, ◌<◌, ◌≤◌, nat_le, IsTrue, List, [], ◌∷◌, replicate, length, get_or, inl, inr, refl, sym, subst, ◌∙◌, arith, le-leb}
+use Rattle.std.proofs.lemmas.Grind.{common_steps}
+use Rattle.std.proofs.Common.{◌≡◌, ◌≢◌, ℕ, zero, suc, ◌+◌, ◌-◌, ◌/◌, ◌%◌, ◌^◌, ◌<◌, ◌≤◌, IsTrue, List, [], ◌∷◌, length, get_or, inl, inr, refl, sym, subst, ◌∙◌, arith, le-leb}
 use Rattle.std.proofs.lemmas.Bool.{and_from, cases_lt}
 use Rattle.std.proofs.lemmas.List.{get_or-append_right}
 use Rattle.std.proofs.lemmas.Simd.{get_or-replicate}
@@ -19,19 +20,14 @@ abbrev most : List ℕ
 most = 229 ∷ 229 ∷ 254 ∷ 1 ∷ 1 ∷ 1 ∷ 1 ∷ 1 ∷ 1 ∷ 1 ∷ 1 ∷ 1 ∷ 1 ∷ 1 ∷ 1 ∷ 1 ∷ []
 
 capital : (b : ℕ) → b < 256 → 229 < above b 91 → IsTrue (is_upper b)
-capital b fits h =
-    let range : (65 ≤ b) × (b ≤ 90) = (omega (arith, h), omega (arith, h)) in
-    and_from (nat_le 65 b) (nat_le b 90) (le-leb 65 b range.0) (le-leb b 90 range.1)
+capital b fits h = grind (arith, common_steps, and_from, le-leb)
 
 plain-byte : (b : ℕ) → b < 256 → 1 < above b 92 → IsTrue (is_plain b)
 plain-byte b fits h = other-plain b (λ e. omega (arith, h)) (λ e. omega (arith, h))
 
 -- from the fourth place on all places are alike
 value-place : (i : ℕ) → 3 ≤ i → i < 16 → (get_or least i 0 ≡ 92) × (get_or most i 0 ≡ 1)
-value-place i low high = (
-  get_or-append_right (91 ∷ 91 ∷ 92 ∷ []) (replicate 13 92) 3 i 0 refl low ∙ get_or-replicate 13 (i - 3) 92 0 (omega arith),
-  get_or-append_right (229 ∷ 229 ∷ 254 ∷ []) (replicate 13 1) 3 i 0 refl low ∙ get_or-replicate 13 (i - 3) 1 0 (omega arith),
-)
+value-place i low high = grind (arith, common_steps, get_or-append_right, get_or-replicate)
 
 low-clear : (n i : ℕ) → n % 8 ≡ 0 → i < 3 → n / 2 ^ i % 2 ≡ 0
 low-clear n zero e lt = omega arith

@@ -1,4 +1,5 @@
 -- What is left after a thing is no longer than what was left before it.
+use Rattle.std.proofs.lemmas.Grind.{common_steps}
 use Rattle.std.proofs.Common.{ℕ, ◌≤◌, List, length, arith}
 use Rattle.sgf_tree.specs.Tree.{Property}
 use Rattle.sgf_tree.specs.RawValue.{IsValue, no_unit, plain, escaped}
@@ -19,8 +20,7 @@ shrinks-IsValue (plain h k v) = let m = shrinks-IsValue v in omega arith
 shrinks-IsValue (escaped v) = let m = shrinks-IsValue v in omega arith
 
 pub shrinks-IsPropValue : {v s r : List ℕ} → IsPropValue v s r → length r ≤ length s
-shrinks-IsPropValue (prop_value w v) =
-    let k = shrinks-WhiteSpace w in let m = shrinks-IsValue v in omega arith
+shrinks-IsPropValue (prop_value w v) = grind (arith, common_steps, shrinks-WhiteSpace, shrinks-IsValue)
 
 pub shrinks-ArePropValues : {vs : List (List ℕ)} {s r : List ℕ} → ArePropValues vs s r → length r ≤ length s
 shrinks-ArePropValues no_value = omega arith
@@ -28,12 +28,7 @@ shrinks-ArePropValues (value v vs) =
     let k = shrinks-IsPropValue v in let m = shrinks-ArePropValues vs in omega arith
 
 pub shrinks-IsProperty : {p : Property} {s r : List ℕ} → IsProperty p s r → length r ≤ length s
-shrinks-IsProperty (property w h l v vs) =
-    let a = shrinks-WhiteSpace w in
-    let b = shrinks-Letters l in
-    let c = shrinks-IsPropValue v in
-    let d = shrinks-ArePropValues vs in
-    omega arith
+shrinks-IsProperty (property w h l v vs) = grind (arith, common_steps, shrinks-WhiteSpace, shrinks-Letters, shrinks-IsPropValue, shrinks-ArePropValues)
 
 pub shrinks-AreProperties : {ps : List Property} {s r : List ℕ} → AreProperties ps s r → length r ≤ length s
 shrinks-AreProperties no_property = omega arith

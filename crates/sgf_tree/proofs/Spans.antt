@@ -1,5 +1,6 @@
 -- The machine over a span of a text, by the offsets of its bytes: white space, letters, the plain bytes of a value.
-use Rattle.std.proofs.Common.{◌≡◌, ◌≢◌, ℕ, zero, suc, ◌+◌, ◌-◌, ◌<◌, ◌≤◌, ◌⊎◌, IsTrue, if◌then◌else◌, List, [], ◌∷◌, ◌++◌, length, get_or, take, drop, slice_range, filter, Some, refl, sym, ap, ◌∙◌, subst, inl, inr, add-zero, append_assoc, append-nil, get_or-drop, length-drop, ne_eqb, arith}
+use Rattle.std.proofs.lemmas.Grind.{common_steps}
+use Rattle.std.proofs.Common.{◌≡◌, ◌≢◌, ℕ, zero, suc, ◌+◌, ◌-◌, ◌<◌, ◌≤◌, ◌⊎◌, IsTrue, List, [], ◌∷◌, ◌++◌, length, get_or, take, drop, slice_range, filter, Some, refl, ap, ◌∙◌, subst, inl, inr, add-zero, append_assoc, append-nil, get_or-drop, length-drop, ne_eqb, arith}
 use Rattle.std.proofs.lemmas.List.{take_more}
 use Rattle.std.proofs.lemmas.List.Elements.{filter-append}
 use Rattle.sgf_tree.specs.Spelling.{is_white_space, is_upper, is_lower}
@@ -19,11 +20,8 @@ one-lower at n name b h = rw (lower-not_upper b h, h)
 
 one-letter : (at : ℕ) (n : Started) (name : List ℕ) (b : ℕ) → IsTrue (is_upper b) ⊎ IsTrue (is_lower b)
     → next_state at (in_name n name) b ≡ Some (in_name n (name ++ filter is_upper (b ∷ [])))
-one-letter at n name b (inl h) =
-    one-upper at n name b h ∙ ap (λ c. Some (in_name n (name ++ (if c then b ∷ [] else [])))) (sym h)
-one-letter at n name b (inr h) =
-    one-lower at n name b h ∙ ap (λ s. Some (in_name n s)) (sym (append-nil name))
-    ∙ ap (λ c. Some (in_name n (name ++ (if c then b ∷ [] else [])))) (sym (lower-not_upper b h))
+one-letter at n name b (inl h) = grind (arith, common_steps, one-upper)
+one-letter at n name b (inr h) = grind (arith, common_steps, one-lower, append-nil, lower-not_upper)
 
 module _ (t : List ℕ) where
   -- each byte of the span takes the state of its offset to the next one's

@@ -1,5 +1,6 @@
 -- Where the sequences of games begin.
-use Rattle.std.proofs.Common.{◌≡◌, ℕ, suc, ◌+◌, List, [], ◌∷◌, ◌++◌, Bool, true, false, None, cond, length, get_or, Option, Some, refl, ap, ◌∙◌, arith, length-append}
+use Rattle.std.proofs.lemmas.Grind.{common_steps}
+use Rattle.std.proofs.Common.{◌≡◌, ℕ, ◌+◌, List, [], ◌∷◌, ◌++◌, None, length, get_or, Option, Some, refl, arith, length-append}
 use Rattle.sgf_tree.specs.Tree.{Node, Games, no_games, game, node_count}
 use Rattle.sgf_tree.specs.FileOrder.{OrderedNode, further_nodes, nodes_from, opening_numbers, sequence_starts}
 use Rattle.sgf_tree.specs.inner.GamesRead.{lasts}
@@ -13,12 +14,7 @@ starts_from at (game first more below after) =
 opening-append : (n : ℕ) (rs qs : List OrderedNode) → opening_numbers n (rs ++ qs) ≡ opening_numbers n rs ++ opening_numbers (n + length rs) qs
 opening-append n [] qs = let e : n + 0 ≡ n = omega arith in rw e
 opening-append n (r ∷ rs) qs =
-    let e : n + 1 + length rs ≡ n + suc (length rs) = omega arith in
-    rw (opening-append (n + 1) rs qs, e) (joined-if _ _ r.opens)
-  where
-    joined-if : (xs ys : List ℕ) (b : Bool) → cond b (n ∷ (xs ++ ys)) (xs ++ ys) ≡ cond b (n ∷ xs) xs ++ ys
-    joined-if xs ys true = refl
-    joined-if xs ys false = refl
+    grind (arith, common_steps, (opening-append (n + 1) rs qs))
 
 further-opens : (n last : ℕ) (ns : List Node) → opening_numbers n (further_nodes last ns) ≡ []
 further-opens n last [] = refl
@@ -28,17 +24,7 @@ starts-of : (at : ℕ) (parent : Option ℕ) (g : Games) → opening_numbers at 
 starts-of at parent no_games = refl
 starts-of at parent (game first more below after) =
     let last : ℕ = at + length more in
-    let own : List OrderedNode = record { node = first; parent = parent; opens = true } ∷ further_nodes at more in
-    let under : List OrderedNode = nodes_from (last + 1) (Some last) below in
-    let next : List OrderedNode = nodes_from (last + 1 + node_count below) parent after in
-    let e : at + length own ≡ last + 1 = omega (arith, length-further_nodes at more) in
-    let f : at + length (own ++ under) ≡ last + 1 + node_count below = omega (arith, length-append own under, length-further_nodes at more, length-nodes_from (last + 1) (Some last) below) in
-    opening-append at (own ++ under) next
-    ∙ ap (λ k. opening_numbers at (own ++ under) ++ opening_numbers k next) f
-    ∙ ap (λ ns. opening_numbers at (own ++ under) ++ ns) (starts-of (last + 1 + node_count below) parent after)
-    ∙ ap (λ ns. ns ++ starts_from (last + 1 + node_count below) after)
-    (opening-append at own under ∙ ap (λ k. opening_numbers at own ++ opening_numbers k under) e
-    ∙ ap (λ ns. (at ∷ ns) ++ opening_numbers (last + 1) under) (further-opens (at + 1) at more) ∙ ap (λ ns. at ∷ ns) (starts-of (last + 1) (Some last) below))
+    grind (arith, common_steps, length-further_nodes, length-append, length-nodes_from, opening-append, further-opens, (starts-of (last + 1 + node_count below) parent after), (starts-of (last + 1) (Some last) below))
 
 pub starts-are : (c : Games) → sequence_starts c ≡ starts_from 0 c
 starts-are c = starts-of 0 None c

@@ -1,6 +1,6 @@
 -- Writing the nodes of a sequence stretch by stretch.
-use Rattle.std.proofs.Common.{◌≡◌, ℕ, zero, suc, ◌+◌, ◌<◌, ◌≤◌, true, false, List, [], ◌∷◌, ◌++◌, length, map, take, drop, get_or, slice_get, Some, option_map, refl, sym, ap, subst, ◌∙◌, arith, append_assoc, append-nil}
-use Rattle.std.specs.List.{flat_map}
+use Rattle.std.proofs.lemmas.Grind.{common_steps}
+use Rattle.std.proofs.Common.{◌≡◌, ℕ, zero, suc, ◌+◌, ◌<◌, ◌≤◌, true, false, List, [], ◌∷◌, ◌++◌, length, take, drop, get_or, slice_get, Some, option_map, refl, sym, ap, subst, ◌∙◌, arith, append_assoc, append-nil}
 use Rattle.std.proofs.lemmas.Grind.{flat_map-append}
 use Rattle.std.proofs.lemmas.List.{map-append, drop-drop, length-map}
 use Rattle.std.proofs.lemmas.Option.{slice_get_within, slice_get_read, slice_get-map, same_Some}
@@ -12,7 +12,7 @@ use Rattle.sgf_tree.specs.FileOrder.{place_at}
 use Rattle.sgf_tree.specs.Written.{node_text}
 use Rattle.sgf_tree.specs.inner.NodeText.{node_in}
 use Rattle.sgf_tree.specs.inner.Outlining.{stretch_by, stretches_by, HasStretches}
-use Rattle.sgf_tree.specs.inner.OwnNodes.{places_of, written_of, IsStretch, AreStretches, no_stretch, stretch_before, EndsMarked}
+use Rattle.sgf_tree.specs.inner.OwnNodes.{written_of, IsStretch, AreStretches, no_stretch, stretch_before, EndsMarked}
 use Rattle.sgf_tree.proofs.Lists.{slice_get-right}
 
 -- the first of some elements that are taken
@@ -27,9 +27,7 @@ first-at (x ∷ xs) zero y ys e = cc
 first-at (x ∷ xs) (suc i) y ys e = first-at xs i y ys e
 
 written-append : (text : List ℕ) (ms ns : List Node) → written_of text (ms ++ ns) ≡ written_of text ms ++ written_of text ns
-written-append text ms ns =
-    ap (λ ps. flat_map node_text (map (node_in text) ps)) (map-append (λ (n : Node). n.place) ms ns) ∙ ap (flat_map node_text) (map-append (node_in text) (places_of ms) (places_of ns))
-    ∙ flat_map-append node_text (map (node_in text) (places_of ms)) (map (node_in text) (places_of ns))
+written-append text ms ns = grind (arith, common_steps, map-append, flat_map-append)
 
 module _ (text : List ℕ) (g : Games) (stretches : List Stretch) (all : List ℕ) where
   -- the nodes of the stretches from this index on are left to write

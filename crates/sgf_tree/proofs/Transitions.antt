@@ -1,5 +1,7 @@
 -- The machine's steps as a relation: one constructor for each way that a byte takes a state to the next one.
-use Rattle.std.proofs.Common.{◌≡◌, ◌≢◌, ℕ, Bool, true, false, ◌==◌, if◌then◌else◌, IsTrue, List, [], ◌∷◌, ◌++◌, Option, Some, None, refl, sym, subst, eqb-true}
+use Rattle.std.proofs.Common.{arith}
+use Rattle.std.proofs.lemmas.Grind.{common_steps}
+use Rattle.std.proofs.Common.{◌≡◌, ◌≢◌, ℕ, Bool, true, false, ◌==◌, if◌then◌else◌, IsTrue, List, [], ◌∷◌, ◌++◌, Option, Some, None, refl, subst, eqb-true}
 use Rattle.std.proofs.lemmas.Bool.{eqb-false}
 use Rattle.std.proofs.lemmas.Option.{none-some, same_Some}
 use Rattle.sgf_tree.specs.Tree.{no_games, Property, values}
@@ -63,61 +65,30 @@ by_test P false x o y e passes otherwise = otherwise refl e
 -- a choice by the byte
 by_byte : (P : ℕ → MachineState → Type 0) (b k : ℕ) (x : MachineState) (o : Option MachineState) (y : MachineState)
     → (if b == k then Some x else o) ≡ Some y → P k x → (b ≢ k → o ≡ Some y → P b y) → P b y
-by_byte P b k x o y e passes otherwise =
-    by_test (P b) (b == k) x o y e (λ t. subst (λ c. P c x) (sym (eqb-true b k t)) passes) (λ f. otherwise (eqb-false b k f))
+by_byte P b k x o y e passes otherwise = grind (arith, common_steps, by_test, eqb-true, eqb-false)
 
 -- the last choice
 at_close : (P : ℕ → MachineState → Type 0) (b : ℕ) (o : Option MachineState) (y : MachineState)
     → (if b == 41 then o else None) ≡ Some y → (o ≡ Some y → P 41 y) → P b y
-at_close P b o y e passes = go (b == 41) refl e
-  where
-    go : (test : Bool) → b == 41 ≡ test → (if test then o else None) ≡ Some y → P b y
-    go true t e = subst (λ c. P c y) (sym (eqb-true b 41 t)) (passes e)
-    go false t e = absurd (none-some y e)
+at_close P b o y e passes = grind (arith, common_steps, eqb-true, none-some)
 
 between : (k : Stack) (b : ℕ) (y : MachineState) → between_games k b ≡ Some y → Between k b y
-between k b y e =
-    by_test (Between k b) (is_white_space b) (after_game k) _ y e white_between (λ _ e.
-    by_byte (Between k) b 40 (opened k) _ y e opens_game (λ _ e.
-    at_close (Between k) b (close k) y e closes_game))
+between k b y e = grind (arith, common_steps, by_test, white_between, by_byte, opens_game, at_close, closes_game)
 
 after : (at : ℕ) (k : Stack) (b : ℕ) (y : MachineState) → after_node at k b ≡ Some y → AfterNode at k b y
-after at k b y e =
-    by_byte (AfterNode at k) b 59 (new_node k false at) _ y e next_node (λ _ e.
-    by_byte (AfterNode at k) b 40 (opened k) _ y e opens_below (λ _ e.
-    at_close (AfterNode at k) b (close k) y e closes_nodes))
+after at k b y e = grind (arith, common_steps, by_byte, next_node, opens_below, at_close, closes_nodes)
 
 -- each step is one of them
 pub transition : (at : ℕ) (z : MachineState) (b : ℕ) (y : MachineState) → next_state at z b ≡ Some y → IsTransition at z b y
 unfolding next_state
 transition at start b y e = by_byte (IsTransition at start) b 239 first_of_mark _ y e mark_first (λ _ e. at_start (between no_stack b y e))
-transition at first_of_mark b y e =
-    by_byte (IsTransition at first_of_mark) b 187 second_of_mark None y e mark_second (λ _ e. absurd (none-some y e))
-transition at second_of_mark b y e =
-    by_byte (IsTransition at second_of_mark) b 191 (after_game no_stack) None y e mark_third (λ _ e. absurd (none-some y e))
-transition at (opened k) b y e =
-    by_test (IsTransition at (opened k) b) (is_white_space b) (opened k) _ y e white_opened (λ _ e.
-    by_byte (IsTransition at (opened k)) b 59 (new_node k true at) None y e first_node (λ _ e. absurd (none-some y e)))
-transition at (in_node n) b y e =
-    by_test (IsTransition at (in_node n) b) (is_white_space b) (in_node n) _ y e white_node (λ _ e.
-    by_test (IsTransition at (in_node n) b) (is_upper b) (in_name n (b ∷ [])) _ y e first_name (λ _ e.
-    ends_bare (after at (ended n) b y e)))
-transition at (in_name n name) b y e =
-    by_test (IsTransition at (in_name n name) b) (is_upper b) (in_name n (name ++ b ∷ [])) _ y e upper_name (λ _ e.
-    by_test (IsTransition at (in_name n name) b) (is_lower b) (in_name n name) _ y e lower_name (λ _ e.
-    by_test (IsTransition at (in_name n name) b) (is_white_space b) (after_name n name) _ y e white_name (λ _ e.
-    by_byte (IsTransition at (in_name n name)) b 91 (in_value n name [] []) None y e first_value (λ _ e. absurd (none-some y e)))))
-transition at (after_name n name) b y e =
-    by_test (IsTransition at (after_name n name) b) (is_white_space b) (after_name n name) _ y e white_after_name (λ _ e.
-    by_byte (IsTransition at (after_name n name)) b 91 (in_value n name [] []) None y e later_value (λ _ e. absurd (none-some y e)))
-transition at (in_value n name before value) b y e =
-    by_byte (IsTransition at (in_value n name before value)) b 93 (after_value n (property_of name before value)) _ y e ends_value (λ not_end e.
-    by_byte (IsTransition at (in_value n name before value)) b 92 (after_escape n name before value) _ y e escapes (λ not_escape e.
-    subst (IsTransition at (in_value n name before value) b) (same_Some _ y e) (plain_byte not_end not_escape)))
+transition at first_of_mark b y e = grind (arith, common_steps, by_byte, mark_second, none-some)
+transition at second_of_mark b y e = grind (arith, common_steps, by_byte, mark_third, none-some)
+transition at (opened k) b y e = grind (arith, common_steps, by_test, white_opened, by_byte, first_node, none-some)
+transition at (in_node n) b y e = grind (arith, common_steps, by_test, white_node, first_name, ends_bare, after)
+transition at (in_name n name) b y e = grind (arith, common_steps, by_test, upper_name, lower_name, white_name, by_byte, first_value, none-some)
+transition at (after_name n name) b y e = grind (arith, common_steps, by_test, white_after_name, by_byte, later_value, none-some)
+transition at (in_value n name before value) b y e = grind (arith, common_steps, by_byte, ends_value, escapes, same_Some, plain_byte)
 transition at (after_escape n name before value) b y e = subst (IsTransition at (after_escape n name before value) b) (same_Some _ y e) escaped_byte
-transition at (after_value n p) b y e =
-    by_test (IsTransition at (after_value n p) b) (is_white_space b) (after_value n p) _ y e white_value (λ _ e.
-    by_byte (IsTransition at (after_value n p)) b 91 (in_value n p.name (values p) []) _ y e next_value (λ _ e.
-    by_test (IsTransition at (after_value n p) b) (is_upper b) (in_name (with_property n p) (b ∷ [])) _ y e next_name (λ _ e.
-    ends_node (after at (ended (with_property n p)) b y e))))
+transition at (after_value n p) b y e = grind (arith, common_steps, by_test, white_value, by_byte, next_value, next_name, ends_node, after)
 transition at (after_game k) b y e = at_game (between k b y e)

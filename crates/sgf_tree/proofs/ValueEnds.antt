@@ -1,5 +1,6 @@
 -- The units of a raw value, by the machine, and where the next `]` stands.
-use Rattle.std.proofs.Common.{◌≡◌, ◌≢◌, ℕ, ◌+◌, ◌-◌, ◌<◌, ◌≤◌, true, not, ◌==◌, List, [], ◌++◌, length, get_or, take, drop, slice_range, Some, None, refl, sym, ap, subst, ◌∙◌, arith, eqb-true, get_or-take, get_or-drop, ne_eqb}
+use Rattle.std.proofs.lemmas.Grind.{common_steps}
+use Rattle.std.proofs.Common.{◌≡◌, ◌≢◌, ℕ, ◌+◌, ◌-◌, ◌<◌, ◌≤◌, true, not, List, [], ◌++◌, length, get_or, take, drop, slice_range, Some, None, refl, sym, ap, subst, ◌∙◌, arith, eqb-true, get_or-take, get_or-drop, ne_eqb}
 use Rattle.std.proofs.Math.Seq.{take-add}
 use Rattle.std.proofs.Common.{length-take, length-drop}
 use Rattle.std.proofs.lemmas.Bool.{and_parts, not-true, eqb-false, eq-eqb}
@@ -25,29 +26,22 @@ reaches-all t z h = ap (run 0 start) (sym (take_all (length t) t (omega arith)))
 
 -- the text ends in a state where it may not end
 pub ends-faulty : (t : List ℕ) (z : MachineState) → ComesTo t (length t) z → accepted z ≡ None → IsFaultyAt t (length t)
-ends-faulty t z h a =
-    let fault = ended-fault t z (reaches-all t z h) a in record { unspelled = fault.1; first_fault = fault.0 }
+ends-faulty t z h a = grind (arith, common_steps, ended-fault, reaches-all)
 
 -- a byte is refused
 pub refused-faulty : (t : List ℕ) (at : ℕ) (z : MachineState) → at < length t → ComesTo t at z → next_state at z (get_or t at 0) ≡ None → IsFaultyAt t at
-refused-faulty t at z lt h s =
-    let fault = refused-fault t at z lt h s in record { unspelled = fault.1; first_fault = fault.0 }
+refused-faulty t at z lt h s = grind (arith, common_steps, refused-fault)
 
 -- a plain byte is neither `]` nor `\`
 pub plain-other : (b : ℕ) → is_plain b ≡ true → (b ≢ 93) × (b ≢ 92)
-plain-other b h =
-    let parts = and_parts (not (b == 93)) (not (b == 92)) h in
-    (eqb-false b 93 (not-true (b == 93) parts.0), eqb-false b 92 (not-true (b == 92) parts.1))
+plain-other b h = grind (arith, common_steps, and_parts, not, eqb-false, not-true)
 
 -- and a byte that is neither is plain
 pub other-plain : (b : ℕ) → b ≢ 93 → b ≢ 92 → is_plain b ≡ true
 other-plain b x y = rw (ne_eqb b 93 x, ne_eqb b 92 y)
 
 span-at : (t : List ℕ) (end i : ℕ) → end ≤ i → i < length t → get_or (slice_range t end (length t)) (i - end) 0 ≡ get_or t i 0
-span-at t end i le lt =
-    let short : i - end < length t - end = omega arith in
-    let e : end + (i - end) ≡ i = omega arith in
-    rw get_or-take (get_or-drop end t (i - end) 0 ∙ ap (λ k. get_or t k 0) e)
+span-at t end i le lt = grind (arith, common_steps, get_or-take, get_or-drop)
 
 -- the search for `]` finds the next one
 pub bracket-found : (t : List ℕ) (at further : ℕ) → at ≤ length t

@@ -1,4 +1,5 @@
 -- Raw values, by the grammar: how one is put together from its units, and that it has one end.
+use Rattle.std.proofs.lemmas.Grind.{common_steps}
 use Rattle.std.proofs.Common.{◌≡◌, ◌≢◌, ℕ, zero, suc, ◌+◌, ◌-◌, ◌<◌, ◌≤◌, List, [], ◌∷◌, ◌++◌, length, get_or, take, drop, slice_range, refl, sym, ap, subst, ◌∙◌, arith, length-drop, get_or-drop}
 use Rattle.std.proofs.Math.Seq.{drop-length}
 use Rattle.std.proofs.lemmas.List.{drop-drop}
@@ -85,10 +86,4 @@ pub none-ended : (t : List ℕ) (at : ℕ) → SpellsValue t at (length t) → S
 none-ended t at h v r k = value-unended (subst (IsValue (slice_range t at (length t)) (drop at t)) (drop-length t) h) k
 
 pub none-cut : (t : List ℕ) (at a : ℕ) → a + 1 ≡ length t → get_or t a 0 ≡ 92 → SpellsValue t at a → SpellsNoValue t at
-none-cut t at a e f h v r k = value-cut (subst (IsValue (slice_range t at a) (drop at t)) (last-left t a e f) h) k
-  where
-    last-left : (s : List ℕ) (i : ℕ) → i + 1 ≡ length s → get_or s i 0 ≡ 92 → drop i s ≡ 92 ∷ []
-    last-left [] i e f = absurd (omega arith)
-    last-left (b ∷ []) zero e f = ap (λ c. c ∷ []) f
-    last-left (b ∷ c ∷ s) zero e f = absurd (omega arith)
-    last-left (b ∷ s) (suc i) e f = last-left s i (omega arith) f
+none-cut t at a e f h v r k = grind (arith, common_steps, value-cut)

@@ -1,10 +1,9 @@
 -- How the values of a property are read, one after another.
-use Rattle.std.proofs.Common.{◌≡◌, ◌≢◌, ℕ, ◌+◌, ◌<◌, ◌≤◌, false, List, [], length, get_or, slice_range, Some, refl, arith}
+use Rattle.std.proofs.Common.{◌≡◌, ℕ, ◌+◌, ◌<◌, ◌≤◌, List, [], length, get_or, slice_range, Some, refl, arith}
 use Rattle.sgf_tree.specs.Tree.{Property, values}
 use Rattle.sgf_tree.specs.Spelling.{is_white_space}
 use Rattle.sgf_tree.specs.inner.Machine.{Started, in_value, after_value, property_of, next_state}
 use Rattle.sgf_tree.specs.inner.Progress.{ComesTo, IsSpan, IsValueEnd}
-use Rattle.sgf_tree.specs.inner.PropertiesRead.{AreValuesRead}
 use Rattle.sgf_tree.proofs.Run.{run-take-step}
 use Rattle.sgf_tree.proofs.Skipping.{stays-after_value}
 use Rattle.sgf_tree.proofs.Spans.{run-white}
@@ -30,8 +29,6 @@ module _ (t : List ℕ) where
   -- a value after them, and the white space there
   pub record ValuesBefore (bracket at : ℕ) : Type 0 where
     pub rises : bracket < at
-    pub within : at ≤ length t
-    pub not_white_space : at < length t → is_white_space (get_or t at 0) ≡ false
     pub reached : (n : Started) (name : List ℕ) → ComesTo t (bracket + 1) (in_value n name [] [])
         → (p : Property) × ComesTo t at (after_value n p)
 
@@ -39,8 +36,6 @@ module _ (t : List ℕ) where
   values-step bracket at end next so_far is_end white =
       record {
         rises = omega (arith, so_far.rises, is_end.rises, white.rises);
-        within = white.within;
-        not_white_space = white.stops;
         reached = λ n name h.
             let before = so_far.reached n name h in
             let raw : List ℕ = slice_range t (at + 1) end in
@@ -59,14 +54,4 @@ module _ (t : List ℕ) where
             let there = before.reached n name h in
             let p : Property = there.0 in
             (p.name, values p, run-take-step t at (after_value n p) (in_value n p.name (values p) []) there.1 lt (rw e (step-again at n p)));
-      }
-
-  -- none does
-  pub values-done : (bracket at : ℕ) → ValuesBefore bracket at → (at < length t → get_or t at 0 ≢ 91) → AreValuesRead t bracket at
-  values-done bracket at before other =
-      record {
-        rises = before.rises;
-        within = before.within;
-        stops = λ lt. (before.not_white_space lt, other lt);
-        reached = before.reached;
       }

@@ -1,30 +1,28 @@
 -- Going over the nodes of a sequence on the text.
-use Rattle.std.proofs.Common.{◌≡◌, ◌≢◌, ℕ, zero, suc, ◌+◌, ◌-◌, ◌<◌, ◌≤◌, ◌==◌, true, false, IsTrue, List, [], ◌∷◌, ◌++◌, length, get_or, slice_get, slice_range, drop, Option, Some, None, option_map, refl, sym, ap, subst, ◌∙◌, inl, inr, arith, length-drop}
+use Rattle.std.proofs.lemmas.Grind.{common_steps}
 use Rattle.std.specs.List.{range_with_len}
-use Rattle.std.specs.Prelude.{option_to_list}
+use Rattle.std.proofs.Common.{◌≡◌, ◌≢◌, ℕ, zero, suc, ◌+◌, ◌-◌, ◌<◌, ◌≤◌, true, false, List, [], ◌∷◌, ◌++◌, length, get_or, slice_get, slice_range, drop, Option, Some, None, option_map, refl, sym, ap, subst, ◌∙◌, inl, inr, arith, length-drop}
 use Rattle.std.proofs.lemmas.Bool.{cases_lt, cases_Bool, false≢true}
 use Rattle.std.proofs.lemmas.List.{drop-drop, drop_all}
-use Rattle.sgf_tree.specs.Tree.{Property, Node, Games, no_games, game, node_count}
+use Rattle.std.proofs.lemmas.Option.{slice_get_cases}
+use Rattle.sgf_tree.specs.Tree.{Property, lone_property, Node, Games, no_games, game, node_count}
 use Rattle.sgf_tree.specs.FileOrder.{OrderedNode, further_nodes, nodes_from, ordered_nodes, node_at, nodes_at, place_at, sequence_starts, sequence_start, sequence_end}
-use Rattle.sgf_tree.specs.RawValue.{IsValue}
-use Rattle.sgf_tree.specs.Spelling.{is_white_space, is_upper, WhiteSpace, prop_value, ArePropValues, no_value, value, property, AreProperties, no_property, properties, IsNode, node, AreNodes, no_node, nodes, AreGames, no_game, games, Spells, spells}
+use Rattle.sgf_tree.specs.Spelling.{is_white_space, is_upper, WhiteSpace, no_white_space, white_space, property, IsProperty, AreProperties, no_property, properties, IsNode, node, AreNodes, no_node, nodes, AreGames, no_game, games, Spells, spells}
 use Rattle.sgf_tree.specs.declared.sequences.Sequence.{Sequence}
 use Rattle.sgf_tree.specs.declared.sequences.Sequences.{Sequences}
-use Rattle.sgf_tree.specs.inner.KeptEnds.{IsRawValueAt}
 use Rattle.sgf_tree.specs.inner.Machine.{games_in}
 use Rattle.sgf_tree.specs.inner.Outlining.{IsOutlined}
-use Rattle.sgf_tree.specs.inner.NodeText.{is_letter, left_after, NoPropertyFollows, IsNodeIn}
-use Rattle.sgf_tree.specs.inner.Progress.{IsSpan, SpellsNoValue}
-use Rattle.sgf_tree.specs.inner.PropertiesRead.{IsShortProperty}
-use Rattle.sgf_tree.specs.inner.Walking.{nodes_between, IsWalk, IsNodeEnded}
-use Rattle.sgf_tree.proofs.Classes.{upper-not_white_space, upper-not_bracket, white-not_upper, white-not_bracket}
-use Rattle.sgf_tree.proofs.Iterating.{byte-at, run-front, run-drop, white-between, white-up-to}
+use Rattle.sgf_tree.specs.inner.NodeText.{properties_in, node_in, NoPropertyFollows, ArePropertiesIn, IsNodeIn}
+use Rattle.sgf_tree.specs.inner.Progress.{IsSpan, IsLoneFront}
+use Rattle.sgf_tree.specs.inner.Walking.{nodes_between, AreEnded, IsWalk}
+use Rattle.sgf_tree.proofs.Classes.{white-not_upper, white-not_bracket}
+use Rattle.sgf_tree.proofs.Iterating.{byte-at, run-drop, past-white, white-between}
+use Rattle.sgf_tree.proofs.LoneNodes.{lone, front-left, spelled as front-spelled}
 use Rattle.sgf_tree.proofs.NodeEnds.{nothing-skipped}
 use Rattle.sgf_tree.proofs.NodesSpelled.{IsEnd, all, tail, end-WhiteSpace, end-IsNode, end-AreNodes, end-AreGames, end-ByteOrderMark, ends-at, own-spelled}
-use Rattle.sgf_tree.proofs.NodeTexts.{white-same, white-none, left-white, property-is, ends-values}
-use Rattle.sgf_tree.proofs.Outlined.{start-listed, end-listed, own-at, node-in, one-listed, sequence-some, sequence-within, entry-in}
-use Rattle.sgf_tree.proofs.ShortProperties.{two-letters, two-value}
-use Rattle.sgf_tree.proofs.ValueSpelled.{value-same}
+use Rattle.sgf_tree.proofs.OrderedNodes.{length-ordered_nodes}
+use Rattle.sgf_tree.proofs.NodeTexts.{white-same, white-none, white-join, ends-values, properties-in}
+use Rattle.sgf_tree.proofs.Outlined.{start-listed, end-listed, own-at, node-told, one-listed, sequence-some, sequence-within, entry-in}
 use Rattle.sgf_tree.proofs.WrittenParts.{head-same, upper-first}
 
 -- properties end at one place
@@ -34,122 +32,85 @@ properties-same no_property ends (properties p ps) done = absurd (upper-first p 
 properties-same (properties p ps) ends no_property done = absurd (upper-first p done)
 properties-same (properties p ps) ends (properties q qs) done = properties-same ps ends (head-same p (ends-values ps ends) (properties q qs) done).1 done
 
--- no property follows before white space and another byte than a property begins with
-ends-between : (t : List ℕ) (from k : ℕ) → IsSpan is_white_space t from k → (k < length t → (get_or t k 0 ≢ 91) × (is_upper (get_or t k 0) ≡ false)) → NoPropertyFollows (drop from t)
-ends-between t from k run other c u v =
-    elim (cases_lt k (length t)) [
-      | inl lt ↦ ends-at (get_or t k 0) (run.stops lt) (other lt).0 (other lt).1 (white-up-to t from k run lt) c u v
-      | inr le ↦
-          elim (cases_Bool (is_white_space c)) [
-            | inl h ↦ (white-not_bracket c h, white-not_upper c h)
-            | inr h ↦ absurd (white-none (subst (WhiteSpace (drop from t)) (drop_all k t le) (white-between t from k run)) v h)
-          ]
-    ]
+-- white space doesn't go past another byte
+white-stays : {s r : List ℕ} → WhiteSpace s r → ((b : ℕ) (u : List ℕ) → s ≡ b ∷ u → is_white_space b ≡ false) → r ≡ s
+white-stays no_white_space other = refl
+white-stays (white_space {b} {s} h w) other = absurd (false≢true (sym (other b s refl) ∙ h))
 
--- values and then properties
-pub record IsLeft (s r : List ℕ) : Type 0 where
-  pub values : List (List ℕ)
-  pub middle : List ℕ
-  pub first : ArePropValues values s middle
-  pub more : List Property
-  pub then : AreProperties more middle r
+-- properties after others, with white space between them and after them
+properties-append : {ps qs : List Property} {s m r : List ℕ} → AreProperties ps s m → AreProperties qs m r → AreProperties (ps ++ qs) s r
+properties-append no_property others = others
+properties-append (properties p ps) others = properties p (properties-append ps others)
 
--- a value comes next, and what is after it
-left-value : {vs : List (List ℕ)} {qs : List Property} {s m r u : List ℕ} → ArePropValues vs s m → AreProperties qs m r → NoPropertyFollows r → WhiteSpace s (91 ∷ u)
-    → (v : List ℕ) × (q : List ℕ) × IsValue v u (93 ∷ q) × IsLeft q r
-left-value {u = u} no_value no_property ends w = absurd ((ends 91 u w).0 refl)
-left-value no_value (properties (property {b} x h l v vs) ps) ends w =
-    absurd (false≢true (sym (upper-not_bracket b h) ∙ ap (λ c. c == 91) (white-same x w (upper-not_white_space b h) refl).0))
-left-value (value {v} (prop_value {r = q} x h) vs) ps ends w =
-    (v, q, subst (λ y. IsValue v y (93 ∷ q)) (white-same x w refl refl).1 h, record { values = _; middle = _; first = vs; more = _; then = ps })
-
--- a name comes next, and what is after it
-left-name : {vs : List (List ℕ)} {qs : List Property} {s m r u : List ℕ} {b : ℕ} → ArePropValues vs s m → AreProperties qs m r → NoPropertyFollows r → WhiteSpace s (b ∷ u) → IsTrue (is_upper b)
-    → IsLeft (left_after is_letter (b ∷ u)) r
-left-name {u = u} {b = b} no_value no_property ends w h = absurd (false≢true (sym (ends b u w).1 ∙ h))
-left-name {b = b} (value (prop_value x k) vs) ps ends w h =
-    absurd (false≢true (ap is_upper (white-same x w refl (upper-not_white_space b h)).0 ∙ h))
-left-name {u = u} {b = b} no_value (properties {t = m} (property {b = c} {v = first} {t} {u = x} {vs = vs} z k l v more) ps) ends w h =
-    let same = white-same z w (upper-not_white_space c k) (upper-not_white_space b h) in
-    let after : x ≡ left_after is_letter (b ∷ u) =
-    sym (property-is {b = c} k l v more (ends-values ps ends)).0 ∙ ap (λ d. left_after is_letter (d ∷ t)) same.0 ∙ ap (λ y. left_after is_letter (b ∷ y)) same.1 in
-    record { values = _; middle = m; first = subst (λ y. ArePropValues (first ∷ vs) y m) after (value v more); more = _; then = ps }
-
--- neither comes next
-left-nothing : {vs : List (List ℕ)} {qs : List Property} {s m r : List ℕ} → ArePropValues vs s m → AreProperties qs m r → NoPropertyFollows s → s ≡ r
-left-nothing no_value no_property ends = refl
-left-nothing no_value (properties p ps) ends = absurd (upper-first p ends)
-left-nothing (value (prop_value {t} w h) vs) ps ends = absurd ((ends 91 t w).0 refl)
+properties-joined : {ps qs : List Property} {s m n r u : List ℕ} → AreProperties ps s m → WhiteSpace m n → AreProperties qs n r → WhiteSpace r u
+    → (all : List Property) × (end : List ℕ) × AreProperties all s end × WhiteSpace end u
+properties-joined {ps} {m = m} are w no_property v = (ps, m, are, white-join w v)
+properties-joined {ps} {r = r} are w (properties {p} {ps = qs} (property x h l f vs) more) v =
+    (ps ++ p ∷ qs, r, properties-append are (properties (property (white-join w x) h l f vs) more), v)
 
 module _ (t : List ℕ) where
-  -- the text goes on with parts of the node that it begins with, or this node ends
-  pub record IsInNode (at : ℕ) : Type 0 where
-    pub within : at ≤ length t
-    pub properties : List Property
-    pub rest : List ℕ
-    pub spelled : AreProperties properties (drop 1 t) rest
-    pub ends : NoPropertyFollows rest
-    pub left : IsLeft (drop at t) rest
+  -- no property follows where they have ended
+  pub ended-follows : (at next : ℕ) (is : AreEnded t at next) → NoPropertyFollows is.rest
+  ended-follows at next is c u v =
+      elim (cases_lt next (length t)) [
+        | inl lt ↦ ends-at (get_or t next 0) (is.stops lt) (is.ends lt).0 (is.ends lt).1 (subst (WhiteSpace is.rest) (byte-at t next lt) is.white_space) c u v
+        | inr le ↦
+            elim (cases_Bool (is_white_space c)) [
+              | inl h ↦ (white-not_bracket c h, white-not_upper c h)
+              | inr h ↦ absurd (white-none (subst (WhiteSpace is.rest) (drop_all next t le) is.white_space) v h)
+            ]
+      ]
 
-  pub in-begins : IsNodeIn t → IsInNode 1
-  in-begins is = record {
-    within = let e = ap length is.begins in omega arith;
-    properties = is.properties.properties;
-    rest = is.properties.rest;
-    spelled = is.properties.spelled;
-    ends = is.properties.ends;
-    left = record { values = []; middle = drop 1 t; first = no_value; more = is.properties.properties; then = is.properties.spelled };
+  pub ended-held : (at next : ℕ) → AreEnded t at next → ArePropertiesIn (drop at t)
+  ended-held at next is = record { properties = is.properties; rest = is.rest; spelled = is.spelled; ends = ended-follows at next is }
+
+  -- after properties and white space they end where those end that come next
+  pub ended-after : (from at next : ℕ) {ps : List Property} {m : List ℕ} → AreProperties ps (drop from t) m → WhiteSpace m (drop at t) → AreEnded t at next → AreEnded t from next
+  ended-after from at next are w is =
+      let both = properties-joined are w is.spelled is.white_space in
+      record {
+        within = is.within;
+        properties = both.0;
+        rest = both.1;
+        spelled = both.2;
+        white_space = both.3;
+        stops = is.stops;
+        ends = is.ends;
+      }
+
+  -- none begins at `at`
+  pub record IsClosed (at : ℕ) : Type 0 where
+    pub within : at ≤ length t
+    pub stops : at < length t → is_white_space (get_or t at 0) ≡ false
+    pub ends : at < length t → (get_or t at 0 ≢ 91) × (is_upper (get_or t at 0) ≡ false)
+
+  abbrev pub closed-ended : (at : ℕ) → IsClosed at → AreEnded t at at
+  closed-ended at is = record {
+    within = is.within;
+    properties = [];
+    rest = drop at t;
+    spelled = no_property;
+    white_space = no_white_space;
+    stops = is.stops;
+    ends = is.ends;
   }
 
-  module _ (at next : ℕ) (is : IsInNode at) (run : IsSpan is_white_space t at next) where
-    -- on to another place in it
-    on : (end : ℕ) → end ≤ length t → IsLeft (drop end t) is.rest → IsInNode end
-    on end within left = record { within = within; properties = is.properties; rest = is.rest; spelled = is.spelled; ends = is.ends; left = left }
+  -- so they end there
+  pub closed-same : (at next : ℕ) → IsClosed at → AreEnded t at next → next ≡ at
+  closed-same at next closed is = same is.properties is.rest is.spelled is.white_space
+    where
+      other : (b : ℕ) (u : List ℕ) → drop at t ≡ b ∷ u → is_white_space b ≡ false
+      other b u e =
+          elim (cases_lt at (length t)) [
+            | inl lt ↦ let here = byte-at t at lt in let byte : get_or t at 0 ≡ b = cc in ap is_white_space (sym byte) ∙ closed.stops lt
+            | inr le ↦ let none = drop_all at t le in absurd (cc)
+          ]
 
-    pub in-name : (end : ℕ) → next < length t → IsTrue (is_upper (get_or t next 0)) → IsSpan is_letter t next end → IsInNode end
-    in-name end lt h letters =
-        let rises : next ≤ end = letters.rises in
-        let to : next + (end - next) ≡ end = omega arith in
-        let after : left_after is_letter (get_or t next 0 ∷ drop (next + 1) t) ≡ drop end t =
-        ap (left_after is_letter) (sym (byte-at t next lt)) ∙ (run-front is_letter (drop next t) (end - next) (run-drop is_letter t next end letters)).1
-        ∙ drop-drop (end - next) next t ∙ ap (λ i. drop i t) to in
-        on end letters.within (subst (λ s. IsLeft s is.rest) after (left-name is.left.first is.left.then is.ends (white-up-to t at next run lt) h))
-
-    value-next : next < length t → get_or t next 0 ≡ 91 → (v : List ℕ) × (q : List ℕ) × IsValue v (drop (next + 1) t) (93 ∷ q) × IsLeft q is.rest
-    value-next lt e = left-value is.left.first is.left.then is.ends (subst (λ b. WhiteSpace (drop at t) (b ∷ drop (next + 1) t)) e (white-up-to t at next run lt))
-
-    pub value-ends : next < length t → get_or t next 0 ≡ 91 → ¬ SpellsNoValue t (next + 1)
-    value-ends lt e none = let there = value-next lt e in none there.0 there.1 there.2
-
-    pub in-value : (close : ℕ) → next < length t → get_or t next 0 ≡ 91 → IsRawValueAt t (next + 1) close → IsInNode (close + 1)
-    in-value close lt e closed =
-        let there = value-next lt e in
-        let within : close < length t = closed.within in
-        let here : IsValue (slice_range t (next + 1) close) (drop (next + 1) t) (93 ∷ drop (close + 1) t) =
-        subst (IsValue (slice_range t (next + 1) close) (drop (next + 1) t)) (byte-at t close within ∙ ap (λ b. b ∷ drop (close + 1) t) closed.bracket) closed.spelled in
-        on (close + 1) (omega arith) (subst (λ s. IsLeft s is.rest) (value-same there.2 here).1 there.3)
-
-    pub in-ended : (next < length t → (get_or t next 0 ≢ 91) × (is_upper (get_or t next 0) ≡ false)) → IsNodeEnded t next
-    in-ended other =
-        let same : drop at t ≡ is.rest = left-nothing is.left.first is.left.then (ends-between t at next run other) in
-        record {
-          text_end = at;
-          properties = is.properties;
-          spelled = subst (AreProperties is.properties (drop 1 t)) (sym same) is.spelled;
-          white_space = run;
-          ends = other;
-        }
-
-  -- on past a short property's first value
-  pub in-short : (at next close : ℕ) → IsInNode at → IsSpan is_white_space t at next → IsShortProperty t next close → IsInNode (close + 1)
-  in-short at next close is run short =
-      let bracket : ℕ = next + 2 in
-      let lt : bracket + 1 < length t = omega (arith, short.plain.rises, short.within) in
-      let value = two-value t next close short in
-      let here : IsSpan is_white_space t bracket bracket = nothing-skipped t bracket (omega (arith, lt)) (omega (arith, short.bracket)) in
-      let named : IsInNode bracket = in-name at next is run bracket (omega (arith, lt)) short.first (two-letters t next close short) in
-      in-value bracket bracket named here close (omega (arith, lt)) short.bracket
-      (record { rises = value.rises; within = value.within; bracket = value.bracket; spelled = value.spelled })
+      same : (ps : List Property) (r : List ℕ) → AreProperties ps (drop at t) r → WhiteSpace r (drop next t) → next ≡ at
+      same [] r no_property w =
+          let e : drop next t ≡ drop at t = white-stays w other in
+          omega (arith, is.within, closed.within, ap length e, length-drop next t, length-drop at t)
+      same (p ∷ ps) r (properties q are) w = absurd (upper-first q (ended-follows at at (closed-ended at closed)))
 
 -- an element, by what a function gives for it
 mapped : {A B : Type 0} (f : A → B) (o : Option A) (y : B) → option_map f o ≡ Some y → (x : A) × (o ≡ Some x) × (f x ≡ y)
@@ -241,60 +202,242 @@ module _ (t : List ℕ) where
   chained-at : (i : ℕ) (rs : List OrderedNode) (r q : OrderedNode) → Chained rs → slice_get rs i ≡ Some r → slice_get rs (suc i) ≡ Some q → q.opens ≡ false → IsFollowed r.node q.node
   chained-at i [] r q c e f h = absurd (cc)
   chained-at zero (x ∷ []) r q c e f h = absurd (cc)
-  chained-at zero (x ∷ y ∷ rs) r q c e f h =
-      let one : x ≡ r = cc in
-      let other : y ≡ q = cc in
-      subst (λ (z : OrderedNode). IsFollowed r.node z.node) other
-      (subst (λ (z : OrderedNode). IsFollowed z.node y.node) one (c.0 (ap (λ (z : OrderedNode). z.opens) other ∙ h)))
+  chained-at zero (x ∷ y ∷ rs) r q c e f h = grind (arith, common_steps)
   chained-at (suc i) (x ∷ rs) r q c e f h = chained-at i rs r q c.1 e f h
 
-  -- where the node ends, the next one is
-  followed-at : (n m : Node) (e : ℕ) → IsFollowed n m → IsNodeEnded (drop n.place t) e → m.place ≡ n.place + e
-  followed-at n m e is ended =
-      let s : List ℕ = drop n.place t in
-      let from : ℕ = ended.text_end in
-      let rises : from ≤ e = ended.white_space.rises in
-      let to : from + (e - from) ≡ e = omega arith in
-      let run = run-drop is_white_space s from e ended.white_space in
-      let ends : NoPropertyFollows (drop from s) = ends-between s from e ended.white_space ended.ends in
-      let own : AreProperties ended.properties (drop (n.place + 1) t) (drop from s) =
-      subst (λ x. AreProperties ended.properties x (drop from s)) (drop-drop 1 n.place t) ended.spelled in
-      let same : is.rest ≡ drop from s = properties-same is.spelled (ends-at 59 refl (λ f. absurd (omega (arith, f))) refl is.white) own ends in
-      let next : drop e s ≡ 59 ∷ is.next =
-      ap (λ i. drop i s) (sym to) ∙ sym (drop-drop (e - from) from s) ∙ sym (run-front is_white_space (drop from s) (e - from) run).1
-      ∙ left-white (subst (λ x. WhiteSpace x (59 ∷ is.next)) same is.white) refl in
-      omega (arith, is.place_is, ap length next, length-drop e s, length-drop n.place t)
+  -- where the properties of the node end, the next one is
+  followed-at : (n m : Node) (next : ℕ) → IsFollowed n m → AreEnded t (n.place + 1) next → m.place ≡ next
+  followed-at n m next is ended =
+      let same : is.rest ≡ ended.rest =
+      properties-same is.spelled (ends-at 59 refl (λ f. absurd (omega (arith, f))) refl is.white) ended.spelled (ended-follows t (n.place + 1) next ended) in
+      let white : WhiteSpace ended.rest (59 ∷ is.next) = subst (λ x. WhiteSpace x (59 ∷ is.next)) same is.white in
+      elim (cases_lt next (length t)) [
+        | inl lt ↦
+            let here = white-same (subst (WhiteSpace ended.rest) (byte-at t next lt) ended.white_space) white (ended.stops lt) refl in
+            omega (arith, is.place_is, ap length here.1, length-drop (next + 1) t)
+        | inr le ↦ absurd (white-none (subst (WhiteSpace ended.rest) (drop_all next t le) ended.white_space) white refl)
+      ]
 
   -- the place of the next node of a sequence
-  pub next-place : (c : Games) → Spells c t → (i k p e : ℕ) → place_at c i ≡ Some p → k < length (sequence_starts c) → sequence_start c k ≤ i → i + 1 < sequence_end c k
-      → IsNodeEnded (drop p t) e → place_at c (i + 1) ≡ Some (p + e)
-  next-place c spelled i k p e at within low high ended =
+  next-place : (c : Games) → Spells c t → (i k p next : ℕ) → place_at c i ≡ Some p → k < length (sequence_starts c) → sequence_start c k ≤ i → i + 1 < sequence_end c k
+      → AreEnded t (p + 1) next → place_at c (i + 1) ≡ Some next
+  next-place c spelled i k p next at within low high ended =
       let here = mapped (λ (r : OrderedNode). r.node.place) (slice_get (ordered_nodes c) i) p at in
       let there = further-node c k (i + 1) within (omega arith) high in
       let more : i + 1 ≡ suc i = omega arith in
       let is = chained-at i (ordered_nodes c) here.0 there.0 (all-chained c spelled) here.1 (ap (slice_get (ordered_nodes c)) (sym more) ∙ there.1) there.2 in
-      let place : there.0.node.place ≡ here.0.node.place + e =
-      followed-at here.0.node there.0.node e is (subst (λ q. IsNodeEnded (drop q t) e) (sym here.2) ended) in
-      ap (option_map (λ (r : OrderedNode). r.node.place)) there.1 ∙ ap Some (place ∙ ap (λ q. q + e) here.2)
+      let place : there.0.node.place ≡ next = followed-at here.0.node there.0.node next is (subst (λ q. AreEnded t (q + 1) next) (sym here.2) ended) in
+      ap (option_map (λ (r : OrderedNode). r.node.place)) there.1 ∙ ap Some place
+
+  -- properties after white space
+  pub after-white : (from at : ℕ) → IsSpan is_white_space t from at → ArePropertiesIn (drop from t) → (properties_in (drop from t) ≡ properties_in (drop at t)) × ArePropertiesIn (drop at t)
+  after-white from at run held =
+      let rises : from ≤ at = run.rises in
+      let to : from + (at - from) ≡ at = omega arith in
+      subst (λ s. (properties_in (drop from t) ≡ properties_in s) × ArePropertiesIn s) (drop-drop (at - from) from t ∙ ap (λ i. drop i t) to)
+      (past-white (drop from t) (at - from) (run-drop is_white_space t from at run) held)
+
+  pub span-end : (from at : ℕ) → IsSpan is_white_space t from at → IsSpan is_white_space t at at
+  span-end from at run = record { rises = omega arith; within = run.within; passing = λ i low high. absurd (omega arith); stops = run.stops }
+
+  -- the `;` of a node
+  pub node-closed : (p : ℕ) → p < length t → get_or t p 0 ≡ 59 → IsClosed t p × IsSpan is_white_space t p p
+  node-closed p lt e = (
+    record {
+      within = omega arith;
+      stops = λ _. ap is_white_space e;
+      ends = λ _. ((λ other. absurd (omega (arith, other, e))), ap is_upper e);
+    },
+    nothing-skipped t p lt (omega (arith, e)),
+  )
+
+  module _ (at number end : ℕ) (w : IsWalk t at number end) where
+    -- on past properties
+    pub walk-past : (to : ℕ) → IsSpan is_white_space t to to → ArePropertiesIn (drop to t) → ((next : ℕ) → AreEnded t to next → AreEnded t at next) → IsWalk t to number end
+    walk-past to stands held on =
+        record {
+          spelled = w.spelled;
+          rises = w.rises;
+          within = w.within;
+          stands = stands;
+          held = held;
+          next_is = λ lt next ended. w.next_is lt next (on next ended);
+          sequence = w.sequence;
+          one = w.one;
+          starts = w.starts;
+          ends = w.ends;
+        }
+
+    -- on past the next property, and the white space after it
+    pub past-property : (s : List ℕ) → s ≡ drop at t → (e to : ℕ) (p : Property) → IsProperty p s (drop e s) → ArePropertiesIn (drop e s) → IsSpan is_white_space t (at + e) to
+        → IsWalk t to number end × (properties_in (drop e s) ≡ properties_in (drop to t))
+    past-property s here e to p one left run =
+        let same : drop e s ≡ drop (at + e) t = ap (drop e) here ∙ drop-drop e at t in
+        let after = after-white (at + e) to run (subst ArePropertiesIn same left) in
+        let own : AreProperties (p ∷ []) (drop at t) (drop (at + e) t) =
+        properties (subst (IsProperty p (drop at t)) same (subst (λ x. IsProperty p x (drop e s)) here one)) no_property in (
+          walk-past to (span-end (at + e) to run) after.1 (λ next. ended-after t at to next own (white-between t (at + e) to run)),
+          ap properties_in same ∙ after.0,
+        )
+
+    -- on past a node, or into it
+    pub walk-on : number < end → place_at (games_in t) number ≡ Some at → (to : ℕ) → IsSpan is_white_space t to to → ArePropertiesIn (drop to t)
+        → ((next : ℕ) → AreEnded t to next → AreEnded t (at + 1) next) → IsWalk t to (number + 1) end
+    walk-on lt place to stands held on =
+        record {
+          spelled = w.spelled;
+          rises = omega arith;
+          within = w.within;
+          stands = stands;
+          held = held;
+          next_is = λ more next ended.
+              next-place (games_in t) w.spelled number w.sequence at next place (w.one lt) (w.starts lt) (omega (arith, more, w.ends lt)) (on next ended);
+          sequence = w.sequence;
+          one = λ _. w.one lt;
+          starts = λ _. omega (arith, w.starts lt);
+          ends = λ _. w.ends lt;
+        }
 
 -- the first of the nodes between two numbers
 pub nodes-first : (g : Games) (k end : ℕ) (n : Node) → k < end → node_at g k ≡ Some n → nodes_between g k end ≡ n ∷ nodes_between g (k + 1) end
-nodes-first g k end n lt e =
-    let more : end - k ≡ suc (end - (k + 1)) = omega arith in
-    ap (λ c. nodes_at g (range_with_len k c)) more ∙ ap (λ o. option_to_list o ++ nodes_between g (k + 1) end) e
+nodes-first g k end n lt e = grind (arith, common_steps)
+
+pub between-none : (g : Games) (k end : ℕ) → end ≤ k → length (nodes_between g k end) ≡ 0
+between-none g k end le = let none : end - k ≡ 0 = omega arith in ap (λ n. length (nodes_at g (range_with_len k n))) none
+
+pub some-between : (g : Games) (k end : ℕ) → 0 < length (nodes_between g k end) → k < end
+some-between g k end some =
+    elim (cases_lt k end) [
+      | inl lt ↦ lt
+      | inr le ↦ absurd (omega (arith, some, between-none g k end le))
+    ]
+
+node-there : (g : Games) (i : ℕ) → i < node_count g → (n : Node) × (node_at g i ≡ Some n)
+node-there g i lt =
+    elim (slice_get_cases (ordered_nodes g) i).1 [
+      | inl there ↦ (there.0.node, ap (option_map (λ (r : OrderedNode). r.node)) there.2)
+      | inr past ↦ absurd (omega (arith, past.0, length-ordered_nodes g))
+    ]
+
+pub between-some : (g : Games) (k end : ℕ) → k < end → end ≤ node_count g → 0 < length (nodes_between g k end)
+between-some g k end lt within =
+    let there = node-there g k (omega arith) in
+    omega (arith, ap length (nodes-first g k end there.0 lt there.1))
+
+-- a walk at its next node, before which no property is left
+module _ (t : List ℕ) (at number end : ℕ) (w : IsWalk t at number end) (lt : number < end) where
+  abbrev games_of_text : Games
+  games_of_text = games_in t
+
+  pub record IsNextAt : Type 0 where
+    pub place : place_at games_of_text number ≡ Some at
+    pub nodes : nodes_between games_of_text number end ≡ node_in t at ∷ nodes_between games_of_text (number + 1) end
+    pub is_node : IsNodeIn (drop at t)
+    pub inside : at < length t
+
+  next-at : place_at games_of_text number ≡ Some at → IsNextAt
+  next-at place =
+      let told = node-told t games_of_text w.spelled number at place in
+      record { place = place; nodes = nodes-first games_of_text number end (node_in t at) lt told.0; is_node = told.1; inside = told.2 }
+
+  -- if it is known where the next node's `;` is
+  pub next-begins : get_or t at 0 ≡ 59 → at < length t → IsNextAt
+  next-begins e within = next-at (w.next_is lt at (closed-ended t at (node-closed t at within e).0))
+
+  -- if no property is left
+  pub next-closed : properties_in (drop at t) ≡ [] → IsNextAt
+  next-closed none = next-at (w.next_is lt at (closed-ended t at closed))
+    where
+      ends : (ps : List Property) (r : List ℕ) → ps ≡ [] → AreProperties ps (drop at t) r → NoPropertyFollows r → NoPropertyFollows (drop at t)
+      ends [] r e no_property done = done
+      ends (p ∷ ps) r e are done = absurd (cc)
+
+      follows : NoPropertyFollows (drop at t)
+      follows = ends w.held.properties w.held.rest (sym (properties-in w.held.spelled w.held.ends) ∙ none) w.held.spelled w.held.ends
+
+      closed : IsClosed t at
+      closed = record {
+        within = w.stands.within;
+        stops = w.stands.stops;
+        ends = λ inside. follows (get_or t at 0) (drop (at + 1) t) (subst (λ s. WhiteSpace s (get_or t at 0 ∷ drop (at + 1) t)) (sym (byte-at t at inside)) no_white_space);
+      }
+
+  module _ (here : IsNextAt) where
+    within-node : at + 1 ≤ length t
+    within-node = omega (arith, here.inside)
+
+    own : ArePropertiesIn (drop (at + 1) t)
+    own = subst ArePropertiesIn (drop-drop 1 at t) here.is_node.properties
+
+    -- into the node
+    pub into-node : (to : ℕ) → IsSpan is_white_space t (at + 1) to → IsWalk t to (number + 1) end × (properties_in (drop 1 (drop at t)) ≡ properties_in (drop to t))
+    into-node to run =
+        let after = after-white t (at + 1) to run own in (
+          walk-on t at number end w lt here.place to (span-end t (at + 1) to run) after.1
+              (λ next. ended-after t (at + 1) to next no_property (white-between t (at + 1) to run)),
+          ap properties_in (drop-drop 1 at t) ∙ after.0,
+        )
+
+    -- into it, past its first property
+    pub past-front : (s : List ℕ) → s ≡ drop at t → IsLoneFront s → (to : ℕ) → IsSpan is_white_space t (at + 6) to
+        → IsWalk t to (number + 1) end × (properties_in (drop 1 (drop at t)) ≡ lone_property (get_or s 1 0) (slice_range s 3 5) ∷ properties_in (drop to t))
+    past-front s e is to run =
+        let left = front-left s is (subst (λ x. ArePropertiesIn (drop 1 x)) (sym e) here.is_node.properties) in
+        let six : drop 6 s ≡ drop (at + 6) t = ap (drop 6) e ∙ drop-drop 6 at t in
+        let one : drop 1 s ≡ drop (at + 1) t = ap (drop 1) e ∙ drop-drop 1 at t in
+        let after = after-white t (at + 6) to run (subst ArePropertiesIn six left.1) in
+        let first : IsProperty (lone s is.front) (drop (at + 1) t) (drop (at + 6) t) =
+        subst (IsProperty (lone s is.front) (drop (at + 1) t)) six (subst (λ x. IsProperty (lone s is.front) x (drop 6 s)) one (front-spelled s is.front)) in (
+          walk-on t at number end w lt here.place to (span-end t (at + 6) to run) after.1
+              (λ next. ended-after t (at + 1) to next (properties first no_property) (white-between t (at + 6) to run)),
+          ap (λ x. properties_in (drop 1 x)) (sym e) ∙ left.0 ∙ ap (λ ps. lone s is.front ∷ ps) (ap properties_in six ∙ after.0),
+        )
 
 -- all nodes of a sequence, from its entry in the table
-pub sequence-walk : (text : List ℕ) (kept : Sequences) (outlined : IsOutlined text kept) (g : Games) (is : games_in text ≡ g) (i : ℕ) (entry : Sequence) → i < length (sequence_starts g)
-    → entry ≡ get_or kept.table.items i entry → IsWalk g entry.first (sequence_start g i) (sequence_end g i)
-sequence-walk text kept outlined g is i entry lt here =
-    let e = entry-in text kept outlined g is i entry lt here in
-    record {
-      rises = omega (arith, sequence-some g i lt);
-      within = sequence-within g i lt;
-      small = omega (arith, (node-in text kept outlined g is (sequence_start g i) entry.first e.first_is).2, outlined.short);
-      place_is = λ _. e.first_is;
-      sequence = i;
-      one = λ _. lt;
-      starts = λ _. omega arith;
-      ends = λ _. refl;
-    }
+pub sequence-walk : (text : List ℕ) (kept : Sequences) (outlined : IsOutlined text kept) (i : ℕ) (entry : Sequence) → i < length (sequence_starts (games_in text))
+    → entry ≡ get_or kept.table.items i entry
+    → IsWalk text entry.first (sequence_start (games_in text) i) (sequence_end (games_in text) i) × (properties_in (drop entry.first text) ≡ [])
+sequence-walk text kept outlined i entry lt here =
+    let g : Games = games_in text in
+    let e = entry-in text kept outlined g refl i entry lt here in
+    let node = node-told text g outlined.spelled (sequence_start g i) entry.first e.first_is in
+    let first = byte-at text entry.first node.2 in
+    let begins = node.1.begins in
+    let byte : get_or text entry.first 0 ≡ 59 = cc in
+    let closed = node-closed text entry.first node.2 byte in
+    let ended = closed-ended text entry.first closed.0 in (
+      record {
+        spelled = outlined.spelled;
+        rises = omega (arith, sequence-some g i lt);
+        within = sequence-within g i lt;
+        stands = closed.1;
+        held = ended-held text entry.first entry.first ended;
+        next_is = λ _ next other. e.first_is ∙ ap Some (sym (closed-same text entry.first next closed.0 other));
+        sequence = i;
+        one = λ _. lt;
+        starts = λ _. omega arith;
+        ends = λ _. refl;
+      },
+      properties-in no_property (ended-follows text entry.first entry.first ended),
+    )
+
+-- no nodes, after the text
+pub no-walk : (text : List ℕ) → Spells (games_in text) text → IsWalk text (length text) 0 0 × (properties_in (drop (length text) text) ≡ [])
+no-walk text spelled =
+    let at : ℕ = length text in
+    let closed : IsClosed text at = record { within = omega arith; stops = λ lt. absurd (omega arith); ends = λ lt. absurd (omega arith) } in
+    let ended = closed-ended text at closed in (
+      record {
+        spelled = spelled;
+        rises = omega arith;
+        within = omega arith;
+        stands = record { rises = omega arith; within = omega arith; passing = λ i low high. absurd (omega arith); stops = λ lt. absurd (omega arith) };
+        held = ended-held text at at ended;
+        next_is = λ lt. absurd (omega arith);
+        sequence = 0;
+        one = λ lt. absurd (omega arith);
+        starts = λ lt. absurd (omega arith);
+        ends = λ lt. absurd (omega arith);
+      },
+      properties-in no_property (ended-follows text at at ended),
+    )

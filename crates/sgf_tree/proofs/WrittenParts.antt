@@ -1,4 +1,5 @@
 -- Parts of a text that stand as the sgf form writes them.
+use Rattle.std.proofs.lemmas.Grind.{common_steps}
 use Rattle.std.proofs.Common.{◌≡◌, ◌≢◌, ℕ, zero, suc, ◌+◌, ◌-◌, ◌<◌, ◌≤◌, Bool, true, false, IsTrue, List, [], ◌∷◌, ◌++◌, length, get_or, take, drop, slice_range, refl, sym, ap, subst, ◌∙◌, inl, inr, arith, append_assoc, append-nil, get_or-drop, length-drop, length-take}
 use Rattle.std.proofs.lemmas.Bool.{cases_lt, false≢true}
 use Rattle.std.proofs.lemmas.Grind.{flat_map-append}
@@ -10,7 +11,7 @@ use Rattle.sgf_tree.specs.Spelling.{is_white_space, is_upper, WhiteSpace, no_whi
 use Rattle.sgf_tree.specs.Written.{value_text, property_text}
 use Rattle.sgf_tree.specs.inner.NodeText.{is_letter, left_after, front, values_in, property_from, name_in, after_values_up_to, properties_in, NoValueFollows, NoPropertyFollows, ArePropertiesIn, AreValuesWritten, IsPropertyWritten, ArePropertiesWritten, AreWritten, IsNodeWritten}
 use Rattle.sgf_tree.specs.inner.Progress.{IsSpan, SpellsValue}
-use Rattle.sgf_tree.specs.inner.PropertiesRead.{IsTextRead}
+use Rattle.sgf_tree.specs.inner.PropertiesRead.{ArePropertiesRead}
 use Rattle.sgf_tree.specs.declared.reader.properties.PartRead.{PartRead}
 use Rattle.sgf_tree.proofs.Classes.{upper-not_white_space, white-not_bracket, white-not_upper}
 use Rattle.sgf_tree.proofs.NameEnds.{span-one}
@@ -49,9 +50,7 @@ module _ (Holds : ℕ → Type 0) (of_white : (b : ℕ) → IsTrue (is_white_spa
       follows-run (drop end t) (next - end) (run-drop is_white_space t end next white) (λ small. subst Holds (sym (here small)) (holds (omega (arith, white.rises, length-drop end t))))
     where
       here : next - end < length (drop end t) → get_or (drop end t) (next - end) 0 ≡ get_or t next 0
-      here small =
-          let rises : end ≤ next = white.rises in
-          let to : end + (next - end) ≡ next = omega arith in get_or-drop end t (next - end) 0 ∙ ap (λ i. get_or t i 0) to
+      here small = grind (arith, common_steps, end, get_or-drop)
 
 -- no value follows a run of white space before another byte
 pub ends-at : (t : List ℕ) (end next : ℕ) → IsSpan is_white_space t end next → (next < length t → get_or t next 0 ≢ 91) → NoValueFollows (drop end t)
@@ -159,17 +158,9 @@ module _ (t : List ℕ) where
                 ∙ ap (λ s. (b ∷ name) ++ s) text;
           }
 
-  pub front-none : (from : ℕ) → from ≤ length t → ArePropertiesIn (drop from t) → ArePropertiesWritten t from from
-  front-none from le held =
-      record { rises = omega arith; within = le; left = held; front = record { taken = []; front = refl; written = span-none t from } }
-
   text-more : (from at end : ℕ) (ps : List Property) → from ≤ at → slice_range t from at ≡ flat_map property_text ps → (one : IsPropertyWritten t at end)
       → slice_range t from end ≡ flat_map property_text (ps ++ one.property ∷ [])
-  text-more from at end ps low text one =
-      let rises : at < end = one.rises in
-      sym (span-join t from at end low (omega arith)) ∙ ap (λ s. s ++ slice_range t at end) text
-      ∙ ap (λ s. flat_map property_text ps ++ s) (one.text ∙ sym (append-nil (property_text one.property)))
-      ∙ sym (flat_map-append property_text ps (one.property ∷ []))
+  text-more from at end ps low text one = grind (arith, common_steps, span-join, append-nil, flat_map-append)
 
   pub front-more : (from at end : ℕ) → ArePropertiesWritten t from at → IsPropertyWritten t at end → ArePropertiesWritten t from end
   front-more from at end before one =
@@ -204,7 +195,7 @@ module _ (t : List ℕ) where
       }
 
   -- the properties of a node, with its `;` before them
-  pub node-written : (place : ℕ) (read : PartRead) → place < length t → get_or t place 0 ≡ 59 → IsTextRead t (place + 1) read → IsTrue read.as_written → IsNodeWritten t place read.text_end
+  pub node-written : (place : ℕ) (read : PartRead) → place < length t → get_or t place 0 ≡ 59 → ArePropertiesRead t (place + 1) read → IsTrue read.as_written → IsNodeWritten t place read.text_end
   node-written place read lt semicolon of is =
       record {
         rises = omega (arith, low);

@@ -3,16 +3,18 @@
 
 ghost use Rattle.std.specs.Prelude.{◌≡◌, ◌↔◌, ◌≤◌, ◌<◌, false, [], ◌∷◌, length, drop, slice_index, IsTrue, IfSome, MatchOption};
 ghost use Rattle.std.specs.Iterator.{YieldsFirst, YieldsFirstRef, item_count};
-ghost use Rattle.sgf_tree.specs.Spelling.{is_white_space, is_upper};
+ghost use Rattle.sgf_tree.specs.Tree.{Property};
+ghost use Rattle.sgf_tree.specs.Spelling.{is_white_space, is_upper, IsProperty};
 ghost use Rattle.sgf_tree.specs.inner.Progress.{IsSpan};
 ghost use Rattle.sgf_tree.specs.inner.NodeText.{properties_in, ArePropertiesIn, values_in, AreValuesIn, IsWrittenFront, IsValueAt, IsValuesEnd, IsNoPropValue};
 ghost use Rattle.sgf_tree.specs.inner.KeptEnds.{AreKeptEnds};
 
 use crate::layout::LongValue;
 use crate::property::PropRef;
+use crate::quick::points::past_points;
+use crate::quick::written::written_properties_end;
 use crate::reader::scan::{identifier_end, part, rest_from, skip_white_space};
 use crate::reader::value::value_end;
-use crate::written::written_properties_end;
 use std::marker::Model;
 
 /// The properties of a node that `next` hasn't taken off yet, in file order. Its calls take no memory.
@@ -151,7 +153,11 @@ impl<'a> Iterator for Values<'a> {
 ///
 /// This is inlined, because a call would pass the property in memory.
 #[inline(always)]
-fn property_at<'a>(text: &'a [u8], start: usize, long: &Vec<LongValue>) -> (PropRef<'a>, usize)
+pub(crate) fn property_at<'a>(
+    text: &'a [u8],
+    start: usize,
+    long: &Vec<LongValue>,
+) -> (PropRef<'a>, usize)
     requires held { ArePropertiesIn text.now }
     requires kept { AreKeptEnds text.now long.now.items }
     requires white_space { IsSpan is_white_space text.now 0 start }
@@ -160,6 +166,7 @@ fn property_at<'a>(text: &'a [u8], start: usize, long: &Vec<LongValue>) -> (Prop
     ensures within { result.1 ≤ length text.now }
     ensures left { ArePropertiesIn (drop result.1 text.now) }
     ensures first { properties_in text.now ≡ result.0 ∷ properties_in (drop result.1 text.now) }
+    ensures spelled { (property : Property) × IsProperty property text.now (drop result.1 text.now) }
 {
     let end = identifier_end(text, start);
     let (from, close) = value_at(text, end, Some(long)).unwrap();
@@ -221,7 +228,7 @@ fn far_values_end(text: &[u8], at: usize, long: &Vec<LongValue>) -> usize
     requires kept { AreKeptEnds text.now long.now.items }
     ensures { IsValuesEnd text.now at result }
 {
-    let mut end = at;
+    let mut end = past_points(text, at);
     'values: while let Some((_start, close)) = value_at(text, end, Some(long)) {
         end = close + 1;
     }

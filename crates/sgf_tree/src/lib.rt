@@ -27,7 +27,7 @@
 //! | `reader/keeper`, `reader/games` | what a reader tells the one who keeps a part of it; reading games |
 //! | `reader/own_nodes`, `reader/properties` | what is known of the own nodes of a game; reading the properties of a node |
 //! | `reader/counting` | counting games, nodes and leaves |
-//! | `reader/lead` | recognizing a node that is a move and short properties |
+//! | `reader/lead` | recognizing at a glance a node that is a move and short properties, or has no properties |
 //! | `reader/value` | what ends a raw value, and keeping where long values end |
 //! | `reader/mark`, `reader/scan` | the byte order mark; where spans of a text end |
 //! | `reader/fault` | why reading a text stopped, and how the place of the first fault is found |
@@ -39,8 +39,11 @@
 //! | `written` | writing a node as the sgf form does |
 //! | `layout` | what is known of the own nodes of a game and of a long value |
 //! | `text`, `numbers` | the decoded text of a value; the value of a number |
+//! | `quick` | shortcuts for what nearly all texts have |
 //! | `fault` | how a call may fail |
 //! | `laws` | what holds of all texts |
+//!
+//! The plain code is complete without the shortcuts in `quick`. A shortcut ensures no more than the plain function that it stands in for.
 //!
 //! Worked examples are in the crate `sgf_tree_tests`, and those that the program shows are in `tests/`.
 #![tactic(auto)]
@@ -56,6 +59,7 @@ mod numbered;
 mod numbers;
 mod outline;
 mod property;
+mod quick;
 mod reader;
 mod sequences;
 mod text;
@@ -72,4 +76,4 @@ pub use outline::Outline;
 pub use property::PropRef;
 pub use reader::{measure, read, read_outline};
 pub use text::push_text;
-pub use walk::SequenceNodes;
+pub use walk::{NextNode, SequenceNodes};

@@ -9,7 +9,8 @@ use crate::fault::MemoryFault;
 use crate::iter::Properties;
 use crate::layout::LongValue;
 use crate::property::PropRef;
-use crate::reader::scan::{is_lone_front, part};
+use crate::quick::front::is_lone_front;
+use crate::reader::scan::part;
 use crate::written::push_node;
 use std::marker::Model;
 

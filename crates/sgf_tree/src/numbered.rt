@@ -47,7 +47,6 @@ impl Numbered {
 impl Keeper for Numbered {
     ghost keeps = { λ text nodes stack coming. HoldsNodes text nodes stack coming };
 
-    #[inline(always)]
     fn node(&mut self, place: usize) -> Result<(), MemoryFault> {
         self.places.push(place as u32)?;
         Ok(())

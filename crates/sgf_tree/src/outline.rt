@@ -3,36 +3,20 @@
 ghost use Rattle.std.specs.Prelude.{◌≡◌, ◌-◌, ◌<◌, ◌≤◌, ◌++◌, ◌↔◌, ℕ, [], Some, None, length, IsTrue, IfSome, OnOk, OnErr, MatchOption};
 ghost use Rattle.std.specs.List.{flat_map};
 ghost use Rattle.sgf_tree.specs.declared.fault.TheConstants.{MAX_LENGTH};
-ghost use Rattle.sgf_tree.specs.Tree.{Node, game_count, node_count, lone_property};
-ghost use Rattle.sgf_tree.specs.Lead.{IsLedBy};
+ghost use Rattle.sgf_tree.specs.Tree.{game_count, node_count};
 ghost use Rattle.sgf_tree.specs.Written.{node_text};
 ghost use Rattle.sgf_tree.specs.FileOrder.{node_at, nodes_at, place_at, parent_at, IsLeaf, game_of, PlacesRise};
 ghost use Rattle.sgf_tree.specs.FileOrder.{sequence_starts, sequence_start, sequence_end, sequence_numbers};
 ghost use Rattle.sgf_tree.specs.inner.NodeText.{GoesOn, IsNodeIn};
 ghost use Rattle.sgf_tree.specs.inner.KeptEnds.{AreKeptEnds};
-ghost use Rattle.sgf_tree.specs.inner.Walking.{IsNextPlace, IsNodeEnded};
 
 use crate::fault::MemoryFault;
 use crate::layout::LongValue;
 use crate::node::NodeRef;
-use crate::reader::lead::led_end;
-use crate::reader::properties::near_property_close;
-use crate::reader::scan::{identifier_end, part, rest_from, skip_white_space};
-use crate::reader::value::value_end;
+use crate::reader::scan::{part, rest_from};
 use crate::sequences::Sequences;
 use crate::walk::SequenceNodes;
 use std::marker::Model;
-
-/// The first property of a node that is recognized at a glance.
-#[derive(Clone, Copy)]
-pub(crate) struct Lead<'a> {
-    /// The letter that is its name.
-    pub letter: u8,
-    /// Its raw value.
-    pub value: &'a [u8],
-    /// Where the node ends, after any white space.
-    pub next: usize,
-}
 
 /// The sequences of the collection that a text spells (SGF FF[4], EBNF). A sequence has the nodes between a `(` and the next
 /// parenthesis. It refers to the text, and doesn't copy names or values. Only `push_sequence` takes memory.
@@ -207,43 +191,15 @@ impl<'a> Outline<'a> {
         }
     }
 
-    /// If the node at `place` is recognized at a glance (`SequenceNodes::next`), its first property, and the place where the next node of its
-    /// sequence is, if there is one.
-    #[inline(always)]
-    pub(crate) fn lead_at(&self, place: usize, names: &[[u8; 2]]) -> Option<Lead<'a>>
-        requires { (i : ℕ) × (place_at self.now i ≡ Some place) }
-        ensures lead { (i : ℕ) (node : Node) → place_at self.now i ≡ Some place → node_at self.now i ≡ Some node
-            → IfSome result (λ lead. IsLedBy names.now (lone_property lead.letter lead.value.now) node.properties) }
-        ensures next { IfSome result (λ lead. IsNextPlace self.now place lead.next) }
-        ensures within { IfSome result (λ lead. lead.next ≤ MAX_LENGTH) }
-    {
-        let text = rest_from(self.text, place);
-        let end = led_end(text, names)?;
-        Some(Lead {
-            letter: text[1],
-            value: part(text, 3, 5),
-            next: place + end,
-        })
-    }
-
-    /// The place where the next node of the sequence of the node at `place` is, if there is one.
-    #[inline(never)]
-    pub(crate) fn place_after(&self, place: usize) -> usize
-        requires { (i : ℕ) × (place_at self.now i ≡ Some place) }
-        ensures next { IsNextPlace self.now place result }
-        ensures within { result ≤ MAX_LENGTH }
-    {
-        place + node_end(rest_from(self.text, place), &self.long)
-    }
-
     /// The nodes of sequence `i`, one after another.
     pub fn sequence_nodes(&self, i: usize) -> SequenceNodes<'_, 'a>
         requires { i < length (sequence_starts self.now) }
-        ensures { result ≡ nodes_at self.now (sequence_numbers self.now i) }
+        ensures { result ≡ record { properties = []; nodes = nodes_at self.now (sequence_numbers self.now i) } }
     {
         SequenceNodes {
-            outline: self,
-            place: self.sequences.table[i].first as usize,
+            text: self.text,
+            long: &self.long,
+            at: self.sequences.table[i].first as usize,
             number: self.sequence_start(i),
             end: self.sequence_end(i),
         }
@@ -251,11 +207,12 @@ impl<'a> Outline<'a> {
 
     /// No nodes.
     pub fn no_nodes(&self) -> SequenceNodes<'_, 'a>
-        ensures { result ≡ [] }
+        ensures { result ≡ record { properties = []; nodes = [] } }
     {
         SequenceNodes {
-            outline: self,
-            place: 0,
+            text: self.text,
+            long: &self.long,
+            at: self.text.len(),
             number: 0,
             end: 0,
         }
@@ -304,31 +261,6 @@ impl<'a> Outline<'a> {
                 return Ok(());
             }
             at += 1;
-        }
-    }
-}
-
-/// Where the node that the text begins with ends, after any white space.
-fn node_end(text: &[u8], long: &Vec<LongValue>) -> usize
-    requires node { IsNodeIn text.now }
-    requires kept { AreKeptEnds text.now long.now.items }
-    ensures { IsNodeEnded text.now result }
-{
-    let mut at = 1;
-    'parts: loop {
-        let next = skip_white_space(text, at);
-        if next == text.len() {
-            return next;
-        }
-        if text[next].is_ascii_uppercase() {
-            at = match near_property_close(text, next) {
-                Some(close) => close + 1,
-                None => identifier_end(text, next),
-            };
-        } else if text[next] == b'[' {
-            at = value_end(text, next + 1, Some(long)).unwrap() + 1;
-        } else {
-            return next;
         }
     }
 }

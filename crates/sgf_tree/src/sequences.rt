@@ -42,7 +42,6 @@ pub(crate) struct Sequence {
 
 impl Sequence {
     /// The number of the sequence that it goes on from, which ends with the parent of its first node. None if it begins a game of the collection.
-    #[inline(always)]
     pub(crate) fn outer(&self) -> Option<u32>
         ensures { result ≡ outer_by self.now }
     {
@@ -54,7 +53,6 @@ impl Sequence {
     }
 
     /// The number, from 1, of the game that it begins.
-    #[inline(always)]
     pub(crate) fn game(&self) -> u32
         requires { outer_by self.now ≡ None }
         ensures { result ≡ game_by self.now }
@@ -63,7 +61,6 @@ impl Sequence {
     }
 
     /// Whether the sgf form writes it as it stands in the text. False says nothing.
-    #[inline(always)]
     pub(crate) fn is_written(&self) -> bool
         ensures { result ≡ is_written_by self.now }
     {
@@ -85,7 +82,6 @@ pub(crate) struct KeptStretch {
 
 impl KeptStretch {
     /// The offset of its first `;`.
-    #[inline(always)]
     pub(crate) fn start(&self) -> u32
         ensures { result ≡ (stretch_by self.now).start }
     {
@@ -93,7 +89,6 @@ impl KeptStretch {
     }
 
     /// Whether it is the last one of its sequence.
-    #[inline(always)]
     pub(crate) fn is_last(&self) -> bool
         ensures { result ≡ (stretch_by self.now).is_last }
     {
@@ -137,7 +132,6 @@ impl Sequences {
 impl Keeper for Sequences {
     ghost keeps = { λ text sequences stack coming. HoldsSequences text sequences stack coming };
 
-    #[inline(always)]
     fn node(&mut self, _place: usize) -> Result<(), MemoryFault> {
         Ok(())
     }

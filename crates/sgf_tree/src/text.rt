@@ -1,11 +1,10 @@
-//! The decoded text of a raw value.
+//! The decoded text of a raw value (SGF FF[4], Text).
 
 ghost use Rattle.std.specs.Prelude.{◌≡◌, ◌<◌, ◌≤◌, ◌+◌, ◌++◌, OnOk, OnErr, length, take, drop, option_to_list};
 ghost use Rattle.sgf_tree.specs.Text.{text_of, spaced as spaced_rule};
-ghost use Rattle.sgf_tree.specs.inner.Literals.{AreLiterals, lowest_bit};
 
 use crate::fault::MemoryFault;
-use std::simd::prelude::*;
+use crate::quick::literals::{TOGETHER, near_literals};
 
 /// Appends the decoded text of a raw value to `out` (SGF FF[4], Text).
 ///
@@ -37,10 +36,8 @@ pub fn push_text(raw: &[u8], out: &mut Vec<u8>) -> Result<(), MemoryFault>
     Ok(())
 }
 
-/// The number of bytes that are looked at together.
-const TOGETHER: usize = 16;
-
-/// A number of bytes at the front that stand for themselves, whatever follows. The byte after them may do so too.
+/// A number of bytes at the front that stand for themselves, whatever follows: neither escapes nor white space. The byte after them may do
+/// so too.
 fn literal_length(raw: &[u8]) -> usize
     ensures within { result ≤ length raw.now }
     ensures literal { text_of raw.now ≡ take result raw.now ++ text_of (drop result raw.now) }
@@ -59,31 +56,8 @@ fn literal_length(raw: &[u8]) -> usize
     end
 }
 
-/// How many of the `TOGETHER` bytes at `at` come before the first `\` or control
-/// byte up to CR. The bytes before it stand for themselves.
-fn near_literals(raw: &[u8], at: usize) -> usize
-    requires { at + TOGETHER ≤ length raw.now }
-    ensures at_most { result ≤ TOGETHER }
-    ensures literal { AreLiterals raw.now at (at + result) }
-{
-    let bytes = u8x16::from_slice(&raw[at..]);
-    let escapes = bytes.simd_eq(u8x16::splat(b'\\')).to_bitmask();
-    let controls = bytes.simd_lt(u8x16::splat(b'\r' + 1)).to_bitmask();
-    first_bit(escapes).min(first_bit(controls))
-}
-
-/// The index of the lowest set bit; `TOGETHER` if none is set.
-fn first_bit(mask: u64) -> usize
-    ensures { result ≡ lowest_bit mask }
-{
-    if mask == 0 {
-        TOGETHER
-    } else {
-        mask.trailing_zeros() as usize
-    }
-}
-
-/// What the front of a raw value becomes, a byte or nothing, and the rest of the value.
+/// What the front of a raw value becomes, a byte or nothing, and the rest of the value. This decides the rules for escapes, line breaks and
+/// white space, and is the plain way.
 fn decode_front(raw: &[u8]) -> (Option<u8>, &[u8])
     ensures decoded { text_of raw.now ≡ option_to_list result.0 ++ text_of result.1.now }
     ensures room { length (option_to_list result.0) + length result.1.now ≤ length raw.now }

@@ -7,7 +7,7 @@
 //! | Module | Examples of |
 //! |---|---|
 //! | `extent` | how many games, nodes and leaves a text has, and a text that is refused |
-//! | `node` | for which nodes `front`, `lone` and `lead` return a property, how the sgf form writes a node, and properties one after another |
+//! | `node` | for which nodes `NodeRef::front` and `SequenceNodes::next` recognize a property, how the sgf form writes a node, and properties one after another |
 //! | `property` | names, and values that outlive their collection |
 //! | `numbers` | values that are numbers, and values that aren't |
 #![tactic(auto)]

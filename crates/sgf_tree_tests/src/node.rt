@@ -1,6 +1,6 @@
-//! For which nodes `front` and `lead` return a property (no clause says that), and how the sgf form writes a node.
+//! Which nodes `NodeRef::front` and `SequenceNodes::next` recognize (no clause says that), and how the sgf form writes a node.
 
-use sgf_tree::{Collection, NodeRef, Properties, read};
+use sgf_tree::{Collection, NextNode, NodeRef, Properties, read};
 use std::alloc::Global;
 
 /// Whether `front` returns the first property, how many properties are left after it, and what the sgf form writes for the node.
@@ -102,8 +102,8 @@ fn properties_one_after_another(rt: HostRuntime) {
     );
 }
 
-/// Whether a property comes with the text's first node just if it should, and the same as from `front`. The names of the other
-/// properties must then be `others`.
+/// Whether the text's first node comes as recognized just if it should, and with the same property as from `front`. The names of the other
+/// properties must then be the wanted ones.
 fn leads(alloc: Global, text: &str, names: &[[u8; 2]], want: Option<&str>) -> bool {
     match read(alloc, text.as_bytes()) {
         Ok(collection) => {
@@ -112,14 +112,13 @@ fn leads(alloc: Global, text: &str, names: &[[u8; 2]], want: Option<&str>) -> bo
                 return false;
             }
             let mut nodes = outline.sequence_nodes(0);
-            let Some((node, told)) = nodes.next(names) else {
-                return false;
-            };
-            match want {
-                None => told.is_none(),
-                Some(others) => told.is_some()
-                    && told == node.front().0
-                    && are_named(&node, others.as_bytes()),
+            let node = outline.first_node(0);
+            match (want, nodes.next(names)) {
+                (None, Some(NextNode::Open { front, .. })) => front == node.front().0,
+                (Some(others), Some(NextNode::Led { letter, value, .. })) => {
+                    node.front().0 == Some((letter, value)) && are_named(&node, others.as_bytes())
+                }
+                _ => false,
             }
         }
         Err(_) => false,
@@ -213,4 +212,26 @@ fn nodes_led(rt: HostRuntime) {
     assert!(rt; leads(rt.alloc(), setup, &[], Some("ABPL")));
     assert!(rt; leads(rt.alloc(), setup, &[*b"AW"], Some("ABPL")));
     assert!(rt; leads(rt.alloc(), setup, &[*b"AW", *b"PL"], None));
+}
+
+/// Whether the text's first node comes as one without properties.
+fn comes_empty(alloc: Global, text: &str) -> bool {
+    match read(alloc, text.as_bytes()) {
+        Ok(collection) => {
+            let outline = collection.outline();
+            if outline.sequences() == 0 {
+                return false;
+            }
+            let mut nodes = outline.sequence_nodes(0);
+            matches!(nodes.next(&[]), Some(NextNode::Empty { place: 1 }))
+        }
+        Err(_) => false,
+    }
+}
+
+#[test]
+fn nodes_without_properties(rt: HostRuntime) {
+    assert!(rt; comes_empty(rt.alloc(), "(;;B[pd])"));
+    assert!(rt; comes_empty(rt.alloc(), "(;(;B[pd]))"));
+    assert!(rt; !comes_empty(rt.alloc(), "(; ;B[pd])"));
 }

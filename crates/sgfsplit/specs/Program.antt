@@ -4,7 +4,7 @@ use Rattle.sgf_lines.specs.Ends.{SourceState, SinkState}
 use Rattle.clap.specs.declared.error.kind.ErrorKind.{ErrorKind}
 use Rattle.sgfsplit_job.specs.Act.{IsAct, Shows, job_file}
 use Rattle.sgfsplit_job.specs.CommandLine.{AreFaultless, HasFault}
-use Rattle.sgfsplit_job.specs.declared.request.Job.{Job}
+use Rattle.sgfsplit_job.specs.declared.jobs.Job.{Job}
 
 -- the state of a new source over a reader that has these bytes to come
 abbrev pub fresh_source : Option (List ℕ) → SourceState

@@ -14,8 +14,8 @@ use Rattle.sgf_lines.specs.declared.fault.RunFault.TheVariants.{Write, Memory}
 use Rattle.sgfsplit_job.specs.Fault.{fault_row, status_of}
 use Rattle.sgfsplit_job.specs.declared.fault.Fault.{Fault}
 use Rattle.sgfsplit_job.specs.declared.fault.Fault.TheVariants.{Run}
-use Rattle.sgfsplit_job.specs.declared.request.Job.{Job}
-use Rattle.sgfsplit_job.specs.declared.request.Job.TheVariants.{Split, Count}
+use Rattle.sgfsplit_job.specs.declared.jobs.Job.{Job}
+use Rattle.sgfsplit_job.specs.declared.jobs.Job.TheVariants.{Split, Count}
 
 -- If the counting succeeded, the counts were written, and `fault` is that of the writing, if the writing
 -- failed. If the counting failed, `fault` is that of the counting, and nothing was written.

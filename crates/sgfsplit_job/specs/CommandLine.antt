@@ -7,10 +7,12 @@ use Rattle.clap.specs.Values.{kind_of}
 use Rattle.clap.specs.Walk.{Rule}
 use Rattle.clap.specs.Simple.{App, new_app, new_rule, on_top, with_rule, with_subcommand}
 use Rattle.clap.specs.declared.builder.value_parser.ValueParser.TheVariants.{Names, Unsigned}
+use Rattle.clap.specs.declared.error.Error.{Error}
 use Rattle.clap.specs.declared.error.kind.ErrorKind.{ErrorKind}
+use Rattle.clap.specs.declared.error.kind.ErrorKind.TheVariants.{OutOfMemory}
 use Rattle.sgf_lines.specs.Form.{forms, form_word}
-use Rattle.sgfsplit_job.specs.declared.request.JobFault.{JobFault}
-use Rattle.sgfsplit_job.specs.declared.request.JobFault.TheVariants.{Words, Memory}
+use Rattle.sgfsplit_job.specs.declared.jobs.JobFault.{JobFault}
+use Rattle.sgfsplit_job.specs.declared.jobs.JobFault.TheVariants.{Words, Memory}
 
 -- a list of the names of forms, as the program holds it
 abbrev pub FormNames : Type 0
@@ -71,6 +73,11 @@ AreFaultless words =
 abbrev pub HasFault : List (List ℕ) → ErrorKind → Type 0
 HasFault words kind =
     (names : FormNames) × (names_of names ≡ form_names) × IsAmong kind (fault_of (program_app names) words)
+
+-- the fault that an error of clap gives: `Memory` exactly if the error's kind is `OutOfMemory`
+abbrev pub IsFaultOf : Error → JobFault → Type 0
+IsFaultOf error (Words met) = (met ≡ error) × ¬ (kind_of error ≡ OutOfMemory)
+IsFaultOf error Memory = kind_of error ≡ OutOfMemory
 
 -- If words are refused with `Words error`, clap finds a fault of the error's kind in them. `Memory` says nothing of the words.
 abbrev pub IsTrueOf : List (List ℕ) → JobFault → Type 0

@@ -7,8 +7,8 @@ use Rattle.sgf_lines.specs.declared.options.Form.{Form}
 use Rattle.sgf_lines.specs.declared.options.Form.TheVariants as form
 use Rattle.sgf_lines.specs.declared.options.Options.{Options}
 use Rattle.sgf_lines.specs.Form.{form_word}
-use Rattle.sgfsplit_job.specs.declared.request.Job.{Job}
-use Rattle.sgfsplit_job.specs.declared.request.Job.TheVariants.{Split, Count}
+use Rattle.sgfsplit_job.specs.declared.jobs.Job.{Job}
+use Rattle.sgfsplit_job.specs.declared.jobs.Job.TheVariants.{Split, Count}
 
 abbrev pub Word : Type 0
 Word = List ℕ

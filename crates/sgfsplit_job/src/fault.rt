@@ -72,10 +72,14 @@ impl Fault {
                 Some(MAX_LENGTH as u64),
                 " bytes",
             ),
-            Fault::Run(RunFault::NotSgf { at, len }) if at == len => {
-                ("byte ", Some(*at as u64), ": input ends too early")
+            Fault::Run(fault @ RunFault::NotSgf { at, .. }) => {
+                let kind = if fault.ends_too_early() {
+                    ": input ends too early"
+                } else {
+                    ": not SGF"
+                };
+                ("byte ", Some(*at as u64), kind)
             }
-            Fault::Run(RunFault::NotSgf { at, .. }) => ("byte ", Some(*at as u64), ": not SGF"),
             Fault::Run(RunFault::NoSuchLine { place }) => ("no line ends at ", Some(*place), ""),
             Fault::Run(RunFault::Write { .. }) => ("write failed", None, ""),
             Fault::Run(RunFault::Memory { .. }) => ("out of memory", None, ""),

@@ -1,4 +1,4 @@
-//! The job that the words of a command line ask for.
+//! The words of a command line, and the job that they ask for.
 
 ghost use Rattle.std.specs.Prelude.{◌≡◌, true, ℕ, List, Some, None, Option, option_map, map, IfErr, IfOk, IfSome, OnOk, MatchResult, codes, string_bytes};
 ghost use Rattle.std.specs.Str.Parse.{digits_value};
@@ -12,9 +12,8 @@ ghost use Rattle.sgfsplit_job.specs.PlainWords.{Word, SplitWords, ArePlainWords,
 ghost use Rattle.sgfsplit_job.specs.inner.Found.{rows_found, HoldSplitWords};
 
 use crate::command::command;
-use crate::request::{Job, JobFault};
+use crate::jobs::{Job, JobFault};
 use clap::ArgMatches;
-use clap::error::ErrorKind;
 use sgf_lines::{Form, Options};
 use std::alloc::{AllocError, Global};
 
@@ -34,16 +33,7 @@ pub fn job<'a>(alloc: Global, words: &'a [String]) -> Result<Job, JobFault>
     ensures faultless { OnOk result (AreFaultless (map string_bytes words.now)) }
     ensures faulty { IfErr result (IsTrueOf (map string_bytes words.now)) }
 {
-    let command = command(alloc)?;
-    let found = match command.try_get_matches_from(words) {
-        Ok(found) => found,
-        Err(error) => {
-            return match error.kind() {
-                ErrorKind::OutOfMemory => Err(JobFault::Memory),
-                _ => Err(JobFault::Words(error)),
-            };
-        }
-    };
+    let found = command(alloc)?.try_get_matches_from(words)?;
     Ok(found_job(alloc, &found)?)
 }
 
@@ -57,45 +47,26 @@ fn found_job(alloc: Global, found: &ArgMatches) -> Result<Job, AllocError>
         → subcommand_rows_of found.now ≡ Some (codes "count", rows)
         → CountsFile (file_of_rule (first_of (codes "file") rows)) job) }
 {
-    match found.subcommand() {
-        Some((name, found)) => command_job(alloc, name, found),
-        None => unreachable!(),
-    }
-}
-
-/// The job of a command and the words after it.
-fn command_job(alloc: Global, name: &str, found: &ArgMatches) -> Result<Job, AllocError>
-    ensures split { IfOk result (λ job. name.now ≡ codes "split" → (words : SplitWords) → ArePlainWords words
-        → HoldSplitWords words (rows_found found.now) → SplitsBy (options_of words) (file_of_rule words.file) job) }
-    ensures count { IfOk result (λ job. name.now ≡ codes "count"
-        → CountsFile (file_of_rule (first_of (codes "file") (rows_found found.now))) job) }
-{
-    if name == "count" {
-        return count_job(alloc, found);
-    }
-    split_job(alloc, found)
-}
-
-/// The job of the words after `split`.
-fn split_job(alloc: Global, found: &ArgMatches) -> Result<Job, AllocError>
-    ensures { IfOk result (λ job. (words : SplitWords) → ArePlainWords words → HoldSplitWords words (rows_found found.now)
-        → SplitsBy (options_of words) (file_of_rule words.file) job) }
-{
-    let options = Options {
-        form: form_given(found),
-        after: number_given(found, "after"),
-        limit: number_given(found, "limit"),
+    let Some((name, found)) = found.subcommand() else {
+        unreachable!()
     };
     let file = file_given(alloc, found)?;
+    if name == "count" {
+        return Ok(Job::Count { file });
+    }
+    let options = options_given(found);
     Ok(Job::Split { options, file })
 }
 
-/// The job of the words after `count`.
-fn count_job(alloc: Global, found: &ArgMatches) -> Result<Job, AllocError>
-    ensures { IfOk result (CountsFile (file_of_rule (first_of (codes "file") (rows_found found.now)))) }
+/// The options that the words after `split` give.
+fn options_given(found: &ArgMatches) -> Options
+    ensures { (words : SplitWords) → ArePlainWords words → HoldSplitWords words (rows_found found.now) → result ≡ options_of words }
 {
-    let file = file_given(alloc, found)?;
-    Ok(Job::Count { file })
+    Options {
+        form: form_given(found),
+        after: number_given(found, "after"),
+        limit: number_given(found, "limit"),
+    }
 }
 
 /// The form that `--form` names.
@@ -117,23 +88,14 @@ fn number_given(found: &ArgMatches, name: &str) -> Option<u64>
     found.get_one::<u64>(name)
 }
 
-/// The file that the words name; None for standard input.
+/// The file that the words name; None, which is standard input, if they name none, and for the word `-`.
 fn file_given(alloc: Global, found: &ArgMatches) -> Result<Option<String>, AllocError>
     ensures { IfOk result (λ file. option_map string_bytes file
         ≡ file_of_rule (first_of (codes "file") (rows_found found.now))) }
 {
     match found.get_str("file") {
-        Some(word) => file_of(alloc, word),
         None => Ok(None),
+        Some("-") => Ok(None),
+        Some(word) => Ok(Some(String::from_str(alloc, word)?)),
     }
-}
-
-/// The file that the word FILE names; None, which is standard input, for the word `-`.
-fn file_of(alloc: Global, word: &str) -> Result<Option<String>, AllocError>
-    ensures { IfOk result (λ file. option_map string_bytes file ≡ file_of_rule (Some word.now)) }
-{
-    if word == "-" {
-        return Ok(None);
-    }
-    Ok(Some(String::from_str(alloc, word)?))
 }

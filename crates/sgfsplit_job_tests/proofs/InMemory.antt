@@ -16,8 +16,8 @@ use Rattle.sgf_lines.specs.declared.fault.RunFault.TheVariants.{Read, TooLong, N
 use Rattle.sgfsplit_job.specs.Act.{IsAct, DoesJob, FlushesAfter, TellsEnd, WritesCounts}
 use Rattle.sgfsplit_job.specs.Fault.{status_of}
 use Rattle.sgfsplit_job.specs.declared.fault.Fault.TheVariants.{Run}
-use Rattle.sgfsplit_job.specs.declared.request.Job.{Job}
-use Rattle.sgfsplit_job.specs.declared.request.Job.TheVariants.{Split, Count}
+use Rattle.sgfsplit_job.specs.declared.jobs.Job.{Job}
+use Rattle.sgfsplit_job.specs.declared.jobs.Job.TheVariants.{Split, Count}
 use Rattle.sgfsplit_job_tests.specs.InMemory.{HasWritten}
 
 whole_text : (text : List ℕ) (left : Option (List ℕ)) (given : List ℕ) → Consumes (Some text) left given → IsAtEnd left → given ≡ text

@@ -6,8 +6,8 @@ use Rattle.sgf_lines.specs.Lines.{Line}
 use Rattle.sgf_lines.specs.Record.{output}
 use Rattle.sgf_lines.specs.Answer.{HasPage}
 use Rattle.sgf_lines.specs.Counts.{counts_of, counts_row}
-use Rattle.sgfsplit_job.specs.declared.request.Job.{Job}
-use Rattle.sgfsplit_job.specs.declared.request.Job.TheVariants.{Split, Count}
+use Rattle.sgfsplit_job.specs.declared.jobs.Job.{Job}
+use Rattle.sgfsplit_job.specs.declared.jobs.Job.TheVariants.{Split, Count}
 
 -- With status 0 this was written: for `Split` the records of the text's page, for `Count` the row of the text's counts.
 abbrev pub HasWritten : Job → List ℕ → ℕ → List ℕ → Type 0

@@ -2,9 +2,9 @@
 use Rattle.std.specs.Prelude.{◌≡◌, ◌⊎◌, ◌==◌, ℕ, suc, ◌-◌, ◌*◌, ◌%◌, ◌<◌, ◌≤◌, Bool, List, [], ◌∷◌, ◌++◌, IsTrue, IsFalse, All, false, Option, Some, None, length, take, drop, reverse, slice_index_or}
 use Rattle.go_board.specs.declared.stones.Cell.TheVariants.{Black, White}
 use Rattle.go_board.specs.declared.points.Point.{Point}
-use Rattle.go_board.specs.declared.past.changes.Change.{Change}
-use Rattle.go_board.specs.declared.past.changes.Older.{Older}
-use Rattle.go_board.specs.declared.past.changes.TheConstants.{FULL}
+use Rattle.go_board.specs.declared.quick.print_past.changes.Change.{Change}
+use Rattle.go_board.specs.declared.quick.print_past.changes.Older.{Older}
+use Rattle.go_board.specs.declared.quick.print_past.changes.TheConstants.{FULL}
 use Rattle.go_board.specs.Colour.{same_cell}
 use Rattle.go_board.specs.Point.{IsOn}
 use Rattle.go_board.specs.Grid.{Grid, cell_at}

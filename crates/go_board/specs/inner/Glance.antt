@@ -2,7 +2,7 @@
 -- it: 0 and 1 are above it, 2 is its own, 3 and 4 are below it.
 use Rattle.std.specs.Prelude.{◌≡◌, ℕ, ◌+◌, false, IsTrue, List, length}
 use Rattle.go_board.specs.declared.points.Point.{Point}
-use Rattle.go_board.specs.declared.board.glance.RowStones.{RowStones}
+use Rattle.go_board.specs.declared.board.liberty.RowStones.{RowStones}
 use Rattle.go_board.specs.declared.stones.Colour.{Colour}
 use Rattle.go_board.specs.Colour.{opponent, stone_of, same_cell}
 use Rattle.go_board.specs.Point.{IsOn, DifferByOne}

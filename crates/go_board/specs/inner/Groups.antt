@@ -1,5 +1,5 @@
 -- Groups without liberties, grids after points were taken off, and grids on which every stone reaches empty.
-use Rattle.std.specs.Prelude.{◌≡◌, ◌≢◌, ◌⊎◌, ◌≤◌, ℕ, Bool, ◌&&◌, not, IsTrue, IsFalse, List, length}
+use Rattle.std.specs.Prelude.{◌≡◌, ◌≢◌, ◌⊎◌, ◌≤◌, ℕ, Bool, ◌&&◌, false, not, IsTrue, IsFalse, List, length}
 use Rattle.go_board.specs.declared.stones.Cell.TheVariants.{Empty}
 use Rattle.go_board.specs.declared.stones.Colour.{Colour}
 use Rattle.go_board.specs.declared.points.Point.{Point}
@@ -7,7 +7,7 @@ use Rattle.go_board.specs.Colour.{opponent, stone_of, same_cell}
 use Rattle.go_board.specs.Point.{IsOn, AreAdjacent}
 use Rattle.go_board.specs.Grid.{Grid, cell_at, with_cell}
 use Rattle.go_board.specs.Reaching.{Reaches, reaches}
-use Rattle.go_board.specs.Clearing.{play}
+use Rattle.go_board.specs.Clearing.{has_unreaching, play}
 use Rattle.go_board.specs.inner.Rows.{is_set, IsAmong}
 
 -- The points that pass the test are stones of one colour. Each stone of that
@@ -31,6 +31,12 @@ pub record AddsShut (grid : Grid) (colour : Colour) (old new : List ℕ) (added 
   pub kept : IsAmong (is_set old) (is_set new)
   pub none : IsFalse added → new ≡ old
   pub some : IsTrue added → (point : Point) × IsTrue (is_set new point)
+
+-- a stone of a colour, and rows that have whole groups of that colour, each without a liberty
+pub record IsAsked (grid : Grid) (colour : Colour) (point : Point) (rows : List ℕ) : Type 0 where
+  pub on_board : IsOn grid.side point
+  pub stone : cell_at grid point ≡ stone_of colour
+  pub shut : AreShutGroups grid colour rows
 
 -- all stones of a colour reach empty
 abbrev pub AllReach : Grid → Colour → Type 0
@@ -67,7 +73,12 @@ abbrev pub IsTakenOrReaches : Grid → Colour → List ℕ → Point → Type 0
 IsTakenOrReaches grid colour rows point =
     cell_at grid point ≡ stone_of colour → IsTrue (is_set rows point) ⊎ Reaches grid Empty point
 
--- the same for each stone of the colour beside a point
+-- The group of the stone on the point was added to the rows if it has no liberty. `added` tells whether it was.
+pub record AddsGroup (grid : Grid) (colour : Colour) (point : Point) (old new : List ℕ) (added : Bool) : Type 0 where
+  pub adds : AddsShut grid colour old new added
+  pub here : IsTakenOrReaches grid colour new point
+
+-- `IsTakenOrReaches` for each stone of the colour beside a point
 abbrev pub AreTakenOrReachBeside : Grid → Colour → Point → List ℕ → Type 0
 AreTakenOrReachBeside grid colour point rows =
     (neighbour : Point) → IsOn grid.side neighbour → AreAdjacent point neighbour → IsTakenOrReaches grid colour rows neighbour
@@ -77,6 +88,12 @@ pub record TakesOff (grid : Grid) (colour : Colour) (point : Point) (rows : List
   pub few : length rows ≤ grid.side
   pub on_grid : (q : Point) → IsTrue (is_set rows q) → IsOn grid.side q
   pub played : IsWithout (with_cell grid point (stone_of colour)) (play grid colour point) (λ q. IsTrue (is_set rows q))
+
+-- an empty point of a grid on which every stone reaches empty
+pub record IsEmptyOnSettled (grid : Grid) (point : Point) : Type 0 where
+  pub on_board : IsOn grid.side point
+  pub empty : cell_at grid point ≡ Empty
+  pub settled : has_unreaching grid ≡ false
 
 -- a stone that is put on an empty point, and what it takes off
 pub record IsMove (grid : Grid) (colour : Colour) (point : Point) (rows : List ℕ) : Type 0 where

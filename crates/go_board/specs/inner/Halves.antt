@@ -1,6 +1,7 @@
 -- Two sets of points in one list of words: each word has a row of the one in its low half, and a row of the other in its high half.
-use Rattle.std.specs.Prelude.{◌≡◌, ℕ, ◌/◌, ◌%◌, ◌^◌, not, List, length, map}
+use Rattle.std.specs.Prelude.{◌≡◌, ℕ, ◌/◌, ◌%◌, ◌^◌, ◌<◌, IsTrue, not, List, length, map}
 use Rattle.go_board.specs.declared.points.Point.{Point}
+use Rattle.go_board.specs.Point.{IsOn}
 use Rattle.go_board.specs.inner.Rows.{is_set}
 use Rattle.go_board.specs.inner.Regions.{AreRowsOf}
 
@@ -11,6 +12,13 @@ low_halves rows = map (λ word. word % 2 ^ 32) rows
 -- the rows in the high halves
 abbrev pub high_halves : List ℕ → List ℕ
 high_halves rows = map (λ word. word / 2 ^ 32) rows
+
+-- two sets of points of a board whose rows fit into half a word each
+pub record AreOnSmallBoard (black white : List ℕ) : Type 0 where
+  pub few : length black < 32
+  pub same : length white ≡ length black
+  pub black_on : (point : Point) → IsTrue (is_set black point) → IsOn (length black) point
+  pub white_on : (point : Point) → IsTrue (is_set white point) → IsOn (length black) point
 
 -- the low halves have the points of the set `black`, and the high halves have those of the set `white`
 pub record ArePaired (black white rows : List ℕ) : Type 0 where

@@ -1,6 +1,6 @@
--- What a colouring is looked up by, as a row of bits: the words of the print, of the stretch, and of each row of the board.
+-- What a colouring is looked up by, as a string of bits: the words of the print, of the stretch, and of each row of the board.
 use Rattle.std.specs.Prelude.{ℕ, zero, suc, ◌/◌, ◌%◌, Bool, ◌==◌, ◌&&◌, nat_lt, if◌then◌else◌, List, [], ◌∷◌, length, drop, ◌-◌}
-use Rattle.go_board.specs.declared.past.key.Key.{Key}
+use Rattle.go_board.specs.declared.quick.print_past.key.Key.{Key}
 use Rattle.go_board.specs.declared.stones.Cell.{Cell}
 use Rattle.go_board.specs.declared.stones.Cell.TheVariants.{Black, White}
 use Rattle.go_board.specs.Colour.{same_cell}
@@ -21,13 +21,13 @@ key_bit start print grid (suc zero) col = has_bit start col
 key_bit start print grid (suc (suc index)) col =
     has_stone grid (if index % 2 == 0 then Black else White) (index / 2) col
 
--- the key as a row of bits
-abbrev pub key_row : ℕ → ℕ → Grid → ℕ → Bool
-key_row start print grid place = key_bit start print grid (place / 64) (place % 64)
+-- the bits of the key
+abbrev pub key_bits : ℕ → ℕ → Grid → ℕ → Bool
+key_bits start print grid place = key_bit start print grid (place / 64) (place % 64)
 
 -- the bits of a key as it is kept
 abbrev pub bits_of : Key → ℕ → Bool
-bits_of key = key_row key.start key.print key.board.now
+bits_of key = key_bits key.start key.print key.board.now
 
 -- the number of the first colouring of the newest stretch of these colourings, newest first
 abbrev pub start_of : List Held → ℕ
@@ -46,4 +46,4 @@ oldest count held = drop (length held - count) held
 abbrev pub keys_of : List Held → List (ℕ → Bool)
 keys_of [] = []
 keys_of (newest ∷ older) =
-    key_row (start_of (newest ∷ older)) (print_of newest.colouring) newest.colouring ∷ keys_of older
+    key_bits (start_of (newest ∷ older)) (print_of newest.colouring) newest.colouring ∷ keys_of older

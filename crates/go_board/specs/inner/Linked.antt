@@ -1,12 +1,12 @@
 -- The group of a stone, as sets of points: the stones of its colour that are linked to it, and their liberties.
-use Rattle.std.specs.Prelude.{◌≡◌, ℕ, Bool, false, IsTrue, List, length}
+use Rattle.std.specs.Prelude.{◌≡◌, ℕ, Bool, false, IsTrue, List, length, slice_index}
 use Rattle.go_board.specs.declared.points.Point.{Point}
 use Rattle.go_board.specs.Point.{IsOn, AreAdjacent}
-use Rattle.go_board.specs.inner.Rows.{is_set, IsAmong, IsClosed}
+use Rattle.go_board.specs.inner.Rows.{has_bit, is_set, AreOfOneBoard, HasBeside, IsAmong, IsClosed, IsPart}
 
--- Every set that has the point `from` and is closed within the room also has the other point.
+-- Every set that has the point `from` and is closed within the region also has the other point.
 abbrev pub IsLinked : (Point → Bool) → Point → Point → Type 0
-IsLinked room from point = (set : Point → Bool) → IsClosed room set → IsTrue (set from) → IsTrue (set point)
+IsLinked region from point = (set : Point → Bool) → IsClosed region set → IsTrue (set from) → IsTrue (set point)
 
 -- a point of the board without a stone
 abbrev pub IsFree : List ℕ → List ℕ → Point → Type 0
@@ -15,6 +15,19 @@ IsFree own others point = IsOn (length own) point × (is_set own point ≡ false
 -- a point without a stone is beside the point `stone`
 abbrev pub HasLiberty : List ℕ → List ℕ → Point → Type 0
 HasLiberty own others stone = (point : Point) × IsFree own others point × AreAdjacent point stone
+
+-- the first of two colours has a stone on the point
+pub record IsStone (own others : List ℕ) (point : Point) : Type 0 where
+  pub rows : AreOfOneBoard own others
+  pub on_board : IsOn (length own) point
+  pub there : IsTrue (is_set own point)
+
+-- the word has the columns of the stones in the row of the stone on `from` that are linked to it within the row
+pub record IsJoined (own : List ℕ) (from : Point) (word : ℕ) : Type 0 where
+  pub start : IsTrue (has_bit word from.col)
+  pub within : IsPart (has_bit word) (has_bit (slice_index own from.row))
+  pub closed : HasBeside (has_bit (slice_index own from.row)) (has_bit word)
+  pub linked : (col : ℕ) → IsTrue (has_bit word col) → IsLinked (is_set own) from (record { col = col; row = from.row })
 
 -- the stone has a liberty, and is linked to the stone on `from`
 pub record IsLiberty (own others : List ℕ) (from stone : Point) : Type 0 where

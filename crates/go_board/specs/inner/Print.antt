@@ -1,11 +1,15 @@
 -- The print of a colouring: one number made from what stands on all its points.
-use Rattle.std.specs.Prelude.{ℕ, zero, suc, ◌+◌, ◌*◌, ◌%◌, ◌^◌, List, map, if◌then◌else◌, slice_index}
+use Rattle.std.specs.Prelude.{◌≡◌, ℕ, zero, suc, ◌+◌, ◌*◌, ◌%◌, ◌^◌, List, map, if◌then◌else◌, slice_index}
 use Rattle.std.specs.Int.{bit_at}
 use Rattle.std.specs.List.{fold}
 use Rattle.go_board.specs.declared.stones.Cell.{Cell}
 use Rattle.go_board.specs.declared.stones.Cell.TheVariants.{Black, White, Empty}
+use Rattle.go_board.specs.declared.stones.Colour.{Colour}
+use Rattle.go_board.specs.declared.points.Point.{Point}
 use Rattle.go_board.specs.Grid.{Grid, cell_at}
+use Rattle.go_board.specs.Clearing.{play}
 use Rattle.go_board.specs.Past.{Held}
+use Rattle.go_board.specs.inner.Groups.{IsMove}
 use Rattle.go_board.specs.inner.Rows.{has_bit}
 
 -- the digit that a cell is in the print
@@ -45,3 +49,8 @@ row_within grid columns row =
 -- the number of those cells of a grid that a set has
 abbrev pub number_within : Grid → List ℕ → ℕ
 number_within grid points = in_base (31 ^ grid.side) grid.side (λ row. row_within grid (slice_index points row) row)
+
+-- a stone that is put on an empty point, what it takes off, and the print of the colouring that it makes
+pub record IsPrintedMove (grid : Grid) (colour : Colour) (point : Point) (rows : List ℕ) (number : ℕ) : Type 0 where
+  pub move : IsMove grid colour point rows
+  pub print : number ≡ print_of (play grid colour point)

@@ -1,10 +1,10 @@
 -- The table by which past colourings are looked up: their prints, and a trie of the keys of the oldest ones.
 use Rattle.std.specs.Prelude.{◌≡◌, ℕ, Bool, ◌<◌, ◌≤◌, ◌^◌, List, length, reverse}
 use Rattle.std.specs.Vec.{vec_capacity}
-use Rattle.go_board.specs.declared.past.key.TheConstants.{WIDTH}
-use Rattle.go_board.specs.declared.past.table.Gap.{Gap}
-use Rattle.go_board.specs.declared.past.table.Table.{Table}
-use Rattle.go_board.specs.declared.past.trie.Node.{Node}
+use Rattle.go_board.specs.declared.quick.print_past.key.TheConstants.{WIDTH}
+use Rattle.go_board.specs.declared.quick.print_past.table.Gap.{Gap}
+use Rattle.go_board.specs.declared.quick.print_past.table.Table.{Table}
+use Rattle.go_board.specs.declared.quick.print_past.trie.Node.{Node}
 use Rattle.go_board.specs.Past.{Held}
 use Rattle.go_board.specs.inner.Filter.{IsFilter}
 use Rattle.go_board.specs.inner.Key.{keys_of, oldest}
@@ -21,8 +21,8 @@ pub record IsTable (held : List Held) (table : Table) : Type 0 where
   pub most : vec_capacity table.nodes < 2 ^ 32
   pub filtered : IsFilter table.prints.items table.filter
 
--- Where a colouring comes into a trie that has all of these: any row whose first bits are those of the print parts there.
+-- Where a colouring comes into a trie that has all of these: any key whose first bits are those of the print parts there.
 pub record IsGap (held : List Held) (nodes : List Node) (gap : Gap) : Type 0 where
   pub all : length nodes ≡ length held
   pub low : gap.place < 64
-  pub opens : (row : ℕ → Bool) → ((place : ℕ) → place < 64 → row place ≡ has_bit gap.print place) → IsOpening (keys_of held) nodes row gap.slot gap.place
+  pub opens : (bits : ℕ → Bool) → ((place : ℕ) → place < 64 → bits place ≡ has_bit gap.print place) → IsOpening (keys_of held) nodes bits gap.slot gap.place

@@ -1,19 +1,24 @@
--- A trie of rows of bits: a look-up walks down by the bits of a row, to the one item that it may equal.
+-- A trie of keys, each a string of bits: a look-up walks down by the bits of a key, to the one item that it may equal.
 -- Item number `item`, counted from 0 at the oldest, has the node with its number. The node's depth is 1 more than the place where
 -- the item parted from all earlier items; it is 0 if the item parted nowhere: the first item, and one that equals an earlier one.
 -- A slot is a side of a node. It names a node below if that is deeper than its own, and otherwise an item.
-use Rattle.std.specs.Prelude.{◌≡◌, ◌≢◌, ◌⊎◌, ℕ, ◌+◌, ◌-◌, ◌<◌, ◌≤◌, ◌==◌, Bool, false, if◌then◌else◌, List, [], ◌∷◌, length, take, slice_index_or, slice_set}
-use Rattle.go_board.specs.declared.past.trie.Node.{Node}
-use Rattle.go_board.specs.declared.past.trie.Slot.{Slot}
+use Rattle.std.specs.Prelude.{◌≡◌, ◌≢◌, ◌⊎◌, ℕ, ◌+◌, ◌-◌, ◌^◌, ◌<◌, ◌≤◌, ◌==◌, Bool, false, if◌then◌else◌, List, [], ◌∷◌, length, take, slice_index_or, slice_set}
+use Rattle.go_board.specs.declared.quick.print_past.trie.Node.{Node}
+use Rattle.go_board.specs.declared.quick.print_past.trie.Slot.{Slot}
 
--- two rows of bits are the same before that place
+-- A vector of `count` nodes has room for one more, and its number fits into 32 bits.
+pub record HasRoom (count capacity : ℕ) : Type 0 where
+  pub few : count < 2 ^ 32
+  pub room : count < capacity
+
+-- the bits of two keys are the same before that place
 pub record Agree (one other : ℕ → Bool) (end : ℕ) : Type 0 where
   pub each : (place : ℕ) → place < end → one place ≡ other place
 
--- the row of an item; the rows stand newest first
-abbrev pub row_of : List (ℕ → Bool) → ℕ → ℕ → Bool
-row_of [] item = λ place. false
-row_of (row ∷ older) item = if item == length older then row else row_of older item
+-- the bits of an item; the keys stand newest first
+abbrev pub bits_at : List (ℕ → Bool) → ℕ → ℕ → Bool
+bits_at [] item = λ place. false
+bits_at (bits ∷ older) item = if item == length older then bits else bits_at older item
 
 -- an item is under a slot: it has the bits of the node's item before the node's place, and the slot's side there
 pub record IsUnder (bit : ℕ → ℕ → Bool) (depth : ℕ → ℕ) (node : ℕ) (side : Bool) (item : ℕ) : Type 0 where
@@ -38,7 +43,7 @@ pub record IsKid (width count : ℕ) (bit : ℕ → ℕ → Bool) (depth : ℕ �
   pub far : IsReach width (depth node) (depth kid) reach
   pub alike : (item : ℕ) → item < count → IsUnder bit depth node side item → Agree (bit item) (bit kid) reach
 
--- the first `count` nodes are a trie of the first `count` items, whose rows have `width` bits
+-- the first `count` nodes are a trie of the first `count` items, whose keys have `width` bits
 pub record IsTree (width count : ℕ) (bit : ℕ → ℕ → Bool) (depth : ℕ → ℕ) (kid : ℕ → Bool → ℕ) : Type 0 where
   pub root : 0 < count → depth 0 ≡ 0
   pub within : (node : ℕ) → node < count → depth node ≤ width
@@ -102,27 +107,27 @@ without_newest nodes =
     if newest.up == number then front else with_named front newest.up newest.up_side (displaced number newest)
 
 -- what the slot names where a walk by the bits of `key` ends, before the place `end`
-pub record IsNearest (rows : List (ℕ → Bool)) (nodes : List Node) (key : ℕ → Bool) (end near : ℕ) : Type 0 where
+pub record IsNearest (keys : List (ℕ → Bool)) (nodes : List Node) (key : ℕ → Bool) (end near : ℕ) : Type 0 where
   pub node : ℕ
   pub side : Bool
-  pub way : IsOnWay (length nodes) (row_of rows) (depth_of nodes) key end node side
+  pub way : IsOnWay (length nodes) (bits_at keys) (depth_of nodes) key end node side
   pub stop : depth_of nodes node < depth_of nodes (kid_of nodes node side) → end < depth_of nodes (kid_of nodes node side)
   pub names : near ≡ kid_of nodes node side
 
--- the slot where an item with this row comes in: the item parts from the others at that place
-pub record IsOpening (rows : List (ℕ → Bool)) (nodes : List Node) (row : ℕ → Bool) (slot : Slot) (place : ℕ) : Type 0 where
+-- the slot where an item with this bits comes in: the item parts from the others at that place
+pub record IsOpening (keys : List (ℕ → Bool)) (nodes : List Node) (bits : ℕ → Bool) (slot : Slot) (place : ℕ) : Type 0 where
   pub item : ℕ
   pub there : IsSlot (length nodes) (depth_of nodes) slot.node slot.side
   pub low : depth_of nodes slot.node ≤ place
-  pub under : IsUnder (row_of rows) (depth_of nodes) slot.node slot.side item
+  pub under : IsUnder (bits_at keys) (depth_of nodes) slot.node slot.side item
   pub stop : depth_of nodes slot.node < depth_of nodes (kid_of nodes slot.node slot.side) → place < depth_of nodes (kid_of nodes slot.node slot.side)
-  pub part : IsParting (length nodes) (row_of rows) row item place
+  pub part : IsParting (length nodes) (bits_at keys) bits item place
 
--- The nodes are a trie of items with these rows, newest first. Without the newest node they are a trie of the others.
+-- The nodes are a trie of items with these keys, newest first. Without the newest node they are a trie of the others.
 abbrev pub IsTrie : ℕ → List (ℕ → Bool) → List Node → Type 0
 IsTrie width [] nodes = nodes ≡ []
-IsTrie width (row ∷ older) nodes =
-    (length nodes ≡ length (row ∷ older))
-    × IsTree width (length (row ∷ older)) (row_of (row ∷ older)) (depth_of nodes) (kid_of nodes)
+IsTrie width (bits ∷ older) nodes =
+    (length nodes ≡ length (bits ∷ older))
+    × IsTree width (length (bits ∷ older)) (bits_at (bits ∷ older)) (depth_of nodes) (kid_of nodes)
     × ((node_at nodes (length older)).up ≤ length older)
     × IsTrie width older (without_newest nodes)

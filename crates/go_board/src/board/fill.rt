@@ -2,148 +2,130 @@
 
 ghost use Rattle.std.specs.Prelude.{◌≡◌, ◌≢◌, ◌⊎◌, ℕ, ◌+◌, ◌*◌, ◌^◌, ◌<◌, ◌≤◌, false, Bool, IsTrue, List, length, slice_index};
 ghost use Rattle.go_board.specs.Point.{DifferByOne};
-ghost use Rattle.go_board.specs.inner.Fill.{IsFilledBut};
+ghost use Rattle.go_board.specs.inner.Fill.{IsFilledBut, IsRowGrown, IsWithin, SomeWait};
 ghost use Rattle.go_board.specs.inner.Rows.{has_bit, is_set, row_above, IsPart, HasBeside, IsWidened, IsTaken, IsAmong, IsClosed, IsRowClosed, Grows, lacking};
 
 use crate::board::regions::with_column;
 use crate::board::stone_rows::without_column;
 
-/// Adds to a set all points that a path within `room` connects to it. Each row adds the points of the room that are beside
+/// Adds to a set all points that a path within `region` connects to it. Each row adds the points of the region that are beside
 /// points of the set. If a row has grown, those of the rows above and below it that can now add a point wait for their turn.
-pub(crate) fn fill(rows: &mut [u64], room: &[u64])
-    requires same { length rows.old ≡ length room.now }
-    requires few { length rows.old < 64 }
-    requires within { IsAmong (is_set rows.old) (is_set room.now) }
-    ensures grows { Grows (is_set room.now) (is_set rows.old) (is_set rows.new) }
-    ensures closed { IsClosed (is_set room.now) (is_set rows.new) }
+pub(crate) fn fill(rows: &mut [u64], region: &[u64])
+    requires { IsWithin rows.old region.now }
+    ensures grows { Grows (is_set region.now) (is_set rows.old) (is_set rows.new) }
+    ensures closed { IsClosed (is_set region.now) (is_set rows.new) }
 {
-    let mut waiting = grow_down(rows, room);
+    let mut waiting = grow_down(rows, region);
     'rows: while waiting != 0 {
-        let (_, left) = grow_lowest(rows, room, waiting);
+        let (_, left) = grow_lowest(rows, region, waiting);
         waiting = left;
     }
 }
 
 /// Grows the first row that waits (`grow_row`). If the row gets new points, those of the rows above and below it that can take
 /// a point from it wait, too. Returns the number of the row, and the rows that wait afterwards.
-pub(crate) fn grow_lowest(rows: &mut [u64], room: &[u64], waiting: u64) -> (usize, u64)
-    requires same { length rows.old ≡ length room.now }
-    requires few { length rows.old < 64 }
-    requires within { IsAmong (is_set rows.old) (is_set room.now) }
-    requires some { waiting ≢ 0 }
-    requires rows_in { (row : ℕ) → IsTrue (has_bit waiting row) → row < length room.now }
+pub(crate) fn grow_lowest(rows: &mut [u64], region: &[u64], waiting: u64) -> (usize, u64)
+    requires within { IsWithin rows.old region.now }
+    requires wait { SomeWait waiting (length region.now) }
     ensures row { result.0 < length rows.new }
-    ensures rows { length rows.new ≡ length rows.old }
-    ensures filled { (first : List ℕ) → IsFilledBut room.now first rows.old waiting → IsFilledBut room.now first rows.new result.1 }
-    ensures others { (other : ℕ) → other ≢ result.0 → slice_index rows.new other ≡ slice_index rows.old other }
-    ensures wait { (other : ℕ) → other ≢ result.0 → IsTrue (has_bit waiting other) → IsTrue (has_bit result.1 other) }
+    ensures filled { (first : List ℕ) → IsFilledBut region.now first rows.old waiting → IsFilledBut region.now first rows.new result.1 }
+    ensures others { (other : ℕ) → other ≢ result.0 → (slice_index rows.new other ≡ slice_index rows.old other)
+        × (IsTrue (has_bit waiting other) → IsTrue (has_bit result.1 other)) }
     ensures less { lacking rows.new * 2 ^ 64 + result.1 < lacking rows.old * 2 ^ 64 + waiting }
 {
     let row = waiting.trailing_zeros() as usize;
     let left = without_column(waiting, row);
     let old = rows[row];
-    grow_row(rows, room, row);
+    grow_row(rows, region, row);
     if rows[row] == old {
         return (row, left);
     }
-    (row, with_rows_lacking(left, rows, room, row))
+    (row, with_rows_lacking(left, rows, region, row))
 }
 
 /// Grows each row (`grow_row_below`), from the first row to the last.
 /// Returns the rows that can take a point from the row below them.
-fn grow_down(rows: &mut [u64], room: &[u64]) -> u64
-    requires same { length rows.old ≡ length room.now }
-    requires few { length rows.old < 64 }
-    requires within { IsAmong (is_set rows.old) (is_set room.now) }
-    ensures { IsFilledBut room.now rows.old rows.new result }
+fn grow_down(rows: &mut [u64], region: &[u64]) -> u64
+    requires { IsWithin rows.old region.now }
+    ensures { IsFilledBut region.now rows.old rows.new result }
 {
-    // the row above, and what it lacks of the room, stay at hand for the row below it
+    // the row above, and what it lacks of the region, stay at hand for the row below it
     let mut above = 0;
     let mut lacking = 0;
     let mut waiting_above = 0;
     'rows: for row in 0..rows.len() {
-        grow_row_below(rows, room, row, above);
+        grow_row_below(rows, region, row, above);
         above = rows[row];
         waiting_above = with_column(waiting_above, row, lacking & above != 0);
-        lacking = room[row] & !above;
+        lacking = region[row] & !above;
     }
     waiting_above >> 1
 }
 
 /// The rows that wait, and those of the rows above and below `row` that can take a point from it.
-pub(crate) fn with_rows_lacking(waiting: u64, rows: &[u64], room: &[u64], row: usize) -> u64
-    requires same { length room.now ≡ length rows.now }
+pub(crate) fn with_rows_lacking(waiting: u64, rows: &[u64], region: &[u64], row: usize) -> u64
+    requires same { length region.now ≡ length rows.now }
     requires few { length rows.now < 64 }
     requires row { row < length rows.now }
     ensures kept { IsPart (has_bit waiting) (has_bit result) }
     ensures from { (r : ℕ) → IsTrue (has_bit result r) → IsTrue (has_bit waiting r) ⊎ (r < length rows.now) }
     ensures taken { (r : ℕ) → DifferByOne r row → r < length rows.now → has_bit result r ≡ false
-        → IsTaken room.now rows.now r (slice_index rows.now row) }
+        → IsTaken region.now rows.now r (slice_index rows.now row) }
 {
     let up = if row > 0 {
-        with_column(waiting, row - 1, lacks(rows, room, row - 1, rows[row]))
+        with_column(waiting, row - 1, lacks(rows, region, row - 1, rows[row]))
     } else {
         waiting
     };
     if row + 1 < rows.len() {
-        with_column(up, row + 1, lacks(rows, room, row + 1, rows[row]))
+        with_column(up, row + 1, lacks(rows, region, row + 1, rows[row]))
     } else {
         up
     }
 }
 
-/// Whether some column of `word` is in the room's row, but not yet in the set's row.
-fn lacks(rows: &[u64], room: &[u64], row: usize, word: u64) -> bool
-    requires same { length room.now ≡ length rows.now }
+/// Whether some column of `word` is in the region's row, but not yet in the set's row.
+fn lacks(rows: &[u64], region: &[u64], row: usize, word: u64) -> bool
+    requires same { length region.now ≡ length rows.now }
     requires row { row < length rows.now }
-    ensures { result ≡ false → IsTaken room.now rows.now row word }
+    ensures { result ≡ false → IsTaken region.now rows.now row word }
 {
-    word & room[row] & !rows[row] != 0
+    word & region[row] & !rows[row] != 0
 }
 
-/// Adds the points of a row that are in the room and beside points of the set.
-fn grow_row(rows: &mut [u64], room: &[u64], row: usize)
-    requires same { length rows.old ≡ length room.now }
+/// Adds the points of a row that are in the region and beside points of the set.
+fn grow_row(rows: &mut [u64], region: &[u64], row: usize)
+    requires within { IsWithin rows.old region.now }
     requires row { row < length rows.old }
-    requires within { IsAmong (is_set rows.old) (is_set room.now) }
-    ensures grows { Grows (is_set room.now) (is_set rows.old) (is_set rows.new) }
-    ensures closed { IsRowClosed (is_set room.now) (is_set rows.new) row }
-    ensures others { (other : ℕ) → other ≢ row → slice_index rows.new other ≡ slice_index rows.old other }
-    ensures unchanged { slice_index rows.new row ≡ slice_index rows.old row → rows.new ≡ rows.old }
-    ensures fuller { slice_index rows.new row ≢ slice_index rows.old row → lacking rows.new < lacking rows.old }
+    ensures { IsRowGrown region.now rows.old rows.new row }
 {
     let above = row_above(rows, row);
-    grow_row_below(rows, room, row, above);
+    grow_row_below(rows, region, row, above);
 }
 
 /// Grows a row (`grow_row`); `above` is the row above it.
-fn grow_row_below(rows: &mut [u64], room: &[u64], row: usize, above: u64)
-    requires same { length rows.old ≡ length room.now }
+fn grow_row_below(rows: &mut [u64], region: &[u64], row: usize, above: u64)
+    requires within { IsWithin rows.old region.now }
     requires row { row < length rows.old }
-    requires within { IsAmong (is_set rows.old) (is_set room.now) }
     requires above { above ≡ row_above rows.old row }
-    ensures grows { Grows (is_set room.now) (is_set rows.old) (is_set rows.new) }
-    ensures closed { IsRowClosed (is_set room.now) (is_set rows.new) row }
-    ensures others { (other : ℕ) → other ≢ row → slice_index rows.new other ≡ slice_index rows.old other }
-    ensures unchanged { slice_index rows.new row ≡ slice_index rows.old row → rows.new ≡ rows.old }
-    ensures fuller { slice_index rows.new row ≢ slice_index rows.old row → lacking rows.new < lacking rows.old }
+    ensures { IsRowGrown region.now rows.old rows.new row }
 {
     let beside = above | row_below(rows, row);
-    rows[row] = widened((rows[row] | beside) & room[row], room[row]);
+    rows[row] = widened((rows[row] | beside) & region[row], region[row]);
 }
 
-/// Widens a set of columns by the columns of the room beside it, until there are no more.
-pub(crate) fn widened(seed: u64, room: u64) -> u64
-    requires { IsPart (has_bit seed) (has_bit room) }
-    ensures within { IsPart (has_bit result) (has_bit room) }
+/// Widens a set of columns by the columns of the region beside it, until there are no more.
+pub(crate) fn widened(seed: u64, region: u64) -> u64
+    requires { IsPart (has_bit seed) (has_bit region) }
+    ensures within { IsPart (has_bit result) (has_bit region) }
     ensures kept { IsPart (has_bit seed) (has_bit result) }
-    ensures closed { HasBeside (has_bit room) (has_bit result) }
-    ensures least { (set : ℕ → Bool) → HasBeside (has_bit room) set → IsPart (has_bit seed) set
+    ensures closed { HasBeside (has_bit region) (has_bit result) }
+    ensures least { (set : ℕ → Bool) → HasBeside (has_bit region) set → IsPart (has_bit seed) set
         → IsPart (has_bit result) set }
 {
-    let mut word = carried(seed, room);
+    let mut word = carried(seed, region);
     'widen: loop {
-        let wider = with_before(word, room);
+        let wider = with_before(word, region);
         if wider == word {
             return word;
         }
@@ -151,21 +133,21 @@ pub(crate) fn widened(seed: u64, room: u64) -> u64
     }
 }
 
-/// A set of columns, widened by the columns of the room that follow one of them without a gap. The carry of a sum finds these.
-fn carried(seed: u64, room: u64) -> u64
-    requires { IsPart (has_bit seed) (has_bit room) }
-    ensures { IsWidened room seed result }
+/// A set of columns, widened by the columns of the region that follow one of them without a gap. The carry of a sum finds these.
+fn carried(seed: u64, region: u64) -> u64
+    requires { IsPart (has_bit seed) (has_bit region) }
+    ensures { IsWidened region seed result }
 {
-    room & !room.wrapping_add(seed) | seed
+    region & !region.wrapping_add(seed) | seed
 }
 
-/// A set of columns, widened by the columns of the room just before one of them.
-fn with_before(word: u64, room: u64) -> u64
-    ensures widened { (seed : ℕ) → IsWidened room seed word → IsWidened room seed result }
-    ensures closed { (seed : ℕ) → IsWidened room seed word → result ≡ word → HasBeside (has_bit room) (has_bit word) }
+/// A set of columns, widened by the columns of the region just before one of them.
+fn with_before(word: u64, region: u64) -> u64
+    ensures widened { (seed : ℕ) → IsWidened region seed word → IsWidened region seed result }
+    ensures closed { (seed : ℕ) → IsWidened region seed word → result ≡ word → HasBeside (has_bit region) (has_bit word) }
     ensures at_least { word ≤ result }
 {
-    word | room & word >> 1
+    word | region & word >> 1
 }
 
 /// The row above a row; empty above the first.

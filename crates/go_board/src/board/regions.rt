@@ -7,12 +7,12 @@ ghost use Rattle.go_board.specs.Point.{IsOn};
 ghost use Rattle.go_board.specs.Colour.{same_cell, stone_of};
 ghost use Rattle.go_board.specs.Grid.{cell_at};
 ghost use Rattle.go_board.specs.inner.Groups.{AllReach, is_shut};
-ghost use Rattle.go_board.specs.inner.Rows.{has_bit, is_set};
+ghost use Rattle.go_board.specs.inner.Rows.{has_bit, is_set, AreAllColumns, AreOfOneBoard};
 ghost use Rattle.go_board.specs.inner.Regions.{AreRowsOf, IsDifference, HaveLiberty, reaches_through_own, count_apart};
 
 use crate::board::Board;
 use crate::board::fill::fill;
-use crate::board::group::columns_with_liberty;
+use crate::board::liberty::columns_with_liberty;
 use crate::size::MAX_ROWS;
 use crate::stones::Colour;
 
@@ -27,10 +27,10 @@ impl Board {
         ensures rows { length area.new ≡ self.now.side }
     {
         let mut words = no_rows();
-        let room = &mut words[..usize::from(self.size().side())];
+        let region = &mut words[..usize::from(self.size().side())];
         area.copy_from_slice(self.rows_of(colour));
-        other_points(self.rows_of(colour.opponent()), room);
-        fill(area, room);
+        other_points(self.rows_of(colour.opponent()), region);
+        fill(area, region);
     }
 
     /// The points with a stone of a colour.
@@ -121,8 +121,7 @@ pub(crate) fn other_columns(word: u64, side: usize) -> u64
 /// All columns of a row that has `side` columns.
 pub(crate) fn all_columns(side: usize) -> u64
     requires { side < 64 }
-    ensures within { (col : ℕ) → col < side → IsTrue (has_bit result col) }
-    ensures off { (col : ℕ) → IsTrue (has_bit result col) → col < side }
+    ensures { AreAllColumns side result }
 {
     other_columns(0, side)
 }
@@ -157,8 +156,7 @@ fn difference(rows: &[u64], others: &[u64], left: &mut [u64])
 
 /// Writes to `alive` the stones of `own` that have an empty point beside them. `others` has the stones of the other colour.
 fn stones_with_liberty(own: &[u64], others: &[u64], alive: &mut [u64])
-    requires few { length own.now < 64 }
-    requires others { length others.now ≡ length own.now }
+    requires rows { AreOfOneBoard own.now others.now }
     requires alive { length alive.old ≡ length own.now }
     ensures { HaveLiberty own.now others.now alive.new }
 {

@@ -1,4 +1,4 @@
-//! The plain past: all colourings in one vector.
+//! The plain past: all colourings in one vector. Positional superko compares with each of them.
 
 ghost use Rattle.std.specs.Prelude.{◌↔◌, IsTrue, Contains, reverse};
 ghost use Rattle.go_board.specs.Past.{stretch_of};

@@ -1,5 +1,5 @@
-//! A referee's turns. For positional superko the referee asks the past whether a stone
-//! would repeat a colouring made since the last setup of stones.
+//! A referee's turns. The past plays the stones (`Past::play`), and doesn't play one that would repeat a colouring made since the last
+//! setup of stones (positional superko).
 
 use crate::fault::{MemoryFault, TurnFault};
 use crate::past::Past;
@@ -65,7 +65,7 @@ impl<P: Past> Referee<P> {
         None
     }
 
-    /// Takes a pass.
+    /// Takes a pass. Two passes in a row end the game (`over`).
     fn take_pass(&mut self, colour: Colour) -> Result<(), MemoryFault>
         requires { self.old.present.passes ≢ 2 }
         ensures ok { OnOk result (self.new ≡ followed_by self.old (turned self.old.present colour Pass)) }
@@ -79,7 +79,8 @@ impl<P: Past> Referee<P> {
         Ok(())
     }
 
-    /// Plays a stone as a player's turn, unless it repeats a colouring of the present stretch. Returns whether the turn was taken.
+    /// Plays a stone as a player's turn, with its captures or its suicide, unless it repeats a colouring of the present stretch
+    /// (positional superko). Returns whether the turn was taken.
     fn take_stone(&mut self, colour: Colour, point: Point) -> Result<bool, MemoryFault>
         requires on_board { IsOn self.old.present.colouring.side point }
         requires only_repeat { MayOnlyRepeat self.old.present colour (Stone point) }

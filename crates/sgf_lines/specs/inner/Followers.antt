@@ -1,17 +1,17 @@
 -- A follower's state, from its cursor and from what is known of the line before the cursor.
-use Rattle.std.specs.Prelude.{◌≡◌, ◌<◌, ◌≤◌, ℕ, length, refl}
+use Rattle.std.specs.Prelude.{◌≡◌, ◌<◌, ◌≤◌, ℕ, List, length, refl}
 use Rattle.std.specs.Coded.{Coded, code_by, coded×, coded_ℕ}
 use Rattle.sgf_tree.specs.Tree.{Games}
 use Rattle.sgf_tree.specs.inner.TreeCode.{games_code}
 use Rattle.sgf_lines.specs.Cursor.{CursorState}
 use Rattle.sgf_lines.specs.Follower.{FollowerState, lines_judged}
 use Rattle.sgf_lines.specs.Plays.{all_judged_places}
-use Rattle.sgf_lines.specs.declared.going_on.Before.{Before}
-use Rattle.sgf_lines.specs.declared.going_on.Before.TheVariants.{Unheld, Held, Refused}
-use Rattle.sgf_lines.specs.inner.GoingOn.{index_by}
-use Rattle.sgf_lines.specs.inner.Following.{nodes_before}
+use Rattle.sgf_lines.specs.declared.over_lines.Before.{Before}
+use Rattle.sgf_lines.specs.declared.over_lines.Before.TheVariants.{Unheld, Held, Refused}
+use Rattle.sgf_lines.specs.inner.GoingOn.{StandsBy, index_by}
+use Rattle.sgf_lines.specs.inner.Following.{nodes_before, path_before}
 use Rattle.sgf_lines.specs.inner.Judging.{Judging}
-use Rattle.sgf_lines.specs.inner.Keeping.{HoldsJudgement, StandsBy}
+use Rattle.sgf_lines.specs.inner.Keeping.{HoldsJudgement}
 
 abbrev pub state_by : Before → CursorState → ℕ → FollowerState
 state_by before cursor row = record { games = cursor.games; index = index_by before cursor.index; row = row }
@@ -22,9 +22,9 @@ IsRow Unheld index row = row ≡ 0
 IsRow Held index row = (0 < row) × (row ≤ index)
 IsRow Refused index row = row ≡ 0
 
--- what a follower holds
-pub record Follows (before : Before) (cursor : CursorState) (judging : Judging) (row : ℕ) : Type 0 where
-  pub stands : StandsBy before (nodes_before cursor) (HoldsJudgement (nodes_before cursor) judging.judgement)
+-- what a follower holds: the judgement on the line before its cursor, the path of that line, and the plays of its row
+pub record Follows (before : Before) (cursor : CursorState) (judging : Judging) (path : List ℕ) (row : ℕ) : Type 0 where
+  pub stands : StandsBy before (nodes_before cursor) (HoldsJudgement (nodes_before cursor) judging.judgement × (path ≡ path_before cursor))
   pub is_row : IsRow before cursor.index row
   pub plays_are : judging.plays ≡ length (all_judged_places (lines_judged (state_by before cursor row)))
 

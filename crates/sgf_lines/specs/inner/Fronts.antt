@@ -2,8 +2,6 @@
 use Rattle.std.specs.Prelude.{◌≡◌, ◌<◌, ℕ, List, ◌++◌, length, drop}
 use Rattle.sgf_tree.specs.Tree.{Node}
 use Rattle.sgf_lines.specs.declared.sequence_cursor.Front.{Front}
-use Rattle.sgf_lines.specs.declared.going_on.Before.{Before}
-use Rattle.sgf_lines.specs.declared.going_on.Before.TheVariants.{Unheld, Held, Refused}
 use Rattle.sgf_lines.specs.inner.Following.{nodes_before}
 use Rattle.sgf_lines.specs.inner.Sequences.{SequencesState, sequences_of, nodes_in}
 
@@ -15,12 +13,6 @@ sequences_before cursor = sequences_of cursor.ends (nodes_before cursor.at)
 pub record HasFront (ends : List ℕ) (front : Front) : Type 0 where
   pub more : front.sequences < length ends
   pub count : front.nodes ≡ nodes_in ends front.sequences
-
--- what is held of the next line, by what it shares with the line before it
-abbrev pub held_by : Before → Front → Front
-held_by Unheld shared = record { sequences = 0; nodes = 0 }
-held_by Held shared = shared
-held_by Refused shared = record { sequences = 0; nodes = 0 }
 
 -- the nodes that are left of one sequence, and then those of the line's sequences from the index `sequence` on
 abbrev pub nodes_to_come : SequencesState → ℕ → List Node → List Node

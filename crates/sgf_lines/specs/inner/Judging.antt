@@ -96,6 +96,12 @@ next_plays (unjudged told) = 0
 next_plays (judged states (Some told)) = 0
 next_plays (judged states None) = 1
 
+-- no node changes the judgement any more: the game isn't judged, or a node wasn't allowed
+abbrev pub IsSettled : Judgement → Type 0
+IsSettled (unjudged told) = Unit {0}
+IsSettled (judged states (Some told)) = Unit {0}
+IsSettled (judged states None) = ⊥
+
 -- the judgement that a judge in memory holds
 abbrev pub judgement_of : Option Verdict → Option States → Judgement
 judgement_of ended None = unjudged (unwrap_or ended NotGo)

@@ -1,21 +1,19 @@
 -- What the parts of a run do.
-use Rattle.std.specs.Prelude.{◌≡◌, ℕ, ◌<◌, ◌≤◌, ◌+◌, List, length, drop, take, Option, Some, Result, Ok, Err, slice_get, ⊤}
+use Rattle.std.specs.Prelude.{◌≡◌, ℕ, ◌<◌, ◌≤◌, ◌+◌, List, length, drop, take, Option, Some, Result, Ok, Err, ⊤}
 use Rattle.std.specs.Io.KnownBytes.{Appends, Consumes}
 use Rattle.sgf_tree.specs.Tree.{Games}
 use Rattle.sgf_tree.specs.declared.fault.TheConstants.{MAX_LENGTH}
-use Rattle.sgf_tree.specs.declared.fault.ReadFault.{ReadFault}
-use Rattle.sgf_tree.specs.declared.fault.ReadFault.TheVariants.{TooLong as TextTooLong, NotSgf as TextNotSgf, Memory as TextMemory}
 use Rattle.sgf_lines.specs.Lines.{Line, lines, HasNoLineAt}
 use Rattle.sgf_lines.specs.Page.{lines_asked}
-use Rattle.sgf_lines.specs.Record.{output, record_of}
+use Rattle.sgf_lines.specs.Record.{output}
 use Rattle.sgf_lines.specs.Ends.{SourceState, SinkState}
-use Rattle.sgf_lines.specs.Cursor.{CursorState, advanced}
+use Rattle.sgf_lines.specs.Cursor.{CursorState}
 use Rattle.sgf_lines.specs.Answer.{IsWhole, IsCutShort}
 use Rattle.sgf_lines.specs.inner.Sequences.{SequencesState}
 use Rattle.sgf_lines.specs.RunPlays.{plays_of, ArePlaysFor}
 use Rattle.sgf_lines.specs.declared.options.Form.{Form}
 use Rattle.sgf_lines.specs.declared.fault.RunFault.{RunFault}
-use Rattle.sgf_lines.specs.declared.fault.RunFault.TheVariants.{Read, TooLong, NotSgf, NoSuchLine, Write, Memory}
+use Rattle.sgf_lines.specs.declared.fault.RunFault.TheVariants.{Read, TooLong, NoSuchLine, Write, Memory}
 
 -- what the result of reading says of the bytes that the source gave, and of the text made from them
 abbrev pub AnswersReading : {A : Type 0} → List ℕ → Option (List ℕ) → List ℕ → Result A RunFault → Type 0
@@ -47,12 +45,6 @@ abbrev pub AnswersSome : SourceState → SourceState → List ℕ → Result ℕ
 AnswersSome start now text (Ok count) = HasRead start now text × (count ≡ 0 → IsWhole text now.to_come)
 AnswersSome start now text (Err fault) = IsReading {A = ⊤} start now text (Err fault)
 
--- why a text of `len` bytes wasn't read, as the fault of a run
-abbrev pub unread : ReadFault → ℕ → RunFault
-unread TextTooLong len = TooLong
-unread (TextNotSgf at) len = NotSgf at len
-unread TextMemory len = Memory 0
-
 -- where a cursor stands before the page, or why there is no page
 abbrev pub IsStart : Games → Option ℕ → Result SequencesState RunFault → Type 0
 IsStart games after (Ok cursor) = lines_asked (lines games) after ≡ Some (drop cursor.at.index (lines games))
@@ -69,14 +61,10 @@ WritesLines form page sink new_sink plays (Err (Memory count)) =
     (count ≤ length page) × Appends sink.taken new_sink.taken (output form (take count page)) × ArePlaysFor form page count plays
 WritesLines form page sink new_sink plays (Err _) = ⊥
 
--- the record of the line at the cursor, which moved on by one line
-pub record HasRecord (form : Form) (old new : CursorState) (bytes : List ℕ) : Type 0 where
-  pub line : Line
-  pub found : slice_get (lines old.games) old.index ≡ Some line
-  pub bytes_are : bytes ≡ record_of form line
-  pub goes_on : new ≡ advanced old
+-- The same, where the plays went from `old` to `new`.
+abbrev pub WritesPage : Form → List Line → SinkState → SinkState → ℕ → ℕ → Result ℕ RunFault → Type 0
+WritesPage form page sink new_sink old new result = (plays : ℕ) × (new ≡ old + plays) × WritesLines form page sink new_sink plays result
 
--- a sink took all of these bytes, or it took fewer of them and failed
-abbrev pub PutsAll : {A E : Type 0} → SinkState → SinkState → List ℕ → Result A E → Type 0
-PutsAll old new bytes (Ok _) = Appends old.taken new.taken bytes × (new.failures ≡ old.failures)
-PutsAll old new bytes (Err _) = (count : ℕ) × (count < length bytes) × Appends old.taken new.taken (take count bytes) × (new.failures ≡ old.failures + 1)
+-- at most `limit` of the lines after a cursor
+abbrev pub page_after : CursorState → ℕ → List Line
+page_after cursor limit = take limit (drop cursor.index (lines cursor.games))

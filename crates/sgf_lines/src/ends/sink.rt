@@ -2,8 +2,7 @@
 
 ghost use Rattle.std.specs.Prelude.{◌≡◌, ◌<◌, ◌≤◌, List, ℕ, [], length, take, Some, None, IfSome, OnErr};
 ghost use Rattle.std.proofs.KnownBytes.{Appends-nil};
-ghost use Rattle.sgf_lines.specs.Ends.{SinkState, IsPut, IsFlush, DeliversFront};
-ghost use Rattle.sgf_lines.specs.inner.Running.{PutsAll};
+ghost use Rattle.sgf_lines.specs.Ends.{SinkState, IsPut, IsFlush, DeliversFront, PutsAll};
 
 use std::io::Write;
 use thiserror::Error;
@@ -179,17 +178,14 @@ impl<const N: usize> Sink for ArraySink<N> {
     }
 }
 
-/// Puts all of `bytes`.
-pub(crate) fn put_all<T: Sink>(bytes: &[u8], sink: &mut T) -> Result<(), SinkFault>
+/// Puts all of `bytes`, with one put after another. If the sink fails, it has taken fewer of them, and is asked nothing more.
+pub fn put_all<T: Sink>(bytes: &[u8], sink: &mut T) -> Result<(), SinkFault>
     requires countable { (T.state sink.old).failures < u64.MAX }
     ensures { PutsAll (T.state sink.old) (T.state sink.new) bytes.now result }
 {
     let mut done = 0;
     'puts: while done < bytes.len() {
-        match sink.put(&bytes[done..]) {
-            Ok(count) => done += count,
-            Err(fault) => return Err(fault),
-        }
+        done += sink.put(&bytes[done..])?;
     }
     Ok(())
 }

@@ -1,23 +1,23 @@
 //! The script of a line in gtp form.
 
-ghost use Rattle.std.specs.Prelude.{◌≡◌, ◌==◌, ◌+◌, ◌<◌, ◌≤◌, false, length, IfSome, OnOk};
-ghost use Rattle.sgf_tree.specs.Tree.{lone_property};
+ghost use Rattle.std.specs.Prelude.{◌≡◌, ◌==◌, ◌+◌, ◌<◌, ◌≤◌, false, length, OnOk};
+ghost use Rattle.sgf_tree.specs.Tree.{Node};
 ghost use Rattle.sgf_lines.specs.inner.Following.{nodes_before};
-ghost use Rattle.sgf_lines.specs.inner.Gathered.{HoldsAlone};
+ghost use Rattle.sgf_lines.specs.inner.Gathered.{ComesAs};
 ghost use Rattle.sgf_lines.specs.inner.Fronts.{HasFront};
 ghost use Rattle.sgf_lines.specs.inner.Judging.{after, next_plays, board_in};
 ghost use Rattle.sgf_lines.specs.inner.Keeping.{HoldsJudgement, KeepsJudgement, KeepsScript, PlaysUpTo, fresh_plays, script_front};
 ghost use Rattle.sgf_lines.specs.inner.Scripting.{IsLettered, IsPlayable, is_unreaching, no_script, said_after, said_on, script_back, script_begun, script_ended, script_on, script_text, step_script};
 
-use crate::form::judged::begin_or_go_back;
 use crate::form::pieces::Pieces;
 use crate::judging::judge::Judge;
+use crate::judging::judged::begin_or_go_back;
 use crate::judging::step::{Effect, TakenStep};
 use crate::line_nodes::LineNodes;
 use crate::sequence_cursor::{Front, SequenceCursor};
 use go_board::{Board, MAX_VERTEX_SIDE, Size};
 use itoa::Buffer;
-use sgf_tree::{MemoryFault, NodeRef};
+use sgf_tree::{MemoryFault, NextNode};
 use std::alloc::Global;
 use std::marker::Model;
 
@@ -95,23 +95,25 @@ impl Script {
         Ok(())
     }
 
-    /// Judges a node, and adds it if its step was taken. `lead` is as for `take_step`.
+    /// Judges a node, and adds it if its step was taken. `next` and `nodes` are as for `take_step`.
     fn take<'a>(
         &mut self,
-        node: &NodeRef<'_, 'a>,
-        lead: Option<(u8, &'a [u8])>,
+        next: NextNode<'a>,
+        nodes: &mut LineNodes<'_, '_, 'a>,
         judge: &mut Judge,
     ) -> Result<(), MemoryFault>
         requires countable { judge.old.plays < u64.MAX }
-        requires lead { IfSome lead (λ lone. HoldsAlone (lone_property lone.0 lone.1.now) node.now.properties) }
         requires letters { IsLettered self.old (board_in judge.old.judgement) }
-        ensures judged { OnOk result (judge.new.judgement ≡ after judge.old.judgement node.now) }
-        ensures said { OnOk result (self.new ≡ said_after self.old judge.old.judgement node.now) }
+        ensures judged { (node : Node) → ComesAs node nodes.old.properties next.entry
+            → OnOk result (judge.new.judgement ≡ after judge.old.judgement node) }
+        ensures said { (node : Node) → ComesAs node nodes.old.properties next.entry
+            → OnOk result (self.new ≡ said_after self.old judge.old.judgement node) }
         ensures plays { OnOk result (judge.new.plays ≡ judge.old.plays + next_plays judge.old.judgement) }
         ensures not_fewer { judge.old.plays ≤ judge.new.plays }
         ensures not_more { judge.new.plays ≤ judge.old.plays + next_plays judge.old.judgement }
+        ensures left { nodes.new.nodes ≡ nodes.old.nodes }
     {
-        let Some(step) = judge.take(node, lead)? else {
+        let Some(step) = judge.take(next, nodes)? else {
             return Ok(());
         };
         match judge.board() {
@@ -172,8 +174,11 @@ pub(crate) fn follow(
     keep(held.nodes, judge, script)?;
     let mut nodes = LineNodes::after(cursor, held);
     for index in held.nodes..end {
-        let (node, lead) = nodes.next();
-        script.take(&node, lead, judge)?;
+        if judge.is_settled() {
+            return script.end();
+        }
+        let next = nodes.next();
+        script.take(next, &mut nodes, judge)?;
     }
     script.end()
 }

@@ -6,11 +6,12 @@ ghost use Rattle.sgf_tree.specs.Tree.{Property, lone_property, values};
 ghost use Rattle.go_board.specs.declared.stones.Colour.{Colour};
 ghost use Rattle.sgf_lines.specs.NodeContents.{Move, moves_by, stones_of};
 ghost use Rattle.sgf_lines.specs.NodeValues.{last_player as last_player_rule};
-ghost use Rattle.sgf_lines.specs.inner.Gathered.{AreMoves, AddsAreas, IsGathered, kind_of as kind_of_rule, setup_with_stones, setup_with_player};
+ghost use Rattle.sgf_lines.specs.inner.Gathered.{AreMoves, AddsAreas, IsGathered, told_property, kind_of as kind_of_rule, setup_with_stones, setup_with_player};
 
+use crate::line_nodes::LineNodes;
 use crate::node_values::player_value;
 use go_board::{Cell, Colour, SetupOp, Size, rect};
-use sgf_tree::{MemoryFault, NodeRef, PropRef, Properties};
+use sgf_tree::{MemoryFault, PropRef};
 
 /// The moves of a node, as far as a step needs them.
 #[derive(Clone, Copy)]
@@ -51,18 +52,21 @@ pub(crate) enum Kind {
     Comment,
 }
 
-/// What a node holds, on a board of that size. Unless the setup is faulty, `operations`
-/// becomes the operations that the node's values of AB, AW and AE name, in order.
+/// What a node holds, on a board of that size. `front` is its first property, if it was recognized: its letter and its only raw value. The
+/// others are those that are left of the nodes, and are taken off. Unless the setup is faulty, `operations` becomes the operations that
+/// the node's values of AB, AW and AE name, in order.
 pub(crate) fn gathered<'a>(
-    node: &NodeRef<'_, 'a>,
+    front: Option<(u8, &'a [u8])>,
+    nodes: &mut LineNodes<'_, '_, 'a>,
     size: Size,
     operations: &mut Vec<SetupOp>,
 ) -> Result<Contents<'a>, MemoryFault>
-    ensures { IfOk result (IsGathered size node.now.properties operations.new.items) }
+    ensures gathered { IfOk result (IsGathered size (told_property front.entry ++ nodes.old.properties) operations.new.items) }
+    ensures left { nodes.new.nodes ≡ nodes.old.nodes }
 {
     operations.clear();
-    let (mut contents, mut left) = Contents::of_front(node);
-    while let Some(property) = left.next() {
+    let mut contents = Contents::of_front(front);
+    while let Some(property) = nodes.next_property() {
         contents.take(&property, size, operations)?;
     }
     Ok(contents)
@@ -70,7 +74,7 @@ pub(crate) fn gathered<'a>(
 
 impl<'a> Contents<'a> {
     /// The contents of a node without properties.
-    fn nothing() -> Contents<'a>
+    pub(crate) fn nothing() -> Contents<'a>
         ensures { (side : ℕ) → IsGathered side [] [] result }
     {
         Contents {
@@ -108,15 +112,13 @@ impl<'a> Contents<'a> {
         }
     }
 
-    /// What the first properties of a node hold, and the properties that are left.
-    fn of_front<'c>(node: &NodeRef<'c, 'a>) -> (Contents<'a>, Properties<'c, 'a>)
-        ensures { (front : List Property) × ((side : ℕ) → IsGathered side front [] result.0)
-            × (front ++ result.1 ≡ node.now.properties) }
+    /// What the first property of a node holds, if it was recognized; of other nodes, what no property holds.
+    fn of_front(front: Option<(u8, &'a [u8])>) -> Contents<'a>
+        ensures { (side : ℕ) → IsGathered side (told_property front.entry) [] result }
     {
-        let (told, left) = node.front();
-        match told {
-            Some((letter, raw)) => (Contents::of_lone(letter, raw), left),
-            None => (Contents::nothing(), left),
+        match front {
+            Some((letter, raw)) => Contents::of_lone(letter, raw),
+            None => Contents::nothing(),
         }
     }
 

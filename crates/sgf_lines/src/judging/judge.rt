@@ -1,18 +1,19 @@
 //! A judge goes along the nodes of a line, and back to the last node that the next line shares.
 
-ghost use Rattle.std.specs.Prelude.{◌≡◌, ◌+◌, ◌<◌, OnOk, OnErr, IfOk, IfSome, option_copied};
-ghost use Rattle.sgf_tree.specs.Tree.{lone_property};
-ghost use Rattle.sgf_lines.specs.inner.Gathered.{HoldsAlone};
+ghost use Rattle.std.specs.Prelude.{◌≡◌, ◌+◌, ◌<◌, IsTrue, OnOk, OnErr, IfOk, option_copied};
+ghost use Rattle.sgf_tree.specs.Tree.{Node};
+ghost use Rattle.sgf_lines.specs.inner.Gathered.{ComesAs};
 ghost use Rattle.go_board.specs.State.{begun};
 ghost use Rattle.sgf_lines.specs.inner.Back.{back_to};
 ghost use Rattle.sgf_lines.specs.Verdict.{score_in};
 ghost use Rattle.sgf_lines.specs.JudgedGames.{game_kind, board};
 
 use crate::judging::root::board_size;
-use crate::judging::step::{TakenStep, take_step};
+use crate::judging::step::{TakenStep, place_of, take_step};
+use crate::line_nodes::LineNodes;
 use crate::verdict::Verdict;
 use go_board::{Board, Past, PrintPast, Referee, SetupOp, Size, TurnFault};
-use sgf_tree::{MemoryFault, NodeRef};
+use sgf_tree::{MemoryFault, NextNode, NodeRef};
 use std::alloc::Global;
 use std::marker::Model;
 
@@ -42,7 +43,7 @@ impl Model for Judge {
 
 impl Judge {
     ghost use Rattle.sgf_lines.specs.declared.verdict.Verdict.TheVariants.{NotGo};
-    ghost use Rattle.sgf_lines.specs.inner.Judging.{unjudged, begun_game, after, next_plays, IsTakenFrom, back, verdict_in, board_in};
+    ghost use Rattle.sgf_lines.specs.inner.Judging.{unjudged, IsSettled, begun_game, after, next_plays, IsTakenFrom, back, verdict_in, board_in};
 
     /// A judge before the first game.
     pub(crate) fn new(alloc: Global) -> Judge
@@ -91,21 +92,23 @@ impl Judge {
         Ok(())
     }
 
-    /// Takes one more node, and returns its step. `lead` is as for `take_step`. None if the step isn't taken: the game isn't judged, the node
-    /// isn't allowed, or the line ended before it. After a refusal of memory nothing is changed.
+    /// Takes one more node, and returns its step. `next` and `nodes` are as for `take_step`. None if the step isn't taken: the game isn't
+    /// judged, the node isn't allowed, or the line ended before it. After a refusal of memory nothing is changed.
     // Inlined: a caller that needs no step has no step put together.
     #[inline(always)]
     pub(crate) fn take<'a>(
         &mut self,
-        node: &NodeRef<'_, 'a>,
-        lead: Option<(u8, &'a [u8])>,
+        next: NextNode<'a>,
+        nodes: &mut LineNodes<'_, '_, 'a>,
     ) -> Result<Option<TakenStep<'a>>, MemoryFault>
         requires countable { self.old.plays < u64.MAX }
-        requires lead { IfSome lead (λ lone. HoldsAlone (lone_property lone.0 lone.1.now) node.now.properties) }
-        ensures judged { OnOk result (self.new.judgement ≡ after self.old.judgement node.now) }
+        ensures judged { (node : Node) → ComesAs node nodes.old.properties next.entry
+            → OnOk result (self.new.judgement ≡ after self.old.judgement node) }
         ensures plays { OnOk result (self.new.plays ≡ self.old.plays + next_plays self.old.judgement) }
-        ensures step { IfOk result (IsTakenFrom self.old.judgement node.now) }
+        ensures step { (node : Node) → ComesAs node nodes.old.properties next.entry
+            → IfOk result (IsTakenFrom self.old.judgement node) }
         ensures unchanged { OnErr result (self.new ≡ self.old) }
+        ensures left { nodes.new.nodes ≡ nodes.old.nodes }
     {
         let Some(referee) = &mut self.referee else {
             return Ok(None);
@@ -113,7 +116,7 @@ impl Judge {
         if let Some(_) = self.ended {
             return Ok(None);
         }
-        match take_step(referee, node, lead, &mut self.operations) {
+        match take_step(referee, next, nodes, &mut self.operations) {
             Ok(step) => {
                 self.plays += 1;
                 Ok(Some(step))
@@ -121,7 +124,7 @@ impl Judge {
             Err(TurnFault::Illegal(reason)) => {
                 self.plays += 1;
                 let turn = referee.turns() + 1;
-                let place = node.place() as u64;
+                let place = place_of(&next) as u64;
                 self.ended = Some(Verdict::Illegal {
                     turn,
                     place,
@@ -131,6 +134,14 @@ impl Judge {
             }
             Err(TurnFault::Memory) => Err(MemoryFault),
         }
+    }
+
+    /// Whether the verdict is known already, whatever nodes come. Then `take` changes nothing.
+    #[inline(always)]
+    pub(crate) fn is_settled(&self) -> bool
+        ensures { IsTrue result → IsSettled self.now.judgement }
+    {
+        self.referee.is_none() || self.ended.is_some()
     }
 
     /// Goes back to the first `count` nodes.

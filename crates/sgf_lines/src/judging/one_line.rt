@@ -7,8 +7,8 @@ ghost use Rattle.sgf_lines.specs.Verdict.{IsVerdictAt, IsVerdictOf, verdict};
 ghost use Rattle.sgf_lines.specs.inner.Following.{line_before};
 ghost use Rattle.sgf_lines.specs.Cursor.{IsSeekFault};
 
-use crate::form::judged::judge_line;
 use crate::judging::judge::Judge;
+use crate::judging::judged::judge_line;
 use crate::seek::SeekFault;
 use crate::sequence_cursor::{NO_FRONT, SequenceCursor};
 use crate::verdict::Verdict;

@@ -1,18 +1,19 @@
 //! A node's step on a referee.
 
-ghost use Rattle.std.specs.Prelude.{◌≡◌, ◌<◌, ◌⊎◌, ◌∷◌, [], length, All, IfOk, IfSome, IsSome, Ok, if◌then◌else◌};
-ghost use Rattle.sgf_tree.specs.Tree.{Node, lone_property};
+ghost use Rattle.std.specs.Prelude.{◌≡◌, ◌<◌, ◌⊎◌, ◌++◌, [], List, length, All, IfOk, IsSome, Ok};
+ghost use Rattle.sgf_tree.specs.Tree.{Node, Property};
 ghost use Rattle.go_board.specs.Point.{IsRectOn};
 ghost use Rattle.go_board.specs.State.{set_up as set_up_rule};
 ghost use Rattle.sgf_lines.specs.NodeValues.{move_value as move_value_rule};
 ghost use Rattle.sgf_lines.specs.Step.{step, move_step};
-ghost use Rattle.sgf_lines.specs.inner.Gathered.{HoldsAlone, IsGathered};
+ghost use Rattle.sgf_lines.specs.inner.Gathered.{IsGathered, ComesAs, told_property};
 ghost use Rattle.sgf_lines.specs.inner.Judging.{IsStepped, IsStepOf, IsEffect, IsMoveOf, setup_effect};
 
 use crate::judging::contents::{Contents, Moves, Setup, gathered};
+use crate::line_nodes::LineNodes;
 use crate::node_values::move_value;
 use go_board::{Colour, Past, Play, Reason, Referee, SetupOp, TurnFault};
-use sgf_tree::NodeRef;
+use sgf_tree::NextNode;
 
 /// What a node did to the board.
 #[derive(Clone, Copy)]
@@ -33,44 +34,57 @@ pub(crate) struct TakenStep<'a> {
     pub(crate) comment: Option<&'a [u8]>,
 }
 
-/// Takes a node's step, which adds one state. It plays the node's move, sets up
-/// its stones and its player, or stays. `operations` is a buffer. `lead` is the letter and the only raw value of a property, if the node's other
-/// properties hold nothing that a step needs. If it is None, nothing is known.
+/// Takes a node's step, which adds one state. It plays the node's move, sets up its stones and its player, or stays. `next` is the node, as
+/// `LineNodes::next` took it; the properties that are left of it are taken off. `operations` is a buffer.
 ///
 /// If the node isn't allowed, the first reason is returned. After a refusal the referee is unchanged.
 // Inlined: a caller that needs no step has none put together.
 #[inline(always)]
 pub(crate) fn take_step<'a, P: Past>(
     referee: &mut Referee<P>,
-    node: &NodeRef<'_, 'a>,
-    lead: Option<(u8, &'a [u8])>,
+    next: NextNode<'a>,
+    nodes: &mut LineNodes<'_, '_, 'a>,
     operations: &mut Vec<SetupOp>,
 ) -> Result<TakenStep<'a>, TurnFault>
-    requires { IfSome lead (λ lone. HoldsAlone (lone_property lone.0 lone.1.now) node.now.properties) }
-    ensures stepped { IsStepped (step referee.old.present node.now) referee.old referee.new result }
-    ensures told { IfOk result (IsStepOf referee.old.present.colouring.side node.now) }
+    ensures stepped { (node : Node) → ComesAs node nodes.old.properties next.entry
+        → IsStepped (step referee.old.present node) referee.old referee.new result }
+    ensures told { (node : Node) → ComesAs node nodes.old.properties next.entry
+        → IfOk result (IsStepOf referee.old.present.colouring.side node) }
+    ensures left { nodes.new.nodes ≡ nodes.old.nodes }
 {
-    match lead {
-        Some((letter, raw)) => take_led_step(referee, letter, raw),
-        None => take_any_step(referee, node, operations),
+    match next {
+        NextNode::Led { letter, value, .. } => {
+            take_told_step(referee, Contents::of_lone(letter, value))
+        }
+        NextNode::Empty { .. } => take_told_step(referee, Contents::nothing()),
+        NextNode::Open { front, .. } => take_any_step(referee, front, nodes, operations),
     }
 }
 
-/// Takes the step of a node of which one property has this letter as its name and `raw` as its only value,
-/// and the other properties hold nothing that a step needs.
+/// The place of a node that was taken so.
+pub(crate) fn place_of(next: &NextNode<'_>) -> usize
+    ensures { (node : Node) (left : List Property) → ComesAs node left next.now → node.place ≡ result }
+{
+    match next {
+        NextNode::Led { place, .. } => *place,
+        NextNode::Empty { place } => *place,
+        NextNode::Open { place, .. } => *place,
+    }
+}
+
+/// Takes the step of a node with these contents, which has no stones.
 // Inlined: what such a node doesn't need drops out.
 #[inline(always)]
-fn take_led_step<'a, P: Past>(
+fn take_told_step<'a, P: Past>(
     referee: &mut Referee<P>,
-    letter: u8,
-    raw: &'a [u8],
+    contents: Contents<'a>,
 ) -> Result<TakenStep<'a>, TurnFault>
-    ensures stepped { (node : Node) → HoldsAlone (lone_property letter raw.now) node.properties
+    requires { (node : Node) × IsGathered referee.old.present.colouring.side node.properties [] contents }
+    ensures stepped { (node : Node) → IsGathered referee.old.present.colouring.side node.properties [] contents.entry
         → IsStepped (step referee.old.present node) referee.old referee.new result }
-    ensures told { (node : Node) → HoldsAlone (lone_property letter raw.now) node.properties
+    ensures told { (node : Node) → IsGathered referee.old.present.colouring.side node.properties [] contents.entry
         → IfOk result (IsStepOf referee.old.present.colouring.side node) }
 {
-    let contents = Contents::of_lone(letter, raw);
     match take_contents(referee, &contents, &[]) {
         Ok(effect) => Ok(TakenStep {
             effect,
@@ -80,19 +94,23 @@ fn take_led_step<'a, P: Past>(
     }
 }
 
-/// The same as `take_step`, whatever the node holds.
+/// The same as `take_step`, whatever the node holds. `front` is its first property, if it was recognized.
 // Not inlined: it is called for few nodes, and what it needs stays off the usual way.
 #[inline(never)]
 fn take_any_step<'a, P: Past>(
     referee: &mut Referee<P>,
-    node: &NodeRef<'_, 'a>,
+    front: Option<(u8, &'a [u8])>,
+    nodes: &mut LineNodes<'_, '_, 'a>,
     operations: &mut Vec<SetupOp>,
 ) -> Result<TakenStep<'a>, TurnFault>
-    ensures stepped { IsStepped (step referee.old.present node.now) referee.old referee.new result }
-    ensures told { IfOk result (IsStepOf referee.old.present.colouring.side node.now) }
+    ensures stepped { (node : Node) → node.properties ≡ told_property front.entry ++ nodes.old.properties
+        → IsStepped (step referee.old.present node) referee.old referee.new result }
+    ensures told { (node : Node) → node.properties ≡ told_property front.entry ++ nodes.old.properties
+        → IfOk result (IsStepOf referee.old.present.colouring.side node) }
+    ensures left { nodes.new.nodes ≡ nodes.old.nodes }
 {
     let size = referee.board().size();
-    let Ok(contents) = gathered(node, size, operations) else {
+    let Ok(contents) = gathered(front, nodes, size, operations) else {
         return Err(TurnFault::Memory);
     };
     match take_contents(referee, &contents, operations) {
@@ -105,7 +123,7 @@ fn take_any_step<'a, P: Past>(
 }
 
 /// Takes the step of a node with these contents. `operations` has the operations of the node's stones.
-// Inlined, as `take_led_step`.
+// Inlined, as `take_told_step`.
 #[inline(always)]
 fn take_contents<P: Past>(
     referee: &mut Referee<P>,
@@ -157,7 +175,7 @@ fn set_up<P: Past>(
 }
 
 /// Takes the turn of a move.
-// Inlined, as `take_led_step`.
+// Inlined, as `take_told_step`.
 #[inline(always)]
 fn take_move<P: Past>(
     referee: &mut Referee<P>,

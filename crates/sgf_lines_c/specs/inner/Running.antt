@@ -22,6 +22,7 @@ IsRefusal options text (Memory count) = IsPartOf options text count
 abbrev pub IsUncounted : List ℕ → RunFault → Type 0
 IsUncounted text RunTooLong = MAX_LENGTH < length text
 IsUncounted text (RunNotSgf at len) = (length text ≤ MAX_LENGTH) × IsFaultyAt text at × (len ≡ length text)
+IsUncounted text (RunNoSuchLine place) = ⊥
 IsUncounted text _ = Unit {0}
 
 -- Done: the bytes were put at the front of a room. RoomTooSmall: the room has fewer bytes, and is unchanged.

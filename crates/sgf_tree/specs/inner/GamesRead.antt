@@ -7,7 +7,7 @@ use Rattle.sgf_tree.specs.FileOrder.{OrderedNode, further_nodes, nodes_from}
 use Rattle.sgf_tree.specs.inner.Machine.{OpenGame, Stack, MachineState, opened, after_game, between_games, next_state, accepted, games_in}
 use Rattle.sgf_tree.specs.inner.OwnNodes.{Coming, nothing, with_game, places_of, written_of, AreStretches, EndsMarked}
 use Rattle.sgf_tree.specs.inner.Progress.{ComesTo, IsTrueFault}
-use Rattle.sgf_tree.specs.inner.PropertiesRead.{IsTextRead}
+use Rattle.sgf_tree.specs.inner.PropertiesRead.{ArePropertiesRead}
 use Rattle.sgf_tree.specs.declared.layout.OwnNodes.{OwnNodes}
 use Rattle.sgf_tree.specs.declared.layout.Stretch.{Stretch}
 use Rattle.sgf_tree.specs.declared.reader.fault.PartFault.{PartFault}
@@ -106,7 +106,7 @@ abbrev pub TakesNode : (Stack → Coming → Type 0) → (Stack → Coming → T
 TakesNode kept keeps text own place read next =
     (stack : Stack) (nodes : List Node) (ended : List Stretch) (node : Node) → AreOwnSoFar text own nodes ended
     → (length nodes ≡ 0 → place ≡ own.first) → own.end ≤ place → node.place ≡ place → place < length text → slice_index text place ≡ semicolon
-    → IsTextRead text (place + 1) read → IsNodeTaken (kept stack (coming_of nodes ended)) (keeps stack) text next (nodes ++ node ∷ [])
+    → ArePropertiesRead text (place + 1) read → IsNodeTaken (kept stack (coming_of nodes ended)) (keeps stack) text next (nodes ++ node ∷ [])
 
 -- after a `(` at this stack, the own nodes of a game were read up to `end`, and the keeper keeps the game
 pub record IsGameRead (keeps : Stack → Coming → Type 0) (text : List ℕ) (end : ℕ) (stack : Stack) : Type 0 where

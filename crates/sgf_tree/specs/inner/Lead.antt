@@ -1,9 +1,10 @@
 -- A move and other properties after it, as they stand in a text: words of the contracts in `reader::lead`.
-use Rattle.std.specs.Prelude.{ℕ, ◌<◌, ◌≤◌, List, drop, All, length}
+use Rattle.std.specs.Prelude.{◌≡◌, ℕ, ◌<◌, ◌≤◌, List, drop, All, length, slice_index}
+use Rattle.sgf_tree.specs.Bytes.{semicolon}
 use Rattle.sgf_tree.specs.Tree.{Property}
 use Rattle.sgf_tree.specs.Lead.{IsOtherName}
 use Rattle.sgf_tree.specs.Spelling.{IsProperty, AreProperties}
-use Rattle.sgf_tree.specs.inner.Progress.{IsMove, IsNodeEnd}
+use Rattle.sgf_tree.specs.inner.Progress.{IsMove, EndsNode, IsNodeEnd}
 
 -- a property whose name isn't among these stands from `at` to `end`
 pub record IsOtherProperty (names : List (List ℕ)) (text : List ℕ) (at end : ℕ) : Type 0 where
@@ -28,5 +29,11 @@ pub record AreOthers (names : List (List ℕ)) (text : List ℕ) (at next : ℕ)
 
 -- the text begins like `;B[pd]`, and then come such properties, up to the end of the node and of the white space after it
 pub record IsLedNode (names : List (List ℕ)) (text : List ℕ) (next : ℕ) : Type 0 where
+  pub begins : slice_index text 0 ≡ semicolon
   pub front : IsMove text 1
   pub others : AreOthers names text 6 next
+
+-- the text begins with a node that has no properties, and a byte that ends it
+pub record IsEmptyNode (text : List ℕ) : Type 0 where
+  pub begins : slice_index text 0 ≡ semicolon
+  pub ends : EndsNode text 1

@@ -83,6 +83,17 @@ pub record IsTwoPlain (text : List ℕ) (at : ℕ) : Type 0 where
   pub plain : ArePlain text at (at + 2)
   pub bracket : slice_index text (at + 2) ≡ close_bracket
 
+-- a value like `[pd]` stands at `at`
+pub record IsPoint (text : List ℕ) (at : ℕ) : Type 0 where
+  pub begins : slice_index text at ≡ open_bracket
+  pub value : IsTwoPlain text (at + 1)
+
+-- values like `[pd]` stand from `from` to `end`, one after the other
+pub record ArePoints (text : List ℕ) (from end : ℕ) : Type 0 where
+  pub count : ℕ
+  pub ends : from + 4 * count ≡ end
+  pub each : (index : ℕ) → index < count → IsPoint text (from + 4 * index)
+
 -- a move stands at `at`, as in `B[pd]`: a capital, and two plain bytes between brackets
 pub record IsMove (text : List ℕ) (at : ℕ) : Type 0 where
   pub capital : IsTrue (is_upper (slice_index text at))

@@ -9,18 +9,6 @@ use Rattle.sgf_tree.specs.inner.NodeText.{AreWritten, IsPropertyWritten}
 use Rattle.sgf_tree.specs.declared.reader.fault.PartFault.{PartFault}
 use Rattle.sgf_tree.specs.declared.reader.properties.PartRead.{PartRead}
 
--- the byte at `end`, if there is one, is neither white space nor `[`
-abbrev pub StopsValues : List ℕ → ℕ → Type 0
-StopsValues text end = end < length text → (is_white_space (slice_index text end) ≡ false) × (slice_index text end ≢ open_bracket)
-
--- the values of a property were read up to `end`; its first `[` is at `bracket`
-pub record AreValuesRead (text : List ℕ) (bracket end : ℕ) : Type 0 where
-  pub rises : bracket < end
-  pub within : end ≤ length text
-  pub stops : StopsValues text end
-  pub reached : (node : Started) (name : List ℕ) → ComesTo text (bracket + 1) (in_value node name [] [])
-      → (property : Property) × ComesTo text end (after_value node property)
-
 -- after any white space at `end` comes a byte that doesn't begin a value
 pub record AreValuesEnded (text : List ℕ) (end next : ℕ) : Type 0 where
   pub white_space : IsSpan is_white_space text end next
@@ -42,19 +30,13 @@ pub record IsNameRead (text : List ℕ) (start bracket : ℕ) : Type 0 where
   pub reached : (node : Started) → ComesTo text (start + 1) (in_name node (slice_index text start ∷ []))
       → (name : List ℕ) × ComesTo text (bracket + 1) (in_value node name [] [])
 
--- the property whose identifier begins at `start` was read up to `end`
-pub record IsPropertyRead (text : List ℕ) (start end : ℕ) : Type 0 where
-  pub rises : start < end
-  pub within : end ≤ length text
-  pub stops : StopsValues text end
-  pub reached : (node : Started) → ComesTo text (start + 1) (in_name node (slice_index text start ∷ []))
-      → (property : Property) × ComesTo text end (after_value node property)
-
--- the same, as the code says it: how far the property was read, and whether the sgf form writes it as it stands
-pub record IsWholePropertyRead (text : List ℕ) (start : ℕ) (read : PartRead) : Type 0 where
-  pub property : IsPropertyRead text start read.end
+-- The property whose identifier begins at `start` was read. White space may follow it, and then comes a byte that begins no value.
+pub record IsPropertyRead (text : List ℕ) (start : ℕ) (read : PartRead) : Type 0 where
   pub rises : start < read.text_end
   pub white_space : IsSpan is_white_space text read.text_end read.end
+  pub no_value : read.end < length text → slice_index text read.end ≢ open_bracket
+  pub reached : (node : Started) → ComesTo text (start + 1) (in_name node (slice_index text start ∷ []))
+      → (property : Property) × ComesTo text read.end (after_value node property)
   pub written : IsTrue read.as_written → IsPropertyWritten text start read.text_end
 
 -- the machine has read a node up to `end`, and takes only what may come after a node
@@ -68,21 +50,15 @@ pub record StandsAfterNode (text : List ℕ) (end : ℕ) (whole : Started) : Typ
 abbrev pub with_properties : Started → List Property → Started
 with_properties node properties = record { stack = node.stack; opens = node.opens; place = node.place; properties = properties }
 
--- the properties of a node, which may begin at `at`, were read up to `end`
-pub record ArePropertiesRead (text : List ℕ) (at end : ℕ) : Type 0 where
-  pub rises : at ≤ end
-  pub within : end ≤ length text
-  pub not_white_space : end < length text → is_white_space (slice_index text end) ≡ false
-  pub reached : (node : Started) → node.properties ≡ [] → ComesTo text at (in_node node)
-      → (properties : List Property) × StandsAfterNode text end (with_properties node properties)
-
--- The text of properties that begin at `at`, perhaps of none, was read. White space may follow it, and then comes a byte that begins no property,
+-- The properties of a node that begin at `at`, perhaps none, were read. White space may follow them, and then comes a byte that begins no property,
 -- and no value of the last property.
-pub record IsTextRead (text : List ℕ) (at : ℕ) (read : PartRead) : Type 0 where
+pub record ArePropertiesRead (text : List ℕ) (at : ℕ) (read : PartRead) : Type 0 where
   pub rises : at ≤ read.text_end
   pub white_space : IsSpan is_white_space text read.text_end read.end
   pub no_value : at < read.text_end → read.end < length text → slice_index text read.end ≢ open_bracket
   pub no_property : read.end < length text → is_upper (slice_index text read.end) ≡ false
+  pub reached : (node : Started) → node.properties ≡ [] → ComesTo text at (in_node node)
+      → (properties : List Property) × StandsAfterNode text read.end (with_properties node properties)
   pub written : IsTrue read.as_written → AreWritten text at read.text_end
 
 -- if `at` is just after the `[` of a value, the fault is the first one of the text

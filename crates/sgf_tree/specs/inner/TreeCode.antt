@@ -4,6 +4,7 @@ use Rattle.std.specs.Prelude.{◌≡◌, ℕ, List, [], ◌∷◌, ◌++◌, Opt
 use Rattle.std.specs.Coded.{Coded, code_by, coded×, coded_ℕ, coded_list, coded_option}
 use Rattle.std.proofs.Common.{◌∙◌, ap, sym, append_assoc, append-nil}
 use Rattle.sgf_tree.specs.Tree.{Property, Node, Games, no_games, game}
+use Rattle.sgf_tree.specs.NodesLeft.{NodesLeft}
 
 -- a property is stored as its name, its first value and its further values
 abbrev pub property_code : Coded Property
@@ -26,6 +27,11 @@ node_code =
 
 abbrev pub nodes_code : Coded (List Node)
 nodes_code = coded_list node_code
+
+-- what is left of a sequence is stored as its parts
+abbrev pub nodes_left_code : Coded NodesLeft
+nodes_left_code =
+    code_by (List Property × List Node) (coded× properties_code nodes_code) (λ left. (left.properties, left.nodes)) (λ parts. record { properties = parts.0; nodes = parts.1 }) (λ _. refl)
 
 -- a game's own nodes; None if there is no game
 abbrev pub Token : Type 0

@@ -1,7 +1,7 @@
 //! Counting games, nodes and leaves.
 
-ghost use Rattle.std.specs.Prelude.{◌≡◌, ◌+◌, ℕ, List};
-ghost use Rattle.sgf_tree.specs.Tree.{Games, no_games, game_count, node_count, leaf_count};
+ghost use Rattle.std.specs.Prelude.{◌≡◌, ◌+◌};
+ghost use Rattle.sgf_tree.specs.Tree.{no_games};
 ghost use Rattle.sgf_tree.specs.inner.GamesRead.{whole};
 ghost use Rattle.sgf_tree.specs.inner.Counting.{IsTallyOf};
 
@@ -50,24 +50,20 @@ impl Tally {
 impl Keeper for Tally {
     ghost keeps = { λ _ tally stack _. IsTallyOf stack tally };
 
-    #[inline(always)]
     fn node(&mut self, _place: usize) -> Result<(), MemoryFault> {
         Ok(())
     }
 
-    #[inline(always)]
     fn stretch(&mut self, _stretch: Stretch) -> Result<(), MemoryFault> {
         Ok(())
     }
 
-    #[inline(always)]
     fn own_nodes(&mut self, own: OwnNodes) -> Result<(), MemoryFault> {
         self.nodes += own.count;
         self.is_bare = true;
         Ok(())
     }
 
-    #[inline(always)]
     fn game_ends(&mut self, depth: usize) {
         self.games += usize::from(depth == 0);
         self.leaves += usize::from(self.is_bare);

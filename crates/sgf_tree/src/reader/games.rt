@@ -1,4 +1,4 @@
-//! Reading games. What is kept of them is up to a keeper.
+//! Reading games (SGF FF[4], EBNF: Collection, GameTree, Sequence). What is kept of them is up to a keeper.
 
 ghost use Rattle.std.specs.Prelude.{◌≡◌, ◌<◌, ◌≤◌, ◌+◌, ℕ, List, [], length, IfOk, IfErr, OnOk};
 ghost use Rattle.sgf_tree.specs.Tree.{Node, no_games};
@@ -11,14 +11,15 @@ ghost use Rattle.sgf_tree.specs.declared.layout.Stretch.{Stretch};
 
 use crate::fault::{MAX_LENGTH, MemoryFault};
 use crate::layout::{LongValue, OwnNodes};
+use crate::quick::moves::{TWO_MOVES, move_read, moves_in_place};
+use crate::quick::properties::short_properties;
 use crate::reader::fault::PartFault;
 use crate::reader::keeper::Keeper;
-use crate::reader::properties::{
-    PartRead, TWO_MOVES, move_read, moves_in_place, read_properties, short_properties,
-};
+use crate::reader::properties::{PartRead, read_properties};
 use crate::reader::scan::skip_white_space;
 
-/// Reads all games, and tells `keeper` what comes. The first `(` is expected at `at`.
+/// Reads all games, and tells `keeper` what comes: Collection = GameTree { GameTree }, and GameTree = `(` Sequence { GameTree } `)`. The first
+/// `(` is expected at `at`.
 pub(crate) fn read_games<K: Keeper>(
     text: &[u8],
     at: usize,
@@ -60,8 +61,9 @@ pub(crate) fn read_games<K: Keeper>(
     Ok(())
 }
 
-/// Reads the own nodes of the game whose `(` is just before `at`. Returns the offset after the nodes and the white space after them.
-// One comparison shows two nodes such as `;B[pd]`. Nearly all nodes are like that.
+/// Reads the own nodes of the game whose `(` is just before `at`: Sequence = Node { Node }. Returns the offset after the nodes and the
+/// white space after them.
+// A glance shows two moves, or that a node begins with one. The plain way is `read_properties` and then `take_node`.
 fn read_sequence<K: Keeper>(
     text: &[u8],
     at: usize,

@@ -1,10 +1,11 @@
-//! Recognizing at a glance a node that is a move and then properties that don't matter to the caller.
+//! Recognizing at a glance a node that is a move and then properties that don't matter to the caller, and one without properties.
 
 ghost use Rattle.std.specs.Prelude.{◌≡◌, ◌≢◌, ◌≤◌, ◌<◌, length, All, IsTrue, IfSome};
-ghost use Rattle.sgf_tree.specs.inner.Lead.{IsLedNode, AreOthers, IsOtherProperty};
+ghost use Rattle.sgf_tree.specs.inner.Lead.{IsLedNode, IsEmptyNode, AreOthers, IsOtherProperty};
 
-use crate::reader::properties::{moves_in_place, near_property_close};
-use crate::reader::scan::node_end;
+use crate::quick::front::node_end;
+use crate::quick::moves::moves_in_place;
+use crate::quick::properties::near_property_close;
 
 /// Where the node ends that the text begins with, after any white space, if it is written like `;B[pd]BL[921.325]OB[3]`: a move, and then
 /// perhaps short properties whose names aren't among `names`. If it is None, nothing is known.
@@ -19,6 +20,15 @@ pub(crate) fn led_end(text: &[u8], names: &[[u8; 2]]) -> Option<usize>
         return Some(6);
     }
     others_end(text, 6, names)
+}
+
+/// Whether the text begins with a node without properties, and the next node or a parenthesis follows at once. If it is false, nothing is
+/// known.
+#[inline(always)]
+pub(crate) fn is_empty_node(text: &[u8]) -> bool
+    ensures { IsTrue result → IsEmptyNode text.now }
+{
+    text.len() > 1 && text[0] == b';' && b' ' < text[1] && text[1] < b'A'
 }
 
 /// The end of a node, after any white space, if such short properties stand from `at` up to it. If it is None, nothing is known.

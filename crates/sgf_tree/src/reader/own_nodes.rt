@@ -9,7 +9,6 @@ use crate::reader::properties::PartRead;
 
 impl OwnNodes {
     /// No nodes yet. The first `;` is expected at `first`.
-    #[inline(always)]
     pub(crate) fn none(first: usize) -> OwnNodes
         ensures { result ≡ record { first = first; last = first; end = first; count = 0; start = first; written = true } }
     {
@@ -24,7 +23,6 @@ impl OwnNodes {
     }
 
     /// Whether the node at `place` goes on with the last stretch: the sgf form writes both as they stand, and nothing is between them.
-    #[inline(always)]
     pub(crate) fn goes_on(&self, place: usize, read: PartRead) -> bool
         ensures { result ≡ self.now.written && (self.now.end == place) && read.as_written }
     {
@@ -32,7 +30,6 @@ impl OwnNodes {
     }
 
     /// One node more, which goes on with the last stretch. Its `;` is at `place`, and its properties were read so far.
-    #[inline(always)]
     pub(crate) fn with_next(self, place: usize, read: PartRead) -> OwnNodes
         requires few { self.count < MAX_LENGTH }
         ensures { result ≡ record { first = self.first; last = place; end = read.text_end; count = self.count + 1; start = self.start; written = self.written } }
@@ -46,7 +43,6 @@ impl OwnNodes {
     }
 
     /// One node more, with which a stretch begins.
-    #[inline(always)]
     pub(crate) fn with_apart(self, place: usize, read: PartRead) -> OwnNodes
         requires few { self.count < MAX_LENGTH }
         ensures { result ≡ record { first = self.first; last = place; end = read.text_end; count = self.count + 1; start = place; written = read.as_written } }
@@ -62,7 +58,6 @@ impl OwnNodes {
     }
 
     /// The last stretch.
-    #[inline(always)]
     pub(crate) fn last_stretch(&self, is_last: bool) -> Stretch
         ensures { result ≡ record { start = self.now.start; end = if self.now.written then self.now.end else self.now.start; is_last = is_last } }
     {
@@ -74,7 +69,6 @@ impl OwnNodes {
     }
 
     /// Whether the sgf form writes all the nodes as they stand in the text, with nothing between them. False says nothing.
-    #[inline(always)]
     pub(crate) fn is_written(&self) -> bool
         ensures { result ≡ is_written self.now }
     {

@@ -1,20 +1,16 @@
-//! Where raw values end: at the first `]` that no `\` escapes. Nothing else in the crate says what ends a value.
+//! Where raw values end (SGF FF[4], PropValue and Escaping): at the first `]` that no `\` escapes.
 //! The end of a long value is searched for once, when the value is read. Its length is then kept for later steps over it.
 
-ghost use Rattle.std.specs.Prelude.{◌≡◌, ◌<◌, ◌≤◌, ◌+◌, length, IsTrue, IfSome, IfOk, IfErr, OnOk, MatchOption};
-ghost use Rattle.sgf_tree.specs.inner.Progress.{IsValueEnd, IsUnended, SpellsNoValue, HasNoBracket, IsNextBracket, AreBackslashesBefore, AreEscapes, IsTwoPlain};
+ghost use Rattle.std.specs.Prelude.{◌<◌, ◌≤◌, ◌+◌, length, IfSome, IfOk, IfErr, OnOk, MatchOption};
+ghost use Rattle.sgf_tree.specs.inner.Progress.{IsValueEnd, IsUnended, SpellsNoValue, HasNoBracket, IsNextBracket, AreBackslashesBefore, AreEscapes};
 ghost use Rattle.sgf_tree.specs.inner.PropertiesRead.{IsFaultInValue};
 ghost use Rattle.sgf_tree.specs.inner.KeptEnds.{IsRawValueAt, AreKeptEnds};
 
 use crate::fault::MAX_LENGTH;
 use crate::layout::LongValue;
+use crate::quick::value::short_value_end;
 use crate::reader::fault::PartFault;
 use memchr::memchr;
-use std::simd::prelude::*;
-
-/// The number of bytes that are compared before a search is begun, because a search costs more to begin. Sizes, names and clock
-/// times are short.
-pub(crate) const NEAR: usize = 16;
 
 /// The least length of a value whose length is kept. Nearly all comments are shorter, so few
 /// lengths are kept. A search over this many bytes costs more than looking up a length.
@@ -116,62 +112,7 @@ fn kept_end(text: &[u8], at: usize, long: &[LongValue]) -> Option<usize>
     }
 }
 
-/// The offset of the `]` that ends the raw value at `at`, if the value is short, as most are. If it is None, nothing is known.
-#[inline(always)]
-fn short_value_end(text: &[u8], at: usize) -> Option<usize>
-    requires { at ≤ length text.now }
-    ensures { IfSome result (IsValueEnd text.now at) }
-{
-    if text.len() - at < NEAR {
-        return None;
-    }
-    near_value_end(text, at)
-}
-
-/// The same, but at least `NEAR` bytes must be left.
-#[inline(always)]
-pub(crate) fn near_value_end(text: &[u8], at: usize) -> Option<usize>
-    requires { at + NEAR ≤ length text.now }
-    ensures { IfSome result (IsValueEnd text.now at) }
-{
-    if is_two_plain(text, at) {
-        return Some(at + 2);
-    }
-    let bracket = near_bracket(text, at)?;
-    if bracket != at && text[bracket - 1] == b'\\' {
-        return None;
-    }
-    Some(bracket)
-}
-
-/// Whether the raw value at `at` is two bytes without an escape, as in a point.
-pub(crate) fn is_two_plain(text: &[u8], at: usize) -> bool
-    requires { at + 2 < length text.now }
-    ensures { IsTrue result → IsTwoPlain text.now at }
-{
-    text[at + 2] == b']'
-        && text[at] != b']'
-        && text[at] != b'\\'
-        && text[at + 1] != b']'
-        && text[at + 1] != b'\\'
-}
-
-/// The first `]` among the `NEAR` bytes at `at`, all compared at once.
-fn near_bracket(text: &[u8], at: usize) -> Option<usize>
-    requires { at + NEAR ≤ length text.now }
-    ensures { MatchOption result (HasNoBracket text.now at (at + NEAR)) (λ end. IsNextBracket text.now at end) }
-{
-    let found = u8x16::from_slice(&text[at..])
-        .simd_eq(u8x16::splat(b']'))
-        .to_bitmask();
-    if found == 0 {
-        None
-    } else {
-        Some(at + found.trailing_zeros() as usize)
-    }
-}
-
-/// The offset of the `]` that ends the raw value at `at`, by searches. None if the text ends before it.
+/// The offset of the `]` that ends the raw value at `at`, by searches. None if the text ends before it. This is the plain way.
 ///
 /// A `]` is escaped if an odd number of `\` is just before it. The `\` are counted from `start` on, which is where the value
 /// begins or an escape ends: earlier bytes belong to other units.

@@ -2,25 +2,22 @@
 use Rattle.std.proofs.Common.{◌≡◌, Err, take, drop, ap, ◌∙◌, arith, rules}
 use Rattle.std.specs.Prelude.{unwrap_or}
 use Rattle.sgf_tree.specs.Tree.{node_count}
-use Rattle.sgf_tree.specs.FileOrder.{PlacesRise}
 use Rattle.sgf_tree.specs.Spelling.{Spells}
 use Rattle.sgf_tree.specs.declared.fault.TheConstants.{MAX_LENGTH}
 use Rattle.sgf_lines.specs.Lines.{lines}
-use Rattle.sgf_lines.specs.inner.Sequences.{SequencesState}
 use Rattle.sgf_lines.specs.inner.Running.{WritesLines}
-use Rattle.sgf_lines.proofs.PlayCounts.{for_options, few_played}
+use Rattle.sgf_lines.proofs.PlayCounts.{for_options}
 use Rattle.sgf_lines.proofs.Running.{unread_run, no_start_run, lines_run}
 use Rattle.sgf_lines.proofs.Touched.{nodes_within}
 use Rattle.sgf_lines.proofs.run.split_text.Goals as goal
 
-pub add-requires : goal.add-requires
-add-requires g c =
-    let run = c.new-run.result in
-    let same : run.cursor.at.games ≡ c.in-Ok.outline = ap (λ (p : SequencesState). p.at.games) c.new-run.ensures.cursor ∙ c.in-Ok-cursor_after.ensures.same in
-    let rise : PlacesRise run.cursor.at.games = rw same c.nodes.ensures.places_rise in
-    let fewer = few_played run.cursor.at.games rise run.cursor.at.index c.unwrap_or-limit.result run.form (g.T.Sink.state c.args.sink.now) (g.T.Sink.state c.write-result.new.sink) c.write-result.new.self.judge.plays c.write-result.result c.write-result.ensures.answer in
+pub write_in-requires-clause-rise : goal.write_in-requires-clause-rise
+write_in-requires-clause-rise g c = rw c.in-Ok-cursor_after.ensures.same c.nodes.ensures.places_rise
+
+pub write_in-requires-clause-few : goal.write_in-requires-clause-few
+write_in-requires-clause-few g c =
     let nodes = nodes_within c.in-Ok.outline c.nodes.ensures.places_rise MAX_LENGTH c.nodes.ensures.places_within in
-    omega (arith, c.requires.plays_countable, fewer, nodes, ap node_count same, c.plays.ensures)
+    omega (arith, nodes, ap node_count c.in-Ok-cursor_after.ensures.same)
 
 pub returns-in-Err : goal.returns-in-Err
 returns-in-Err g c source new_source read =
@@ -40,15 +37,15 @@ returns g c source new_source read =
     let games = c.in-Ok.outline in
     let cursor = c.in-Ok-cursor_after.cursor in
     let sink = g.T.Sink.state c.args.sink.now in
-    let new_sink = g.T.Sink.state c.write-result.new.sink in
-    let n = c.write-result.new.self.judge.plays in
-    let result = c.write-result.result in
+    let new_sink = g.T.Sink.state c.write_in.new.sink in
+    let result = c.write_in.result in
     let spelled : Spells games text = c.in-Ok.ensures.spelled in
     let limit : c.unwrap_or-limit.result ≡ unwrap_or c.args.options.now.limit (node_count c.in-Ok.outline) =
     c.unwrap_or-limit.ensures ∙ ap (unwrap_or c.args.options.now.limit) c.nodes.ensures.count in
-    let wrote : WritesLines o.form (take c.unwrap_or-limit.result (drop cursor.at.index (lines games))) sink new_sink n result =
-    rw (c.new-run.ensures.form, c.new-run.ensures.cursor, c.in-Ok-cursor_after.ensures.same) at c.write-result.ensures.answer in
+    let plays = c.write_in.ensures.answer.0 in
+    let wrote : WritesLines o.form (take c.unwrap_or-limit.result (drop cursor.at.index (lines games))) sink new_sink plays result =
+    rw c.in-Ok-cursor_after.ensures.same at c.write_in.ensures.answer.2 in
     lines_run o source new_source text read sink c.args.plays.now
-    games cursor new_sink n c.add.new.self result spelled (c.in-Ok-cursor_after.ensures.start text spelled)
-    (for_options o.form games cursor.at.index o.limit c.unwrap_or-limit.result sink new_sink n result limit wrote)
-    (omega (arith, c.add.ensures, c.plays.ensures)) c.write-result.ensures.delivered c.write-result.ensures.failures
+    games cursor new_sink plays c.write_in.new.plays result spelled (c.in-Ok-cursor_after.ensures.start text spelled)
+    (for_options o.form games cursor.at.index o.limit c.unwrap_or-limit.result sink new_sink plays result limit wrote)
+    c.write_in.ensures.answer.1 c.write_in.ensures.delivered c.write_in.ensures.failures

@@ -6,4 +6,4 @@ use Rattle.sgf_lines_c.proofs.count.count_text.Goals as goal
 
 pub returns-in-Err : goal.returns-in-Err
 returns-in-Err c =
-    c.refusal.ensures c.args.text.now (count_refused c.args.text.now _ _ c.in-Err.fault (ap (λ (s : SourceState). s.to_come) c.new-source.ensures) c.in-Err.ensures.counts)
+    c.refused.ensures c.args.text.now (count_refused c.args.text.now _ _ c.in-Err.fault (ap (λ (s : SourceState). s.to_come) c.new-source.ensures) c.in-Err.ensures.counts)

@@ -49,3 +49,8 @@ returns-clause-left c = (found (goal.at.returns-clause-left c).After-values_end-
 pub returns-clause-first : goal.returns-clause-first
 returns-clause-first c =
     rw (c.part.ensures, c.part-2.ensures, c.rest_from.ensures) (found (goal.at.returns-clause-first c).After-values_end-next).is
+
+pub returns-clause-spelled : goal.returns-clause-spelled
+returns-clause-spelled c =
+    let next = found (goal.at.returns-clause-spelled c).After-values_end-next in
+    (next.one, next.spelled)

@@ -1,3 +1,4 @@
+use Rattle.std.proofs.lemmas.Grind.{common_steps}
 use Rattle.std.proofs.Common.{◌+◌, inl, inr, arith}
 use Rattle.std.proofs.lemmas.Bool.{cases_lt}
 use Rattle.sgf_tree.proofs.Literal.{text_of-literals_before}
@@ -13,9 +14,7 @@ returns-then-more-lt-TOGETHER-clause-literal c =
     ])
 
 pub returns-else-not-matches-clause-literal : goal.returns-else-not-matches-clause-literal
-returns-else-not-matches-clause-literal c =
-    text_of-literals_before c.args.raw.now c.bytes.end c.bytes.invariant.within c.bytes.invariant.so_far
+returns-else-not-matches-clause-literal c = grind (arith, common_steps, text_of-literals_before)
 
 pub returns-after-bytes-clause-literal : goal.returns-after-bytes-clause-literal
-returns-after-bytes-clause-literal c =
-    text_of-literals_before c.args.raw.now c.bytes.end c.bytes.invariant.within c.bytes.invariant.so_far
+returns-after-bytes-clause-literal c = grind (arith, common_steps, text_of-literals_before)

@@ -5,11 +5,11 @@ use Rattle.sgf_tree.specs.Written.{property_text}
 use Rattle.sgf_tree.specs.inner.NodeText.{GoesOn}
 use Rattle.sgf_tree.proofs.written.push_properties.Given as goal
 
-abbrev pub invariant-loop-property : goal.invariant-loop-property
-invariant-loop-property l = record {
+abbrev pub invariant-properties : goal.invariant-properties
+invariant-properties l = record {
   appended : l.out.items ++ flat_map property_text l.left ≡ l.fn.out.items ++ flat_map property_text l.fn.properties;
   goes_on : GoesOn l.fn.out.items l.out.items;
 }
 
-abbrev pub decreases-loop-property : goal.decreases-loop-property
-decreases-loop-property l = length l.left
+abbrev pub decreases-properties : goal.decreases-properties
+decreases-properties l = length l.left

@@ -1,21 +1,33 @@
-use Rattle.std.proofs.Common.{codes, subst, sym}
-use Rattle.std.proofs.lemmas.Result.{IfOk-weaker}
+-- clap entered the command with this name, and found what the words after it give.
+use Rattle.std.proofs.Common.{◌≡◌, ◌∙◌, ap, codes, false, subst, sym, true}
+use Rattle.std.proofs.Math.Bool.{true≢false}
 use Rattle.clap.specs.Walk.{first_of}
-use Rattle.sgfsplit_job.specs.PlainWords.{CountsFile, file_of}
+use Rattle.sgfsplit_job.specs.PlainWords.{file_of}
 use Rattle.sgfsplit_job.specs.inner.Found.{HoldSplitWords}
 use Rattle.sgfsplit_job.proofs.PlainWords.{entered_name, same_name, same_rows}
 use Rattle.sgfsplit_job.proofs.words.found_job.Goals as goal
 
 pub returns-clause-split : goal.returns-clause-split
-returns-clause-split c =
-    IfOk-weaker c.command_job.result _ _ (λ job h words rows plain sub hold.
-    let name = same_name _ _ _ _ c.subcommand.ensures.name c.in-Some.is (entered_name c.args.found.now (codes "split") rows sub) in
+returns-clause-split c = λ words rows plain sub hold.
     let same = same_rows _ _ _ _ c.subcommand.ensures.rows c.in-Some.is sub in
-    h name words plain (subst (HoldSplitWords words) same hold)) c.command_job.ensures.split
+    let found = subst (HoldSplitWords words) same hold in
+    (c.options_given-options.ensures words plain found, c.in_ok-file.ensures ∙ ap file_of found.file)
 
 pub returns-clause-count : goal.returns-clause-count
-returns-clause-count c =
-    IfOk-weaker c.command_job.result _ _ (λ job h rows sub.
+returns-clause-count c = λ rows sub.
     let name = same_name _ _ _ _ c.subcommand.ensures.name c.in-Some.is (entered_name c.args.found.now (codes "count") rows sub) in
+    let other = sym c.eq.ensures ∙ c.if-eq.false in
+    let clash : true ≡ false = rw name at other in
+    absurd (true≢false clash)
+
+pub returns-then-eq-clause-split : goal.returns-then-eq-clause-split
+returns-then-eq-clause-split c = λ words rows plain sub hold.
+    let name = same_name _ _ _ _ c.subcommand.ensures.name c.in-Some.is (entered_name c.args.found.now (codes "split") rows sub) in
+    let count = sym c.eq.ensures ∙ c.if-eq.true in
+    let clash : false ≡ true = rw name at count in
+    absurd (true≢false (sym clash))
+
+pub returns-then-eq-clause-count : goal.returns-then-eq-clause-count
+returns-then-eq-clause-count c = λ rows sub.
     let same = same_rows _ _ _ _ c.subcommand.ensures.rows c.in-Some.is sub in
-    subst (λ all. CountsFile (file_of (first_of (codes "file") all)) job) (sym same) (h name)) c.command_job.ensures.count
+    c.in_ok-file.ensures ∙ ap (λ all. file_of (first_of (codes "file") all)) (sym same)

@@ -4,7 +4,7 @@ use Rattle.go_board.specs.Colour.{same_cell, stone_of}
 use Rattle.go_board.specs.Grid.{cell_at}
 use Rattle.go_board.specs.inner.Regions.{AreRowsOf}
 use Rattle.go_board.proofs.StoneGroupLemmas.{rows_of_opponent}
-use Rattle.go_board.proofs.RegionLemmas.{seed_is, room_is, AreRowsOf-filled}
+use Rattle.go_board.proofs.RegionLemmas.{seed_is, region_is, AreRowsOf-filled}
 use Rattle.go_board.proofs.board.Board.area_of.Goals as goal
 
 pub returns-clause-are : goal.returns-clause-are
@@ -16,8 +16,8 @@ returns-clause-are c =
     let own = subst (AreRowsOf g.side (λ p. same_cell (cell_at g p) (stone_of k))) (sym same) c.rows_of.ensures.are in
     let others = c.rows_of-2.result.now in
     let other = rows_of_opponent g k c.opponent.result others c.opponent.ensures c.rows_of-2.ensures.are in
-    let room = c.other_points.new.others in
-    AreRowsOf-filled g Empty (stone_of k) room area c.fill.new.rows
-    (room_is g k area others room own other c.rows_of-2.ensures.rows c.other_points.ensures)
-    (seed_is g k area others room own other c.rows_of-2.ensures.rows c.other_points.ensures)
+    let region = c.other_points.new.others in
+    AreRowsOf-filled g Empty (stone_of k) region area c.fill.new.rows
+    (region_is g k area others region own other c.rows_of-2.ensures.rows c.other_points.ensures)
+    (seed_is g k area others region own other c.rows_of-2.ensures.rows c.other_points.ensures)
     c.fill.ensures.grows c.fill.ensures.closed

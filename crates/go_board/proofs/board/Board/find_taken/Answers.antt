@@ -1,4 +1,4 @@
-use Rattle.std.proofs.Common.{◌≡◌, false, inl, inr, ap, sym, ◌∙◌, subst, arith}
+use Rattle.std.proofs.Common.{◌≡◌, false, inl, inr, ap, sym, ◌∙◌, subst, arith, rules}
 use Rattle.std.proofs.lemmas.Bool.{false≢true}
 use Rattle.go_board.specs.declared.stones.Cell.TheVariants.{Empty}
 use Rattle.go_board.specs.Colour.{opponent, stone_of}
@@ -15,24 +15,24 @@ use Rattle.go_board.proofs.board.Board.find_taken.Goals.{then-not-some, else-not
 
 pub find_shut_beside-some-requires-clause-shut : goal.find_shut_beside-some-requires-clause-shut
 find_shut_beside-some-requires-clause-shut c =
-    AreShutGroups-none c.set.new.self c.opponent.result c.args.taken.now (c.requires.rows ∙ sym (ap (λ (g : Grid). g.side) c.set.ensures)) c.requires.none
+    AreShutGroups-none c.set.new.self c.opponent.result c.args.taken.now (c.requires.none.all ∙ sym (ap (λ (g : Grid). g.side) c.set.ensures)) c.requires.none.none
 
 -- no group beside the stone is shut
 none_beside : (c : goal.After-restore) → c.find_shut_beside-some.result ≡ false → (p : Point) → is_set c.find_shut_beside-some.new.shut p ≡ false
-none_beside c fails p = ap (λ rows. is_set rows p) (c.find_shut_beside-some.ensures.adds.none fails) ∙ c.requires.none p
+none_beside c fails p = ap (λ rows. is_set rows p) (c.find_shut_beside-some.ensures.adds.none fails) ∙ c.requires.none.none p
 
 as_before : (c : goal.After-restore-arg-1) → c.set-2.new.self ≡ c.args.self.now
 as_before c =
     c.set-2.ensures ∙ ap (λ h. with_cell h c.args.point Empty) c.set.ensures
-    ∙ taken_away c.args.self.now c.args.point c.stone.result c.requires.on_board c.has_all_cells.ensures.all c.requires.empty
+    ∙ taken_away c.args.self.now c.args.point c.stone.result c.requires.stone.on_board c.has_all_cells.ensures.all c.requires.stone.empty
 
 pub restore-requires : goal.restore-requires
-restore-requires c = λ _. ap has_unreaching (as_before c) ∙ c.requires.settled
+restore-requires c = λ _. ap has_unreaching (as_before c) ∙ c.requires.stone.settled
 
 pub returns-clause-unchanged : goal.returns-clause-unchanged
 returns-clause-unchanged c =
     c.restore.ensures ∙ c.set-2.ensures ∙ ap (λ h. with_cell h c.args.point Empty) c.set.ensures
-    ∙ taken_away c.args.self.now c.args.point c.stone.result c.requires.on_board c.has_all_cells.ensures.all c.requires.empty
+    ∙ taken_away c.args.self.now c.args.point c.stone.result c.requires.stone.on_board c.has_all_cells.ensures.all c.requires.stone.empty
 
 pub returns-clause-taken : goal.returns-clause-taken
 returns-clause-taken c =
@@ -49,7 +49,7 @@ returns-clause-taken c =
           let none = none_beside c w.if-not-some.true in
           subst (λ rows. TakesOff g k p rows) (sym w.taken-is)
           (let own = subst (λ h. AreShutGroups h k w.find_shut-some.new.shut) here w.find_shut-some.ensures.adds.shut in
-          takes_off_own g p k c.requires.on_board c.has_all_cells.ensures.all c.requires.settled w.find_shut-some.new.shut (omega (arith, own.all)) own.on_grid own.shut
+          takes_off_own g p k c.requires.stone.on_board c.has_all_cells.ensures.all c.requires.stone.settled w.find_shut-some.new.shut (omega (arith, own.all)) own.on_grid own.shut
           (λ q at next stone.
           elim (beside q at next stone) [
             | inl gone ↦ absurd (false≢true (sym (none q) ∙ gone))
@@ -58,17 +58,21 @@ returns-clause-taken c =
           (subst (λ h. IsTakenOrReaches h k w.find_shut-some.new.shut p) here w.find_shut-some.ensures.here))
       | else-not-some w ↦
           subst (λ rows. TakesOff g k p rows) (sym w.taken-is)
-          (takes_off_beside g p k c.requires.on_board c.has_all_cells.ensures.all c.requires.settled first.new.shut
+          (takes_off_beside g p k c.requires.stone.on_board c.has_all_cells.ensures.all c.requires.stone.settled first.new.shut
           (subst (λ o. AreShutGroups placed o first.new.shut) c.opponent.ensures (subst (λ h. AreShutGroups h c.opponent.result first.new.shut) here first.ensures.adds.shut))
           beside
           (λ none. (let some = first.ensures.adds.some w.if-not-some.false in false≢true (sym (none some.0) ∙ some.1))))
     ]
 
-pub find_shut-some-requires-clause-stone : goal.find_shut-some-requires-clause-stone
-find_shut-some-requires-clause-stone c =
-    ap (λ (h : Grid). cell_at h c.args.point) c.set.ensures
-    ∙ cell_at-with_cell c.args.self.now c.args.point c.stone.result c.requires.on_board c.has_all_cells.ensures.all
-    ∙ c.stone.ensures
+pub find_shut-some-requires : goal.find_shut-some-requires
+find_shut-some-requires c = record {
+  on_board = search rules;
+  stone = ap (λ (h : Grid). cell_at h c.args.point) c.set.ensures
+      ∙ cell_at-with_cell c.args.self.now c.args.point c.stone.result c.requires.stone.on_board c.has_all_cells.ensures.all
+      ∙ c.stone.ensures;
+  shut = AreShutGroups-none c.set.new.self c.args.colour c.find_shut_beside-some.new.shut (search rules)
+      (λ p. ap (λ rows. is_set rows p) (c.find_shut_beside-some.ensures.adds.none c.if-not-some.true) ∙ c.requires.none.none p);
+}
 
 pub returns-clause-none : goal.returns-clause-none
 returns-clause-none c = λ fails p.

@@ -5,4 +5,4 @@ pub rows-preserved : goal.rows-preserved
 rows-preserved c = c.grow_lowest-left.ensures.filled c.args.rows.now c.rows.invariant
 
 pub returns-clause-closed : goal.returns-clause-closed
-returns-clause-closed c = IsClosed-all c.args.room.now c.args.rows.now c.rows.rows c.rows.waiting c.rows.invariant c.rows-test.false
+returns-clause-closed c = IsClosed-all c.args.region.now c.args.rows.now c.rows.rows c.rows.waiting c.rows.invariant c.rows-test.false

@@ -5,7 +5,7 @@ use Rattle.go_board.specs.inner.Fill.{IsFilledBut}
 use Rattle.go_board.proofs.board.fill.fill.Given as goal
 
 abbrev pub invariant-rows : goal.invariant-rows
-invariant-rows l = IsFilledBut l.room l.fn.rows l.rows l.waiting
+invariant-rows l = IsFilledBut l.region l.fn.rows l.rows l.waiting
 
 abbrev pub decreases-rows : goal.decreases-rows
 decreases-rows l = lacking l.rows * 2 ^ 64 + l.waiting

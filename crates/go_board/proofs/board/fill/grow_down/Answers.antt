@@ -11,7 +11,7 @@ pub rows-init : goal.rows-init
 rows-init c = record {
   filled = record {
     all = c.requires.same;
-    grows = Grows-none c.args.room.now c.args.rows.now c.requires.within;
+    grows = Grows-none c.args.region.now c.args.rows.now c.requires.within;
     rows_in = λ r is. absurd (false≢true (sym (has_bit-zero r) ∙ is));
     closed = λ r below. absurd (omega (arith, below));
   };
@@ -22,7 +22,7 @@ rows-init c = record {
 pub rows-preserved : goal.rows-preserved
 rows-preserved c =
     let l = c.rows in
-    let room = c.args.room.now in
+    let region = c.args.region.now in
     let first = c.args.rows.now in
     let rows = l.rows in
     let next = c.grow_row_below.new.rows in
@@ -36,9 +36,9 @@ rows-preserved c =
     let bits : (word r : ℕ) → has_bit (word / 2 ^ 1) r ≡ has_bit word (suc r) = has_bit-right in
     let next_low : (r : ℕ) → slice_index next r < 2 ^ 64 = λ r. search rules in
     let step : row + 1 ≡ suc row = omega arith in
-    let room_low : (r : ℕ) → slice_index room r < 2 ^ 64 = λ r. search rules in
+    let region_low : (r : ℕ) → slice_index region r < 2 ^ 64 = λ r. search rules in
     record {
-      filled = filled_to_more room first rows next (l.waiting_above / 2 ^ 1) (after / 2 ^ 1) row within was long grown.grows grown.closed grown.others
+      filled = filled_to_more region first rows next (l.waiting_above / 2 ^ 1) (after / 2 ^ 1) row within was long grown.grows grown.closed grown.others
           (λ r is. bits after r ∙ part_with _ _ _ _ e.there e.elsewhere (suc r) (sym (bits l.waiting_above r) ∙ is))
           (λ r is.
           elim (from_with _ _ _ _ e.there e.elsewhere (suc r) (sym (bits after r) ∙ is)) [
@@ -48,13 +48,13 @@ rows-preserved c =
           (λ r before none.
           let at : suc r ≡ row = omega (arith, before) in
           let other : r ≢ row = omega (arith, before) in
-          let left = l.invariant.lacking r before ∙ ap (λ w. bit_and (slice_index room r) (bit_not w64 w)) (sym (grown.others r other)) in
-          none_left (slice_index next row) (slice_index room r) (slice_index next r) l.lacking (room_low r) (next_low r) left
+          let left = l.invariant.lacking r before ∙ ap (λ w. bit_and (slice_index region r) (bit_not w64 w)) (sym (grown.others r other)) in
+          none_left (slice_index next row) (slice_index region r) (slice_index next r) l.lacking (region_low r) (next_low r) left
           (taken_with _ _ _ _ e.there (ap (has_bit after) (sym at) ∙ sym (bits after r) ∙ none)));
       above = sym (ap (row_above next) step);
       lacking = λ r before.
           let same : row ≡ r = omega (arith, before) in
-          ap (λ k. bit_and (slice_index room k) (bit_not w64 (slice_index next k))) same;
+          ap (λ k. bit_and (slice_index region k) (bit_not w64 (slice_index next k))) same;
     }
 
 pub returns : goal.returns

@@ -6,7 +6,7 @@ use Rattle.go_board.proofs.board.fill.grow_down.Given as goal
 
 abbrev pub invariant-rows : goal.invariant-rows
 invariant-rows l = record {
-  filled : AreFilledTo l.room l.fn.rows l.rows (l.waiting_above / 2 ^ 1) l.row;
+  filled : AreFilledTo l.region l.fn.rows l.rows (l.waiting_above / 2 ^ 1) l.row;
   above : l.above ≡ row_above l.rows l.row;
-  lacking : (r : ℕ) → r + 1 ≡ l.row → l.lacking ≡ bit_and (slice_index l.room r) (bit_not w64 (slice_index l.rows r));
+  lacking : (r : ℕ) → r + 1 ≡ l.row → l.lacking ≡ bit_and (slice_index l.region r) (bit_not w64 (slice_index l.rows r));
 }

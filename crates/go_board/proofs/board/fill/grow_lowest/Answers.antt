@@ -9,39 +9,39 @@ lowest_in : (waiting count : ℕ) → waiting ≢ 0 → waiting < 2 ^ 64 → ((r
 lowest_in waiting count some low each = each _ (lowest_left waiting waiting some low (λ k is. is)).0
 
 pub bounds-rows-row : goal.bounds-rows-row
-bounds-rows-row c = omega (arith, lowest_in c.args.waiting _ c.requires.some (omega (arith, c.ranges.waiting.fits)) c.requires.rows_in, c.requires.same)
+bounds-rows-row c = omega (arith, lowest_in c.args.waiting _ c.requires.wait.some (omega (arith, c.ranges.waiting.fits)) c.requires.wait.rows_in, c.requires.within.same)
 
 pub grow_row-requires-clause-row : goal.grow_row-requires-clause-row
-grow_row-requires-clause-row c = omega (arith, lowest_in c.args.waiting _ c.requires.some (omega (arith, c.ranges.waiting.fits)) c.requires.rows_in, c.requires.same)
+grow_row-requires-clause-row c = omega (arith, lowest_in c.args.waiting _ c.requires.wait.some (omega (arith, c.ranges.waiting.fits)) c.requires.wait.rows_in, c.requires.within.same)
 
 pub bounds-rows-row-2 : goal.bounds-rows-row-2
 bounds-rows-row-2 c =
     let long : length c.grow_row.new.rows ≡ length c.args.rows.now = search rules in
-    omega (arith, lowest_in c.args.waiting _ c.requires.some (omega (arith, c.ranges.waiting.fits)) c.requires.rows_in, c.requires.same, long)
+    omega (arith, lowest_in c.args.waiting _ c.requires.wait.some (omega (arith, c.ranges.waiting.fits)) c.requires.wait.rows_in, c.requires.within.same, long)
 
 pub with_rows_lacking-requires : goal.with_rows_lacking-requires
 with_rows_lacking-requires c =
     let long : length c.grow_row.new.rows ≡ length c.args.rows.now = search rules in
     record {
-      same = sym (long ∙ c.requires.same);
-      few = omega (arith, long, c.requires.few);
-      row = omega (arith, lowest_in c.args.waiting _ c.requires.some (omega (arith, c.ranges.waiting.fits)) c.requires.rows_in, c.requires.same, long);
+      same = sym (long ∙ c.requires.within.same);
+      few = omega (arith, long, c.requires.within.few);
+      row = omega (arith, lowest_in c.args.waiting _ c.requires.wait.some (omega (arith, c.ranges.waiting.fits)) c.requires.wait.rows_in, c.requires.within.same, long);
     }
 
 pub returns-then-rows-row-clause-row : goal.returns-then-rows-row-clause-row
 returns-then-rows-row-clause-row c =
     let long : length c.grow_row.new.rows ≡ length c.args.rows.now = search rules in
-    omega (arith, lowest_in c.args.waiting _ c.requires.some (omega (arith, c.ranges.waiting.fits)) c.requires.rows_in, c.requires.same, long)
+    omega (arith, lowest_in c.args.waiting _ c.requires.wait.some (omega (arith, c.ranges.waiting.fits)) c.requires.wait.rows_in, c.requires.within.same, long)
 
 pub returns-then-rows-row-clause-filled : goal.returns-then-rows-row-clause-filled
 returns-then-rows-row-clause-filled c = λ first was.
     let long : length c.grow_row.new.rows ≡ length c.args.rows.now = search rules in
-    filled_same c.args.room.now first c.args.rows.now c.grow_row.new.rows c.args.waiting c.without_column-left.result (trailing_zeros w64 c.args.waiting) was c.without_column-left.ensures.there c.without_column-left.ensures.elsewhere long c.grow_row.ensures.grows c.grow_row.ensures.closed
+    filled_same c.args.region.now first c.args.rows.now c.grow_row.new.rows c.args.waiting c.without_column-left.result (trailing_zeros w64 c.args.waiting) was c.without_column-left.ensures.there c.without_column-left.ensures.elsewhere long c.grow_row.ensures.grows c.grow_row.ensures.closed
     (c.grow_row.ensures.unchanged c.if-rows-row.true)
 
 pub returns-then-rows-row-clause-less : goal.returns-then-rows-row-clause-less
 returns-then-rows-row-clause-less c =
-    let fewer = next_smaller c.args.waiting c.args.waiting c.without_column-left.result c.requires.some (omega (arith, c.ranges.waiting.fits)) (λ k is. is) c.without_column-left.ensures.there c.without_column-left.ensures.elsewhere in
+    let fewer = next_smaller c.args.waiting c.args.waiting c.without_column-left.result c.requires.wait.some (omega (arith, c.ranges.waiting.fits)) (λ k is. is) c.without_column-left.ensures.there c.without_column-left.ensures.elsewhere in
     let same : lacking c.grow_row.new.rows ≡ lacking c.args.rows.now = ap lacking (c.grow_row.ensures.unchanged c.if-rows-row.true) in
     omega (arith, fewer, same)
 
@@ -49,5 +49,5 @@ pub returns-clause-filled : goal.returns-clause-filled
 returns-clause-filled c = λ first was.
     let long : length c.grow_row.new.rows ≡ length c.args.rows.now = search rules in
     let after = c.with_rows_lacking in
-    filled_more c.args.room.now first c.args.rows.now c.grow_row.new.rows c.args.waiting c.without_column-left.result (trailing_zeros w64 c.args.waiting) was c.without_column-left.ensures.there c.without_column-left.ensures.elsewhere long c.grow_row.ensures.grows c.grow_row.ensures.closed
+    filled_more c.args.region.now first c.args.rows.now c.grow_row.new.rows c.args.waiting c.without_column-left.result (trailing_zeros w64 c.args.waiting) was c.without_column-left.ensures.there c.without_column-left.ensures.elsewhere long c.grow_row.ensures.grows c.grow_row.ensures.closed
     after.result c.grow_row.ensures.others after.ensures.kept after.ensures.from after.ensures.taken

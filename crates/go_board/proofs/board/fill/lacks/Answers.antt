@@ -4,8 +4,8 @@ use Rattle.go_board.proofs.board.fill.lacks.Goals as goal
 
 pub returns : goal.returns
 returns c = λ none.
-    let room = get_or c.args.room.now c.args.row 0 in
+    let region = get_or c.args.region.now c.args.row 0 in
     let here = get_or c.args.rows.now c.args.row 0 in
-    let low_room : room < 2 ^ 64 = search rules in
+    let low_room : region < 2 ^ 64 = search rules in
     let low_here : here < 2 ^ 64 = search rules in
-    none_lacking c.args.word room here low_room low_here none
+    none_lacking c.args.word region here low_room low_here none

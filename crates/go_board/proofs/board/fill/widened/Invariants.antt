@@ -3,7 +3,7 @@ use Rattle.go_board.specs.inner.Rows.{IsWidened}
 use Rattle.go_board.proofs.board.fill.widened.Given as goal
 
 abbrev pub invariant-widen : goal.invariant-widen
-invariant-widen l = IsWidened l.room l.seed l.word
+invariant-widen l = IsWidened l.region l.seed l.word
 
 abbrev pub decreases-widen : goal.decreases-widen
 decreases-widen l = 2 ^ 64 - l.word

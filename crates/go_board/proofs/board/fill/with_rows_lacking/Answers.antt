@@ -6,12 +6,12 @@ use Rattle.go_board.proofs.board.fill.with_rows_lacking.Goals as goal
 use Rattle.go_board.proofs.board.fill.with_rows_lacking.Goals.{Joined-row-gt0, then-row-gt0, else-row-gt0}
 
 -- the rows with the one above, if there is one that lacks a point
-record HasRowAbove (waiting row up : ℕ) (rows room : List ℕ) : Type 0 where
+record HasRowAbove (waiting row up : ℕ) (rows region : List ℕ) : Type 0 where
   kept : IsPart (has_bit waiting) (has_bit up)
-  taken : (r : ℕ) → r + 1 ≡ row → has_bit up r ≡ false → IsTaken room rows r (slice_index rows row)
+  taken : (r : ℕ) → r + 1 ≡ row → has_bit up r ≡ false → IsTaken region rows r (slice_index rows row)
   from : (r : ℕ) → has_bit up r ≡ true → (has_bit waiting r ≡ true) ⊎ (r + 1 ≡ row)
 
-has_row_above : (c : Joined-row-gt0) → HasRowAbove c.args.waiting c.args.row c.if-row-gt0.up c.args.rows.now c.args.room.now
+has_row_above : (c : Joined-row-gt0) → HasRowAbove c.args.waiting c.args.row c.if-row-gt0.up c.args.rows.now c.args.region.now
 has_row_above c =
     elim c.if-row-gt0.branch [
       | then-row-gt0 w ↦
@@ -21,7 +21,7 @@ has_row_above c =
             kept = part_with _ _ _ _ e.there e.elsewhere;
             taken = λ r next none.
                 let at : c.args.row - 1 ≡ r = omega (arith, next) in
-                subst (λ k. IsTaken c.args.room.now c.args.rows.now k (slice_index c.args.rows.now c.args.row)) at
+                subst (λ k. IsTaken c.args.region.now c.args.rows.now k (slice_index c.args.rows.now c.args.row)) at
                 (w.lacks.ensures (taken_with _ _ _ _ e.there (ap (has_bit w.with_column-up.result) at ∙ none)));
             from = λ r is.
                 elim (from_with _ _ _ _ e.there e.elsewhere r is)
@@ -49,7 +49,7 @@ returns-then-row-rows c =
                 up.taken r next
                 (elim (cases_Bool (has_bit c.if-row-gt0.up r)) [ inl is ↦ absurd (false≢true (sym none ∙ kept r is)) | inr out ↦ out ])
             | inr last ↦
-                subst (λ k. IsTaken c.args.room.now c.args.rows.now k (slice_index c.args.rows.now c.args.row)) last
+                subst (λ k. IsTaken c.args.region.now c.args.rows.now k (slice_index c.args.rows.now c.args.row)) last
                 (c.lacks-then-row-rows.ensures (taken_with _ _ _ _ e.there (ap (has_bit c.with_column.result) last ∙ none)))
           ];
       from = λ r is.

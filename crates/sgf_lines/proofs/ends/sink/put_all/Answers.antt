@@ -6,10 +6,10 @@ use Rattle.sgf_lines.proofs.ends.sink.put_all.Goals as goal
 
 pub puts-preserved : goal.puts-preserved
 puts-preserved g c =
-    let took = c.in-Ok.ensures in
+    let took = c.in_ok-done.ensures in
     record {
       within = omega (arith, took.1, length-drop c.puts.done c.args.bytes.now);
-      takes = goes_on (g.T.Sink.state c.args.sink.now).taken (g.T.Sink.state c.puts.sink).taken (g.T.Sink.state c.put.new.self).taken c.args.bytes.now c.puts.done c.in-Ok.count
+      takes = goes_on (g.T.Sink.state c.args.sink.now).taken (g.T.Sink.state c.puts.sink).taken (g.T.Sink.state c.put.new.self).taken c.args.bytes.now c.puts.done c.in_ok-done.field-0
           c.puts.invariant.takes took.2.taken;
       failures = took.2.failures ∙ c.puts.invariant.failures;
     }

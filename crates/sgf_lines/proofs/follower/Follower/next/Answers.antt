@@ -1,69 +1,64 @@
--- The next line stands before the cursor that went on, and is judged from where it leaves the line before it.
-use Rattle.std.proofs.Common.{◌≤◌, refl, ap, arith}
+-- The next line was judged from where it leaves the line before it.
+use Rattle.std.proofs.Common.{◌≡◌, ◌≤◌, true, Ok, ap, arith}
 use Rattle.sgf_tree.specs.Tree.{node_count}
 use Rattle.sgf_tree.specs.FileOrder.{PlacesRise}
 use Rattle.sgf_tree.specs.declared.fault.TheConstants.{MAX_LENGTH}
-use Rattle.sgf_lines.specs.inner.Following.{nodes_before}
-use Rattle.sgf_lines.specs.inner.GoingOn.{GoesOnBy}
-use Rattle.sgf_lines.proofs.Keeping.{IsNext}
-use Rattle.sgf_lines.proofs.Followers.{next_is as next_so, given, row_countable, few_played, follows_on}
+use Rattle.sgf_tree.specs.declared.fault.MemoryFault.{MemoryFault}
+use Rattle.sgf_lines.specs.Cursor.{advanced}
+use Rattle.sgf_lines.specs.declared.over_lines.Before.TheVariants.{Held}
+use Rattle.sgf_lines.specs.inner.Following.{nodes_before, path_before}
+use Rattle.sgf_lines.specs.inner.GoingOn.{PlaysLine, StandsBy, next_by}
+use Rattle.sgf_lines.specs.inner.Keeping.{HoldsJudgement}
+use Rattle.sgf_lines.proofs.Followers.{given, row_countable, few_played, follows_on}
 use Rattle.sgf_lines.proofs.RunRecords.{verdict_is}
-use Rattle.sgf_lines.proofs.SequenceCursors.{some_ends}
 use Rattle.sgf_lines.proofs.follower.Follower.next.Goals as goal
-use Rattle.sgf_lines.proofs.follower.Follower.next.Goals.{After-nodes-nodes}
+use Rattle.sgf_lines.proofs.follower.Follower.next.Goals.{After-nodes-nodes, In-Ok-true}
 
 module _ (c : After-nodes-nodes) where
-  goes : GoesOnBy c.self.inside.before c.self.inside.sequences.at c.go_on.new.sequences.at c.in-Some.held.nodes
-  goes = rw c.in-Some.is at c.in_ok-held.ensures.found
+  rise : PlacesRise c.self.inside.lines.cursor.at.games
+  rise = rw c.outline.ensures at c.nodes-nodes.ensures.places_rise
 
-  next_is : IsNext c.self.inside.before c.self.inside.sequences.at c.go_on.new.sequences.at c.in-Some.held.nodes c.self.inside.judge.judgement
-  next_is = next_so c.self.inside.before c.self.inside.sequences.at c.go_on.new.sequences.at c.in-Some.held.nodes c.self.inside.row c.self.inside.judge c.self.invariant.0 goes
+  nodes : node_count c.self.inside.lines.cursor.at.games ≤ MAX_LENGTH
+  nodes = omega (arith, c.nodes-nodes.ensures.count, c.nodes-nodes.ensures.few, ap node_count c.outline.ensures)
 
-  rise : PlacesRise c.self.inside.sequences.at.games
-  rise = rw (c.outline.ensures, next_is.games) at c.nodes-nodes.ensures.places_rise
+module _ (c : In-Ok-true) where
+  plays : PlaysLine {E = MemoryFault} (λ n. n) c.self.inside.lines.before c.self.inside.lines.cursor.at c.self.inside.lines.keeper.judge.plays c.next.new.self.keeper.judge.plays (Ok true)
+  plays = rw c.in-Ok-true.field-0-test at c.in-Ok-true.ensures.plays
 
-  nodes : node_count c.self.inside.sequences.at.games ≤ MAX_LENGTH
-  nodes = omega (arith, c.nodes-nodes.ensures.count, c.nodes-nodes.ensures.few, ap node_count c.outline.ensures, ap node_count next_is.games)
+  came : (c.next.new.self.before ≡ Held) × (c.next.new.self.cursor.at ≡ advanced (next_by c.self.inside.lines.before c.self.inside.lines.cursor.at))
+  came = rw c.in-Ok-true.field-0-test at c.in-Ok-true.ensures.moved
 
-pub judge_line-requires-clause-front : goal.judge_line-requires-clause-front
-judge_line-requires-clause-front c =
-    let some = (next_is (goal.at.judge_line-requires-clause-front c).After-nodes-nodes).some_node in
-    (rw c.in-Some.is at c.in_ok-held.ensures.front) (some_ends c.go_on.new.sequences.ends _ c.sequences-sequences.ensures.divided some)
+  stands : StandsBy Held (nodes_before c.next.new.self.cursor.at) (HoldsJudgement (nodes_before c.next.new.self.cursor.at) c.next.new.self.keeper.judge.judgement × (c.next.new.self.keeper.path.items ≡ path_before c.next.new.self.cursor.at))
+  stands = rw came.0 at c.in-Ok-true.ensures.stands
 
-pub judge_line-requires-clause-judged : goal.judge_line-requires-clause-judged
-judge_line-requires-clause-judged c = (next_is (goal.at.judge_line-requires-clause-judged c).After-nodes-nodes).keeps
-
-pub judge_line-requires-clause-countable : goal.judge_line-requires-clause-countable
-judge_line-requires-clause-countable c =
-    let at = (goal.at.judge_line-requires-clause-countable c).After-nodes-nodes in
-    let few = few_played c.self.inside.before c.self.inside.sequences.at c.go_on.new.sequences.at c.in-Some.held.nodes c.self.inside.row c.self.inside.judge c.self.invariant.0 (goes at) (rise at) in
-    omega (arith, few, nodes at, c.len-len.ensures.nodes, c.len-len.ensures.short, ap node_count (next_is at).games)
-
-pub invariant_of-self-in_default-judge_line : goal.invariant_of-self-in_default-judge_line
-invariant_of-self-in_default-judge_line c = (
-  record {
-    stands = (next_is (goal.at.invariant_of-self-in_default-judge_line c).After-nodes-nodes).some_node;
-    is_row = refl;
-    plays_are = c.count_anew.ensures.plays;
-  },
-  c.in_ok-held.ensures.path,
-)
+pub next-requires-clause-countable : goal.next-requires-clause-countable
+next-requires-clause-countable c =
+    let at = (goal.at.next-requires-clause-countable c).After-nodes-nodes in
+    let old = c.self.inside.lines in
+    omega (arith, few_played old.before old.cursor.at old.keeper.judge old.keeper.path.items c.self.inside.row c.self.invariant (rise at), nodes at)
 
 pub overflow_add-self : goal.overflow_add-self
 overflow_add-self c =
-    let at = (goal.at.overflow_add-self c).After-nodes-nodes in
-    omega (arith, nodes at, row_countable c.self.inside.before c.self.inside.sequences.at c.go_on.new.sequences.at c.in-Some.held.nodes c.self.inside.row c.self.inside.judge c.self.invariant.0 (goes at))
+    let at = goal.at.overflow_add-self c in
+    let old = c.self.inside.lines in
+    let plays = plays at.In-Ok-true in
+    omega (arith, nodes at.After-nodes-nodes, row_countable old.before old.cursor.at old.keeper.judge old.keeper.path.items c.self.inside.row c.self.invariant plays.0 plays.1)
 
-pub invariant_of-self-2 : goal.invariant_of-self-2
-invariant_of-self-2 c =
-    let at = (goal.at.invariant_of-self-2 c).After-nodes-nodes in (
-      follows_on c.self.inside.before c.self.inside.sequences.at c.go_on.new.sequences.at c.in-Some.held.nodes c.self.inside.row c.self.inside.judge c.self.invariant.0 (goes at) (rise at)
-          c.judge_line.new.judge _ c.in-Ok.ensures.judged c.in-Ok.ensures.plays,
-      c.in_ok-held.ensures.path,
-    )
+pub invariant_of-self : goal.invariant_of-self
+invariant_of-self c =
+    let at = goal.at.invariant_of-self c in
+    let old = c.self.inside.lines in
+    let new = c.next.new.self in
+    let plays = plays at.In-Ok-true in
+    let came = came at.In-Ok-true in
+    rw came.0 (follows_on old.before old.cursor.at old.keeper.judge old.keeper.path.items c.self.inside.row c.self.invariant plays.0 plays.1 new.cursor.at came.1 (rise at.After-nodes-nodes) new.keeper.judge
+    new.keeper.path.items (stands at.In-Ok-true) plays.2)
 
-pub returns-clause-verdict : goal.returns-clause-verdict
-returns-clause-verdict c =
-    let told = verdict_is (nodes_before c.go_on.new.sequences.at) c.judge_line.new.judge.judgement c.verdict.result c.verdict.ensures c.in-Ok.ensures.judged in
-    given c.self.inside.before c.self.inside.sequences.at c.go_on.new.sequences.at c.in-Some.held.nodes c.self.inside.row c.self.inside.judge c.self.invariant.0
-    (goes (goal.at.returns-clause-verdict c).After-nodes-nodes) c.args.self.now c.self.view_is c.verdict.result told
+pub returns-in-Ok-true-clause-verdict : goal.returns-in-Ok-true-clause-verdict
+returns-in-Ok-true-clause-verdict c =
+    let at = goal.at.returns-in-Ok-true-clause-verdict c in
+    let old = c.self.inside.lines in
+    let new = c.next.new.self in
+    let plays = plays at.In-Ok-true in
+    let told = verdict_is (nodes_before new.cursor.at) new.keeper.judge.judgement c.verdict.result c.verdict.ensures (stands at.In-Ok-true).1.0 in
+    given old.before old.cursor.at old.keeper.judge old.keeper.path.items c.self.inside.row c.self.invariant plays.0 plays.1 new.cursor.at (came at.In-Ok-true).1 c.args.self.now c.self.view_is c.verdict.result told

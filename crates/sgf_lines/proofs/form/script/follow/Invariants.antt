@@ -9,5 +9,5 @@ abbrev pub invariant-loop-index : goal.invariant-loop-index
 invariant-loop-index l = record {
   judges : JudgesTo (nodes_before l.cursor.at) l.fn.held.nodes l.fn.judge.plays l.index l.judge;
   says : l.script ≡ script_front (nodes_before l.cursor.at) l.index;
-  comes : l.nodes ≡ drop l.index (nodes_before l.cursor.at);
+  comes : l.nodes.nodes ≡ drop l.index (nodes_before l.cursor.at);
 }

@@ -1,3 +1,4 @@
+use Rattle.std.proofs.lemmas.Grind.{common_steps}
 use Rattle.std.proofs.Common.{◌≡◌, ◌≤◌, ◌<◌, ◌+◌, get_or, length, refl, ap, subst, arith}
 use Rattle.std.proofs.lemmas.Option.{slice_get_read}
 use Rattle.std.specs.Prelude.{slice_get, Some}
@@ -9,9 +10,7 @@ use Rattle.sgf_tree.proofs.Starts.{starts-are, length-lasts}
 use Rattle.sgf_tree.proofs.collection.Collection.last_below.Goals as goal
 
 pub index-requires : goal.index-requires
-index-requires c =
-    let s = c.self.inside in
-    omega (arith, c.sequence_of.ensures.within, ap length c.self.invariant.1, length-lasts 0 0 s.outline, ap length (starts-are s.outline))
+index-requires c = grind (arith, common_steps, length-lasts, starts-are)
 
 pub returns : goal.returns
 returns c =

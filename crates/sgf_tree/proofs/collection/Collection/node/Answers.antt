@@ -1,21 +1,16 @@
-use Rattle.std.proofs.Common.{◌≡◌, ◌∙◌, ◌<◌, Some, ap, sym, arith}
-use Rattle.sgf_tree.specs.Tree.{node_count}
+use Rattle.std.proofs.lemmas.Grind.{common_steps}
+use Rattle.std.proofs.Common.{◌≡◌, ◌∙◌, Some, ap, sym, arith}
 use Rattle.sgf_tree.specs.FileOrder.{node_at, place_at}
 use Rattle.sgf_tree.proofs.PlacesKept.{places-count, place-kept}
 use Rattle.sgf_tree.proofs.collection.Collection.node.Goals as goal
 use Rattle.sgf_tree.proofs.collection.Collection.node.Goals.{After-index}
 
 pub index-requires : goal.index-requires
-index-requires c =
-    let s = c.self.inside in
-    omega (arith, c.requires, ap node_count c.self.view_is, places-count s.outline s.places.items c.self.invariant.0)
+index-requires c = grind (arith, common_steps, places-count)
 
 -- its place was read
 here : (c : After-index) → place_at c.self.inside.outline c.args.i ≡ Some c.index.result.now
-here c =
-    let s = c.self.inside in
-    let lt : c.args.i < node_count s.outline = omega (arith, c.requires, ap node_count c.self.view_is) in
-    place-kept s.outline s.places.items c.self.invariant.0 c.args.i c.index.result.now lt c.index.ensures
+here c = grind (arith, common_steps, place-kept)
 
 pub node_at-requires : goal.node_at-requires
 node_at-requires c = (c.args.i, here (goal.at.node_at-requires c).After-index)

@@ -1,3 +1,4 @@
+use Rattle.std.proofs.lemmas.Grind.{common_steps}
 use Rattle.std.proofs.Common.{◌≡◌, ℕ, Bool, not, IsTrue, Option, None, Some, refl, sym, ap, ◌∙◌, arith, ne_eqb}
 use Rattle.std.proofs.lemmas.Bool.{false≢true, eq-eqb}
 use Rattle.std.specs.Prelude.{nat_eq, ◌≢◌}
@@ -7,10 +8,7 @@ use Rattle.sgf_tree.proofs.Outlined.{end-leaf, leaf-if, if-leaf}
 use Rattle.sgf_tree.proofs.outline.Outline.ends_in_leaf.Goals as goal
 
 pub returns-then-i-sequences : goal.returns-then-i-sequences
-returns-then-i-sequences c = (
-  λ is. end-leaf c.args.self.now c.args.i (omega (arith, c.requires, c.if-i-sequences.true, c.sequences.ensures.count)),
-  λ leaf. search (arith, c.if-i-sequences.true, eqb_refl),
-)
+returns-then-i-sequences c = grind (arith, common_steps, end-leaf, eqb_refl)
 
 other-if : (o : Option ℕ) (i : ℕ) (b : Bool) → b ≡ not (option_eq nat_eq o (Some i)) → IsTrue b → o ≢ Some i
 other-if o i b e is same = false≢true (sym (e ∙ ap (λ k. not (option_eq nat_eq k (Some i))) same ∙ ap not (eq-eqb i i refl)) ∙ is)

@@ -1,3 +1,4 @@
+use Rattle.std.proofs.lemmas.Grind.{common_steps}
 use Rattle.std.proofs.Common.{◌≡◌, None, sym, ◌∙◌, arith}
 use Rattle.sgf_tree.specs.inner.Outlining.{outer_by, stretches_by}
 use Rattle.sgf_tree.proofs.Outlined.{IsEntryOf, table-length, entry-in, game-outer, outer-none}
@@ -5,13 +6,7 @@ use Rattle.sgf_tree.proofs.outline.Outline.game_of.Goals as goal
 use Rattle.sgf_tree.proofs.outline.Outline.game_of.Goals.{After-index}
 
 pub climb-preserved : goal.climb-preserved
-climb-preserved c =
-    let before = c.climb.invariant in
-    let outer = c.in-Some.ensures in
-    record {
-      within = omega (arith, before.within, outer.0);
-      same = game-outer c.args.self.now c.in-Some.outer (omega (arith, before.within, outer.0)) c.climb.at outer.1 ∙ before.same;
-    }
+climb-preserved c = grind (arith, common_steps, game-outer)
 
 pub index-requires : goal.index-requires
 index-requires c = omega (arith, c.climb.invariant.within, table-length c.self.inside.text.now c.self.inside.sequences c.self.invariant.0 _ c.self.view_is)

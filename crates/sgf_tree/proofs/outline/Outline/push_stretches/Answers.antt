@@ -7,7 +7,7 @@ use Rattle.sgf_tree.specs.inner.NodeText.{node_in, GoesOn}
 use Rattle.sgf_tree.specs.inner.OwnNodes.{written_of}
 use Rattle.sgf_tree.specs.inner.Outlining.{stretch_by, stretches_by}
 use Rattle.sgf_tree.proofs.Outlined.{IsEntryOf, table-length, node-in, entry-in}
-use Rattle.sgf_tree.proofs.StretchesLeft.{IsFirst, stretch-within, stretch-is, written-alone}
+use Rattle.sgf_tree.proofs.StretchesLeft.{IsFirst, stretch-is, written-alone}
 use Rattle.sgf_tree.proofs.outline.Outline.push_stretches.Goals as goal
 use Rattle.sgf_tree.proofs.outline.Outline.push_stretches.Goals.{After-index-sequence, After-index-stretch, After-is_last, then-start-end+in_ok-extend_from_slice-2, else-start-end+in_ok-push_to}
 
@@ -43,9 +43,6 @@ stretches-init c =
       };
       goes_on = ([], sym (append-nil out));
     }
-
-pub index-stretch-requires : goal.index-stretch-requires
-index-stretch-requires c = omega (arith, stretch-within c.self.inside.text.now c.args.self.now c.self.inside.sequences _ c.stretches.at c.stretches.out.items c.stretches.invariant.left)
 
 -- the stretch at the index
 first : (c : After-index-stretch) → IsFirst c.self.inside.text.now c.args.self.now (stretches_by c.self.inside.sequences) (c.args.out.now.items ++ flat_map node_text (nodes_at c.args.self.now (sequence_numbers c.args.self.now c.args.i))) c.stretches.at c.stretches.out.items (stretch_by c.index-stretch.result.now)

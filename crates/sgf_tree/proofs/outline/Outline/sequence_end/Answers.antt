@@ -1,5 +1,5 @@
-use Rattle.std.proofs.Common.{◌≡◌, ◌+◌, ap, sym, ◌∙◌, arith}
-use Rattle.sgf_tree.specs.Tree.{node_count}
+use Rattle.std.proofs.lemmas.Grind.{common_steps}
+use Rattle.std.proofs.Common.{◌≡◌, ◌+◌, ◌∙◌, arith}
 use Rattle.sgf_tree.specs.FileOrder.{sequence_end}
 use Rattle.sgf_tree.proofs.Outlined.{table-length, entry-in, sequence-some, sequence-within, next-start, last-end}
 use Rattle.sgf_tree.proofs.outline.Outline.sequence_end.Goals as goal
@@ -14,9 +14,7 @@ next c =
 
 -- all nodes are before its end
 all : (c : Else-i-len) → c.self.inside.sequences.nodes ≡ sequence_end c.args.self.now c.args.i
-all c =
-    c.self.invariant.0.held.nodes_counted ∙ ap node_count c.self.view_is
-    ∙ sym (last-end c.args.self.now c.args.i (omega (arith, c.requires, c.if-i-len.false, c.len.ensures, table-length c.self.inside.text.now c.self.inside.sequences c.self.invariant.0 _ c.self.view_is)))
+all c = grind (arith, common_steps, last-end, table-length)
 
 pub returns-then-i-len-clause-end : goal.returns-then-i-len-clause-end
 returns-then-i-len-clause-end c = next (goal.at.returns-then-i-len-clause-end c).After-index

@@ -1,3 +1,4 @@
+use Rattle.std.proofs.lemmas.Grind.{common_steps}
 use Rattle.std.proofs.Common.{◌≡◌, ◌<◌, ◌⊎◌, inl, inr, arith}
 use Rattle.std.proofs.lemmas.Result.{err_from_is_err_and}
 use Rattle.sgf_tree.proofs.GamesLoop.{games-open, games-faulty, depth-within}
@@ -18,9 +19,7 @@ returns-in_err-at-in-40-clause-fault g c =
     (c.in_err-at-in-40.ensures.fault so_far.stack (games-open c.args.text.now c.games.at so_far.stack so_far.stands c.games-test.true c.in-40.is))
 
 pub overflow_add-depth : goal.overflow_add-depth
-overflow_add-depth g c =
-    let so_far = c.games.invariant.so_far in
-    omega (arith, so_far.depth_is, so_far.few, so_far.within, depth-within so_far.stack.closed so_far.stack.unclosed)
+overflow_add-depth g c = grind (arith, common_steps, depth-within)
 
 pub games-preserved-in-40 : goal.games-preserved-in-40
 games-preserved-in-40 g c =
@@ -40,14 +39,7 @@ returns-then-depth-eq0-clause-fault g c =
     unopened-faulty t (g.K.Keeper.keeps t c.games.keeper) c.args.at c.games.at c.games.depth c.games.invariant.so_far c.games-test.true c.in-41.is c.if-depth-eq0.true
 
 pub games-preserved : goal.games-preserved
-games-preserved g c =
-    let t = c.args.text.now in
-    record {
-      so_far =
-          games-closed t (g.K.Keeper.keeps t c.games.keeper) c.args.at c.games.at c.games.depth c.games.invariant.so_far (g.K.Keeper.keeps t c.game_ends.new.self) c.skip_white_space-at.result (omega arith)
-          c.games-test.true c.in-41.is c.skip_white_space-at.ensures (c.game_ends.ensures.kept t);
-      long = c.games.invariant.long;
-    }
+games-preserved g c = grind (arith, common_steps, games-closed)
 
 pub returns-in_default-clause-fault : goal.returns-in_default-clause-fault
 returns-in_default-clause-fault g c =

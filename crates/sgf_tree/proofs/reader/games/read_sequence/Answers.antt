@@ -1,7 +1,7 @@
 use Rattle.std.proofs.Common.{◌≡◌, ◌≢◌, ℕ, ◌+◌, ◌<◌, inl, inr, length, get_or, sym, subst, ◌∙◌, arith}
 use Rattle.std.proofs.lemmas.Result.{err_from_is_err_and}
 use Rattle.sgf_tree.specs.inner.Progress.{EndsNode}
-use Rattle.sgf_tree.specs.inner.PropertiesRead.{ArePropertiesRead, IsTextRead}
+use Rattle.sgf_tree.specs.inner.PropertiesRead.{ArePropertiesRead}
 use Rattle.sgf_tree.specs.inner.KeptEnds.{AreKeptEnds}
 use Rattle.sgf_tree.specs.inner.OwnNodes.{own_of}
 use Rattle.sgf_tree.specs.inner.GamesRead.{coming_of}
@@ -37,7 +37,7 @@ take_node-requires-then-in_place-eq-TWO_MOVES-clause-few g c =
     let one = c.move_read.ensures in
     let taken = c.in_ok-own.ensures in
     let so_far = own-move t c.args.at kept (keeps c.nodes.keeper) (keeps c.take_node.new.keeper) c.nodes.next c.nodes.own c.in_ok-own.own c.move_read.result c.nodes.invariant.so_far
-    first between one.is (one.read t first between) (one.text t first between) (taken.taken t) taken.end taken.count in
+    first between one.is (one.read t first between) (taken.taken t) taken.end taken.count in
     let own = so_far.each o.0 o.1 in
     (t, o.0, own.nodes, own.ended, own.holds o.2, own.are, c.requires.short, own-few t c.args.at kept (keeps c.take_node.new.keeper) (c.nodes.next + 6) c.in_ok-own.own so_far o.0 o.3)
 
@@ -60,9 +60,9 @@ nodes-preserved-then-in_place-eq-TWO_MOVES g c =
     let taken = c.in_ok-own.ensures in
     let takes = c.in_ok-own-2.ensures in
     let to_one = own-move t at kept (keeps c.nodes.keeper) (keeps c.take_node.new.keeper) next c.nodes.own c.in_ok-own.own c.move_read.result c.nodes.invariant.so_far
-    first between one.is (one.read t first between) (one.text t first between) (taken.taken t) taken.end taken.count in
+    first between one.is (one.read t first between) (taken.taken t) taken.end taken.count in
     let to_other = own-move t at kept (keeps c.take_node.new.keeper) (keeps c.take_node-then-in_place-eq-TWO_MOVES.new.keeper) (next + 6) c.in_ok-own.own c.in_ok-own-2.own
-    c.move_read-then-in_place-eq-TWO_MOVES.result to_one second ends other.is (other.read t second ends) (other.text t second ends) (takes.taken t) takes.end takes.count in
+    c.move_read-then-in_place-eq-TWO_MOVES.result to_one second ends other.is (other.read t second ends) (takes.taken t) takes.end takes.count in
     record {
       so_far = subst (λ (i : ℕ). OwnSoFar t at kept (keeps c.take_node-then-in_place-eq-TWO_MOVES.new.keeper) i c.in_ok-own-2.own) twelve to_other;
       long = c.nodes.invariant.long;
@@ -92,15 +92,15 @@ nodes-preserved g c =
     let keeps = g.K.Keeper.keeps t in
     let joined = c.match-short_properties in
     let own = c.in_ok-own-3 in
-    let facts : ArePropertiesRead t (c.nodes.next + 1) joined.read.end × IsTextRead t (c.nodes.next + 1) joined.read × AreKeptEnds t joined.long.items = elim joined.branch [
-      | in-Some w ↦ rw (w.read-is, w.long-is) (w.in-Some.ensures.read, w.in-Some.ensures.text, c.nodes.invariant.long)
-      | in-None+in_ok-read-in-None w ↦ rw (w.read-is, w.long-is) (w.in_ok-read-in-None.ensures.read, w.in_ok-read-in-None.ensures.text, w.in_ok-read-in-None.ensures.kept)
+    let facts : ArePropertiesRead t (c.nodes.next + 1) joined.read × AreKeptEnds t joined.long.items = elim joined.branch [
+      | in-Some w ↦ rw (w.read-is, w.long-is) (w.in-Some.ensures, c.nodes.invariant.long)
+      | in-None+in_ok-read-in-None w ↦ rw (w.read-is, w.long-is) (w.in_ok-read-in-None.ensures.read, w.in_ok-read-in-None.ensures.kept)
     ] in
     record {
       so_far =
           own-more t c.args.at (keeps c.args.keeper.now) (keeps c.nodes.keeper) (keeps c.take_node-else-in_place-eq-TWO_MOVES.new.keeper) c.nodes.next c.nodes.own own.own joined.read
-          c.nodes.invariant.so_far c.nodes-test.true c.if-text-next-eq59.true facts.0 facts.1 (own.ensures.taken t) own.ensures.end own.ensures.count;
-      long = facts.2;
+          c.nodes.invariant.so_far c.nodes-test.true c.if-text-next-eq59.true facts.0 (own.ensures.taken t) own.ensures.end own.ensures.count;
+      long = facts.1;
     }
 
 pub returns-then-own-eq0-clause-fault : goal.returns-then-own-eq0-clause-fault

@@ -1,3 +1,4 @@
+use Rattle.std.proofs.lemmas.Grind.{common_steps}
 use Rattle.std.proofs.Common.{◌≢◌, ◌<◌, length, get_or, arith}
 use Rattle.sgf_tree.proofs.NameEnds.{name-after, name-faulty, name-read}
 use Rattle.sgf_tree.proofs.reader.properties.read_far_name.Goals as goal
@@ -15,7 +16,4 @@ returns-then-end-text-clause-fault c n h =
     c.skip_white_space-end.ensures.within other
 
 pub returns-clause-read : goal.returns-clause-read
-returns-clause-read c =
-    let end = c.skip_white_space-end.result in
-    name-read c.args.text.now c.args.start c.letters_end-text_end.result end c.requires.within c.requires.capital c.letters_end-text_end.ensures c.skip_white_space-end.ensures
-    (record { within = omega (arith, c.skip_white_space-end.ensures.within); bracket = c.if-text-end-ne91.false })
+returns-clause-read c = grind (arith, common_steps, name-read)

@@ -1,8 +1,9 @@
+use Rattle.std.proofs.lemmas.Grind.{common_steps}
 use Rattle.std.proofs.Common.{◌∙◌, sym, arith}
 use Rattle.std.proofs.lemmas.Result.{err_from_is_err_and}
 use Rattle.sgf_tree.proofs.NodeEnds.{node-name}
-use Rattle.sgf_tree.proofs.ShortProperties.{so-far-begin, so-far-more, so-far-done, so-far-text}
-use Rattle.sgf_tree.specs.inner.PropertiesRead.{IsWholePropertyRead}
+use Rattle.sgf_tree.proofs.ShortProperties.{so-far-begin, so-far-more, so-far-done}
+use Rattle.sgf_tree.specs.inner.PropertiesRead.{IsPropertyRead}
 use Rattle.sgf_tree.proofs.reader.properties.read_properties.Goals as goal
 use Rattle.sgf_tree.proofs.reader.properties.read_properties.Goals.{in-Some, in-None+in_ok-property-in-None}
 
@@ -17,14 +18,14 @@ returns-in_err-property-in-None-clause-fault c =
     let p = err_from_is_err_and c.from_residual.result c.from_residual.ensures.1 in
     let capital = sym c.is_ascii_uppercase.ensures.value ∙ c.if-is_ascii_uppercase.true in
     rw (p.1, p.2)
-    (λ n none h. c.in_err-property-in-None.ensures.fault _ (node-name c.args.text.now c.properties.read.end _ (c.properties.invariant.so_far.properties.reached n none h).1 c.properties-test.true capital))
+    (λ n none h. c.in_err-property-in-None.ensures.fault _ (node-name c.args.text.now c.properties.read.end _ (c.properties.invariant.so_far.reached n none h).1 c.properties-test.true capital))
 
 pub properties-preserved : goal.properties-preserved
 properties-preserved c =
     let t = c.args.text.now in
     let property = c.match-read_short_property.property in
     let capital = sym c.is_ascii_uppercase.ensures.value ∙ c.if-is_ascii_uppercase.true in
-    let read : IsWholePropertyRead t c.properties.read.end property = elim c.match-read_short_property.branch [
+    let read : IsPropertyRead t c.properties.read.end property = elim c.match-read_short_property.branch [
       | in-Some w ↦ rw w.property-is w.in-Some.ensures
       | in-None+in_ok-property-in-None w ↦ rw w.property-is w.in_ok-property-in-None.ensures.read
     ] in
@@ -39,17 +40,7 @@ properties-preserved c =
     }
 
 pub returns-else-is_ascii_uppercase-clause-read : goal.returns-else-is_ascii_uppercase-clause-read
-returns-else-is_ascii_uppercase-clause-read c =
-    so-far-done c.args.text.now c.args.at c.properties.read c.properties.invariant.so_far (λ lt. sym c.is_ascii_uppercase.ensures.value ∙ c.if-is_ascii_uppercase.false)
-
-pub returns-else-is_ascii_uppercase-clause-text : goal.returns-else-is_ascii_uppercase-clause-text
-returns-else-is_ascii_uppercase-clause-text c =
-    so-far-text c.args.text.now c.args.at c.properties.read c.properties.invariant.so_far (λ lt. sym c.is_ascii_uppercase.ensures.value ∙ c.if-is_ascii_uppercase.false)
+returns-else-is_ascii_uppercase-clause-read c = grind (arith, common_steps, so-far-done)
 
 pub returns-after-properties-clause-read : goal.returns-after-properties-clause-read
-returns-after-properties-clause-read c =
-    so-far-done c.args.text.now c.args.at c.properties.read c.properties.invariant.so_far (λ lt. absurd (omega (arith, c.properties-test.false)))
-
-pub returns-after-properties-clause-text : goal.returns-after-properties-clause-text
-returns-after-properties-clause-text c =
-    so-far-text c.args.text.now c.args.at c.properties.read c.properties.invariant.so_far (λ lt. absurd (omega (arith, c.properties-test.false)))
+returns-after-properties-clause-read c = grind (arith, common_steps, so-far-done)

@@ -1,3 +1,4 @@
+use Rattle.std.proofs.lemmas.Grind.{common_steps}
 use Rattle.std.proofs.Common.{◌+◌, ◌<◌, length, arith}
 use Rattle.sgf_tree.proofs.ValueUnits.{no-units, even-units, odd-units, escapes-units, units-ended, endless}
 use Rattle.sgf_tree.proofs.reader.value.far_value_end.Goals as goal
@@ -26,5 +27,4 @@ brackets-preserved c =
     }
 
 pub returns : goal.returns
-returns c =
-    endless c.args.text.now c.args.at c.brackets.start c.brackets.invariant.within c.in_default.ensures c.brackets.invariant.units
+returns c = grind (arith, common_steps, endless)

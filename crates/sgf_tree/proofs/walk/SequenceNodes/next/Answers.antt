@@ -1,9 +1,54 @@
-use Rattle.std.proofs.Common.{◌<◌, ◌∙◌, sym, arith}
-use Rattle.sgf_tree.proofs.Walking.{nodes-first}
+use Rattle.std.proofs.Common.{◌<◌, ◌∙◌, length, drop, refl, sym, ap, subst, arith}
+use Rattle.sgf_tree.specs.NodesLeft.{NodesLeft}
+use Rattle.sgf_tree.specs.inner.Lead.{IsLedNode, IsEmptyNode}
+use Rattle.sgf_tree.specs.inner.Machine.{games_in}
+use Rattle.sgf_tree.specs.inner.NodeText.{node_in}
+use Rattle.sgf_tree.proofs.Leading.{led-properties, led-over, led-next, empty-over, empty-next}
+use Rattle.sgf_tree.proofs.Walking.{between-some}
 use Rattle.sgf_tree.proofs.walk.SequenceNodes.next.Goals as goal
 
-pub returns-in-Some-clause-taken : goal.returns-in-Some-clause-taken
-returns-in-Some-clause-taken c =
+pub open-requires : goal.open-requires
+open-requires c =
     let w = c.self.inside in
-    let left : w.number < w.end = omega (arith, c.self.invariant.rises) in
-    sym c.self.view_is ∙ nodes-first w.outline.now w.number w.end c.node_at-node.result left (c.node_at-node.ensures w.number (c.self.invariant.place_is left))
+    let more : w.number < w.end = omega (arith, c.self.invariant.0.rises, c.if-self.false) in
+    omega (arith, between-some (games_in w.text.now) w.number w.end more c.self.invariant.0.within, ap (λ (n : NodesLeft). length n.nodes) c.self.view_is)
+
+pub returns : goal.returns
+returns c = (c.open.ensures.0, c.open.ensures.1, c.open.ensures.2 c.args.names.now)
+
+pub invariant_of-self : goal.invariant_of-self
+invariant_of-self c =
+    let w = c.self.inside in
+    let more : w.number < w.end = omega (arith, c.self.invariant.0.rises, c.if-self.false) in
+    let is : IsLedNode c.args.names.now (drop w.at w.text.now) c.in-Some.end = subst (λ s. IsLedNode c.args.names.now s c.in-Some.end) c.rest_from-text.ensures c.in-Some.ensures in
+    (led-over c.args.names.now w.text.now w.at c.in-Some.end is w.number w.end c.self.invariant.0 more, c.self.invariant.1)
+
+pub returns-in-Some : goal.returns-in-Some
+returns-in-Some c =
+    let w = c.self.inside in
+    let more : w.number < w.end = omega (arith, c.self.invariant.0.rises, c.if-self.false) in
+    let is : IsLedNode c.args.names.now (drop w.at w.text.now) c.in-Some.end = subst (λ s. IsLedNode c.args.names.now s c.in-Some.end) c.rest_from-text.ensures c.in-Some.ensures in
+    let next = led-next c.args.names.now w.text.now w.at c.in-Some.end is w.number w.end c.self.invariant.0 more in (
+      node_in w.text.now w.at,
+      ap (λ (n : NodesLeft). n.nodes) (sym c.self.view_is) ∙ next.0,
+      (
+        refl,
+        rw (c.part-value.ensures, c.rest_from-text.ensures) (led-properties c.args.names.now (drop w.at w.text.now) c.in-Some.end is),
+        next.1,
+      ),
+    )
+
+pub invariant_of-self-then-is_empty_node : goal.invariant_of-self-then-is_empty_node
+invariant_of-self-then-is_empty_node c =
+    let w = c.self.inside in
+    let more : w.number < w.end = omega (arith, c.self.invariant.0.rises, c.if-self.false) in
+    let is : IsEmptyNode (drop w.at w.text.now) = subst IsEmptyNode c.rest_from-text.ensures (c.is_empty_node.ensures c.if-is_empty_node.true) in
+    (empty-over w.text.now w.at is w.number w.end c.self.invariant.0 more, c.self.invariant.1)
+
+pub returns-then-is_empty_node : goal.returns-then-is_empty_node
+returns-then-is_empty_node c =
+    let w = c.self.inside in
+    let more : w.number < w.end = omega (arith, c.self.invariant.0.rises, c.if-self.false) in
+    let is : IsEmptyNode (drop w.at w.text.now) = subst IsEmptyNode c.rest_from-text.ensures (c.is_empty_node.ensures c.if-is_empty_node.true) in
+    let next = empty-next w.text.now w.at is w.number w.end c.self.invariant.0 more in
+    (node_in w.text.now w.at, ap (λ (n : NodesLeft). n.nodes) (sym c.self.view_is) ∙ next.0, (refl, next.1, next.2))

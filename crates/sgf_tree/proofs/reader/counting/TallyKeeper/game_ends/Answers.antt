@@ -1,17 +1,8 @@
-use Rattle.std.proofs.Common.{◌≡◌, ℕ, ◌≤◌, Bool, true, false, cond, refl, arith}
+use Rattle.std.proofs.Common.{◌≡◌, cond, arith}
 use Rattle.std.proofs.Math.Dec.{eqb}
 use Rattle.sgf_tree.proofs.Counting.{fewer-leaves, tally-closed}
-use Rattle.sgf_tree.proofs.GameEnds.{fewer-games}
+use Rattle.sgf_tree.proofs.GameEnds.{cast-to, at_most_1, fewer-games}
 use Rattle.sgf_tree.proofs.reader.counting.TallyKeeper.game_ends.Goals as goal
-
--- the number that a test was cast to
-cast-to : (b : Bool) (n : ℕ) → (b ≡ true → ◌≡◌ {A = ℕ} n 1) → (b ≡ false → ◌≡◌ {A = ℕ} n 0) → n ≡ cond b 1 0
-cast-to true n one none = one refl
-cast-to false n one none = none refl
-
-at_most_1 : (b : Bool) → cond b 1 0 ≤ 1
-at_most_1 true = omega arith
-at_most_1 false = omega arith
 
 pub overflow_add-self : goal.overflow_add-self
 overflow_add-self c =

@@ -1,0 +1,27 @@
+use Rattle.std.proofs.Common.{◌≡◌, ◌++◌, ◌∷◌, [], List, Bool, not, length, ap, sym, subst, ◌∙◌, arith, rules}
+use Rattle.go_board.specs.declared.quick.print_past.trie.Node.{Node}
+use Rattle.go_board.specs.declared.quick.print_past.key.TheConstants.{WIDTH}
+use Rattle.go_board.specs.inner.Trie.{IsTrie, named, kid_of, with_named}
+use Rattle.go_board.proofs.TrieLemmas.{trie_parted}
+use Rattle.go_board.proofs.quick.print_past.trie.insert.Goals as goal
+
+pub returns-clause-trie : goal.returns-clause-trie
+returns-clause-trie c = λ keys bits trie opening bit.
+    let nodes = c.args.nodes.now.items in
+    let slot = c.args.slot in
+    let node = c.parted_node-node in
+    let number : c.len-number.result ≡ length nodes = search rules in
+    let below : c.kid.result ≡ kid_of nodes slot.node slot.side = search rules in
+    let named_so : c.name.new.nodes.items ≡ with_named nodes slot.node slot.side (length nodes) =
+    c.name.ensures.named ∙ ap (λ n. with_named nodes slot.node slot.side n) number in
+    let made : c.push_reserved.new.self.items ≡ with_named nodes slot.node slot.side (length nodes) ++ node.result ∷ [] =
+    c.push_reserved.ensures.items ∙ ap (λ (xs : List Node). xs ++ node.result ∷ []) named_so in
+    subst (λ (xs : List Node). IsTrie WIDTH (bits ∷ keys) xs) (sym made)
+    (trie_parted keys nodes bits trie (omega (arith, opening.there.there)) node.result opening.there opening.low opening.under opening.stop c.requires.within opening.part
+    (record {
+      depth = node.ensures.depth;
+      up = node.ensures.up;
+      up_side = node.ensures.side;
+      own = ap (λ (t : Bool). named node.result t) bit ∙ node.ensures.own ∙ number;
+      rest = ap (λ (t : Bool). named node.result (not t)) bit ∙ node.ensures.rest ∙ below;
+    }))

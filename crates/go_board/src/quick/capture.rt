@@ -1,0 +1,140 @@
+//! What a stone takes off, as rows of bits: the groups beside it that it captures, or its own group by suicide. `Board::place` is the
+//! plain way.
+
+ghost use Rattle.std.specs.Prelude.{◌≡◌, ◌↔◌, ◌||◌, ◌≤◌, IsTrue, IsFalse, false, length};
+ghost use Rattle.go_board.specs.declared.points.Point.{Point};
+ghost use Rattle.go_board.specs.Point.{IsOn};
+ghost use Rattle.go_board.specs.Colour.{stone_of};
+ghost use Rattle.go_board.specs.Grid.{cell_at};
+ghost use Rattle.go_board.specs.Clearing.{play};
+ghost use Rattle.go_board.specs.inner.Groups.{AddsGroup, AddsShut, AreShutGroups, AreTakenOrReachBeside, IsAsked, IsEmptyOnSettled, TakesOff};
+ghost use Rattle.go_board.specs.inner.Rows.{is_set, HasNoPoint};
+
+use crate::board::Board;
+use crate::board::regions::{FEW_ROWS, no_rows};
+use crate::points::Point;
+use crate::quick::group::{has_liberty, lives_by_row};
+use crate::stones::{Cell, Colour};
+
+impl Board {
+    /// Finds what a stone on an empty point takes off, by capture or else by suicide. False is returned only if that is nothing.
+    /// Before the move every stone on the board must reach empty. So after it only the stone's own group and the groups beside the
+    /// stone can be without a liberty. The stone is put on the board for this search, and removed again.
+    pub(crate) fn find_taken(&mut self, colour: Colour, point: Point, taken: &mut [u64]) -> bool
+        requires stone { IsEmptyOnSettled self.old point }
+        requires none { HasNoPoint self.old.side taken.old }
+        ensures taken { TakesOff self.old colour point taken.new }
+        ensures none { IsFalse result → (p : Point) → is_set taken.new p ≡ false }
+        ensures unchanged { self.new ≡ self.old }
+    {
+        self.has_all_cells();
+        self.set(point, colour.stone());
+        let mut some = self.find_shut_beside(colour.opponent(), point, taken);
+        if !some {
+            some = self.find_shut(colour, point, taken);
+        }
+        self.set(point, Cell::Empty);
+        self.restore(true);
+        some
+    }
+
+    /// Adds to `shut` the groups of a colour that are beside a point and have no liberty. Returns whether there are any.
+    fn find_shut_beside(&self, colour: Colour, point: Point, shut: &mut [u64]) -> bool
+        requires on_board { IsOn self.now.side point }
+        requires shut { AreShutGroups self.now colour shut.old }
+        ensures adds { AddsShut self.now colour shut.old shut.new result }
+        ensures beside { AreTakenOrReachBeside self.now colour point shut.new }
+    {
+        self.has_all_cells();
+        let mut some = false;
+        let beside = point.neighbours();
+        for at in beside {
+            // a call costs more than this test, and most of these points have no such stone
+            if self.has_stone(colour, at) {
+                some |= self.find_shut(colour, at, shut);
+            }
+        }
+        some
+    }
+
+    /// Adds the group of the stone on a point to `shut` if it has no liberty. Returns whether that is so.
+    fn find_shut(&self, colour: Colour, point: Point, shut: &mut [u64]) -> bool
+        requires { IsAsked self.now colour point shut.old }
+        ensures { AddsGroup self.now colour point shut.old shut.new result }
+    {
+        self.has_all_cells();
+        // most groups live by a stone in the same row, and this needs no rows to be cleared
+        if lives_by_row(self.rows_of(colour), self.rows_of(colour.opponent()), point) {
+            return false;
+        }
+        self.find_shut_around(colour, point, shut)
+    }
+
+    /// The same as `find_shut`, for a group that may have a liberty only in other rows.
+    #[inline(never)]
+    fn find_shut_around(&self, colour: Colour, point: Point, shut: &mut [u64]) -> bool
+        requires { IsAsked self.now colour point shut.old }
+        ensures { AddsGroup self.now colour point shut.old shut.new result }
+    {
+        self.has_all_cells();
+        let side = usize::from(self.size().side());
+        if side <= FEW_ROWS {
+            let mut words = [0; FEW_ROWS];
+            return self.find_shut_in(colour, point, &mut words[..side], shut);
+        }
+        let mut words = no_rows();
+        self.find_shut_in(colour, point, &mut words[..side], shut)
+    }
+
+    /// The same as `find_shut`. `group` must be empty, and has the group afterwards, or a part of it.
+    fn find_shut_in(
+        &self,
+        colour: Colour,
+        point: Point,
+        group: &mut [u64],
+        shut: &mut [u64],
+    ) -> bool
+        requires asked { IsAsked self.now colour point shut.old }
+        requires none { HasNoPoint self.now.side group.old }
+        ensures { AddsGroup self.now colour point shut.old shut.new result }
+    {
+        self.has_all_cells();
+        let own = self.rows_of(colour);
+        let others = self.rows_of(colour.opponent());
+        if has_liberty(own, others, point, group) {
+            return false;
+        }
+        add_points(group, shut);
+        true
+    }
+
+    /// Whether a point is on the board and has a stone of a colour.
+    fn has_stone(&self, colour: Colour, point: Point) -> bool
+        ensures { IsTrue result ↔ (IsOn self.now.side point × (cell_at self.now point ≡ stone_of colour)) }
+    {
+        point.is_on(self.size()) && self.at(point) == colour.stone()
+    }
+
+    /// Places a stone; `taken` is what it takes off. After that every stone reaches empty.
+    pub(crate) fn put(&mut self, colour: Colour, point: Point, taken: &[u64])
+        requires on_board { IsOn self.old.side point }
+        requires taken { TakesOff self.old colour point taken.now }
+        ensures { self.new ≡ play self.old colour point }
+    {
+        self.has_all_cells();
+        self.set(point, colour.stone());
+        self.empty_set(taken);
+        self.restore(true);
+    }
+}
+
+/// Adds the points of a set to another set, which has at least as many rows.
+pub(crate) fn add_points(rows: &[u64], all: &mut [u64])
+    requires { length rows.now ≤ length all.old }
+    ensures both { (p : Point) → is_set all.new p ≡ (is_set all.old p || is_set rows.now p) }
+    ensures rows { length all.new ≡ length all.old }
+{
+    for row in 0..rows.len() {
+        all[row] |= rows[row];
+    }
+}

@@ -1,0 +1,470 @@
+//! The past that looks colourings up by their prints, and only for a stone that may repeat one (positional superko). `ListPast` is the
+//! plain one.
+//!
+//! | Module | What it has |
+//! |---|---|
+//! | `colourings`, `changes` | past colourings as rows that lead back |
+//! | `emptied` | the points that were emptied, where a colouring can come back |
+//! | `print`, `powers`, `bytes` | the print of a colouring, a number in base 31; the numbers that it is made from |
+//! | `table` | how a past colouring is looked up, and what that costs |
+//! | `filter` | a filter of prints, which answers most look-ups |
+//! | `key`, `trie` | a colouring as a key, which is a string of bits; the trie of keys |
+
+mod bytes;
+mod changes;
+mod colourings;
+mod emptied;
+mod filter;
+mod key;
+mod powers;
+mod print;
+mod table;
+mod trie;
+
+ghost use Rattle.std.specs.Prelude.{◌≡◌, ◌≢◌, ◌<◌, false, IsTrue, OnOk, OnErr, length};
+ghost use Rattle.go_board.specs.declared.stones.Cell.TheVariants.{Empty};
+ghost use Rattle.go_board.specs.declared.points.Point.{Point};
+ghost use Rattle.go_board.specs.Point.{IsOn};
+ghost use Rattle.go_board.specs.Grid.{cell_at};
+ghost use Rattle.go_board.specs.Clearing.{play};
+ghost use Rattle.go_board.specs.Past.{all_of, newest_grid, with_next};
+ghost use Rattle.go_board.specs.inner.Groups.{IsMove};
+ghost use Rattle.go_board.specs.inner.Print.{print_of, IsPrintedMove};
+ghost use Rattle.go_board.specs.inner.Rows.{is_set};
+ghost use Rattle.go_board.specs.inner.Table.{IsTable};
+
+use crate::board::Board;
+use crate::board::regions::no_rows;
+use crate::board::stone_rows::has_column;
+use crate::fault::MemoryFault;
+use crate::past::Past;
+use crate::points::Point;
+use crate::quick::capture::add_points;
+use crate::quick::print_past::colourings::Colourings;
+use crate::quick::print_past::emptied::Emptied;
+use crate::quick::print_past::print::{
+    print_after_stone, print_after_taking, print_from, print_of,
+};
+use crate::quick::print_past::table::{Gap, Table};
+use crate::referee::SetupOp;
+use crate::size::MAX_ROWS;
+use crate::stones::Colour;
+use std::alloc::Global;
+use std::marker::Model;
+
+/// A past that keeps the newest colouring whole. Of each older one it keeps the rows that lead back to
+/// it. A colouring is looked up only in the present stretch, and first by its print: a 64-bit number made
+/// from what stands on all its points. If two prints are equal, all points are compared.
+///
+/// A colouring that only adds one stone to the one before it takes 48 bytes, and a node of the trie 16 more.
+#[derive(Drop)]
+pub struct PrintPast {
+    colourings: Colourings,
+    /// The table by which colourings are looked up.
+    table: Table,
+    /// The points that were emptied. A stone that stays can bring a colouring back only on one of these.
+    emptied: Emptied,
+    /// A point on which the newest colouring has a stone, and no older one of the present stretch has; None if none is known. While
+    /// that stone stays, a stone that stays can't bring a colouring back.
+    last_stone: Option<Point>,
+}
+
+impl Model for PrintPast {
+    ghost use Rattle.go_board.specs.Past.{PastColourings};
+    ghost use Rattle.go_board.specs.inner.Emptied.{IsPrintPast};
+
+    ghost Value = { PastColourings };
+
+    ghost view = { λ p. p.colourings };
+
+    ghost invariant = { λ p. IsPrintPast p.colourings p.table p.emptied p.last_stone };
+}
+
+impl Past for PrintPast {
+    ghost held = { λ past. past };
+
+    fn new(alloc: Global, board: &Board) -> Result<PrintPast, MemoryFault> {
+        Ok(PrintPast {
+            colourings: Colourings::new(alloc, board)?,
+            table: Table::new(alloc, print_of(board))?,
+            emptied: Emptied::new(alloc),
+            last_stone: None,
+        })
+    }
+
+    fn holds(&self, board: &Board) -> bool {
+        self.table.has(&self.colourings, board, print_of(board))
+    }
+
+    fn newest(&self) -> &Board {
+        self.colourings.newest()
+    }
+
+    fn push(&mut self, board: &Board) -> Result<(), MemoryFault> {
+        self.add(board, print_of(board), false)
+    }
+
+    fn restart(&mut self, board: &Board) -> Result<(), MemoryFault> {
+        self.link_stretch();
+        self.add(board, print_of(board), true)
+    }
+
+    /// Finds captures and suicide near the stone (`find_taken`), unless a glance shows that there are none. A repetition (positional
+    /// superko) is looked up by `play_looked_up`. The plain ways are `Past::play` and `Board::place`; the second is taken on a board
+    /// that isn't settled (`play_on_copy`).
+    fn play(&mut self, colour: Colour, point: Point) -> Result<bool, MemoryFault> {
+        let newest = self.colourings.newest();
+        if !newest.is_settled() {
+            return self.play_on_copy(colour, point);
+        }
+        if newest.takes_nothing_at_a_glance(colour, point) {
+            return self.play_taking(colour, point, &[]);
+        }
+        self.play_in_doubt(colour, point)
+    }
+
+    /// The same as the plain one; then the board is settled if that can be.
+    fn set_up(&mut self, ops: &[SetupOp]) -> Result<(), MemoryFault> {
+        let mut made = self.newest().copy();
+        made.colour_areas(ops);
+        made.work_settled_out();
+        self.restart(&made)
+    }
+
+    fn pop(&mut self) {
+        self.table.pop();
+        self.colourings.pop();
+        self.emptied.go_back(self.table.next_number());
+        self.last_stone = None;
+    }
+
+    fn reset(&mut self, _alloc: Global, board: &Board) -> Result<(), MemoryFault> {
+        self.colourings.reset(board);
+        self.table.reset(print_of(board));
+        self.emptied.clear();
+        self.last_stone = None;
+        Ok(())
+    }
+}
+
+impl PrintPast {
+    ghost use Rattle.std.specs.Prelude.{◌≡◌, ◌↔◌, false, IsFalse, IsTrue, IsSome, OnOk, OnErr, Contains};
+    ghost use Rattle.go_board.specs.declared.stones.Cell.TheVariants.{Empty};
+    ghost use Rattle.go_board.specs.Point.{IsOn};
+    ghost use Rattle.go_board.specs.Grid.{Grid, cell_at};
+    ghost use Rattle.go_board.specs.Clearing.{play};
+    ghost use Rattle.go_board.specs.Past.{newest_grid, with_next, present_stretch, HaveSide, IsPlayed};
+    ghost use Rattle.go_board.specs.declared.stones.Colour.{Colour};
+    ghost use Rattle.go_board.specs.inner.Groups.{IsEmptyOnSettled, IsMove, TakesOff};
+    ghost use Rattle.go_board.specs.inner.Emptied.{IsLastStone};
+    ghost use Rattle.go_board.specs.inner.Print.{print_of, IsPrintedMove};
+    ghost use Rattle.go_board.specs.declared.points.Point.{Point};
+    ghost use Rattle.go_board.specs.inner.Rows.{is_set};
+
+    /// Puts the colourings of the present stretch into the trie, if there are several. After a setup this would cost more: to work out
+    /// a colouring, one goes back over later ones, and a setup may have changed all rows.
+    fn link_stretch(&mut self)
+        ensures { self.new ≡ self.old }
+    {
+        if self.colourings.stretch_start() + 1 < self.table.len() {
+            self.table.link(&self.colourings);
+        }
+    }
+
+    /// Adds a colouring, which begins a stretch or continues the present one; `print` is its print.
+    fn add(&mut self, board: &Board, print: u64, begins: bool) -> Result<(), MemoryFault>
+        requires side { HaveSide board.now.side self.old }
+        requires print { print ≡ print_of board.now }
+        ensures ok { OnOk result (self.new ≡ with_next self.old board.now begins) }
+        ensures err { OnErr result (self.new ≡ self.old) }
+    {
+        let mut stones = no_rows();
+        add_stones(self.colourings.newest(), &mut stones);
+        self.emptied.reserve(stones.len())?;
+        let number = self.table.next_number();
+        self.table.push(print)?;
+        if self.colourings.add(board, begins).is_err() {
+            self.table.pop();
+            return Err(MemoryFault);
+        }
+        self.emptied.add(&stones, number);
+        self.last_stone = None;
+        Ok(())
+    }
+
+    /// The same as `play`, on a settled board, for a stone that may capture or be suicide: a glance doesn't rule it out.
+    #[inline(never)]
+    fn play_in_doubt(&mut self, colour: Colour, point: Point) -> Result<bool, MemoryFault>
+        requires one_side { HaveSide (newest_grid self.old).side self.old }
+        requires stone { IsEmptyOnSettled (newest_grid self.old) point }
+        ensures { IsPlayed colour point self.old self.new result }
+    {
+        let mut words = no_rows();
+        match self.colourings.find_taken(colour, point, &mut words) {
+            Some(taken) => self.play_taking(colour, point, taken),
+            None => self.play_taking(colour, point, &[]),
+        }
+    }
+
+    /// The same as `play`; `taken` is what the stone takes off.
+    #[inline(always)]
+    fn play_taking(
+        &mut self,
+        colour: Colour,
+        point: Point,
+        taken: &[u64],
+    ) -> Result<bool, MemoryFault>
+        requires one_side { HaveSide (newest_grid self.old).side self.old }
+        requires stone { IsMove (newest_grid self.old) colour point taken.now }
+        ensures { IsPlayed colour point self.old self.new result }
+    {
+        self.colourings.newest().has_all_cells();
+        let print = self.print_once_put(colour, point, taken);
+        if self.may_repeat(point, taken) {
+            return self.play_asked(colour, point, taken, print);
+        }
+        self.add_made(colour, point, taken, print)?;
+        self.last_stone = Some(point);
+        Ok(true)
+    }
+
+    /// Whether a stone may bring a colouring of the present stretch back: it is put on a point that was emptied, or is suicide.
+    #[inline(always)]
+    fn may_repeat(&self, point: Point, taken: &[u64]) -> bool
+        requires one_side { HaveSide (newest_grid self.now).side self.now }
+        requires on_board { IsOn (newest_grid self.now).side point }
+        requires empty { cell_at (newest_grid self.now) point ≡ Empty }
+        ensures never { (colour : Colour) → TakesOff (newest_grid self.now) colour point taken.now
+            → IsFalse result → ¬ Contains (present_stretch self.now) (play (newest_grid self.now) colour point) }
+        ensures last { (colour : Colour) → TakesOff (newest_grid self.now) colour point taken.now
+            → IsFalse result → IsLastStone (with_next self.now (play (newest_grid self.now) colour point) false) point }
+    {
+        self.colourings.newest().has_all_cells();
+        has_point(&self.emptied.rows, point) | has_point(taken, point)
+    }
+
+    /// Adds the colouring that a stone makes; `print` is its print, and `taken` is what the stone takes off. After a refusal nothing
+    /// is changed.
+    #[inline(always)]
+    fn add_made(
+        &mut self,
+        colour: Colour,
+        point: Point,
+        taken: &[u64],
+        print: u64,
+    ) -> Result<(), MemoryFault>
+        requires stone { IsPrintedMove (newest_grid self.old) colour point taken.now print }
+        ensures ok { OnOk result (self.new ≡ with_next self.old (play (newest_grid self.old) colour point) false) }
+        ensures err { OnErr result (self.new ≡ self.old) }
+    {
+        self.colourings.newest().has_all_cells();
+        self.emptied.reserve(taken.len())?;
+        let number = self.table.next_number();
+        add_stone(
+            &mut self.colourings,
+            &mut self.table,
+            colour,
+            point,
+            taken,
+            print,
+        )?;
+        self.emptied.add(taken, number);
+        self.last_stone = None;
+        Ok(())
+    }
+
+    /// The same as `play_taking`, for a stone that may bring a colouring back; `print` is the print of what it makes.
+    #[inline(never)]
+    fn play_asked(
+        &mut self,
+        colour: Colour,
+        point: Point,
+        taken: &[u64],
+        print: u64,
+    ) -> Result<bool, MemoryFault>
+        requires one_side { HaveSide (newest_grid self.old).side self.old }
+        requires stone { IsPrintedMove (newest_grid self.old) colour point taken.now print }
+        ensures { IsPlayed colour point self.old self.new result }
+    {
+        self.colourings.newest().has_all_cells();
+        if !has_point(taken, point) && self.last_stone_stays(taken) {
+            self.add_made(colour, point, taken, print)?;
+            return Ok(true);
+        }
+        self.play_looked_up(colour, point, taken, print)
+    }
+
+    /// The same. Decides by positional superko whether the stone may be played: looks up the colouring that it makes, and puts it into the
+    /// trie at once.
+    fn play_looked_up(
+        &mut self,
+        colour: Colour,
+        point: Point,
+        taken: &[u64],
+        print: u64,
+    ) -> Result<bool, MemoryFault>
+        requires one_side { HaveSide (newest_grid self.old).side self.old }
+        requires stone { IsPrintedMove (newest_grid self.old) colour point taken.now print }
+        ensures { IsPlayed colour point self.old self.new result }
+    {
+        self.colourings.newest().has_all_cells();
+        if !self.table.may_have(print) {
+            self.add_made(colour, point, taken, print)?;
+            return Ok(true);
+        }
+        if self.has_near(colour, point, taken, print) {
+            return Ok(false);
+        }
+        self.table.link(&self.colourings);
+        let gap = self.table.gap(&self.colourings, print);
+        if self.has_made(gap, colour, point, taken, print) {
+            return Ok(false);
+        }
+        self.emptied.reserve(taken.len())?;
+        let number = self.table.next_number();
+        add_stone(
+            &mut self.colourings,
+            &mut self.table,
+            colour,
+            point,
+            taken,
+            print,
+        )?;
+        self.table.fill(gap);
+        self.emptied.add(taken, number);
+        self.last_stone = None;
+        Ok(true)
+    }
+
+    /// Whether the colouring that a stone makes is that before the newest, as in a simple ko, and in the present stretch; `print` is its
+    /// print, and `taken` is what the stone takes off.
+    fn has_near(&self, colour: Colour, point: Point, taken: &[u64], print: u64) -> bool
+        requires stone { IsMove (newest_grid self.now) colour point taken.now }
+        ensures { IsTrue result → Contains (present_stretch self.now) (play (newest_grid self.now) colour point) }
+    {
+        let start = self.colourings.stretch_start();
+        let Some(number) = self.table.near(start, print) else {
+            return false;
+        };
+        let mut made = self.newest().copy();
+        made.put(colour, point, taken);
+        self.colourings.is_at(number, &made)
+    }
+
+    /// Whether the present stretch has the colouring that a stone makes; `print` is that colouring's print, and `taken` is what the
+    /// stone takes off. If it has a gap in the trie, the stretch can't have it. Otherwise all points are compared.
+    fn has_made(
+        &self,
+        gap: Option<Gap>,
+        colour: Colour,
+        point: Point,
+        taken: &[u64],
+        print: u64,
+    ) -> bool
+        requires lacks { (grid : Grid) → IsSome gap → print ≡ print_of grid → ¬ Contains (present_stretch self.now) grid }
+        requires one_side { HaveSide (newest_grid self.now).side self.now }
+        requires stone { IsPrintedMove (newest_grid self.now) colour point taken.now print }
+        ensures { IsTrue result ↔ Contains (present_stretch self.now) (play (newest_grid self.now) colour point) }
+    {
+        if gap.is_some() {
+            return false;
+        }
+        let mut made = self.newest().copy();
+        made.put(colour, point, taken);
+        self.table.has(&self.colourings, &made, print)
+    }
+
+    /// Whether the newest colouring has a stone that isn't in `taken`, and that no older colouring of the present stretch has.
+    fn last_stone_stays(&self, taken: &[u64]) -> bool
+        ensures { IsTrue result → (stone : Point) × IsLastStone self.now stone × IsFalse (is_set taken.now stone) }
+    {
+        self.colourings.newest().has_all_cells();
+        match self.last_stone {
+            Some(stone) => !has_point(taken, stone),
+            None => false,
+        }
+    }
+
+    /// The print of the colouring that a stone makes; `taken` is what the stone takes off.
+    fn print_once_put(&self, colour: Colour, point: Point, taken: &[u64]) -> u64
+        requires stone { IsMove (newest_grid self.now) colour point taken.now }
+        ensures { result ≡ print_of (play (newest_grid self.now) colour point) }
+    {
+        let newest = self.colourings.newest();
+        newest.has_all_cells();
+        if taken.is_empty() {
+            return print_after_stone(self.table.newest(), newest, colour, point);
+        }
+        print_after_taking(self.table.newest(), newest, colour, point, taken)
+    }
+
+    /// The same as `play`, the plain way (`Board::place`) on a copy of the newest board. It is for boards that aren't settled.
+    #[inline(never)]
+    fn play_on_copy(&mut self, colour: Colour, point: Point) -> Result<bool, MemoryFault>
+        requires one_side { HaveSide (newest_grid self.old).side self.old }
+        requires on_board { IsOn (newest_grid self.old).side point }
+        requires empty { cell_at (newest_grid self.old) point ≡ Empty }
+        ensures { IsPlayed colour point self.old self.new result }
+    {
+        let mut made = self.newest().copy();
+        made.place(colour, point);
+        made.restore(true);
+        let print = print_from(self.table.newest(), self.newest(), &made);
+        self.table.link(&self.colourings);
+        if self.table.has(&self.colourings, &made, print) {
+            return Ok(false);
+        }
+        self.add(&made, print, false)?;
+        Ok(true)
+    }
+}
+
+/// Adds the colouring that a stone makes to the colourings, and its print to their table; `taken` is what the stone takes off. After a
+/// refusal nothing is changed.
+#[inline(always)]
+fn add_stone(
+    colourings: &mut Colourings,
+    table: &mut Table,
+    colour: Colour,
+    point: Point,
+    taken: &[u64],
+    print: u64,
+) -> Result<(), MemoryFault>
+    requires table { IsTable (all_of colourings.old) table.old }
+    requires stone { IsPrintedMove (newest_grid colourings.old) colour point taken.now print }
+    ensures ok { OnOk result (colourings.new ≡ with_next colourings.old (play (newest_grid colourings.old) colour point) false) }
+    ensures nodes { OnOk result (table.new.nodes.items ≡ table.old.nodes.items) }
+    ensures err { OnErr result (colourings.new ≡ colourings.old) }
+    ensures table { IsTable (all_of colourings.new) table.new }
+{
+    table.push(print)?;
+    if colourings.add_stone(colour, point, taken).is_err() {
+        table.pop();
+        return Err(MemoryFault);
+    }
+    Ok(())
+}
+
+/// Adds the points of a board's stones to a set.
+fn add_stones(board: &Board, all: &mut [u64])
+    requires { length all.old ≡ MAX_ROWS }
+    ensures stones { (point : Point) → IsOn board.now.side point → cell_at board.now point ≢ Empty → IsTrue (is_set all.new point) }
+    ensures rows { length all.new ≡ length all.old }
+{
+    board.has_all_cells();
+    add_points(board.rows_of(Colour::Black), all);
+    add_points(board.rows_of(Colour::White), all);
+}
+
+/// Whether a set has a point. The set may have fewer rows than the board.
+fn has_point(rows: &[u64], point: Point) -> bool
+    requires { point.col < 64 }
+    ensures { result ≡ is_set rows.now point }
+{
+    let row = usize::from(point.row);
+    if row < rows.len() {
+        has_column(rows[row], usize::from(point.col))
+    } else {
+        false
+    }
+}

@@ -1,0 +1,215 @@
+//! The print of a colouring: one number made from what stands on all its points.
+//! Usually one comparison of prints is enough to show that two colourings differ.
+//!
+//! The codes of the cells (0 for empty, 1 for black, 2 for white) are the digits of a number in base 31: row by row from the top, from left
+//! to right. The print is that number modulo 2^64. Its low 14 bits are the number modulo 16384, the fingerprint of the colouring.
+//!
+//! A print is linear: a stone adds its code times a power of 31. So it takes few instructions to work out what a stone changes. Whoever
+//! knows that can make colourings with equal prints. This costs only bounded time: the table of prints says why.
+
+ghost use Rattle.std.specs.Prelude.{◌≡◌, ◌<◌, ◌≤◌, ◌+◌, ◌-◌, ◌*◌, ◌%◌, ◌^◌, ℕ, IsTrue, slice_index};
+ghost use Rattle.go_board.specs.declared.stones.Cell.TheVariants.{Empty};
+ghost use Rattle.go_board.specs.Colour.{stone_of};
+ghost use Rattle.go_board.specs.Point.{IsOn, index_of};
+ghost use Rattle.go_board.specs.Grid.{cell_at, with_cell};
+ghost use Rattle.go_board.specs.Clearing.{play};
+ghost use Rattle.go_board.specs.inner.Groups.{IsMove};
+ghost use Rattle.go_board.specs.inner.Print.{number_within, print_of, row_number, word_number};
+ghost use Rattle.go_board.specs.inner.Rows.{has_bit};
+
+use crate::board::Board;
+use crate::board::regions::columns_left;
+use crate::board::stone_rows::{has_column, without_column};
+use crate::points::Point;
+use crate::quick::print_past::bytes::byte_number;
+use crate::quick::print_past::powers::{power, small_power};
+use crate::size::MAX_SIDE;
+use crate::stones::Colour;
+
+/// The print of a board.
+pub(crate) fn print_of(board: &Board) -> u64
+    ensures { result ≡ print_of board.now }
+{
+    board.has_all_cells();
+    let side = board.size().side();
+    let shift = small_power(usize::from(side));
+    let mut print: u64 = 0;
+    for row in 0..side {
+        let black = number_of(side, board.columns_of(row, Colour::Black));
+        let white = number_of(side, board.columns_of(row, Colour::White));
+        print = print
+            .wrapping_mul(shift)
+            .wrapping_add(in_both(black, white));
+    }
+    print
+}
+
+/// The print of a board, from the print of a board of the same size. Only stones that differ are looked at.
+pub(crate) fn print_from(print: u64, old: &Board, new: &Board) -> u64
+    requires side { new.now.side ≡ old.now.side }
+    requires print { print ≡ print_of old.now }
+    ensures { result ≡ print_of new.now }
+{
+    old.has_all_cells();
+    new.has_all_cells();
+    let side = old.size().side();
+    let shift = small_power(usize::from(side));
+    let mut change: u64 = 0;
+    for row in 0..side {
+        change = change.wrapping_mul(shift);
+        if !old.has_same_row(new, row) {
+            change = change.wrapping_add(change_between(old, new, row));
+        }
+    }
+    print.wrapping_add(change)
+}
+
+/// The print after a stone is put on an empty point, from the print before.
+pub(crate) fn print_after_stone(print: u64, board: &Board, colour: Colour, point: Point) -> u64
+    requires on_board { IsOn board.now.side point }
+    requires empty { cell_at board.now point ≡ Empty }
+    requires print { print ≡ print_of board.now }
+    ensures { result ≡ print_of (with_cell board.now point (stone_of colour)) }
+{
+    board.has_all_cells();
+    let weight = power(points_after(board.size().side(), point));
+    print.wrapping_add(match colour {
+        Colour::Black => weight,
+        Colour::White => weight.wrapping_mul(2),
+    })
+}
+
+/// The print after a stone is put on an empty point, from the print before; `taken` is what the stone takes off. Only stones that change
+/// are looked at.
+pub(crate) fn print_after_taking(
+    print: u64,
+    board: &Board,
+    colour: Colour,
+    point: Point,
+    taken: &[u64],
+) -> u64
+    requires stone { IsMove board.now colour point taken.now }
+    requires print { print ≡ print_of board.now }
+    ensures { result ≡ print_of (play board.now colour point) }
+{
+    board.has_all_cells();
+    let is_taken = has_column(columns_in(taken, point.row), usize::from(point.col));
+    let put = if is_taken {
+        print
+    } else {
+        print_after_stone(print, board, colour, point)
+    };
+    put.wrapping_sub(print_within(board, taken))
+}
+
+/// What those stones of a board that stand within a set of points add to its print.
+fn print_within(board: &Board, points: &[u64]) -> u64
+    ensures { result ≡ number_within board.now points.now % 2 ^ 64 }
+{
+    board.has_all_cells();
+    let side = board.size().side();
+    let shift = small_power(usize::from(side));
+    let mut print: u64 = 0;
+    for row in 0..side {
+        print = print.wrapping_mul(shift);
+        let within = columns_in(points, row);
+        if within != 0 {
+            let black = number_of(side, board.columns_of(row, Colour::Black) & within);
+            let white = number_of(side, board.columns_of(row, Colour::White) & within);
+            print = print.wrapping_add(in_both(black, white));
+        }
+    }
+    print
+}
+
+/// How many points come after a point, row by row from the top, from left to right.
+fn points_after(side: u8, point: Point) -> usize
+    requires on_board { IsOn side point }
+    requires side { side ≤ MAX_SIDE }
+    ensures value { result ≡ side * side - 1 - index_of side point }
+    ensures few { result < 2704 }
+{
+    // in 32 bits: then the compiled masks are short
+    let side = u32::from(side);
+    let rows = side - u32::from(point.row);
+    (rows * side - 1 - u32::from(point.col)) as usize
+}
+
+/// The columns of a row of a set, which may have fewer rows.
+fn columns_in(rows: &[u64], row: u8) -> u64
+    ensures { result ≡ slice_index rows.now row }
+{
+    let row = usize::from(row);
+    if row < rows.len() { rows[row] } else { 0 }
+}
+
+/// What is to be added to the number of a row of one board, modulo 2^64, to make that of the same row of another.
+fn change_between(old: &Board, new: &Board, row: u8) -> u64
+    requires side { new.now.side ≡ old.now.side }
+    requires row { row < old.now.side }
+    ensures { (result + row_number old.now row) % 2 ^ 64 ≡ row_number new.now row % 2 ^ 64 }
+{
+    let side = old.size().side();
+    let old_black = old.columns_of(row, Colour::Black);
+    let old_white = old.columns_of(row, Colour::White);
+    let new_black = new.columns_of(row, Colour::Black);
+    let new_white = new.columns_of(row, Colour::White);
+    in_both(
+        change_of(side, old_black, new_black),
+        change_of(side, old_white, new_white),
+    )
+}
+
+/// What the black and the white stones of a row add up to. The code of a white stone is 2, so their number counts twice.
+fn in_both(black: u64, white: u64) -> u64
+    ensures { result ≡ (black + 2 * white) % 2 ^ 64 }
+{
+    black.wrapping_add(white.wrapping_mul(2))
+}
+
+/// What is to be added to the number of a word, modulo 2^64, to make that of another.
+fn change_of(side: u8, old: u64, new: u64) -> u64
+    requires side { side ≤ MAX_SIDE }
+    requires old { (col : ℕ) → IsTrue (has_bit old col) → col < side }
+    requires new { (col : ℕ) → IsTrue (has_bit new col) → col < side }
+    ensures { (result + word_number side old) % 2 ^ 64 ≡ word_number side new % 2 ^ 64 }
+{
+    let more = number_of(side, columns_left(new, old));
+    let less = number_of(side, columns_left(old, new));
+    more.wrapping_sub(less)
+}
+
+/// The number of a word, modulo 2^64.
+fn number_of(side: u8, columns: u64) -> u64
+    requires side { side ≤ MAX_SIDE }
+    requires columns { (col : ℕ) → IsTrue (has_bit columns col) → col < side }
+    ensures { result ≡ word_number side columns % 2 ^ 64 }
+{
+    if columns == 0 {
+        return 0;
+    }
+    // a stone is often put or taken alone
+    let col = columns.trailing_zeros() as usize;
+    if without_column(columns, col) == 0 {
+        return small_power(usize::from(side) - 1 - col);
+    }
+    number_by_bytes(side, columns)
+}
+
+/// The number of a word, modulo 2^64, which may have many columns: each byte is looked up.
+fn number_by_bytes(side: u8, columns: u64) -> u64
+    requires side { side ≤ MAX_SIDE }
+    ensures { result ≡ word_number side columns % 2 ^ 64 }
+{
+    let bytes = side.div_ceil(8);
+    // digits 0 before the first fill up the first byte
+    let mut left = columns << (8 * bytes - side);
+    let mut number: u64 = 0;
+    for byte in 0..bytes {
+        number = number
+            .wrapping_mul(small_power(8))
+            .wrapping_add(byte_number(left));
+        left >>= 8;
+    }
+    number
+}

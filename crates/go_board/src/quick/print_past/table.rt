@@ -1,0 +1,373 @@
+//! The table by which colourings are looked up.
+//!
+//! A look-up walks down a trie of keys (see `trie` and `key`) by the bits of the colouring that is looked up. It ends at one past
+//! colouring, and compares with that one alone: first the start of the stretch and the print, and if these are equal, all points.
+//! So it costs at most one past colouring worked out, and at most `WIDTH` steps down for each of two walks, whatever was played before.
+//! To put a colouring into the trie costs at most two colourings worked out, its own and that at the end of its walk, and this only if
+//! they have the same print. To take one out is one step. None of this depends on how many colourings there are, or on what was played:
+//! equal prints make no look-up longer.
+//!
+//! This is so once `link` has put all colourings into the trie. The past calls it before each look-up of a stone that `may_have` doesn't
+//! answer (see `filter`). `has` itself changes nothing: it compares one by one with the colourings that aren't there yet.
+
+ghost use Rattle.std.specs.Prelude.{◌≡◌, ◌≢◌, ◌↔◌, ℕ, ◌+◌, ◌<◌, ◌≤◌, ◌^◌, [], ◌∷◌, List, length, slice_index, IsTrue, IsFalse, IsSome, IfSome, IfOk, OnOk, OnErr, Contains};
+ghost use Rattle.std.specs.Vec.{vec_capacity};
+ghost use Rattle.go_board.specs.declared.quick.print_past.trie.Node.{Node};
+ghost use Rattle.go_board.specs.Grid.{Grid};
+ghost use Rattle.go_board.specs.Past.{Held, all_of, present_stretch, stretch_of, HaveSide};
+ghost use Rattle.go_board.specs.inner.Changes.{IsNumber, HasNumber};
+ghost use Rattle.go_board.specs.inner.Key.{bits_of, key_bits, keys_of, oldest, start_of, since};
+ghost use Rattle.go_board.specs.inner.Print.{print_of, prints_of};
+ghost use Rattle.go_board.specs.inner.Table.{IsGap, IsTable};
+ghost use Rattle.go_board.specs.inner.Trie.{IsNearest};
+
+use crate::board::Board;
+use crate::board::stone_rows::has_column;
+use crate::fault::MemoryFault;
+use crate::quick::print_past::colourings::Colourings;
+use crate::quick::print_past::filter::Filter;
+use crate::quick::print_past::key::{FRONT, Key, WIDTH, WORD, first_difference};
+use crate::quick::print_past::trie::{
+    Node, Slot, descend, insert, kid, nearest, opening, part, plant, repeat, take_back,
+};
+use std::alloc::Global;
+
+/// The number of colourings that a new table has room for.
+const FIRST_ROOM: usize = 256;
+
+/// How many of the newest colourings are looked at before the trie is asked: the newest, and the one that a simple ko brings back. To work
+/// that one out takes one step. Without this look, fights take 1.3 times as long (the workload `awkward` of docs/PERF.md).
+const NEAR: usize = 2;
+
+/// The most colourings that a table has room for: each number of a node is below 2^32.
+const MOST: usize = 0xffff_ffff;
+
+/// The prints of colourings, oldest first, and a trie of their keys. Most colourings are never looked up, and no look-up comes before
+/// they are taken back. So a colouring is put into the trie only when a look-up comes. There is always room for all of them, so this
+/// takes no memory.
+#[derive(Drop)]
+pub(crate) struct Table {
+    prints: Vec<u64>,
+    /// The nodes of the oldest colourings. The newest ones may not be in the trie yet.
+    nodes: Vec<Node>,
+    /// A filter of the prints.
+    filter: Filter,
+}
+
+/// Where a colouring with that print comes into the trie.
+#[derive(Clone, Copy)]
+pub(crate) struct Gap {
+    print: u64,
+    slot: Slot,
+    /// The place of the bit where it parts from the others. It is one of the print.
+    place: u32,
+}
+
+impl Table {
+    /// The table of one colouring with this print.
+    pub(crate) fn new(alloc: Global, print: u64) -> Result<Table, MemoryFault>
+        ensures { IfOk result (λ table. (held : List Held) → prints_of held ≡ print ∷ [] → IsTable held table) }
+    {
+        let mut prints = Vec::with_capacity(alloc, FIRST_ROOM)?;
+        prints.push(print)?;
+        Ok(Table {
+            prints,
+            nodes: Vec::with_capacity(alloc, FIRST_ROOM)?,
+            filter: Filter::new(),
+        })
+    }
+
+    /// How many colourings there are.
+    pub(crate) fn len(&self) -> usize
+        ensures { result ≡ length self.now.prints.items }
+    {
+        self.prints.len()
+    }
+
+    /// The number that the next colouring gets.
+    pub(crate) fn next_number(&self) -> u32
+        requires { (held : List Held) × IsTable held self.now }
+        ensures { (held : List Held) → IsTable held self.now → result ≡ length held }
+    {
+        self.prints.len() as u32
+    }
+
+    /// The newest print.
+    pub(crate) fn newest(&self) -> u64
+        requires { 0 < length self.now.prints.items }
+        ensures { (newest : Held) (older : List Held) → IsTable (newest ∷ older) self.now → result ≡ print_of newest.colouring }
+    {
+        self.prints[self.prints.len() - 1]
+    }
+
+    /// Adds a colouring with this print.
+    #[inline(always)]
+    pub(crate) fn push(&mut self, print: u64) -> Result<(), MemoryFault>
+        requires { (held : List Held) × IsTable held self.old }
+        ensures ok { OnOk result ((held : List Held) (next : Held) → IsTable held self.old → print ≡ print_of next.colouring
+            → IsTable (next ∷ held) self.new) }
+        ensures nodes { self.new.nodes.items ≡ self.old.nodes.items }
+        ensures err { OnErr result ((held : List Held) → IsTable held self.old → IsTable held self.new) }
+    {
+        if self.prints.len() >= self.nodes.capacity() {
+            make_room(&mut self.nodes)?;
+        }
+        self.prints.push(print)?;
+        Ok(())
+    }
+
+    /// Takes back the newest colouring.
+    pub(crate) fn pop(&mut self)
+        requires { (newest : Held) × (older : List Held) × IsTable (newest ∷ older) self.old }
+        ensures { (newest : Held) (older : List Held) → IsTable (newest ∷ older) self.old → IsTable older self.new }
+    {
+        if self.nodes.len() == self.prints.len() {
+            take_back(&mut self.nodes);
+        }
+        let _ = self.prints.pop();
+        self.filter.go_back(self.prints.len());
+    }
+
+    /// Replaces all colourings by one with this print.
+    pub(crate) fn reset(&mut self, print: u64)
+        requires some { 0 < length self.old.prints.items }
+        requires table { (held : List Held) × IsTable held self.old }
+        ensures { (held : List Held) → prints_of held ≡ print ∷ [] → IsTable held self.new }
+    {
+        self.nodes.clear();
+        self.prints.truncate(1);
+        self.prints[0] = print;
+        self.filter.go_back(0);
+    }
+
+    /// The newest colouring with this print, if it is one of the last `NEAR` and not before `start`.
+    pub(crate) fn near(&self, start: usize, print: u64) -> Option<usize>
+        ensures { IfSome result (λ number. (start ≤ number) × (number < length self.now.prints.items)) }
+    {
+        let len = self.prints.len();
+        'each: for number in (start.max(len.saturating_sub(NEAR))..len).rev() {
+            if self.prints[number] == print {
+                return Some(number);
+            }
+        }
+        None
+    }
+
+    /// Whether a colouring may have this print. This doesn't ask the trie.
+    pub(crate) fn may_have(&mut self, print: u64) -> bool
+        requires { (held : List Held) × IsTable held self.old }
+        ensures table { (held : List Held) → IsTable held self.old → IsTable held self.new }
+        ensures lacks { (held : List Held) (grid : Grid) → IsTable held self.old → IsFalse result → print ≡ print_of grid
+            → ¬ Contains (stretch_of held) grid }
+    {
+        self.filter.may_have(&self.prints, print)
+    }
+
+    /// Where a colouring with this print comes in, if all colourings are in the trie and none has this print; None otherwise.
+    pub(crate) fn gap(&self, colourings: &Colourings, print: u64) -> Option<Gap>
+        requires { IsTable (all_of colourings.now) self.now }
+        ensures { IfSome result (λ gap. IsGap (all_of colourings.now) self.now.nodes.items gap × (gap.print ≡ print)) }
+    {
+        if self.nodes.len() != self.prints.len() {
+            return None;
+        }
+        let key = Key::new(0, print, colourings.newest());
+        let from = descend(&self.nodes, &key, WORD);
+        let apart = print ^ self.prints[kid(&self.nodes, from) as usize];
+        if apart == 0 {
+            return None;
+        }
+        let place = apart.trailing_zeros();
+        Some(Gap {
+            print,
+            slot: opening(&self.nodes, &key, from, place),
+            place,
+        })
+    }
+
+    /// Puts the newest colouring into the trie, if it has the print of the gap.
+    #[inline(always)]
+    pub(crate) fn fill(&mut self, gap: Option<Gap>)
+        requires { (newest : Held) × (older : List Held) × IsTable (newest ∷ older) self.old × IfSome gap (IsGap older self.old.nodes.items) }
+        ensures { (newest : Held) (older : List Held) → IsTable (newest ∷ older) self.old
+            → IfSome gap (IsGap older self.old.nodes.items) → IsTable (newest ∷ older) self.new }
+    {
+        if let Some(gap) = gap {
+            self.fill_gap(gap);
+        }
+    }
+
+    /// The same, if there is a gap.
+    fn fill_gap(&mut self, gap: Gap)
+        requires { (newest : Held) × (older : List Held) × IsTable (newest ∷ older) self.old × IsGap older self.old.nodes.items gap }
+        ensures { (newest : Held) (older : List Held) → IsTable (newest ∷ older) self.old
+            → IsGap older self.old.nodes.items gap → IsTable (newest ∷ older) self.new }
+    {
+        if self.newest() == gap.print {
+            let bit = has_column(gap.print, gap.place as usize);
+            insert(&mut self.nodes, gap.slot, gap.place, bit);
+        }
+    }
+
+    /// Whether the trie may have a colouring of the stretch with this start and print.
+    fn has_front(&self, colourings: &Colourings, start: usize, print: u64) -> bool
+        requires { IsTable (all_of colourings.now) self.now }
+        ensures some { IsTrue result → 0 < length self.now.nodes.items }
+        ensures lacks { (number : ℕ) (grid : Grid) → IsFalse result → number < length self.now.nodes.items
+            → IsNumber (all_of colourings.now) number grid → start_of (since number (all_of colourings.now)) ≡ start
+            → print_of grid ≢ print }
+    {
+        if self.nodes.is_empty() {
+            return false;
+        }
+        let key = Key::new(start, print, colourings.newest());
+        let near = self.nearest(&key, FRONT);
+        near >= start && self.prints[near] == print
+    }
+
+    /// Whether the present stretch has this colouring; `print` is its print. Colourings that aren't in the trie yet are compared one
+    /// by one.
+    pub(crate) fn has(&self, colourings: &Colourings, board: &Board, print: u64) -> bool
+        requires table { IsTable (all_of colourings.now) self.now }
+        requires side { HaveSide board.now.side colourings.now }
+        requires print { print ≡ print_of board.now }
+        ensures { IsTrue result ↔ Contains (present_stretch colourings.now) board.now }
+    {
+        let start = colourings.stretch_start();
+        self.has_unlinked(colourings, start, board, print)
+            || self.has_linked(colourings, start, board, print)
+    }
+
+    /// Whether a colouring from `start` on that isn't in the trie yet is this one.
+    fn has_unlinked(&self, colourings: &Colourings, start: usize, board: &Board, print: u64) -> bool
+        requires table { IsTable (all_of colourings.now) self.now }
+        requires print { print ≡ print_of board.now }
+        ensures { IsTrue result ↔ HasNumber (all_of colourings.now) (λ number. (start ≤ number)
+            × (length self.now.nodes.items ≤ number)) board.now }
+    {
+        'each: for number in (start.max(self.nodes.len())..self.prints.len()).rev() {
+            if self.prints[number] == print && colourings.is_at(number, board) {
+                return true;
+            }
+        }
+        false
+    }
+
+    /// Whether a colouring from `start` on that is in the trie is this one; `start` begins the present stretch.
+    fn has_linked(&self, colourings: &Colourings, start: usize, board: &Board, print: u64) -> bool
+        requires table { IsTable (all_of colourings.now) self.now }
+        requires side { HaveSide board.now.side colourings.now }
+        requires start { start ≡ start_of (all_of colourings.now) }
+        requires print { print ≡ print_of board.now }
+        ensures { IsTrue result ↔ HasNumber (all_of colourings.now) (λ number. (start ≤ number)
+            × (number < length self.now.nodes.items)) board.now }
+    {
+        if !self.has_front(colourings, start, print) {
+            return false;
+        }
+        let key = Key::new(start, print, board);
+        let near = self.nearest(&key, WIDTH);
+        if near < start {
+            return false;
+        }
+        let past = colourings.board_at(near);
+        past.has_all_cells();
+        board.has_all_cells();
+        board.same(&past)
+    }
+
+    /// The colouring in the trie whose key is as `key` at least as far as any other key is, as far as `end` (`trie::nearest`).
+    fn nearest(&self, key: &Key<'_>, end: u32) -> usize
+        requires table { (held : List Held) × IsTable held self.now }
+        requires some { 0 < length self.now.nodes.items }
+        requires within { end ≤ WIDTH }
+        ensures there { result < length self.now.nodes.items }
+        ensures nearest { (held : List Held) → IsTable held self.now
+            → IsNearest (keys_of (oldest (length self.now.nodes.items) held)) self.now.nodes.items (bits_of key.now) end result }
+    {
+        nearest(&self.nodes, key, end)
+    }
+
+    /// The front of the key of the colouring with this number, and for its rest the bits of a board.
+    fn key_of<'a>(&self, colourings: &Colourings, number: usize, board: &'a Board) -> Key<'a>
+        requires table { IsTable (all_of colourings.now) self.now }
+        requires number { number < length (all_of colourings.now) }
+        ensures { (grid : Grid) → IsNumber (all_of colourings.now) number grid
+            → bits_of result ≡ key_bits (start_of (since number (all_of colourings.now))) (print_of grid) board.now }
+    {
+        Key::new(colourings.start_at(number), self.prints[number], board)
+    }
+
+    /// Puts all colourings into the trie.
+    #[inline(never)]
+    pub(crate) fn link(&mut self, colourings: &Colourings)
+        requires { IsTable (all_of colourings.now) self.old }
+        ensures table { IsTable (all_of colourings.now) self.new }
+        ensures all { length self.new.nodes.items ≡ length self.new.prints.items }
+    {
+        'each: while self.nodes.len() < self.prints.len() {
+            self.link_next(colourings);
+        }
+    }
+
+    /// Puts the oldest colouring that isn't there yet into the trie.
+    fn link_next(&mut self, colourings: &Colourings)
+        requires table { IsTable (all_of colourings.now) self.old }
+        requires more { length self.old.nodes.items < length self.old.prints.items }
+        ensures table { IsTable (all_of colourings.now) self.new }
+        ensures next { length self.new.nodes.items ≡ length self.old.nodes.items + 1 }
+        ensures prints { self.new.prints.items ≡ self.old.prints.items }
+    {
+        let number = self.nodes.len();
+        if number == 0 {
+            plant(&mut self.nodes);
+            return;
+        }
+        let key = self.key_of(colourings, number, colourings.newest());
+        let near = self.nearest(&key, FRONT);
+        let other = self.key_of(colourings, near, colourings.newest());
+        match first_difference(&key, &other, FRONT / WORD) {
+            Some(place) => part(&mut self.nodes, &key, place),
+            None => self.link_by_board(colourings),
+        }
+    }
+
+    /// The same, by all bits of the keys.
+    fn link_by_board(&mut self, colourings: &Colourings)
+        requires table { IsTable (all_of colourings.now) self.old }
+        requires more { length self.old.nodes.items < length self.old.prints.items }
+        requires some { 0 < length self.old.nodes.items }
+        ensures table { IsTable (all_of colourings.now) self.new }
+        ensures next { length self.new.nodes.items ≡ length self.old.nodes.items + 1 }
+        ensures prints { self.new.prints.items ≡ self.old.prints.items }
+    {
+        let next = self.nodes.len();
+        let board = colourings.board_at(next);
+        let key = self.key_of(colourings, next, &board);
+        let near = self.nearest(&key, WIDTH);
+        let past = colourings.board_at(near);
+        let other = self.key_of(colourings, near, &past);
+        match first_difference(&key, &other, WIDTH / WORD) {
+            Some(place) => part(&mut self.nodes, &key, place),
+            None => repeat(&mut self.nodes),
+        }
+    }
+}
+
+/// Makes room for more nodes: twice as many, and some more.
+#[inline(never)]
+fn make_room(nodes: &mut Vec<Node>) -> Result<(), MemoryFault>
+    requires { vec_capacity nodes.old < 2 ^ 32 }
+    ensures items { nodes.new.items ≡ nodes.old.items }
+    ensures ok { OnOk result (vec_capacity nodes.old < vec_capacity nodes.new) }
+    ensures err { OnErr result (vec_capacity nodes.new ≡ vec_capacity nodes.old) }
+    ensures most { vec_capacity nodes.new < 2 ^ 32 }
+{
+    let room = nodes.capacity();
+    if room >= MOST {
+        return Err(MemoryFault);
+    }
+    let wanted = MOST.min(2 * room + FIRST_ROOM);
+    nodes.reserve_exact(wanted - nodes.len())?;
+    Ok(())
+}

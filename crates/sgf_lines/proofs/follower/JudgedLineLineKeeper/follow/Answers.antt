@@ -1,0 +1,6 @@
+-- The judgement on the line before is kept as far as this line begins alike.
+use Rattle.sgf_lines.proofs.Keeping.{judgement_kept}
+use Rattle.sgf_lines.proofs.follower.JudgedLineLineKeeper.follow.Goals as goal
+
+pub judge_line-requires-clause-judged : goal.judge_line-requires-clause-judged
+judge_line-requires-clause-judged c = judgement_kept _ c.args.cursor.now c.args.held c.requires.held c.args.self.now.judge.judgement (λ old h. h.0)

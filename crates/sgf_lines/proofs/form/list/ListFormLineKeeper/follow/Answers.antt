@@ -1,0 +1,20 @@
+-- The line was judged, and then its row was laid out.
+use Rattle.std.proofs.Common.{◌<◌, length, arith}
+use Rattle.sgf_lines.specs.inner.Following.{nodes_before}
+use Rattle.sgf_lines.specs.inner.Views.{built_text}
+use Rattle.sgf_lines.proofs.Keeping.{judgement_kept}
+use Rattle.sgf_lines.proofs.RunRecords.{made_row, some_line}
+use Rattle.sgf_lines.proofs.SequenceCursors.{some_end}
+use Rattle.sgf_lines.proofs.form.list.ListFormLineKeeper.follow.Goals as goal
+
+pub judge_line-requires-clause-judged : goal.judge_line-requires-clause-judged
+judge_line-requires-clause-judged c = judgement_kept _ c.args.cursor.now c.args.held c.requires.held c.args.self.now.judge.judgement (λ old h. h.0)
+
+pub returns-clause-holds : goal.returns-clause-holds
+returns-clause-holds c =
+    let cursor = c.args.cursor.now in
+    let some : 0 < length (nodes_before cursor.at) = some_end cursor.ends (length (nodes_before cursor.at)) c.requires.divided (omega (arith, c.requires.front.more)) in
+    let own = some_line cursor.at some in (
+      c.in_ok-judge_line.ensures.judged,
+      made_row cursor.at own.0 own.1 c.of.result c.of.ensures c.verdict.result c.judge_line.new.judge.judgement c.verdict.ensures c.in_ok-judge_line.ensures.judged (built_text c.lay_out.new.self) c.lay_out.ensures.text,
+    )

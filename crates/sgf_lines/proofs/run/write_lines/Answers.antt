@@ -1,0 +1,110 @@
+-- One record more was written, or the sink failed within it.
+use Rattle.std.proofs.Common.{◌≡◌, true, None, Some, Ok, Err, slice_get, sym, ap, ◌∙◌, arith}
+use Rattle.sgf_tree.specs.Tree.{node_count}
+use Rattle.sgf_tree.specs.declared.fault.MemoryFault.{MemoryFault}
+use Rattle.sgf_lines.specs.Cursor.{CursorState, advanced}
+use Rattle.sgf_lines.specs.Lines.{lines}
+use Rattle.sgf_lines.specs.Record.{record_of}
+use Rattle.sgf_lines.specs.declared.over_lines.Before.TheVariants.{Held}
+use Rattle.sgf_lines.specs.declared.ends.sink.SinkFault.{SinkFault}
+use Rattle.sgf_lines.specs.inner.Following.{line_before, nodes_before}
+use Rattle.sgf_lines.specs.inner.GoingOn.{PlaysLine, StandsBy, next_by}
+use Rattle.sgf_lines.specs.Ends.{PutsAll}
+use Rattle.sgf_lines.proofs.Keeping.{line_next}
+use Rattle.sgf_lines.proofs.PlayCounts.{one_written, cut_short, none_left, limit_met, few, goes_forth, one_played, played_then_cut, played_in_part}
+use Rattle.sgf_lines.proofs.run.write_lines.Given.{Over}
+use Rattle.sgf_lines.proofs.run.write_lines.Goals as goal
+use Rattle.sgf_lines.proofs.run.write_lines.Goals.{In-Ok-true}
+
+pub next-requires-clause-countable : goal.next-requires-clause-countable
+next-requires-clause-countable g c =
+    let at = c.args.lines.now.cursor.at in
+    let fewer = few at.games c.requires.rise at.index c.args.limit g.F.LineForm.form c.page.written in
+    omega (arith, fewer, c.requires.few, c.page.invariant.plays, ap node_count c.page.invariant.written.same)
+
+-- the next line was kept
+module _ (g : Over) (c : In-Ok-true g) where
+  plays : PlaysLine {E = MemoryFault} g.F.LineKeeper.counts c.page.lines.before c.page.lines.cursor.at (g.F.LineKeeper.played c.page.lines.keeper) (g.F.LineKeeper.played c.next.new.self.keeper) (Ok true)
+  plays = rw c.in-Ok-true.field-0-test at c.in-Ok-true.ensures.plays
+
+  came : (c.next.new.self.before ≡ Held) × (c.next.new.self.cursor.at ≡ advanced (next_by c.page.lines.before c.page.lines.cursor.at))
+  came = rw c.in-Ok-true.field-0-test at c.in-Ok-true.ensures.moved
+
+  moved : c.next.new.self.cursor.at ≡ advanced c.page.lines.cursor.at
+  moved = came.1 ∙ ap advanced (goes_forth c.page.written c.page.lines.before c.page.lines.cursor.at c.page.invariant.first c.page.invariant.later)
+
+  found : slice_get (lines c.page.lines.cursor.at.games) c.page.lines.cursor.at.index ≡ Some plays.1.line
+  found =
+      ap (λ (p : CursorState). slice_get (lines c.page.lines.cursor.at.games) p.index) (sym (goes_forth c.page.written c.page.lines.before c.page.lines.cursor.at c.page.invariant.first c.page.invariant.later))
+      ∙ plays.1.found
+
+  before : line_before c.next.new.self.cursor.at ≡ Some plays.1.line
+  before = ap line_before moved ∙ line_next c.page.lines.cursor.at ∙ found
+
+  stands : StandsBy Held (nodes_before c.next.new.self.cursor.at) (g.F.LineKeeper.holds c.next.new.self.keeper c.next.new.self.cursor)
+  stands = rw came.0 at c.in-Ok-true.ensures.stands
+
+pub page-preserved : goal.page-preserved
+page-preserved g c =
+    let at = (goal.at.page-preserved g c).In-Ok-true in
+    let games = c.args.lines.now.cursor.at.games in
+    let start = c.args.lines.now.cursor.at.index in
+    let form = g.F.LineForm.form in
+    let new = c.next.new.self in
+    let old_sink = g.T.Sink.state c.args.sink.now in
+    let put : PutsAll {E = SinkFault} (g.T.Sink.state c.page.sink) (g.T.Sink.state c.put.new.sink) (record_of form (plays g at).1.line) (Ok c.in-Ok.field-0) =
+    rw c.in-Ok.is at (c.put.ensures new.cursor (plays g at).1.line (stands g at).1 (before g at)) in
+    record {
+      written = one_written form games start c.args.limit old_sink c.page.written c.page.lines.cursor.at (g.T.Sink.state c.page.sink) c.page.invariant.written new.cursor.at (g.T.Sink.state c.put.new.sink)
+          (plays g at).1.line (omega (arith, c.page-test.true)) (found g at) (moved g at) put.0 put.1;
+      first = λ none. absurd (omega (arith, none));
+      later = λ some. (came g at).0;
+      stands = c.in-Ok-true.ensures.stands;
+      plays = one_played form g.F.LineKeeper.counts g.met.F.LineForm.counts_are games c.requires.rise start c.args.limit c.page.written c.page.lines.before c.page.lines.cursor.at old_sink
+          (g.T.Sink.state c.page.sink) c.page.invariant.written c.page.invariant.first c.page.invariant.later (omega (arith, c.page-test.true)) (g.F.LineKeeper.played c.page.lines.keeper) c.page.invariant.plays
+          (g.F.LineKeeper.played new.keeper) (plays g at);
+    }
+
+pub returns-in-Err-put-clause-answer : goal.returns-in-Err-put-clause-answer
+returns-in-Err-put-clause-answer g c =
+    let at = (goal.at.returns-in-Err-put-clause-answer g c).In-Ok-true in
+    let games = c.args.lines.now.cursor.at.games in
+    let start = c.args.lines.now.cursor.at.index in
+    let form = g.F.LineForm.form in
+    let new = c.next.new.self in
+    let old_sink = g.T.Sink.state c.args.sink.now in
+    let put : PutsAll {A = Unit {0}} (g.T.Sink.state c.page.sink) (g.T.Sink.state c.put.new.sink) (record_of form (plays g at).1.line) (Err c.in-Err-put.field-0) =
+    rw c.in-Err-put.is at (c.put.ensures new.cursor (plays g at).1.line (stands g at).1 (before g at)) in (
+      cut_short form games start c.args.limit old_sink c.page.written c.page.lines.cursor.at (g.T.Sink.state c.page.sink) c.page.invariant.written (g.T.Sink.state c.put.new.sink)
+          (plays g at).1.line put.0 (omega (arith, c.page-test.true)) (found g at) put.1 put.2,
+      played_then_cut form g.F.LineKeeper.counts g.met.F.LineForm.counts_are games c.requires.rise start c.args.limit c.page.written c.page.lines.before c.page.lines.cursor.at old_sink
+          (g.T.Sink.state c.page.sink) c.page.invariant.written c.page.invariant.first c.page.invariant.later (omega (arith, c.page-test.true)) (g.F.LineKeeper.played c.page.lines.keeper) c.page.invariant.plays
+          (g.F.LineKeeper.played new.keeper) (plays g at),
+    )
+
+pub returns-in-Err-clause-answer : goal.returns-in-Err-clause-answer
+returns-in-Err-clause-answer g c =
+    let games = c.args.lines.now.cursor.at.games in
+    let start = c.args.lines.now.cursor.at.index in
+    let form = g.F.LineForm.form in
+    let old_sink = g.T.Sink.state c.args.sink.now in (
+      c.page.invariant.written.within,
+      c.page.invariant.written.takes,
+      played_in_part form g.F.LineKeeper.counts g.met.F.LineForm.counts_are games c.requires.rise start c.args.limit c.page.written c.page.lines.before c.page.lines.cursor.at old_sink
+          (g.T.Sink.state c.page.sink) c.page.invariant.written c.page.invariant.first c.page.invariant.later (omega (arith, c.page-test.true)) (g.F.LineKeeper.played c.page.lines.keeper) c.page.invariant.plays
+          c.in-Err.field-0 (g.F.LineKeeper.played c.next.new.self.keeper) c.in-Err.ensures.plays,
+    )
+
+pub returns-in-Ok-false-clause-answer : goal.returns-in-Ok-false-clause-answer
+returns-in-Ok-false-clause-answer g c =
+    let old = c.page.lines in
+    let same : g.F.LineKeeper.played c.next.new.self.keeper ≡ g.F.LineKeeper.played old.keeper = rw c.in-Ok-false.field-0-test at c.in-Ok-false.ensures.plays in
+    let none : (c.next.new.self ≡ old) × (slice_get (lines old.cursor.at.games) (next_by old.before old.cursor.at).index ≡ None) = rw c.in-Ok-false.field-0-test at c.in-Ok-false.ensures.moved in
+    none_left g.F.LineForm.form c.args.lines.now.cursor.at.games c.args.lines.now.cursor.at.index c.args.limit (g.T.Sink.state c.args.sink.now) c.page.written old.cursor.at (g.T.Sink.state c.page.sink)
+    c.page.invariant.written (g.F.LineKeeper.played c.next.new.self.keeper) (same ∙ c.page.invariant.plays)
+    (ap (λ (p : CursorState). slice_get (lines old.cursor.at.games) p.index) (sym (goes_forth c.page.written old.before old.cursor.at c.page.invariant.first c.page.invariant.later)) ∙ none.1)
+
+pub returns-clause-answer : goal.returns-clause-answer
+returns-clause-answer g c =
+    limit_met g.F.LineForm.form c.args.lines.now.cursor.at.games c.args.lines.now.cursor.at.index c.args.limit (g.T.Sink.state c.args.sink.now) c.page.written c.page.lines.cursor.at (g.T.Sink.state c.page.sink)
+    c.page.invariant.written (g.F.LineKeeper.played c.page.lines.keeper) c.page.invariant.plays (omega (arith, c.page-test.false))

@@ -1,0 +1,66 @@
+//! The gtp form: a line's record is its row as a comment, and its script.
+
+ghost use Rattle.std.specs.Prelude.{◌≡◌, ◌++◌, length, refl};
+ghost use Rattle.sgf_lines.specs.declared.options.Form.TheVariants.{Gtp as gtp_form};
+ghost use Rattle.sgf_lines.specs.inner.Following.{nodes_before};
+ghost use Rattle.sgf_lines.specs.inner.Keeping.{HoldsJudgement, IsRecord, script_front};
+ghost use Rattle.sgf_lines.specs.inner.Scripting.{script_ended, script_text};
+ghost use Rattle.sgf_lines.specs.inner.Views.{built_text};
+
+use crate::ends::sink::{Sink, SinkFault, put_all};
+use crate::form::row::{LineShown, Row};
+use crate::form::script::Script;
+use crate::form::{LineForm, script};
+use crate::judging::judge::Judge;
+use crate::over_lines::LineKeeper;
+use crate::sequence_cursor::{Front, SequenceCursor};
+use sgf_tree::MemoryFault;
+use std::alloc::Global;
+
+/// Keeps the judgement on a line and the line's script, and makes the line's row.
+#[derive(Drop)]
+pub(crate) struct GtpForm {
+    judge: Judge,
+    script: Script,
+    row: Row,
+}
+
+impl LineKeeper for GtpForm {
+    ghost holds = { λ kept cursor. HoldsJudgement (nodes_before cursor.at) kept.judge.judgement
+        × (kept.script ≡ script_ended (script_front (nodes_before cursor.at) (length (nodes_before cursor.at))))
+        × IsRecord gtp_form cursor (built_text kept.row ++ script_text kept.script) };
+
+    ghost played = { λ kept. kept.judge.plays };
+
+    ghost counts = { λ count. count };
+
+    fn follow(&mut self, cursor: &SequenceCursor<'_, '_>, held: Front) -> Result<(), MemoryFault> {
+        script::follow(cursor, held, &mut self.judge, &mut self.script)?;
+        self.row
+            .lay_out_comment(LineShown::of(cursor), self.judge.verdict());
+        Ok(())
+    }
+}
+
+impl LineForm for GtpForm {
+    ghost form = { gtp_form };
+
+    fn new(alloc: Global) -> GtpForm {
+        GtpForm {
+            judge: Judge::new(alloc),
+            script: Script::new(alloc),
+            row: Row::new(),
+        }
+    }
+
+    fn put<T: Sink>(&self, sink: &mut T) -> Result<(), SinkFault> {
+        put_all(self.row.text(), sink)?;
+        put_all(self.script.text(), sink)
+    }
+
+    fn plays(&self) -> u64 {
+        self.judge.plays()
+    }
+
+    ghost counts_are = { λ count. refl };
+}

@@ -1,0 +1,77 @@
+//! The sgf form: a line's record is a game without variations.
+
+ghost use Rattle.std.specs.Prelude.{◌≡◌, ◌<◌, ◌+◌, ◌++◌, [], OnOk, refl};
+ghost use Rattle.std.specs.List.{concat};
+ghost use Rattle.sgf_lines.specs.declared.options.Form.TheVariants.{Sgf as sgf_form};
+ghost use Rattle.sgf_lines.specs.inner.Fronts.{sequences_before};
+ghost use Rattle.sgf_lines.specs.inner.Keeping.{IsRecord};
+ghost use Rattle.sgf_lines.specs.inner.Pieces.{cut};
+ghost use Rattle.sgf_lines.specs.inner.Recording.{open_record, whole_record};
+
+use crate::ends::sink::{Sink, SinkFault, put_all};
+use crate::form::LineForm;
+use crate::form::pieces::Pieces;
+use crate::over_lines::LineKeeper;
+use crate::sequence_cursor::{Front, SequenceCursor};
+use sgf_tree::MemoryFault;
+use std::alloc::Global;
+
+/// Keeps the record of a line: a piece for the parenthesis, a piece for each sequence, and an unfinished piece for its end.
+/// The next line cuts this unfinished piece off. Nothing is judged.
+#[derive(Drop)]
+pub(crate) struct SgfForm {
+    record: Pieces,
+}
+
+impl LineKeeper for SgfForm {
+    ghost holds = { λ kept cursor. (kept.record ≡ whole_record (sequences_before cursor)) × IsRecord sgf_form cursor (concat kept.record.pieces ++ kept.record.begun) };
+
+    ghost played = { λ _. 0 };
+
+    ghost counts = { λ _. 0 };
+
+    fn follow(&mut self, cursor: &SequenceCursor<'_, '_>, held: Front) -> Result<(), MemoryFault> {
+        let end = cursor.sequences();
+        keep(held.sequences, &mut self.record)?;
+        for index in held.sequences..end {
+            self.record.push_sequence(cursor, index)?;
+        }
+        self.record.push(b")\n")
+    }
+}
+
+impl LineForm for SgfForm {
+    ghost form = { sgf_form };
+
+    fn new(alloc: Global) -> SgfForm {
+        SgfForm {
+            record: Pieces::new(alloc),
+        }
+    }
+
+    fn put<T: Sink>(&self, sink: &mut T) -> Result<(), SinkFault> {
+        put_all(self.record.text(), sink)
+    }
+
+    fn plays(&self) -> u64 {
+        0
+    }
+
+    ghost counts_are = { λ count. refl };
+}
+
+/// Keeps the parenthesis and the first `held` sequences of a record. If `held` is 0, begins a new record.
+fn keep(held: usize, kept: &mut Pieces) -> Result<(), MemoryFault>
+    requires { held < usize.MAX }
+    ensures none { held ≡ 0 → OnOk result (kept.new ≡ open_record []) }
+    ensures some { 0 < held → kept.new ≡ cut (held + 1) kept.old }
+{
+    if held > 0 {
+        kept.cut_back(held + 1);
+        return Ok(());
+    }
+    kept.cut_back(0);
+    kept.make_room()?;
+    kept.push(b"(")?;
+    kept.close()
+}

@@ -1,0 +1,64 @@
+-- The bytes of four values such as `[pd]`, all compared at once with the least one that may stand there.
+use Rattle.std.proofs.Common.{◌≡◌, ◌∙◌, ℕ, zero, suc, ◌+◌, ◌*◌, ◌/◌, ◌%◌, ◌^◌, ◌<◌, ◌≤◌, IsTrue, List, [], ◌∷◌, length, get_or, inl, inr, refl, ap, arith}
+use Rattle.std.proofs.lemmas.Bool.{cases_lt}
+use Rattle.sgf_tree.specs.inner.Progress.{is_plain, IsPoint, ArePoints}
+use Rattle.sgf_tree.proofs.MoveBytes.{other-than, in-place}
+use Rattle.sgf_tree.proofs.PlacedBytes
+use Rattle.sgf_tree.proofs.PlacedBytes.{above}
+
+-- a value, by how far its bytes are above the least ones
+point-from : (t : List ℕ) (at : ℕ) → ((i : ℕ) → get_or t i 0 < 256) → at + 3 < length t → above (get_or t at 0) 91 ≤ 0
+    → above (get_or t (at + 1) 0) 94 ≤ 253 → above (get_or t (at + 2) 0) 94 ≤ 253 → above (get_or t (at + 3) 0) 93 ≤ 0 → IsPoint t at
+point-from t at fits within first second third fourth =
+    let three : at + 1 + 2 ≡ at + 3 = omega arith in
+    record {
+      begins = omega (arith, first, fits at);
+      value = record {
+        within = omega arith;
+        plain = record { rises = omega arith; within = omega arith; passing = plain };
+        bracket = rw three (omega (arith, fourth, fits (at + 3)));
+      };
+    }
+  where
+    plain : (i : ℕ) → at + 1 ≤ i → i < at + 1 + 2 → IsTrue (is_plain (get_or t i 0))
+    plain i low high =
+        elim (cases_lt i (at + 2)) [
+          | inl lt ↦ let same : i ≡ at + 1 = omega arith in rw same (other-than (get_or t (at + 1) 0) (fits (at + 1)) second)
+          | inr le ↦ let same : i ≡ at + 2 = omega arith in rw same (other-than (get_or t (at + 2) 0) (fits (at + 2)) third)
+        ]
+
+module _ (t : List ℕ) (at : ℕ) (room : at + 16 ≤ length t) (fits : (i : ℕ) → get_or t i 0 < 256) where
+  abbrev four_least : List ℕ
+  four_least = 91 ∷ 94 ∷ 94 ∷ 93 ∷ 91 ∷ 94 ∷ 94 ∷ 93 ∷ 91 ∷ 94 ∷ 94 ∷ 93 ∷ 91 ∷ 94 ∷ 94 ∷ 93 ∷ []
+
+  abbrev four_most : List ℕ
+  four_most = 0 ∷ 253 ∷ 253 ∷ 0 ∷ 0 ∷ 253 ∷ 253 ∷ 0 ∷ 0 ∷ 253 ∷ 253 ∷ 0 ∷ 0 ∷ 253 ∷ 253 ∷ 0 ∷ []
+
+  abbrev four_bits : ℕ
+  four_bits = PlacedBytes.bits four_least four_most refl refl t at room
+
+  module _ (e : four_bits ≡ 65535) where
+    there : (i j : ℕ) → j ≡ at + i → i < 16 → 65535 / 2 ^ i % 2 ≡ 1 → above (get_or t j 0) (get_or four_least i 0) ≤ get_or four_most i 0
+    there i j is lt set = in-place four_least four_most refl refl t at room i j is lt (ap (λ n. n / 2 ^ i % 2) e ∙ set)
+
+    point : (i : ℕ) → i < 4 → IsPoint t (at + 4 * i)
+    point zero lt =
+        let same : at + 4 * 0 ≡ at = omega arith in
+        rw same (point-from t at fits (omega arith) (there 0 at (omega arith) (omega arith) refl) (there 1 (at + 1) refl (omega arith) refl)
+        (there 2 (at + 2) refl (omega arith) refl) (there 3 (at + 3) refl (omega arith) refl))
+    point (suc zero) lt =
+        let same : at + 4 * 1 ≡ at + 4 = omega arith in
+        rw same (point-from t (at + 4) fits (omega arith) (there 4 (at + 4) refl (omega arith) refl) (there 5 (at + 4 + 1) (omega arith) (omega arith) refl)
+        (there 6 (at + 4 + 2) (omega arith) (omega arith) refl) (there 7 (at + 4 + 3) (omega arith) (omega arith) refl))
+    point (suc (suc zero)) lt =
+        let same : at + 4 * 2 ≡ at + 8 = omega arith in
+        rw same (point-from t (at + 8) fits (omega arith) (there 8 (at + 8) refl (omega arith) refl) (there 9 (at + 8 + 1) (omega arith) (omega arith) refl)
+        (there 10 (at + 8 + 2) (omega arith) (omega arith) refl) (there 11 (at + 8 + 3) (omega arith) (omega arith) refl))
+    point (suc (suc (suc zero))) lt =
+        let same : at + 4 * 3 ≡ at + 12 = omega arith in
+        rw same (point-from t (at + 12) fits (omega arith) (there 12 (at + 12) refl (omega arith) refl) (there 13 (at + 12 + 1) (omega arith) (omega arith) refl)
+        (there 14 (at + 12 + 2) (omega arith) (omega arith) refl) (there 15 (at + 12 + 3) (omega arith) (omega arith) refl))
+    point (suc (suc (suc (suc i)))) lt = absurd (omega arith)
+
+    pub four-points : ArePoints t at (at + 16)
+    four-points = record { count = 4; ends = refl; each = point }

@@ -1,0 +1,182 @@
+//! Properties with a name of one or two letters and a short value, in place of `read_properties`, `read_property` and `read_far_name` of
+//! `reader::properties`.
+
+ghost use Rattle.std.specs.Prelude.{◌≡◌, ◌≢◌, ◌<◌, ◌≤◌, ◌+◌, ◌%◌, length, slice_index, IsTrue, IfSome};
+ghost use Rattle.std.specs.Int.Count.{count_trailing_zeros};
+ghost use Rattle.sgf_tree.specs.Bytes.{close_bracket};
+ghost use Rattle.sgf_tree.specs.Spelling.{is_white_space, is_upper};
+ghost use Rattle.sgf_tree.specs.inner.NodeText.{is_letter};
+ghost use Rattle.sgf_tree.specs.inner.Progress.{IsSpan, IsBracket, IsMove};
+ghost use Rattle.sgf_tree.specs.inner.PropertiesRead.{AreValuesEnded, IsShortProperty, IsPropertyRead, ArePropertiesRead};
+
+use crate::quick::value::{NEAR, near_value_end};
+use crate::reader::properties::PartRead;
+use crate::reader::scan::skip_white_space;
+use std::simd::prelude::*;
+
+/// A property is read at a glance only if at least this many bytes are left: one or two letters, a `[`,
+/// the 16 bytes among which the `]` is searched for, and the byte after these.
+const GLANCE: usize = 20;
+
+/// Reads at a glance the properties of a node, which begin at `at`: none, or, if `is_move`, a move and perhaps short properties, as in
+/// `B[pd]BL[921.325]`. Nearly all nodes are like that.
+#[inline(always)]
+pub(crate) fn short_properties(text: &[u8], at: usize, is_move: bool) -> Option<PartRead>
+    requires within { at ≤ length text.now }
+    requires move_stands { IsTrue is_move → IsMove text.now at }
+    ensures { IfSome result (ArePropertiesRead text.now at) }
+{
+    if is_move {
+        let end = at + 5;
+        if end < text.len() && b' ' < text[end] && text[end] < b'A' {
+            return Some(PartRead::to(end));
+        }
+        return after_move(text, at);
+    }
+    if at < text.len() && b' ' < text[at] && text[at] < b'A' {
+        Some(PartRead::to(at))
+    } else {
+        None
+    }
+}
+
+/// Reads the properties of a node that begin with a move at `at`, if those after it are short.
+// The first loop reads properties such as `BL[921.325]`, and ends most nodes. The second one reads the others.
+#[inline(always)]
+fn after_move(text: &[u8], at: usize) -> Option<PartRead>
+    requires { IsMove text.now at }
+    ensures { IfSome result (ArePropertiesRead text.now at) }
+{
+    let mut end = at + 5;
+    'near: while let Some(close) = near_property_close(text, end) {
+        end = close + 1;
+        if b' ' < text[end] && text[end] < b'A' {
+            return Some(PartRead::to(end));
+        }
+    }
+    let next = property_end(text, end)?;
+    let mut read = PartRead {
+        text_end: end,
+        end: next,
+        as_written: true,
+    };
+    'properties: while read.end < text.len() && text[read.end].is_ascii_uppercase() {
+        read = read.with(read_short_property(text, read.end)?);
+    }
+    Some(read)
+}
+
+/// The `]` of the first value of a property that begins at `at`, if its name is two capitals, this value has few plain bytes, and the
+/// text goes on.
+#[inline(always)]
+pub(crate) fn near_property_close(text: &[u8], at: usize) -> Option<usize>
+    requires { at ≤ length text.now }
+    ensures short { IfSome result (IsShortProperty text.now at) }
+    ensures goes_on { IfSome result (λ close. close + 1 < length text.now) }
+{
+    if text.len() - at <= NEAR || text[at] <= b' ' {
+        return None;
+    }
+    let stops = property_stops(text, at);
+    if stops % 8 != 0 || stops == 0 {
+        return None;
+    }
+    let close = at + stops.trailing_zeros() as usize;
+    if text[close] == b']' {
+        Some(close)
+    } else {
+        None
+    }
+}
+
+/// Which of the bytes at `at` stop a property such as `BL[921.325]`, all compared at once: bits 0 to 2 tell of any but two capitals
+/// and a `[`, and the others of a `]` or a `\`.
+#[inline(always)]
+fn property_stops(text: &[u8], at: usize) -> u64
+    requires { at + NEAR ≤ length text.now }
+    ensures near { result ≢ 0 → count_trailing_zeros 64 result < NEAR }
+    ensures short { result % 8 ≡ 0 → result ≢ 0 → slice_index text.now (at + count_trailing_zeros 64 result) ≡ close_bracket
+        → IsShortProperty text.now at (at + count_trailing_zeros 64 result) }
+{
+    // A byte stops it if it is at most so much above the least one. This wraps: 91 comes after `Z`, and 229 bytes further is the byte
+    // before `A`. 92 is `\`, which comes after `[` and before `]`.
+    let least = u8x16::from_array([
+        91, 91, 92, 92, 92, 92, 92, 92, 92, 92, 92, 92, 92, 92, 92, 92,
+    ]);
+    let above = u8x16::from_array([229, 229, 254, 1, 1, 1, 1, 1, 1, 1, 1, 1, 1, 1, 1, 1]);
+    (u8x16::from_slice(&text[at..]) - least)
+        .simd_le(above)
+        .to_bitmask()
+}
+
+/// Reads at a glance the property whose identifier begins at `start`, if it has a name of one or two letters
+/// and one short value. Nearly all properties are like that.
+#[inline(always)]
+pub(crate) fn read_short_property(text: &[u8], start: usize) -> Option<PartRead>
+    requires within { start < length text.now }
+    requires capital { IsTrue (is_upper (slice_index text.now start)) }
+    ensures { IfSome result (IsPropertyRead text.now start) }
+{
+    if text.len() - start < GLANCE {
+        return None;
+    }
+    let bracket = short_name_end(text, start)?;
+    let close = near_value_end(text, bracket + 1)?;
+    let end = property_end(text, close + 1)?;
+    Some(PartRead {
+        text_end: close + 1,
+        end,
+        as_written: true,
+    })
+}
+
+/// The offset after any white space at `end`, where a property whose last value may be just before `end` ends. None if another value
+/// follows, or if the text ends.
+#[inline(always)]
+fn property_end(text: &[u8], end: usize) -> Option<usize>
+    requires { end ≤ length text.now }
+    ensures within { IfSome result (λ next. next < length text.now) }
+    ensures ended { IfSome result (AreValuesEnded text.now end) }
+{
+    let next = skip_line_end(text, end);
+    if next < text.len() && text[next] != b'[' {
+        Some(next)
+    } else {
+        None
+    }
+}
+
+/// The end of the white space at `at`. Usually there is none, or only a line feed, as in texts with a move on each line.
+#[inline(always)]
+fn skip_line_end(text: &[u8], at: usize) -> usize
+    requires { at ≤ length text.now }
+    ensures { IsSpan is_white_space text.now at result }
+{
+    if at + 1 < text.len() && text[at] == b'\n' && b' ' < text[at + 1] {
+        return at + 1;
+    }
+    skip_white_space(text, at)
+}
+
+/// The end of the name whose first capital is at `at`. It is found if the name has one or two
+/// letters, as nearly all have, and a `[` follows.
+#[inline(always)]
+pub(crate) fn short_name_end(text: &[u8], at: usize) -> Option<usize>
+    requires within { at < length text.now }
+    requires capital { IsTrue (is_upper (slice_index text.now at)) }
+    ensures letters { IfSome result (IsSpan is_letter text.now at) }
+    ensures capitals { IfSome result (IsSpan is_upper text.now at) }
+    ensures bracket { IfSome result (IsBracket text.now) }
+    ensures rises { IfSome result (λ end. at < end) }
+    ensures near { IfSome result (λ end. end ≤ at + 2) }
+{
+    if text.len() - at > 2 {
+        if text[at + 1] == b'[' {
+            return Some(at + 1);
+        }
+        if text[at + 2] == b'[' && text[at + 1].is_ascii_uppercase() {
+            return Some(at + 2);
+        }
+    }
+    None
+}
