@@ -15,7 +15,7 @@
 //! ```
 //!
 //! The code outside `quick` plays by the rules and can be read by itself, with `ListPast` as the past. `quick` has faster ways to the
-//! same answers, and may be skipped.
+//! same answers, and may be skipped. A run judges with the past of `quick`, `PrintPast`.
 //!
 //! | Module | What it has |
 //! |---|---|
@@ -37,19 +37,20 @@
 //! | `laws` | what follows from the definitions |
 //! | `quick` | shortcuts; `quick/print_past` keeps colourings so that they are found by a number |
 //!
-//! | Rule (docs/RULES.md) | Function |
+//! | Rule (docs/RULES.md) | Function, and its module |
 //! |---|---|
-//! | reaching a colour | `Board::reaching`; by rows of bits, `fill` |
-//! | clearing a colour, which captures its groups without a liberty | `Board::clear` |
-//! | a stone: capture, then suicide | `Board::place`; shortcut: `Board::find_taken` |
-//! | the area score | `Board::score` |
-//! | a turn; `over`, `turn` and `occupied` | `Referee::turn`; `Referee::reason_before_repeat` |
-//! | `repeat` (positional superko) | `Past::play`; shortcut: `PrintPast::play_looked_up` |
-//! | a pass; two passes end the game | `Referee::take_pass`; `Referee::over` |
-//! | a setup of stones; a setup of the player | `Referee::begin_anew`; `Referee::set_player` |
-//! | undo | `Referee::undo` |
-//! | points and rectangles that values name | `point`, `rect` |
-//! | vertices | `vertex` |
+//! | the side of a board | `Size::new` (`size`) |
+//! | reaching a colour | `fill` (`board/fill`), which clearing and the score use. `Board::reaching` (`board`) goes point by point, and only callers use it |
+//! | clearing a colour, which captures its groups without a liberty | `Board::clear` (`board`); which stones have none: `Board::shut_stones` (`board/regions`) |
+//! | a stone: capture, then suicide | `Board::place` (`board`); shortcuts: `takes_nothing_at_a_glance` (`quick/glance`), `Board::find_taken` (`quick/capture`) |
+//! | the area score | `Board::score` (`board`); shortcut below side 32: `Board::score_in_halves` (`quick/both_areas`) |
+//! | a turn; `over`, `turn` and `occupied` | `Referee::turn`, `Referee::reason_before_repeat` (`referee/turn`) |
+//! | `repeat` (positional superko) | `Past::play` (`past`); the colourings since the last setup: `ListPast::holds` (`past/list_past`); shortcuts: `PrintPast::may_repeat`, `PrintPast::play_looked_up` (`quick/print_past`) |
+//! | a pass; two passes end the game | `Referee::take_pass` (`referee/turn`); `Referee::over` (`referee`) |
+//! | a setup of stones; a setup of the player | `Referee::begin_anew`; `Referee::set_player` (`referee/setup`) |
+//! | undo | `Referee::undo` (`referee`) |
+//! | points and rectangles that values name | `point`, `rect` (`values`) |
+//! | vertices | `vertex` (`vertices`) |
 //!
 //! A point *reaches* a colour if a path of adjacent points of the point's own colour leads
 //! from it to a point of that colour. A stone that reaches empty has a liberty.

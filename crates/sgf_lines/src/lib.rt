@@ -1,7 +1,7 @@
 //! The lines of play of a Smart Game Format (SGF FF[4]) collection, from the root of a game to a leaf.
 //!
 //! A [`Cursor`] returns the lines one by one, in file order, over a collection that was read once. [`judge`] returns the verdict
-//! of a line: its first illegal turn, or the area score at its end (Tromp-Taylor). A [`Follower`] judges the lines after a cursor
+//! of a line: its first illegal node, or the area score at its end (Tromp-Taylor). A [`Follower`] judges the lines after a cursor
 //! one by one, and plays shared nodes once. [`split`] writes each line as a record, a text of its own.
 //!
 //! ```text
@@ -45,6 +45,18 @@
 //! | `plays` | the count of nodes played |
 //! | `counting` | the games, nodes and lines of what a source gives |
 //! | `laws` | what follows from the definitions |
+//!
+//! | Rule (docs/OUTPUT.md, docs/RULES.md) | Function, and its module |
+//! |---|---|
+//! | the order of the lines | `SequenceCursor::advance` (`sequence_cursor`) |
+//! | `--after`; `--limit` | `cursor_after`; `write_lines` (`run`) |
+//! | which games are judged: GM; SZ | `is_go`; `size` (`judging/root`) |
+//! | `mixed`, `two-moves` and `bad-setup`; `bad-point` | `take_contents`; `take_move` (`judging/step`) |
+//! | which values are passes; the last value of PL | `is_pass` (`node_values`); `with_player` (`judging/contents`) |
+//! | the other reasons | the crate `go_board` |
+//! | TURN, PLACE and REASON of the first illegal node | `Judge::take` (`judging/judge`) |
+//! | a row; a script | `Row::lay_out` (`form/row`); `Script::say` (`form/script`) |
+//! | a game without variations | `SgfForm::follow` (`form/sgf`) |
 //!
 //! The tests of the program (`tests/`) cover what a run writes. The crate `sgf_lines_tests` covers the other calls.
 #![tactic(auto)]

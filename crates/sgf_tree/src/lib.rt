@@ -29,7 +29,7 @@
 //! | `reader/counting` | counting games, nodes and leaves |
 //! | `reader/lead` | recognizing at a glance a node that is a move and short properties, or has no properties |
 //! | `reader/value` | what ends a raw value, and keeping where long values end |
-//! | `reader/mark`, `reader/scan` | the byte order mark; where spans of a text end |
+//! | `reader/mark`, `reader/scan` | the byte order mark; white space, identifiers and parts of a text |
 //! | `reader/fault` | why reading a text stopped, and how the place of the first fault is found |
 //! | `extent` | how much a text holds |
 //! | `sequences`, `outline`, `walk` | keeping the sequences of a collection; looking into them; going over the nodes of one |
@@ -43,7 +43,21 @@
 //! | `fault` | how a call may fail |
 //! | `laws` | what holds of all texts |
 //!
+//! | Rule (docs/GRAMMAR.md) | Function, and its module |
+//! |---|---|
+//! | Collection, GameTree and its sequence of nodes | `read_games`, `read_sequence` (`reader/games`) |
+//! | Property; PropIdent | `read_property`; `read_far_name` (`reader/properties`) |
+//! | the name of a property | `PropRef::is`, `PropRef::push_name` (`property`) |
+//! | the end of a raw value | `far_value_end` (`reader/value`) |
+//! | white space | `is_white_space` (`reader/scan`) |
+//! | the byte order mark | `mark_end` (`reader/mark`) |
+//! | the first fault | where `NotSgf` is returned; `reader/fault` says why that is the first |
+//! | at most 64 MiB | `read`, `read_outline`, `measure` (`reader`) |
+//! | decoded text; numbers | `push_text` (`text`); `number` (`numbers`) |
+//!
 //! The plain code is complete without the shortcuts in `quick`. A shortcut ensures no more than the plain function that it stands in for.
+//! Outside `quick` two things are there only for speed: the ends of long values (`long`), and whether a node is as written (`as_written`),
+//! which tells the sgf form what it may copy at once. A first reader may take `long` to be empty and `as_written` to be false.
 //!
 //! Worked examples are in the crate `sgf_tree_tests`, and those that the program shows are in `tests/`.
 #![tactic(auto)]
