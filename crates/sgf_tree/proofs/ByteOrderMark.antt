@@ -17,72 +17,39 @@ use Rattle.sgf_tree.proofs.ValueEnds.{ends-faulty, refused-faulty}
 abbrev nothing : Stack
 nothing = record { closed = no_games; unclosed = [] }
 
-start-first : (at : ℕ) → next_state at start 239 ≡ Some first_of_mark
-unfolding next_state
-start-first at = refl
-
-start-other : (at b : ℕ) → b ≢ 239 → next_state at start b ≡ between_games nothing b
-unfolding next_state
-start-other at b ne = rw (ne_eqb b 239 ne)
-
-first-second : (at : ℕ) → next_state at first_of_mark 187 ≡ Some second_of_mark
-unfolding next_state
-first-second at = refl
-
-first-refused : (at b : ℕ) → b ≢ 187 → next_state at first_of_mark b ≡ None
-unfolding next_state
-first-refused at b ne = rw (ne_eqb b 187 ne)
-
-second-third : (at : ℕ) → next_state at second_of_mark 191 ≡ Some (after_game nothing)
-unfolding next_state
-second-third at = refl
-
-second-refused : (at b : ℕ) → b ≢ 191 → next_state at second_of_mark b ≡ None
-unfolding next_state
-second-refused at b ne = rw (ne_eqb b 191 ne)
-
-start-end : accepted start ≡ accepted (after_game nothing)
-unfolding accepted
-start-end = refl
-
-first-unaccepted : accepted first_of_mark ≡ None
-unfolding accepted
-first-unaccepted = refl
-
-second-unaccepted : accepted second_of_mark ≡ None
-unfolding accepted
-second-unaccepted = refl
-
 between-white : (b : ℕ) → is_white_space b ≡ true → between_games nothing b ≡ Some (after_game nothing)
 between-white b h = rw h
 
 module _ (t : List ℕ) where
   -- no mark
   pub mark-none : (0 < length t → get_or t 0 0 ≢ 239) → IsMarkRead t 0
+  unfolding next_state accepted
   mark-none other =
       record {
         within = omega arith;
         state = start;
         reached = run-take-none t;
-        next = λ lt. start-other 0 (get_or t 0 0) (other lt);
-        end = start-end;
+        next = λ lt. rw (ne_eqb (get_or t 0 0) 239 (other lt));
+        end = refl;
       }
 
   first-reached : 0 < length t → get_or t 0 0 ≡ 239 → ComesTo t 1 first_of_mark
-  first-reached lt e = run-take-step t 0 start first_of_mark (run-take-none t) lt (rw e (start-first 0))
+  unfolding next_state
+  first-reached lt e = run-take-step t 0 start first_of_mark (run-take-none t) lt (rw e)
 
   second-reached : 1 < length t → get_or t 0 0 ≡ 239 → get_or t 1 0 ≡ 187 → ComesTo t 2 second_of_mark
-  second-reached lt e f =
-      run-take-step t 1 first_of_mark second_of_mark (first-reached (omega arith) e) lt (rw f (first-second 1))
+  unfolding next_state
+  second-reached lt e f = run-take-step t 1 first_of_mark second_of_mark (first-reached (omega arith) e) lt (rw f)
 
   -- the whole mark
   pub mark-read : 2 < length t → get_or t 0 0 ≡ 239 → get_or t 1 0 ≡ 187 → get_or t 2 0 ≡ 191 → IsMarkRead t 3
+  unfolding next_state
   mark-read lt e f g =
       record {
         within = omega arith;
         state = after_game nothing;
-        reached = run-take-step t 2 second_of_mark (after_game nothing) (second-reached (omega arith) e f) lt (rw g (second-third 2));
-        next = λ _. game-next 3 nothing (get_or t 3 0);
+        reached = run-take-step t 2 second_of_mark (after_game nothing) (second-reached (omega arith) e f) lt (rw g);
+        next = λ _. refl;
         end = refl;
       }
 
@@ -97,12 +64,12 @@ module _ (t : List ℕ) where
       ]
 
   pub first-faulty : 0 < length t → get_or t 0 0 ≡ 239 → (1 < length t → get_or t 1 0 ≢ 187) → IsFaultyAt t 1
-  first-faulty lt e other =
-      part-faulty 1 first_of_mark (omega arith) (first-reached lt e) first-unaccepted (λ h. first-refused 1 (get_or t 1 0) (other h))
+  unfolding next_state accepted
+  first-faulty lt e other = part-faulty 1 first_of_mark (omega arith) (first-reached lt e) refl (λ h. rw (ne_eqb (get_or t 1 0) 187 (other h)))
 
   pub second-faulty : 1 < length t → get_or t 0 0 ≡ 239 → get_or t 1 0 ≡ 187 → (2 < length t → get_or t 2 0 ≢ 191) → IsFaultyAt t 2
-  second-faulty lt e f other =
-      part-faulty 2 second_of_mark (omega arith) (second-reached lt e f) second-unaccepted (λ h. second-refused 2 (get_or t 2 0) (other h))
+  unfolding next_state accepted
+  second-faulty lt e f other = part-faulty 2 second_of_mark (omega arith) (second-reached lt e f) refl (λ h. rw (ne_eqb (get_or t 2 0) 191 (other h)))
 
   -- the white space before the first game
   pub games-begin : (mark at : ℕ) → IsMarkRead t mark → IsSpan is_white_space t mark at → StandsBetween t at nothing

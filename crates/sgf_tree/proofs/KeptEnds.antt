@@ -3,11 +3,12 @@ use Rattle.std.proofs.lemmas.Grind.{common_steps}
 use Rattle.std.proofs.Common.{◌≡◌, ℕ, ◌+◌, ◌-◌, ◌≤◌, List, [], ◌∷◌, ◌++◌, length, drop, subst, length-drop, get_or-drop, arith}
 use Rattle.std.proofs.lemmas.List.{drop-drop}
 use Rattle.std.proofs.lemmas.List.Elements.{All-push}
-use Rattle.sgf_tree.specs.inner.KeptEnds.{IsRawValueAt, IsKeptEnd, AreKeptEnds}
+use Rattle.sgf_tree.specs.inner.Progress.{IsValueEnd}
+use Rattle.sgf_tree.specs.inner.KeptEnds.{IsKeptEnd, AreKeptEnds}
 use Rattle.sgf_tree.specs.declared.layout.LongValue.{LongValue}
 
 module _ (t : List ℕ) (from : ℕ) where
-  ends-drop : (at bytes : ℕ) → IsRawValueAt t (from + at) (from + at + bytes) → IsRawValueAt (drop from t) at (at + bytes)
+  ends-drop : (at bytes : ℕ) → IsValueEnd t (from + at) (from + at + bytes) → IsValueEnd (drop from t) at (at + bytes)
   ends-drop at bytes h = grind (arith, common_steps, drop-drop, length-drop, get_or-drop)
 
   -- what is kept of a text holds of each part that goes up to its end
@@ -16,11 +17,11 @@ module _ (t : List ℕ) (from : ℕ) where
       ends-drop at _ (kept i d lt (from + at) (omega (arith, e, length-drop from t)))
 
 -- one more value
-pub kept-push : (t : List ℕ) (ls : List LongValue) (at end : ℕ) → AreKeptEnds t ls → at ≤ length t → IsRawValueAt t at end
+pub kept-push : (t : List ℕ) (ls : List LongValue) (at end : ℕ) → AreKeptEnds t ls → at ≤ length t → IsValueEnd t at end
     → AreKeptEnds t (ls ++ record { left = length t - at; bytes = end - at } ∷ [])
 kept-push t ls at end kept within h =
     All-push (IsKeptEnd t) ls (record { left = length t - at; bytes = end - at }) kept
     (λ other e.
     let same : at ≡ other = omega (arith, e) in
     let to : end ≡ other + (end - at) = omega (arith, h.rises, same) in
-    subst (λ i. IsRawValueAt t i (other + (end - at))) same (subst (IsRawValueAt t at) to h))
+    subst (λ i. IsValueEnd t i (other + (end - at))) same (subst (IsValueEnd t at) to h))

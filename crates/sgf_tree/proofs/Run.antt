@@ -1,6 +1,7 @@
 -- How the machine goes over one text and then another, and over one byte more.
 use Rattle.std.proofs.lemmas.Grind.{common_steps}
-use Rattle.std.proofs.Common.{◌≡◌, ℕ, ◌+◌, ◌<◌, List, [], ◌∷◌, ◌++◌, length, get_or, take, drop, Option, Some, None, option_and_then, refl, sym, ap, ◌∙◌, add-zero, arith}
+use Rattle.std.proofs.Common.{◌≡◌, ℕ, ◌+◌, ◌-◌, ◌<◌, ◌≤◌, List, [], ◌∷◌, ◌++◌, length, get_or, take, drop, slice_range, Option, Some, None, option_and_then, refl, sym, ap, ◌∙◌, add-zero, arith}
+use Rattle.std.proofs.Math.Seq.{take-add}
 use Rattle.std.proofs.lemmas.List.{take_more, length-take-le, take-append-drop}
 use Rattle.std.proofs.lemmas.Option.{option_and_then_some}
 use Rattle.sgf_tree.specs.inner.Machine.{MachineState, start, next_state, run, accepted, collection_of}
@@ -56,6 +57,15 @@ run-take-step t at z y h lt s = run-take-more t at z lt h ∙ s
 pub run-take-refused : (t : List ℕ) (at : ℕ) (z : MachineState) → run 0 start (take at t) ≡ Some z → at < length t
     → next_state at z (get_or t at 0) ≡ None → run 0 start (take (at + 1) t) ≡ None
 run-take-refused t at z h lt s = run-take-more t at z lt h ∙ s
+
+-- the bytes between two offsets are taken
+pub run-take-span : (t : List ℕ) (at end : ℕ) (z y : MachineState) → at ≤ end → end ≤ length t → run 0 start (take at t) ≡ Some z → run at z (slice_range t at end) ≡ Some y
+    → run 0 start (take end t) ≡ Some y
+run-take-span t at end z y low within h s =
+    let e : 0 + length (take at t) ≡ at = omega (arith, length-take-le at t) in
+    let f : at + (end - at) ≡ end = omega arith in
+    ap (run 0 start) (ap (λ i. take i t) (sym f) ∙ take-add at (end - at) t) ∙ run-through 0 start z (take at t) (slice_range t at end) h
+    ∙ ap (λ i. run i z (slice_range t at end)) e ∙ s
 
 -- no byte has been read
 pub run-take-none : (t : List ℕ) → run 0 start (take 0 t) ≡ Some start

@@ -33,7 +33,7 @@ property-read t start bracket read name values some white other written =
       no_value = other;
       reached = λ n h. let after = name.reached n h in values.reached n after.0 after.1;
       written = λ is.
-          let both = written is in property-one t start bracket read.text_end read.end both.0 both.1 (λ e. omega (arith, name.rises)) (λ e. omega arith) white other;
+          let both = written is in property-one t start bracket read.text_end both.0 both.1 (λ e. omega (arith, name.rises)) (λ e. omega arith) (record { next = read.end; white_space = white; other = other });
     }
 
 pub short-property : (t : List ℕ) (start bracket close next : ℕ) → start < length t → IsTrue (is_upper (get_or t start 0)) → IsSpan is_letter t start bracket

@@ -1,10 +1,10 @@
 -- The machine over a span of a text, by the offsets of its bytes: white space, letters, the plain bytes of a value.
 use Rattle.std.proofs.lemmas.Grind.{common_steps}
-use Rattle.std.proofs.Common.{◌≡◌, ◌≢◌, ℕ, zero, suc, ◌+◌, ◌-◌, ◌<◌, ◌≤◌, ◌⊎◌, IsTrue, List, [], ◌∷◌, ◌++◌, length, get_or, take, drop, slice_range, filter, Some, refl, ap, ◌∙◌, subst, inl, inr, add-zero, append_assoc, append-nil, get_or-drop, length-drop, ne_eqb, arith}
+use Rattle.std.proofs.Common.{◌≡◌, ℕ, zero, suc, ◌+◌, ◌-◌, ◌<◌, ◌≤◌, ◌⊎◌, IsTrue, List, [], ◌∷◌, ◌++◌, length, get_or, take, drop, slice_range, filter, Some, ap, ◌∙◌, subst, inl, inr, add-zero, append_assoc, append-nil, get_or-drop, length-drop, arith}
 use Rattle.std.proofs.lemmas.List.{take_more}
 use Rattle.std.proofs.lemmas.List.Elements.{filter-append}
 use Rattle.sgf_tree.specs.Spelling.{is_white_space, is_upper, is_lower}
-use Rattle.sgf_tree.specs.inner.Machine.{Started, MachineState, start, in_name, in_value, after_escape, next_state, run}
+use Rattle.sgf_tree.specs.inner.Machine.{Started, MachineState, start, in_name, next_state, run}
 use Rattle.sgf_tree.proofs.Classes.{lower-not_upper}
 use Rattle.sgf_tree.proofs.Run.{run-take-step}
 use Rattle.sgf_tree.proofs.Skipping.{Stays}
@@ -70,29 +70,3 @@ module _ (t : List ℕ) where
       rw (span-more at i low (omega arith), filter-append is_upper (slice_range t at i) (get_or t i 0 ∷ []), ← append_assoc)
       (one-letter i n (name ++ filter is_upper (slice_range t at i)) (get_or t i 0) (letters i low high)))
       (rw (span-none at, append-nil) h)
-
-  -- the plain bytes of a value
-  pub run-plain : (at to : ℕ) (n : Started) (name : List ℕ) (before : List (List ℕ)) (so_far : List ℕ) → at ≤ to → to ≤ length t
-      → ((i : ℕ) → at ≤ i → i < to → (get_or t i 0 ≢ 93) × (get_or t i 0 ≢ 92))
-      → run 0 start (take at t) ≡ Some (in_value n name before so_far)
-      → run 0 start (take to t) ≡ Some (in_value n name before (so_far ++ slice_range t at to))
-  unfolding next_state
-  run-plain at to n name before so_far le within plain h =
-      run-span at to (λ i. in_value n name before (so_far ++ slice_range t at i)) le within
-      (λ i low high. let (x, y) = plain i low high in
-      rw (span-more at i low (omega arith), ne_eqb (get_or t i 0) 93 x, ne_eqb (get_or t i 0) 92 y, append_assoc))
-      (rw (span-none at, append-nil) h)
-
-  -- a `\\` and the byte after it
-  pub run-escape : (at : ℕ) (n : Started) (name : List ℕ) (before : List (List ℕ)) (so_far : List ℕ) → at + 1 < length t
-      → get_or t at 0 ≡ 92 → run 0 start (take at t) ≡ Some (in_value n name before so_far)
-      → run 0 start (take (at + 2) t) ≡ Some (in_value n name before (so_far ++ slice_range t at (at + 2)))
-  unfolding next_state
-  run-escape at n name before so_far lt e h =
-      let two : at + 2 ≡ at + 1 + 1 = omega arith in
-      let span : slice_range t at (at + 2) ≡ 92 ∷ get_or t (at + 1) 0 ∷ [] =
-      rw (two, span-more at (at + 1) (omega arith) lt, span-more at at (omega arith) (omega arith), span-none at, e) in
-      rw (span, two)
-      (run-take-step t (at + 1) (after_escape n name before so_far) _
-      (run-take-step t at (in_value n name before so_far) (after_escape n name before so_far) h (omega arith) (rw e))
-      lt refl)

@@ -1,6 +1,6 @@
 -- The units of a raw value, by the machine, and where the next `]` stands.
 use Rattle.std.proofs.lemmas.Grind.{common_steps}
-use Rattle.std.proofs.Common.{◌≡◌, ◌≢◌, ℕ, ◌+◌, ◌-◌, ◌<◌, ◌≤◌, true, not, List, [], ◌++◌, length, get_or, take, drop, slice_range, Some, None, refl, sym, ap, subst, ◌∙◌, arith, eqb-true, get_or-take, get_or-drop, ne_eqb}
+use Rattle.std.proofs.Common.{◌≡◌, ◌≢◌, ℕ, ◌+◌, ◌-◌, ◌<◌, ◌≤◌, true, not, List, [], ◌∷◌, ◌++◌, length, get_or, take, drop, slice_range, Some, None, refl, sym, ap, subst, ◌∙◌, arith, eqb-true, get_or-take, get_or-drop, ne_eqb, append_assoc, append-nil}
 use Rattle.std.proofs.Math.Seq.{take-add}
 use Rattle.std.proofs.Common.{length-take, length-drop}
 use Rattle.std.proofs.lemmas.Bool.{and_parts, not-true, eqb-false, eq-eqb}
@@ -8,10 +8,10 @@ use Rattle.memchr.specs.Find.{IsFirstByte, is_byte}
 use Rattle.std.proofs.lemmas.List.{drop-drop, take_all}
 use Rattle.sgf_tree.specs.inner.Machine.{Started, MachineState, start, in_value, after_escape, next_state, run, accepted}
 use Rattle.sgf_tree.specs.Refusal.{IsFaultyAt}
-use Rattle.sgf_tree.specs.inner.Progress.{ComesTo, ArePlain, HasNoBracket, IsNextBracket, is_plain}
+use Rattle.sgf_tree.specs.RawValue.{IsValue, no_unit, plain, escaped}
+use Rattle.sgf_tree.specs.inner.Progress.{ComesTo, HasNoBracket, IsNextBracket, is_plain, SpellsValue}
 use Rattle.sgf_tree.proofs.Faults.{ended-fault, refused-fault}
-use Rattle.sgf_tree.proofs.Run.{run-take-step}
-use Rattle.sgf_tree.proofs.Spans.{run-plain, run-escape}
+use Rattle.sgf_tree.proofs.Run.{run-take-step, run-take-span}
 
 -- two spans side by side
 pub span-join : {A : Type 0} (t : List A) (a b c : ℕ) → a ≤ b → b ≤ c → slice_range t a b ++ slice_range t b c ≡ slice_range t a c
@@ -65,52 +65,28 @@ bracket-none t at le none =
     let long : length hay + at ≡ length t = omega (arith, length-take (length t - at) (drop at t), length-drop at t) in
     λ i low lt is. none (i - at) (omega arith) (omega arith) (eq-eqb (get_or hay (i - at) 0) 93 (span-at t at i low lt ∙ is))
 
--- the states inside a value, and after a `\`, are no ends
-value-unaccepted : (n : Started) (name : List ℕ) (before : List (List ℕ)) (so_far : List ℕ) → accepted (in_value n name before so_far) ≡ None
-unfolding accepted
-value-unaccepted n name before so_far = refl
+-- the machine over the units of a value
+run-units : {v s r : List ℕ} (at : ℕ) (n : Started) (name : List ℕ) (before : List (List ℕ)) (so_far : List ℕ) → IsValue v s r
+    → run at (in_value n name before so_far) v ≡ Some (in_value n name before (so_far ++ v))
+unfolding run next_state
+run-units at n name before so_far no_unit = rw append-nil
+run-units at n name before so_far (plain {b} x y u) =
+    rw (ne_eqb b 93 x, ne_eqb b 92 y) (rw append_assoc at (run-units (at + 1) n name before (so_far ++ b ∷ []) u))
+run-units at n name before so_far (escaped {b} u) = rw append_assoc at (run-units (at + 1 + 1) n name before (so_far ++ 92 ∷ b ∷ []) u)
 
-escape-unaccepted : (n : Started) (name : List ℕ) (before : List (List ℕ)) (so_far : List ℕ) → accepted (after_escape n name before so_far) ≡ None
-unfolding accepted
-escape-unaccepted n name before so_far = refl
-
-step-escape : (at : ℕ) (n : Started) (name : List ℕ) (before : List (List ℕ)) (so_far : List ℕ) → next_state at (in_value n name before so_far) 92 ≡ Some (after_escape n name before so_far)
-unfolding next_state
-step-escape at n name before so_far = refl
-
-module _ (t : List ℕ) (at : ℕ) where
-  -- the bytes from `at` to `end` are units of a value
-  abbrev pub AreUnits : ℕ → Type 0
-  AreUnits end =
-      (n : Started) (name : List ℕ) (before : List (List ℕ)) → ComesTo t at (in_value n name before [])
-      → ComesTo t end (in_value n name before (slice_range t at end))
-
-  pub units-none : AreUnits at
-  units-none n name before h = let e : at - at ≡ 0 = omega arith in rw e h
-
-  pub units-plain : (a b : ℕ) → at ≤ a → AreUnits a → ArePlain t a b → AreUnits b
-  units-plain a b le units plain n name before h =
-      rw (← span-join t at a b le plain.rises)
-      (run-plain t a b n name before (slice_range t at a) plain.rises plain.within (λ i low lt. plain-other (get_or t i 0) (plain.passing i low lt)) (units n name before h))
-
-  pub units-escape : (a : ℕ) → at ≤ a → a + 1 < length t → get_or t a 0 ≡ 92 → AreUnits a → AreUnits (a + 2)
-  units-escape a le lt e units n name before h =
-      rw (← span-join t at a (a + 2) le (omega arith))
-      (run-escape t a n name before (slice_range t at a) lt e (units n name before h))
-
-  -- the fault of a value that doesn't end
-  abbrev EndsFaulty : Type 0
-  EndsFaulty =
-      (n : Started) (name : List ℕ) (before : List (List ℕ)) → ComesTo t at (in_value n name before []) → IsFaultyAt t (length t)
+module _ (t : List ℕ) (at end : ℕ) (low : at ≤ end) (within : end ≤ length t) (spelled : SpellsValue t at end) (n : Started) (name : List ℕ) (before : List (List ℕ))
+    (from : ComesTo t at (in_value n name before [])) where
+  pub units-read : ComesTo t end (in_value n name before (slice_range t at end))
+  units-read = run-take-span t at end (in_value n name before []) (in_value n name before (slice_range t at end)) low within from (run-units at n name before [] spelled)
 
   -- the text ends in the value
-  pub units-end : AreUnits (length t) → EndsFaulty
-  units-end units n name before h =
-      ends-faulty t (in_value n name before (slice_range t at (length t))) (units n name before h) (value-unaccepted n name before (slice_range t at (length t)))
+  pub units-end : end ≡ length t → IsFaultyAt t (length t)
+  unfolding accepted
+  units-end e = let z : MachineState = in_value n name before (slice_range t at end) in ends-faulty t z (subst (λ i. ComesTo t i z) e units-read) refl
 
   -- or after a `\`
-  pub escape-end : (a : ℕ) → a + 1 ≡ length t → get_or t a 0 ≡ 92 → AreUnits a → EndsFaulty
-  escape-end a e f units n name before h =
-      let so_far : List ℕ = slice_range t at a in
-      let last : ComesTo t (a + 1) (after_escape n name before so_far) = run-take-step t a (in_value n name before so_far) (after_escape n name before so_far) (units n name before h) (omega arith) (rw f (step-escape a n name before so_far)) in
-      ends-faulty t (after_escape n name before so_far) (subst (λ i. ComesTo t i (after_escape n name before so_far)) e last) (escape-unaccepted n name before so_far)
+  pub escape-end : end + 1 ≡ length t → get_or t end 0 ≡ 92 → IsFaultyAt t (length t)
+  unfolding accepted next_state
+  escape-end e f =
+      let z : MachineState = after_escape n name before (slice_range t at end) in
+      ends-faulty t z (subst (λ i. ComesTo t i z) e (run-take-step t end (in_value n name before (slice_range t at end)) z units-read (omega arith) (rw f))) refl

@@ -1,14 +1,13 @@
 -- Which `]` ends a raw value: the first one with an even number of `\` directly before it.
-use Rattle.std.proofs.Common.{◌≡◌, ◌≢◌, ℕ, zero, suc, ◌+◌, ◌-◌, ◌*◌, ◌/◌, ◌%◌, ◌<◌, ◌≤◌, ◌⊎◌, inl, inr, List, length, get_or, true, sym, ap, subst, ◌∙◌, arith}
+use Rattle.std.proofs.Common.{◌≡◌, ◌≢◌, ℕ, zero, suc, ◌+◌, ◌-◌, ◌*◌, ◌/◌, ◌%◌, ◌<◌, ◌≤◌, ◌⊎◌, inl, inr, List, length, get_or, true, refl, sym, ap, subst, ◌∙◌, arith}
 use Rattle.std.proofs.lemmas.Bool.{cases_eq}
 use Rattle.sgf_tree.specs.inner.Progress.{is_plain, ArePlain, HasNoBracket, IsNextBracket, AreBackslashesBefore, AreEscapes, SpellsValue, IsValueEnd, IsUnended}
-use Rattle.sgf_tree.proofs.ValueEnds.{AreUnits, other-plain, units-none, units-plain, units-escape, units-end, escape-end}
+use Rattle.sgf_tree.proofs.ValueEnds.{other-plain, units-end, escape-end}
 use Rattle.sgf_tree.proofs.ValueSpelled.{spelled-none, spelled-plain, spelled-escape, none-ended, none-cut}
 
 -- whole units of a value stand from `at` to `end`
 pub record AreValueUnits (t : List ℕ) (at end : ℕ) : Type 0 where
   pub rises : at ≤ end
-  pub read : AreUnits t at end
   pub spelled : SpellsValue t at end
 
 -- and after these a `\` as the last byte before `end`
@@ -21,14 +20,13 @@ record AreCutUnits (t : List ℕ) (at start end : ℕ) : Type 0 where
 
 module _ (t : List ℕ) (at : ℕ) where
   pub no-units : AreValueUnits t at at
-  no-units = record { rises = omega arith; read = units-none t at; spelled = spelled-none t at }
+  no-units = record { rises = omega arith; spelled = spelled-none t at }
 
   pub plain-units : (a b : ℕ) → AreValueUnits t at a → ArePlain t a b → AreValueUnits t at b
   plain-units a b units plain =
       let low : at ≤ a = units.rises in
       record {
         rises = omega (arith, low, plain.rises);
-        read = units-plain t at a b low units.read plain;
         spelled = spelled-plain t at a b low units.spelled plain;
       }
 
@@ -45,7 +43,6 @@ module _ (t : List ℕ) (at : ℕ) where
       let low : at ≤ a = units.rises in
       record {
         rises = omega (arith, low);
-        read = units-escape t at a low lt e units.read;
         spelled = spelled-escape t at a low lt e units.spelled;
       }
 
@@ -126,15 +123,18 @@ module _ (t : List ℕ) (at : ℕ) where
   -- a `]` after whole units ends the value
   pub units-ended : (end : ℕ) → AreValueUnits t at end → end < length t → get_or t end 0 ≡ 93 → IsValueEnd t at end
   units-ended end units within bracket =
-      record { rises = units.rises; within = within; bracket = bracket; spelled = units.spelled; value = units.read }
+      record { rises = units.rises; within = within; bracket = bracket; spelled = units.spelled }
 
   -- with no further `]` the value is unended
   pub endless : (start : ℕ) → start ≤ length t → HasNoBracket t start (length t) → AreValueUnits t at start → IsUnended t at
   endless start le none units =
       elim (units-to (length t - start) start (length t) (omega arith) (omega arith) none units) [
-        | inl all ↦ record { spelled = none-ended t at all.spelled; fault = units-end t at all.read }
+        | inl all ↦ record {
+          spelled = none-ended t at all.spelled;
+          fault = λ n name before h. units-end t at (length t) all.rises (omega arith) all.spelled n name before h refl;
+        }
         | inr cut ↦ record {
           spelled = none-cut t at cut.last cut.next cut.escape cut.before.spelled;
-          fault = escape-end t at cut.last cut.next cut.escape cut.before.read;
+          fault = λ n name before h. escape-end t at cut.last cut.before.rises (omega (arith, cut.next)) cut.before.spelled n name before h cut.next cut.escape;
         }
       ]

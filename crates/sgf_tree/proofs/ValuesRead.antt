@@ -7,6 +7,7 @@ use Rattle.sgf_tree.specs.inner.Progress.{ComesTo, IsSpan, IsValueEnd}
 use Rattle.sgf_tree.proofs.Run.{run-take-step}
 use Rattle.sgf_tree.proofs.Skipping.{stays-after_value}
 use Rattle.sgf_tree.proofs.Spans.{run-white}
+use Rattle.sgf_tree.proofs.ValueEnds.{units-read}
 
 step-close : (at : ℕ) (n : Started) (name : List ℕ) (before : List (List ℕ)) (value : List ℕ) → next_state at (in_value n name before value) 93 ≡ Some (after_value n (property_of name before value))
 unfolding next_state
@@ -40,7 +41,8 @@ module _ (t : List ℕ) where
             let before = so_far.reached n name h in
             let raw : List ℕ = slice_range t (at + 1) end in
             let p : Property = property_of before.0 before.1 raw in
-            let value : ComesTo t end (in_value n before.0 before.1 raw) = is_end.value n before.0 before.1 before.2 in
+            let value : ComesTo t end (in_value n before.0 before.1 raw) =
+            units-read t (at + 1) end is_end.rises (omega (arith, is_end.within)) is_end.spelled n before.0 before.1 before.2 in
             let closed : ComesTo t (end + 1) (after_value n p) = run-take-step t end (in_value n before.0 before.1 raw) (after_value n p) value is_end.within (rw is_end.bracket (step-close end n before.0 before.1 raw)) in
             (p, run-white t (end + 1) next (after_value n p) (stays-after_value n p) white.rises white.within white.passing closed);
       }

@@ -10,7 +10,7 @@ use Rattle.sgf_tree.specs.RawValue.{IsValue}
 use Rattle.sgf_tree.specs.Spelling.{is_white_space, is_upper, WhiteSpace, no_white_space, Letters, no_letter, upper, IsPropValue, prop_value, ArePropValues, no_value, value, IsProperty, property, AreProperties, no_property, properties}
 use Rattle.sgf_tree.specs.Written.{value_text, property_text}
 use Rattle.sgf_tree.specs.inner.NodeText.{is_letter, left_after, front, values_in, property_from, name_in, after_values_up_to, properties_in, NoValueFollows, NoPropertyFollows, ArePropertiesIn, AreValuesWritten, IsPropertyWritten, ArePropertiesWritten, AreWritten, IsNodeWritten}
-use Rattle.sgf_tree.specs.inner.Progress.{IsSpan, SpellsValue}
+use Rattle.sgf_tree.specs.inner.Progress.{IsSpan, SpellsValue, IsPropertyEnd}
 use Rattle.sgf_tree.specs.inner.PropertiesRead.{ArePropertiesRead}
 use Rattle.sgf_tree.specs.declared.reader.properties.PartRead.{PartRead}
 use Rattle.sgf_tree.proofs.Classes.{upper-not_white_space, white-not_bracket, white-not_upper}
@@ -122,9 +122,9 @@ module _ (t : List ℕ) where
             ∙ sym (flat_map-append value_text before.values (v ∷ []));
       }
 
-  pub property-one : (at name_end end next : ℕ) → IsSpan is_upper t at name_end → AreValuesWritten t name_end end → name_end ≢ at → end ≢ name_end
-      → IsSpan is_white_space t end next → (next < length t → get_or t next 0 ≢ 91) → IsPropertyWritten t at end
-  property-one at name_end end next run written named some white other =
+  pub property-one : (at name_end end : ℕ) → IsSpan is_upper t at name_end → AreValuesWritten t name_end end → name_end ≢ at → end ≢ name_end → IsPropertyEnd t end
+      → IsPropertyWritten t at end
+  property-one at name_end end run written named some ended =
       whole written.values written.spelled written.text
     where
       whole : (vs : List (List ℕ)) → ArePropValues vs (drop name_end t) (drop end t) → slice_range t name_end end ≡ flat_map value_text vs → IsPropertyWritten t at end
@@ -152,7 +152,7 @@ module _ (t : List ℕ) where
             within = written.within;
             property = record { name = b ∷ name; first = v; more = vs };
             spelled = property starts capital letters first more;
-            ends = ends-at t end next white other;
+            ends = ends-at t end ended.next ended.white_space ended.other;
             text =
                 sym (span-join t at name_end end low written.rises) ∙ ap (λ s. s ++ slice_range t name_end end) head
                 ∙ ap (λ s. (b ∷ name) ++ s) text;

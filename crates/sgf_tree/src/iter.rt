@@ -1,7 +1,7 @@
 //! Going forward over the properties of a node, and over the values of a property.
 //! All steps over a node together take time in proportion to its text, however many properties and values it has.
 
-ghost use Rattle.std.specs.Prelude.{◌≡◌, ◌↔◌, ◌≤◌, ◌<◌, false, [], ◌∷◌, length, drop, slice_index, IsTrue, IfSome, MatchOption};
+ghost use Rattle.std.specs.Prelude.{◌≡◌, ◌↔◌, ◌≤◌, ◌<◌, [], ◌∷◌, length, drop, slice_index, IsTrue, IfSome, MatchOption};
 ghost use Rattle.std.specs.Iterator.{YieldsFirst, YieldsFirstRef, item_count};
 ghost use Rattle.sgf_tree.specs.Tree.{Property};
 ghost use Rattle.sgf_tree.specs.Spelling.{is_white_space, is_upper, IsProperty};
@@ -13,7 +13,9 @@ use crate::layout::LongValue;
 use crate::property::PropRef;
 use crate::quick::points::past_points;
 use crate::quick::written::written_properties_end;
-use crate::reader::scan::{identifier_end, part, rest_from, skip_white_space};
+use crate::reader::scan::{
+    begins_value, capital_at, identifier_end, part, rest_from, skip_white_space, stands_at,
+};
 use crate::reader::value::value_end;
 use std::marker::Model;
 
@@ -80,7 +82,7 @@ impl<'c, 'a> Iterator for Properties<'c, 'a> {
     fn next(&mut self) -> Option<PropRef<'a>> {
         let text = self.rest;
         let start = skip_white_space(text, 0);
-        if start == text.len() || !text[start].is_ascii_uppercase() {
+        if !capital_at(text, start) {
             return None;
         }
         let (property, next) = property_at(text, start, self.long);
@@ -190,7 +192,7 @@ fn value_at(text: &[u8], at: usize, long: Option<&Vec<LongValue>>) -> Option<(us
     ensures { MatchOption result (IsNoPropValue (drop at text.now)) (λ value. IsValueAt text.now at value.0 value.1) }
 {
     let bracket = skip_white_space(text, at);
-    if bracket == text.len() || text[bracket] != b'[' {
+    if !stands_at(text, bracket, b'[') {
         return None;
     }
     let Some(close) = value_end(text, bracket + 1, long) else {
@@ -212,16 +214,7 @@ fn values_end(text: &[u8], at: usize, long: &Vec<LongValue>) -> usize
     }
 }
 
-/// Whether a value may be at `at`: after any white space there, a `[` comes.
-fn begins_value(text: &[u8], at: usize) -> bool
-    requires { at ≤ length text.now }
-    ensures { result ≡ false → IsNoPropValue (drop at text.now) }
-{
-    let bracket = skip_white_space(text, at);
-    bracket < text.len() && text[bracket] == b'['
-}
-
-/// The end of the values at `at`, however many there are.
+/// The end of the values at `at`, however many there are. This is the plain way.
 #[inline(never)]
 fn far_values_end(text: &[u8], at: usize, long: &Vec<LongValue>) -> usize
     requires within { at ≤ length text.now }

@@ -27,7 +27,6 @@
 //! | `reader/keeper`, `reader/games` | what a reader tells the one who keeps a part of it; reading games |
 //! | `reader/own_nodes`, `reader/properties` | what is known of the own nodes of a game; reading the properties of a node |
 //! | `reader/counting` | counting games, nodes and leaves |
-//! | `reader/lead` | recognizing at a glance a node that is a move and short properties, or has no properties |
 //! | `reader/value` | what ends a raw value, and keeping where long values end |
 //! | `reader/mark`, `reader/scan` | the byte order mark; white space, identifiers and parts of a text |
 //! | `reader/fault` | why reading a text stopped, and how the place of the first fault is found |

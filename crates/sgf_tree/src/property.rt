@@ -6,6 +6,7 @@ ghost use Rattle.sgf_tree.specs.inner.NodeText.{name_in};
 
 use crate::fault::MemoryFault;
 use crate::iter::Values;
+use crate::quick::name::is_short_name;
 use std::marker::Model;
 
 /// A property, seen as its name and its raw values. Only `push_name` takes memory.
@@ -95,18 +96,7 @@ impl<'a> PropRef<'a> {
     }
 }
 
-/// Whether an identifier is one or two capitals, as nearly all are. If so, the identifier itself is the name.
-fn is_short_name(identifier: &[u8]) -> bool
-    ensures { IsTrue result → name_in identifier.now ≡ identifier.now }
-{
-    match identifier {
-        [one] => one.is_ascii_uppercase(),
-        [one, other] => one.is_ascii_uppercase() && other.is_ascii_uppercase(),
-        _ => false,
-    }
-}
-
-/// Whether the capitals of an identifier are this name.
+/// Whether the capitals of an identifier are this name. This is the plain way.
 #[inline(never)]
 fn is_name_in(identifier: &[u8], name: &[u8]) -> bool
     ensures { IsTrue result ↔ (name_in identifier.now ≡ name.now) }

@@ -18,7 +18,6 @@ mod counting;
 mod fault;
 mod games;
 pub(crate) mod keeper;
-pub(crate) mod lead;
 mod mark;
 mod own_nodes;
 pub(crate) mod properties;

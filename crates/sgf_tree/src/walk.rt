@@ -9,8 +9,8 @@ use crate::iter::property_at;
 use crate::layout::LongValue;
 use crate::property::PropRef;
 use crate::quick::front::is_lone_front;
-use crate::reader::lead::{is_empty_node, led_end};
-use crate::reader::scan::{part, rest_from, skip_white_space};
+use crate::quick::lead::{is_empty_node, led_end};
+use crate::reader::scan::{capital_at, part, rest_from, skip_white_space};
 use std::marker::Model;
 
 /// A node that `SequenceNodes::next` took off.
@@ -146,7 +146,7 @@ impl<'c, 'a> SequenceNodes<'c, 'a> {
             (λ property. (self.old.properties ≡ property ∷ self.new.properties) × (self.new.nodes ≡ self.old.nodes)) }
     {
         let text = rest_from(self.text, self.at);
-        if text.is_empty() || !text[0].is_ascii_uppercase() {
+        if !capital_at(text, 0) {
             return None;
         }
         let (property, end) = property_at(text, 0, self.long);

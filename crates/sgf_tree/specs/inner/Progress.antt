@@ -74,8 +74,6 @@ pub record IsValueEnd (text : List ℕ) (at end : ℕ) : Type 0 where
   pub within : end < length text
   pub bracket : slice_index text end ≡ close_bracket
   pub spelled : SpellsValue text at end
-  pub value : (node : Started) (name : List ℕ) (before : List (List ℕ)) → ComesTo text at (in_value node name before [])
-      → ComesTo text end (in_value node name before (slice_range text at end))
 
 -- two plain bytes and a `]`
 pub record IsTwoPlain (text : List ℕ) (at : ℕ) : Type 0 where

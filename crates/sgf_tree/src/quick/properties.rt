@@ -5,13 +5,13 @@ ghost use Rattle.std.specs.Prelude.{◌≡◌, ◌≢◌, ◌<◌, ◌≤◌, �
 ghost use Rattle.std.specs.Int.Count.{count_trailing_zeros};
 ghost use Rattle.sgf_tree.specs.Bytes.{close_bracket};
 ghost use Rattle.sgf_tree.specs.Spelling.{is_white_space, is_upper};
-ghost use Rattle.sgf_tree.specs.inner.NodeText.{is_letter};
-ghost use Rattle.sgf_tree.specs.inner.Progress.{IsSpan, IsBracket, IsMove};
+ghost use Rattle.sgf_tree.specs.inner.Progress.{IsSpan, IsMove};
 ghost use Rattle.sgf_tree.specs.inner.PropertiesRead.{AreValuesEnded, IsShortProperty, IsPropertyRead, ArePropertiesRead};
 
+use crate::quick::name::short_name_end;
 use crate::quick::value::{NEAR, near_value_end};
 use crate::reader::properties::PartRead;
-use crate::reader::scan::skip_white_space;
+use crate::reader::scan::{capital_at, skip_white_space};
 use std::simd::prelude::*;
 
 /// A property is read at a glance only if at least this many bytes are left: one or two letters, a `[`,
@@ -60,7 +60,7 @@ fn after_move(text: &[u8], at: usize) -> Option<PartRead>
         end: next,
         as_written: true,
     };
-    'properties: while read.end < text.len() && text[read.end].is_ascii_uppercase() {
+    'properties: while capital_at(text, read.end) {
         read = read.with(read_short_property(text, read.end)?);
     }
     Some(read)
@@ -156,27 +156,4 @@ fn skip_line_end(text: &[u8], at: usize) -> usize
         return at + 1;
     }
     skip_white_space(text, at)
-}
-
-/// The end of the name whose first capital is at `at`. It is found if the name has one or two
-/// letters, as nearly all have, and a `[` follows.
-#[inline(always)]
-pub(crate) fn short_name_end(text: &[u8], at: usize) -> Option<usize>
-    requires within { at < length text.now }
-    requires capital { IsTrue (is_upper (slice_index text.now at)) }
-    ensures letters { IfSome result (IsSpan is_letter text.now at) }
-    ensures capitals { IfSome result (IsSpan is_upper text.now at) }
-    ensures bracket { IfSome result (IsBracket text.now) }
-    ensures rises { IfSome result (λ end. at < end) }
-    ensures near { IfSome result (λ end. end ≤ at + 2) }
-{
-    if text.len() - at > 2 {
-        if text[at + 1] == b'[' {
-            return Some(at + 1);
-        }
-        if text[at + 2] == b'[' && text[at + 1].is_ascii_uppercase() {
-            return Some(at + 2);
-        }
-    }
-    None
 }

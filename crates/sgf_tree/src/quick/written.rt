@@ -5,9 +5,9 @@ ghost use Rattle.sgf_tree.specs.inner.NodeText.{ArePropertiesIn, AreValuesWritte
 ghost use Rattle.sgf_tree.specs.inner.KeptEnds.{AreKeptEnds};
 
 use crate::layout::LongValue;
+use crate::quick::name::short_name_end;
 use crate::quick::points::past_points;
-use crate::quick::properties::short_name_end;
-use crate::reader::scan::skip_white_space;
+use crate::reader::scan::{begins_value, capital_at, stands_at};
 use crate::reader::value::value_end;
 
 /// The end of the properties at `at`, as far as they have the sgf form.
@@ -31,7 +31,7 @@ fn written_end(text: &[u8], at: usize, long: &Vec<LongValue>) -> Option<usize>
     requires kept { AreKeptEnds text.now long.now.items }
     ensures { IfSome result (IsPropertyWritten text.now at) }
 {
-    if at == text.len() || !text[at].is_ascii_uppercase() {
+    if !capital_at(text, at) {
         return None;
     }
     let name_end = short_name_end(text, at)?;
@@ -39,8 +39,7 @@ fn written_end(text: &[u8], at: usize, long: &Vec<LongValue>) -> Option<usize>
     if end == name_end {
         return None;
     }
-    let next = skip_white_space(text, end);
-    if next < text.len() && text[next] == b'[' {
+    if begins_value(text, end) {
         return None;
     }
     Some(end)
@@ -54,7 +53,7 @@ fn written_values_end(text: &[u8], at: usize, long: &Vec<LongValue>) -> Option<u
     ensures { IfSome result (AreValuesWritten text.now at) }
 {
     let mut end = past_points(text, at);
-    'values: while end < text.len() && text[end] == b'[' {
+    'values: while stands_at(text, end, b'[') {
         let Some(close) = value_end(text, end + 1, Some(long)) else {
             return None;
         };

@@ -16,7 +16,7 @@ use crate::quick::properties::short_properties;
 use crate::reader::fault::PartFault;
 use crate::reader::keeper::Keeper;
 use crate::reader::properties::{PartRead, read_properties};
-use crate::reader::scan::skip_white_space;
+use crate::reader::scan::{skip_white_space, stands_at};
 
 /// Reads all games, and tells `keeper` what comes: Collection = GameTree { GameTree }, and GameTree = `(` Sequence { GameTree } `)`. The first
 /// `(` is expected at `at`.
@@ -83,7 +83,7 @@ fn read_sequence<K: Keeper>(
 {
     let mut next = skip_white_space(text, at);
     let mut own = OwnNodes::none(next);
-    'nodes: while next < text.len() && text[next] == b';' {
+    'nodes: while stands_at(text, next, b';') {
         let in_place = moves_in_place(text, next);
         if in_place == TWO_MOVES {
             own = take_node(own, next, move_read(next), keeper)?;

@@ -8,10 +8,11 @@ ghost use Rattle.sgf_tree.specs.inner.KeptEnds.{AreKeptEnds};
 
 use crate::fault::MAX_LENGTH;
 use crate::layout::LongValue;
+use crate::quick::name::short_name_end;
 use crate::quick::points::past_points;
-use crate::quick::properties::{read_short_property, short_name_end};
+use crate::quick::properties::read_short_property;
 use crate::reader::fault::PartFault;
-use crate::reader::scan::{letters_end, skip_white_space};
+use crate::reader::scan::{capital_at, letters_end, skip_white_space, stands_at};
 use crate::reader::value::read_value;
 
 /// How far a part of a text was read.
@@ -71,7 +72,7 @@ pub(crate) fn read_properties(
         end: skip_white_space(text, at),
         as_written: true,
     };
-    'properties: while read.end < text.len() && text[read.end].is_ascii_uppercase() {
+    'properties: while capital_at(text, read.end) {
         let property = match read_short_property(text, read.end) {
             Some(property) => property,
             None => read_property(text, read.end, long)?,
@@ -105,7 +106,7 @@ fn read_property(
         let last = past_points(text, bracket);
         let text_end = read_value(text, last + 1, long)? + 1;
         let end = skip_white_space(text, text_end);
-        if end == text.len() || text[end] != b'[' {
+        if !stands_at(text, end, b'[') {
             return Ok(PartRead {
                 text_end,
                 end,
@@ -143,7 +144,7 @@ fn read_far_name(text: &[u8], start: usize) -> Result<PartRead, PartFault>
 {
     let text_end = letters_end(text, start);
     let end = skip_white_space(text, text_end);
-    if end == text.len() || text[end] != b'[' {
+    if !stands_at(text, end, b'[') {
         return Err(PartFault::NotSgf(end));
     }
     Ok(PartRead {

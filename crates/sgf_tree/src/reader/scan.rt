@@ -1,11 +1,11 @@
 //! Where spans of a text end.
 
-ghost use Rattle.std.specs.Prelude.{◌≡◌, ◌≤◌, ◌<◌, ◌+◌, length, drop, slice_index, slice_range, IsTrue};
+ghost use Rattle.std.specs.Prelude.{◌≡◌, ◌≢◌, false, ◌≤◌, ◌<◌, ◌+◌, length, drop, slice_index, slice_range, IsTrue};
 ghost use Rattle.sgf_tree.specs.Spelling.{is_white_space, is_upper};
 ghost use Rattle.sgf_tree.specs.inner.NodeText.{is_letter};
-ghost use Rattle.sgf_tree.specs.inner.Progress.{IsSpan};
+ghost use Rattle.sgf_tree.specs.inner.Progress.{IsSpan, IsPropertyEnd};
 
-use crate::quick::properties::short_name_end;
+use crate::quick::name::short_name_end;
 
 /// The text from an offset on.
 pub(crate) fn rest_from(text: &[u8], at: usize) -> &[u8]
@@ -54,6 +54,33 @@ fn is_white_space(byte: u8) -> bool
     ensures { result ≡ is_white_space byte }
 {
     matches!(byte, b' ' | b'\t'..=b'\r')
+}
+
+/// Whether this byte stands at `at`.
+#[inline(always)]
+pub(crate) fn stands_at(text: &[u8], at: usize, byte: u8) -> bool
+    ensures stands { IsTrue result → (at < length text.now) × (slice_index text.now at ≡ byte) }
+    ensures other { result ≡ false → at < length text.now → slice_index text.now at ≢ byte }
+{
+    at < text.len() && text[at] == byte
+}
+
+/// Whether a capital stands at `at`.
+#[inline(always)]
+pub(crate) fn capital_at(text: &[u8], at: usize) -> bool
+    ensures stands { IsTrue result → (at < length text.now) × IsTrue (is_upper (slice_index text.now at)) }
+    ensures other { result ≡ false → at < length text.now → is_upper (slice_index text.now at) ≡ false }
+{
+    at < text.len() && text[at].is_ascii_uppercase()
+}
+
+/// Whether a value may be at `at`: after any white space there, a `[` comes.
+#[inline(always)]
+pub(crate) fn begins_value(text: &[u8], at: usize) -> bool
+    requires { at ≤ length text.now }
+    ensures { result ≡ false → IsPropertyEnd text.now at }
+{
+    stands_at(text, skip_white_space(text, at), b'[')
 }
 
 /// The end of the letters of an identifier that begins with the capital at `at`.

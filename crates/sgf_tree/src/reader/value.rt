@@ -4,10 +4,11 @@
 ghost use Rattle.std.specs.Prelude.{◌<◌, ◌≤◌, ◌+◌, length, IfSome, IfOk, IfErr, OnOk, MatchOption};
 ghost use Rattle.sgf_tree.specs.inner.Progress.{IsValueEnd, IsUnended, SpellsNoValue, HasNoBracket, IsNextBracket, AreBackslashesBefore, AreEscapes};
 ghost use Rattle.sgf_tree.specs.inner.PropertiesRead.{IsFaultInValue};
-ghost use Rattle.sgf_tree.specs.inner.KeptEnds.{IsRawValueAt, AreKeptEnds};
+ghost use Rattle.sgf_tree.specs.inner.KeptEnds.{AreKeptEnds};
 
 use crate::fault::MAX_LENGTH;
 use crate::layout::LongValue;
+use crate::quick::kept::kept_end;
 use crate::quick::value::short_value_end;
 use crate::reader::fault::PartFault;
 use memchr::memchr;
@@ -65,7 +66,7 @@ fn read_far_value(text: &[u8], at: usize, long: &mut Vec<LongValue>) -> Result<u
 pub(crate) fn value_end(text: &[u8], at: usize, long: Option<&Vec<LongValue>>) -> Option<usize>
     requires within { at ≤ length text.now }
     requires kept { IfSome long (λ kept. AreKeptEnds text.now kept.now.items) }
-    ensures { MatchOption result (SpellsNoValue text.now at) (IsRawValueAt text.now at) }
+    ensures { MatchOption result (SpellsNoValue text.now at) (IsValueEnd text.now at) }
 {
     match short_value_end(text, at) {
         Some(end) => Some(end),
@@ -78,7 +79,7 @@ pub(crate) fn value_end(text: &[u8], at: usize, long: Option<&Vec<LongValue>>) -
 fn far_end(text: &[u8], at: usize, long: Option<&Vec<LongValue>>) -> Option<usize>
     requires within { at ≤ length text.now }
     requires kept { IfSome long (λ kept. AreKeptEnds text.now kept.now.items) }
-    ensures { MatchOption result (SpellsNoValue text.now at) (IsRawValueAt text.now at) }
+    ensures { MatchOption result (SpellsNoValue text.now at) (IsValueEnd text.now at) }
 {
     if let Some(long) = long {
         if let Some(end) = kept_end(text, at, long) {
@@ -86,30 +87,6 @@ fn far_end(text: &[u8], at: usize, long: Option<&Vec<LongValue>>) -> Option<usiz
         }
     }
     far_value_end(text, at)
-}
-
-/// The offset of the `]` that ends the raw value at `at`, if the value's length was kept. If it is None, nothing is known.
-fn kept_end(text: &[u8], at: usize, long: &[LongValue]) -> Option<usize>
-    requires within { at ≤ length text.now }
-    requires kept { AreKeptEnds text.now long.now }
-    ensures { IfSome result (IsRawValueAt text.now at) }
-{
-    let left = text.len() - at;
-    let mut low = 0;
-    let mut high = long.len();
-    'halves: while low < high {
-        let middle = low + (high - low) / 2;
-        if long[middle].left as usize > left {
-            low = middle + 1;
-        } else {
-            high = middle;
-        }
-    }
-    if low < long.len() && long[low].left as usize == left {
-        Some(at + long[low].bytes as usize)
-    } else {
-        None
-    }
 }
 
 /// The offset of the `]` that ends the raw value at `at`, by searches. None if the text ends before it. This is the plain way.

@@ -1,5 +1,4 @@
-use Rattle.std.proofs.lemmas.Grind.{common_steps}
-use Rattle.std.proofs.Common.{◌+◌, ◌∙◌, sym, arith}
+use Rattle.std.proofs.Common.{◌+◌, arith}
 use Rattle.sgf_tree.proofs.ShortProperties.{after-move, read-to-more, read-to-end, so-far-more, so-far-done}
 use Rattle.sgf_tree.proofs.quick.properties.after_move.Goals as goal
 
@@ -21,12 +20,9 @@ returns-then-text-end-lt65 c =
 
 pub properties-preserved : goal.properties-preserved
 properties-preserved c =
-    let capital = sym c.is_ascii_uppercase.ensures.value ∙ c.if-is_ascii_uppercase.true in
-    so-far-more c.args.text.now c.args.at c.properties.read c.in_ok-read_short_property.field-0 c.with-read.result c.properties.invariant c.properties-test.true capital c.in_ok-read_short_property.ensures
+    let (within, capital) = c.capital_at.ensures.stands c.properties-test.true in
+    so-far-more c.args.text.now c.args.at c.properties.read c.in_ok-read_short_property.field-0 c.with-read.result c.properties.invariant within capital c.in_ok-read_short_property.ensures
     c.with-read.ensures.text_end c.with-read.ensures.end c.with-read.ensures.written.0
 
-pub returns-else-is_ascii_uppercase : goal.returns-else-is_ascii_uppercase
-returns-else-is_ascii_uppercase c = grind (arith, common_steps, so-far-done)
-
-pub returns-after-properties : goal.returns-after-properties
-returns-after-properties c = grind (arith, common_steps, so-far-done)
+pub returns : goal.returns
+returns c = so-far-done c.args.text.now c.args.at c.properties.read c.properties.invariant (c.capital_at.ensures.other c.properties-test.false)

@@ -1,4 +1,4 @@
-use Rattle.std.proofs.Common.{◌≡◌, ◌≢◌, ℕ, ◌+◌, ◌<◌, inl, inr, length, get_or, sym, subst, ◌∙◌, arith}
+use Rattle.std.proofs.Common.{◌≡◌, ℕ, ◌+◌, inl, inr, sym, subst, ◌∙◌, arith}
 use Rattle.std.proofs.lemmas.Result.{err_from_is_err_and}
 use Rattle.sgf_tree.specs.inner.Progress.{EndsNode}
 use Rattle.sgf_tree.specs.inner.PropertiesRead.{ArePropertiesRead}
@@ -8,7 +8,7 @@ use Rattle.sgf_tree.specs.inner.GamesRead.{coming_of}
 use Rattle.sgf_tree.proofs.OwnStretches.{AreAllTold, ended-few, last-rises, last-within, own-told}
 use Rattle.sgf_tree.proofs.OwnRead.{OwnSoFar, move-ends, read-node, read-faulty, own-start, own-more, own-move, own-few, own-game, own-done}
 use Rattle.sgf_tree.proofs.reader.games.read_sequence.Goals as goal
-use Rattle.sgf_tree.proofs.reader.games.read_sequence.Goals.{in-Some, in-None+in_ok-read-in-None, then-nodes-test+else-text-next-eq59, else-nodes-test, then-not-is_written+in_ok-stretch, else-not-is_written}
+use Rattle.sgf_tree.proofs.reader.games.read_sequence.Goals.{in-Some, in-None+in_ok-read-in-None, then-not-is_written+in_ok-stretch, else-not-is_written}
 
 pub nodes-init : goal.nodes-init
 nodes-init g c =
@@ -74,7 +74,8 @@ returns-in_err-read-in-None-clause-fault g c =
     rw (p.1, p.2)
     (λ k after.
     let own = c.nodes.invariant.so_far.each k after in
-    let node = read-node c.args.text.now c.args.at k after c.nodes.next own.nodes own.read c.nodes-test.true c.if-text-next-eq59.true in
+    let stands = c.stands_at.ensures.stands c.nodes-test.true in
+    let node = read-node c.args.text.now c.args.at k after c.nodes.next own.nodes own.read stands.0 stands.1 in
     c.in_err-read-in-None.ensures.fault node.0 node.1.0 node.1.1)
 
 pub take_node-requires-else-in_place-eq-TWO_MOVES-clause-few : goal.take_node-requires-else-in_place-eq-TWO_MOVES-clause-few
@@ -92,6 +93,7 @@ nodes-preserved g c =
     let keeps = g.K.Keeper.keeps t in
     let joined = c.match-short_properties in
     let own = c.in_ok-own-3 in
+    let stands = c.stands_at.ensures.stands c.nodes-test.true in
     let facts : ArePropertiesRead t (c.nodes.next + 1) joined.read × AreKeptEnds t joined.long.items = elim joined.branch [
       | in-Some w ↦ rw (w.read-is, w.long-is) (w.in-Some.ensures, c.nodes.invariant.long)
       | in-None+in_ok-read-in-None w ↦ rw (w.read-is, w.long-is) (w.in_ok-read-in-None.ensures.read, w.in_ok-read-in-None.ensures.kept)
@@ -99,7 +101,7 @@ nodes-preserved g c =
     record {
       so_far =
           own-more t c.args.at (keeps c.args.keeper.now) (keeps c.nodes.keeper) (keeps c.take_node-else-in_place-eq-TWO_MOVES.new.keeper) c.nodes.next c.nodes.own own.own joined.read
-          c.nodes.invariant.so_far c.nodes-test.true c.if-text-next-eq59.true facts.0 (own.ensures.taken t) own.ensures.end own.ensures.count;
+          c.nodes.invariant.so_far stands.0 stands.1 facts.0 (own.ensures.taken t) own.ensures.end own.ensures.count;
       long = facts.1;
     }
 
@@ -108,11 +110,7 @@ returns-then-own-eq0-clause-fault g c k after =
     let t = c.args.text.now in
     let next = c.nodes.next in
     let own = c.nodes.invariant.so_far.each k after in
-    let other : next < length t → get_or t next 0 ≢ 59 = elim c.nodes-test.branch [
-      | then-nodes-test+else-text-next-eq59 w ↦ λ _. w.if-text-next-eq59.false
-      | else-nodes-test w ↦ λ lt. absurd (omega (arith, w.nodes-test.false))
-    ] in
-    read-faulty t c.args.at k after next own.nodes own.read (sym own.are.counted ∙ c.if-own-eq0.true) other
+    read-faulty t c.args.at k after next own.nodes own.read (sym own.are.counted ∙ c.if-own-eq0.true) (c.stands_at.ensures.other c.nodes-test.false)
 
 pub stretch-requires-clause-low : goal.stretch-requires-clause-low
 stretch-requires-clause-low g c =
@@ -155,13 +153,9 @@ returns-clause-read g c =
     let keeps = g.K.Keeper.keeps t in
     let kept = keeps c.args.keeper.now in
     let next = c.nodes.next in
-    let other : next < length t → get_or t next 0 ≢ 59 = elim c.nodes-test.branch [
-      | then-nodes-test+else-text-next-eq59 w ↦ λ _. w.if-text-next-eq59.false
-      | else-nodes-test w ↦ λ lt. absurd (omega (arith, w.nodes-test.false))
-    ] in
     let all : AreAllTold (keeps c.nodes.keeper) (keeps c.if-not-is_written.keeper) c.nodes.own = elim c.if-not-is_written.branch [
       | then-not-is_written+in_ok-stretch w ↦ inr (sym c.is_written.ensures ∙ w.if-not-is_written.true, λ k coming held. rw (w.keeper-is, ← w.last_stretch.ensures) (w.in_ok-stretch.ensures.kept t k coming held))
       | else-not-is_written w ↦ inl (sym c.is_written.ensures ∙ w.if-not-is_written.false, λ k coming held. rw w.keeper-is held)
     ] in
-    own-done t c.args.at kept (keeps c.nodes.keeper) (keeps c.if-not-is_written.keeper) (keeps c.own_nodes.new.self) next c.nodes.own c.nodes.invariant.so_far (omega (arith, c.if-own-eq0.false)) other all
+    own-done t c.args.at kept (keeps c.nodes.keeper) (keeps c.if-not-is_written.keeper) (keeps c.own_nodes.new.self) next c.nodes.own c.nodes.invariant.so_far (omega (arith, c.if-own-eq0.false)) (c.stands_at.ensures.other c.nodes-test.false) all
     (c.in_ok-own_nodes.ensures.kept t)

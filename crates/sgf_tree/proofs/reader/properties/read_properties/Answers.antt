@@ -1,5 +1,5 @@
 use Rattle.std.proofs.lemmas.Grind.{common_steps}
-use Rattle.std.proofs.Common.{◌∙◌, sym, arith}
+use Rattle.std.proofs.Common.{arith}
 use Rattle.std.proofs.lemmas.Result.{err_from_is_err_and}
 use Rattle.sgf_tree.proofs.NodeEnds.{node-name}
 use Rattle.sgf_tree.proofs.ShortProperties.{so-far-begin, so-far-more, so-far-done}
@@ -16,22 +16,22 @@ properties-init c = record {
 pub returns-in_err-property-in-None-clause-fault : goal.returns-in_err-property-in-None-clause-fault
 returns-in_err-property-in-None-clause-fault c =
     let p = err_from_is_err_and c.from_residual.result c.from_residual.ensures.1 in
-    let capital = sym c.is_ascii_uppercase.ensures.value ∙ c.if-is_ascii_uppercase.true in
+    let (within, capital) = c.capital_at.ensures.stands c.properties-test.true in
     rw (p.1, p.2)
-    (λ n none h. c.in_err-property-in-None.ensures.fault _ (node-name c.args.text.now c.properties.read.end _ (c.properties.invariant.so_far.reached n none h).1 c.properties-test.true capital))
+    (λ n none h. c.in_err-property-in-None.ensures.fault _ (node-name c.args.text.now c.properties.read.end _ (c.properties.invariant.so_far.reached n none h).1 within capital))
 
 pub properties-preserved : goal.properties-preserved
 properties-preserved c =
     let t = c.args.text.now in
     let property = c.match-read_short_property.property in
-    let capital = sym c.is_ascii_uppercase.ensures.value ∙ c.if-is_ascii_uppercase.true in
+    let (within, capital) = c.capital_at.ensures.stands c.properties-test.true in
     let read : IsPropertyRead t c.properties.read.end property = elim c.match-read_short_property.branch [
       | in-Some w ↦ rw w.property-is w.in-Some.ensures
       | in-None+in_ok-property-in-None w ↦ rw w.property-is w.in_ok-property-in-None.ensures.read
     ] in
     record {
       so_far =
-          so-far-more t c.args.at c.properties.read property c.with-read.result c.properties.invariant.so_far c.properties-test.true capital read
+          so-far-more t c.args.at c.properties.read property c.with-read.result c.properties.invariant.so_far within capital read
           c.with-read.ensures.text_end c.with-read.ensures.end c.with-read.ensures.written.0;
       kept = elim c.match-read_short_property.branch [
         | in-Some w ↦ rw w.long-is c.properties.invariant.kept
@@ -39,8 +39,5 @@ properties-preserved c =
       ];
     }
 
-pub returns-else-is_ascii_uppercase-clause-read : goal.returns-else-is_ascii_uppercase-clause-read
-returns-else-is_ascii_uppercase-clause-read c = grind (arith, common_steps, so-far-done)
-
-pub returns-after-properties-clause-read : goal.returns-after-properties-clause-read
-returns-after-properties-clause-read c = grind (arith, common_steps, so-far-done)
+pub returns-clause-read : goal.returns-clause-read
+returns-clause-read c = grind (arith, common_steps, so-far-done)

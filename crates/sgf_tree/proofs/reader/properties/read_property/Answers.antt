@@ -1,4 +1,4 @@
-use Rattle.std.proofs.Common.{rules, ◌≡◌, ◌≢◌, ◌<◌, ◌+◌, IsTrue, length, get_or, arith}
+use Rattle.std.proofs.Common.{rules, ◌≡◌, ◌+◌, IsTrue, arith}
 use Rattle.std.proofs.Math.Dec.{eqb}
 use Rattle.std.proofs.lemmas.Bool.{and_parts, eqb-true}
 use Rattle.sgf_tree.specs.Spelling.{is_upper}
@@ -9,7 +9,7 @@ use Rattle.sgf_tree.proofs.ShortProperties.{property-read}
 use Rattle.sgf_tree.proofs.ValuesRead.{ValuesBefore, values-begin, values-step, values-more}
 use Rattle.sgf_tree.proofs.WrittenParts.{values-none, values-one}
 use Rattle.sgf_tree.proofs.reader.properties.read_property.Goals as goal
-use Rattle.sgf_tree.proofs.reader.properties.read_property.Goals.{After-skip_white_space-end, then-end-text-via-then-end-text, then-end-text-via-else-end-text+then-text-end-ne91}
+use Rattle.sgf_tree.proofs.reader.properties.read_property.Goals.{After-skip_white_space-end}
 
 pub values-init : goal.values-init
 values-init c =
@@ -46,30 +46,22 @@ written c is =
           stands.within stands.bracket value.rises value.within value.bracket value.spelled,
     )
 
-pub returns-then-end-text-clause-read : goal.returns-then-end-text-clause-read
-returns-then-end-text-clause-read c =
+pub returns-then-not-stands_at-clause-read : goal.returns-then-not-stands_at-clause-read
+returns-then-not-stands_at-clause-read c =
     let text_end = c.in_ok-text_end.field-0 + 1 in
-    let end = c.skip_white_space-end.result in
-    let t = c.args.text.now in
-    let name = c.in_ok-name.ensures.read in
-    let value = c.in_ok-text_end.ensures.read in
-    let step = (goal.at.returns-then-end-text-clause-read c).After-skip_white_space-end in
-    let other : end < length t → get_or t end 0 ≢ 91 = elim c.then-end-text.branch [
-      | then-end-text-via-then-end-text w ↦ λ lt. absurd (omega (arith, w.if-end-text.true))
-      | then-end-text-via-else-end-text+then-text-end-ne91 w ↦ λ _. w.if-text-end-ne91.true
-    ] in
-    property-read t c.args.start c.in_ok-name.name.end (record { text_end = text_end; end = end; as_written = c.values.as_written }) name (read step) (omega (arith, c.values.invariant.so_far.rises, value.rises))
-    c.skip_white_space-end.ensures other (written step)
+    let end = c.skip_white_space-end in
+    let step = (goal.at.returns-then-not-stands_at-clause-read c).After-skip_white_space-end in
+    property-read c.args.text.now c.args.start c.in_ok-name.name.end (record { text_end = text_end; end = end.result; as_written = c.values.as_written }) c.in_ok-name.ensures.read (read step)
+    (omega (arith, c.values.invariant.so_far.rises, c.in_ok-text_end.ensures.read.rises)) end.ensures (c.stands_at.ensures.other c.if-not-stands_at.true) (written step)
 
 pub values-preserved : goal.values-preserved
 values-preserved c =
     let end = c.skip_white_space-end.result in
-    let t = c.args.text.now in
-    let lt : end < length t = omega (arith, c.skip_white_space-end.ensures.within) in
+    let (within, bracket) = c.stands_at.ensures.stands c.if-not-stands_at.false in
     let step = (goal.at.values-preserved c).After-skip_white_space-end in
     record {
-      stands = record { within = lt; bracket = c.if-text-end-ne91.false };
-      so_far = values-more t c.in_ok-name.name.end end (read step) lt c.if-text-end-ne91.false;
+      stands = record { within = within; bracket = bracket };
+      so_far = values-more c.args.text.now c.in_ok-name.name.end end (read step) within bracket;
       written = λ is.
           let (earlier, last) = and_parts c.values.as_written (eqb end (c.in_ok-text_end.field-0 + 1)) is in
           let same : end ≡ c.in_ok-text_end.field-0 + 1 = eqb-true end (c.in_ok-text_end.field-0 + 1) last in

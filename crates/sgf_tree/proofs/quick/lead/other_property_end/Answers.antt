@@ -2,7 +2,7 @@ use Rattle.std.proofs.Common.{◌≡◌, ◌+◌, subst, arith}
 use Rattle.sgf_tree.specs.inner.Progress.{IsValueEnd}
 use Rattle.sgf_tree.proofs.Leading.{other-property}
 use Rattle.sgf_tree.proofs.ShortProperties.{two-value}
-use Rattle.sgf_tree.proofs.reader.lead.other_property_end.Goals as goal
+use Rattle.sgf_tree.proofs.quick.lead.other_property_end.Goals as goal
 
 pub returns-clause-other : goal.returns-clause-other
 returns-clause-other c =

@@ -1,5 +1,5 @@
 use Rattle.sgf_tree.proofs.Leading.{others-none, others-more, others-end}
-use Rattle.sgf_tree.proofs.reader.lead.others_end.Goals as goal
+use Rattle.sgf_tree.proofs.quick.lead.others_end.Goals as goal
 
 pub properties-init : goal.properties-init
 properties-init c = others-none c.args.names.now c.args.text.now c.args.at c.requires

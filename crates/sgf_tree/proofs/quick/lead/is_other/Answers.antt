@@ -2,7 +2,7 @@ use Rattle.std.proofs.Common.{◌≢◌, All, List, ℕ, [], ◌∙◌, get_or, 
 use Rattle.std.proofs.lemmas.List.{take_all}
 use Rattle.std.proofs.lemmas.List.Elements.{All-more}
 use Rattle.std.specs.Cmp.Lexicographic.{other_text}
-use Rattle.sgf_tree.proofs.reader.lead.is_other.Goals as goal
+use Rattle.sgf_tree.proofs.quick.lead.is_other.Goals as goal
 
 pub loop-other-preserved : goal.loop-other-preserved
 loop-other-preserved c =

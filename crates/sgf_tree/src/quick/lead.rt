@@ -2,10 +2,11 @@
 
 ghost use Rattle.std.specs.Prelude.{◌≡◌, ◌≢◌, ◌≤◌, ◌<◌, length, All, IsTrue, IfSome};
 ghost use Rattle.sgf_tree.specs.inner.Lead.{IsLedNode, IsEmptyNode, AreOthers, IsOtherProperty};
+ghost use Rattle.sgf_tree.specs.inner.Progress.{IsNodeEnd};
 
-use crate::quick::front::node_end;
 use crate::quick::moves::moves_in_place;
 use crate::quick::properties::near_property_close;
+use crate::reader::scan::skip_white_space;
 
 /// Where the node ends that the text begins with, after any white space, if it is written like `;B[pd]BL[921.325]OB[3]`: a move, and then
 /// perhaps short properties whose names aren't among `names`. If it is None, nothing is known.
@@ -45,6 +46,19 @@ fn others_end(text: &[u8], at: usize, names: &[[u8; 2]]) -> Option<usize>
         }
     }
     node_end(text, end)
+}
+
+/// Where a node ends, at `at` or after white space there.
+fn node_end(text: &[u8], at: usize) -> Option<usize>
+    requires { at ≤ length text.now }
+    ensures { IfSome result (IsNodeEnd text.now at) }
+{
+    let end = skip_white_space(text, at);
+    if end < text.len() && text[end] < b'A' {
+        Some(end)
+    } else {
+        None
+    }
 }
 
 /// The end of the first value of the property whose name begins at `start`, if the name is two capitals and isn't among `names`, if this
