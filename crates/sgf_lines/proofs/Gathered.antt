@@ -9,7 +9,7 @@ use Rattle.std.proofs.lemmas.List.Folds.{find-append}
 use Rattle.std.proofs.lemmas.Bool.{cases_Bool, false_from_ne_true}
 use Rattle.std.proofs.lemmas.Slice.Eq.{bytes_eq-Decides}
 use Rattle.std.proofs.lemmas.List.Elements.{All-nil, All-head, All-tail, All-weaker}
-use Rattle.sgf_tree.specs.Tree.{Property, Node, values, lone_property}
+use Rattle.sgf_tree.specs.Tree.{Property, Node, values, lone_property, told_property}
 use Rattle.sgf_tree.specs.declared.walk.NextNode.{NextNode}
 use Rattle.sgf_tree.specs.declared.walk.NextNode.TheVariants.{Led, Empty as EmptyNode, Open}
 use Rattle.sgf_tree.specs.Lead.{IsOtherName, IsLedBy}
@@ -28,7 +28,7 @@ use Rattle.sgf_lines.specs.declared.judging.contents.Kind.{Kind}
 use Rattle.sgf_lines.specs.declared.judging.contents.Kind.TheVariants.{Move as move_kind, Stones as stones_kind, Player as player_kind, Comment as comment_kind}
 use Rattle.sgf_lines.specs.NodeContents.{Move, Stones, moves_in, moves_by, stones_in, stones_of, players_in, is_named, first_value}
 use Rattle.sgf_lines.specs.NodeValues.{player_value, operation, operations, last_player}
-use Rattle.sgf_lines.specs.inner.Gathered.{kind_of, AreMoves, IsSetup, setup_with_stones, setup_with_player, AddsAreas, HoldsAlone, IsGathered, told_property, ComesAs}
+use Rattle.sgf_lines.specs.inner.Gathered.{kind_of, AreMoves, IsSetup, setup_with_stones, setup_with_player, AddsAreas, HoldsAlone, IsGathered, ComesAs}
 
 -- one operation before others, and all of two lists, where each is there
 abbrev before_all : Option SetupOp → Option (List SetupOp) → Option (List SetupOp)

@@ -1,5 +1,6 @@
 -- What a Smart Game Format text holds: a collection of game trees (SGF FF[4], EBNF).
-use Rattle.std.specs.Prelude.{ℕ, ◌+◌, List, [], ◌∷◌, length}
+use Rattle.std.specs.Prelude.{ℕ, ◌+◌, Option, List, [], ◌∷◌, length, option_map, option_to_list}
+use Rattle.std.specs.Borrow.{Bor}
 
 -- a property: its name, and its raw values, at least one
 pub record Property : Type 0 where
@@ -14,6 +15,10 @@ values p = p.first ∷ p.more
 -- the property with a name of one letter and with one raw value
 abbrev pub lone_property : ℕ → List ℕ → Property
 lone_property letter value = record { name = letter ∷ []; first = value; more = [] }
+
+-- the property that was told by its letter and its raw value, or none
+abbrev pub told_property : Option (ℕ × Bor (List ℕ)) → List Property
+told_property told = option_to_list (option_map (λ lone. lone_property lone.0 lone.1.now) told)
 
 -- a node: its place (the offset of its `;` in the text, in bytes from 0), and its properties
 pub record Node : Type 0 where

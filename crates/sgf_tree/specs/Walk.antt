@@ -1,6 +1,6 @@
 -- How a node comes that is taken off a sequence.
-use Rattle.std.specs.Prelude.{◌≡◌, ℕ, List, [], ◌++◌, option_map, option_to_list}
-use Rattle.sgf_tree.specs.Tree.{Property, Node, lone_property}
+use Rattle.std.specs.Prelude.{◌≡◌, ℕ, List, [], ◌++◌}
+use Rattle.sgf_tree.specs.Tree.{Property, Node, lone_property, told_property}
 use Rattle.sgf_tree.specs.Lead.{IsLedBy}
 use Rattle.sgf_tree.specs.declared.walk.NextNode.{NextNode}
 use Rattle.sgf_tree.specs.declared.walk.NextNode.TheVariants.{Led, Empty, Open}
@@ -11,5 +11,4 @@ abbrev pub IsTakenOff : List (List ℕ) → Node → List Property → NextNode 
 IsTakenOff names node left (Led place letter value) =
     (node.place ≡ place) × IsLedBy names (lone_property letter value.now) node.properties × (left ≡ [])
 IsTakenOff names node left (Empty place) = (node.place ≡ place) × (node.properties ≡ []) × (left ≡ [])
-IsTakenOff names node left (Open place front) =
-    (node.place ≡ place) × (node.properties ≡ option_to_list (option_map (λ lone. lone_property lone.0 lone.1.now) front) ++ left)
+IsTakenOff names node left (Open place front) = (node.place ≡ place) × (node.properties ≡ told_property front ++ left)

@@ -1,8 +1,7 @@
 -- What is gathered from a node's properties, one after the other.
-use Rattle.std.specs.Prelude.{◌≡◌, ◌⊎◌, ◌<◌, ◌+◌, ℕ, Bool, true, false, if◌then◌else◌, Option, Some, None, List, [], ◌∷◌, ◌++◌, length, All, MatchBool, codes, bytes_eq, option_copied, option_map, option_to_list}
-use Rattle.std.specs.Borrow.{Bor}
+use Rattle.std.specs.Prelude.{◌≡◌, ◌⊎◌, ◌<◌, ◌+◌, ℕ, Bool, true, false, if◌then◌else◌, Option, Some, None, List, [], ◌∷◌, ◌++◌, length, All, MatchBool, codes, bytes_eq, option_copied}
 use Rattle.std.specs.List.{flat_map}
-use Rattle.sgf_tree.specs.Tree.{Property, Node, lone_property}
+use Rattle.sgf_tree.specs.Tree.{Property, Node, lone_property, told_property}
 use Rattle.sgf_tree.specs.declared.walk.NextNode.{NextNode}
 use Rattle.sgf_tree.specs.declared.walk.NextNode.TheVariants.{Led, Empty as EmptyNode, Open}
 use Rattle.go_board.specs.declared.stones.Colour.{Colour}
@@ -39,10 +38,6 @@ pub record HoldsAlone (first : Property) (properties : List Property) : Type 0 w
   pub rest : List Property
   pub all : properties ≡ first ∷ rest
   pub nothing : All (λ property. kind_of property ≡ None) rest
-
--- a property that was told, by its letter and its raw value
-abbrev pub told_property : Option (ℕ × Bor (List ℕ)) → List Property
-told_property told = option_to_list (option_map (λ lone. lone_property lone.0 lone.1.now) told)
 
 -- how a node comes of which these properties are left; if it is recognized, these don't matter
 abbrev pub ComesAs : Node → List Property → NextNode → Type 0

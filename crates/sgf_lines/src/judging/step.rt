@@ -1,12 +1,12 @@
 //! A node's step on a referee.
 
 ghost use Rattle.std.specs.Prelude.{◌≡◌, ◌<◌, ◌⊎◌, ◌++◌, [], List, length, All, IfOk, IsSome, Ok};
-ghost use Rattle.sgf_tree.specs.Tree.{Node, Property};
+ghost use Rattle.sgf_tree.specs.Tree.{Node, Property, told_property};
 ghost use Rattle.go_board.specs.Point.{IsRectOn};
 ghost use Rattle.go_board.specs.State.{set_up as set_up_rule};
 ghost use Rattle.sgf_lines.specs.NodeValues.{move_value as move_value_rule};
 ghost use Rattle.sgf_lines.specs.Step.{step, move_step};
-ghost use Rattle.sgf_lines.specs.inner.Gathered.{IsGathered, ComesAs, told_property};
+ghost use Rattle.sgf_lines.specs.inner.Gathered.{IsGathered, ComesAs};
 ghost use Rattle.sgf_lines.specs.inner.Judging.{IsStepped, IsStepOf, IsEffect, IsMoveOf, setup_effect};
 
 use crate::judging::contents::{Contents, Moves, Setup, gathered};

@@ -1,6 +1,7 @@
 -- The buffer is empty at first.
 use Rattle.std.proofs.Common.{sym, subst, refl}
-use Rattle.sgf_lines.specs.inner.Gathered.{IsGathered, told_property}
+use Rattle.sgf_tree.specs.Tree.{told_property}
+use Rattle.sgf_lines.specs.inner.Gathered.{IsGathered}
 use Rattle.sgf_lines.proofs.judging.contents.gathered.Goals as goal
 
 pub loop-property-init : goal.loop-property-init

@@ -1,7 +1,7 @@
 -- What is told is what the properties hold that were taken off.
 use Rattle.std.proofs.Common.{◌≡◌, ◌++◌, List, length}
-use Rattle.sgf_tree.specs.Tree.{Property}
-use Rattle.sgf_lines.specs.inner.Gathered.{IsGathered, told_property}
+use Rattle.sgf_tree.specs.Tree.{Property, told_property}
+use Rattle.sgf_lines.specs.inner.Gathered.{IsGathered}
 use Rattle.sgf_lines.proofs.judging.contents.gathered.Given as goal
 
 abbrev pub invariant-loop-property : goal.invariant-loop-property
