@@ -11,6 +11,7 @@ use Rattle.sgf_tree.specs.inner.OwnNodes.{Coming, nothing, AreOwnNodes, own_of, 
 use Rattle.sgf_tree.specs.declared.layout.OwnNodes.{OwnNodes}
 use Rattle.sgf_tree.specs.declared.layout.Stretch.{Stretch}
 use Rattle.sgf_tree.specs.declared.reader.properties.PartRead.{PartRead}
+use Rattle.sgf_tree.proofs.ShortProperties.{straight, lone-read}
 use Rattle.sgf_tree.proofs.OwnStretches.{AreAllTold, own-none, own-told}
 use Rattle.sgf_tree.proofs.SequencesRead.{NodesSoFar, nodes-first, nodes-next, nodes-node, nodes-done, place-node, place-faulty}
 
@@ -88,13 +89,15 @@ module _ (t : List ℕ) (at : ℕ) where
         }
 
     -- one move more, as in `;B[pd]`
-    pub own-move : (keeps keeps' : Stack → Coming → Type 0) (place : ℕ) (own own' : OwnNodes) (read : PartRead) → OwnSoFar kept keeps place own
-        → IsMoveNode t place → EndsNode t (place + 6) → read ≡ record { text_end = place + 6; end = place + 6; as_written = true }
-        → ArePropertiesRead t (place + 1) read → TakesNode keeps keeps' t own place read own'
-        → own'.end ≡ read.text_end → own'.count ≡ own.count + 1 → OwnSoFar kept keeps' (place + 6) own'
-    own-move keeps keeps' place own own' read so_far move ends is properties more end_is count_is =
+    pub own-move : (keeps keeps' : Stack → Coming → Type 0) (place end : ℕ) (own own' : OwnNodes) (read : PartRead) → OwnSoFar kept keeps place own
+        → IsMoveNode t place → EndsNode t end → place + 6 ≡ end → read ≡ record { text_end = end; end = end; as_written = true }
+        → TakesNode keeps keeps' t own place read own' → own'.end ≡ read.text_end → own'.count ≡ own.count + 1 → OwnSoFar kept keeps' end own'
+    own-move keeps keeps' place end own own' read so_far node ends to is more end_is count_is =
+        let six : place + 1 + 5 ≡ end = omega arith in
+        let alone : ArePropertiesRead t (place + 1) (straight end end) =
+        subst (λ i. ArePropertiesRead t (place + 1) (straight i i)) six (lone-read t (place + 1) node.move (subst (EndsNode t) (sym six) ends)) in
         subst (λ (i : ℕ). OwnSoFar kept keeps' i own') (ap (λ (r : PartRead). r.end) is)
-        (own-more keeps keeps' place own own' read so_far (omega (arith, ends.within)) move.begins properties more end_is count_is)
+        (own-more keeps keeps' place own own' read so_far (omega (arith, ends.within)) node.begins (subst (ArePropertiesRead t (place + 1)) (sym is) alone) more end_is count_is)
 
     -- there are no more nodes than bytes
     pub own-few : (keeps : Stack → Coming → Type 0) (end : ℕ) (own : OwnNodes) (so_far : OwnSoFar kept keeps end own) (k : Stack)

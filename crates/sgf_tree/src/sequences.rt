@@ -173,8 +173,6 @@ impl Keeper for Sequences {
         if let Some(innermost) = self.innermost {
             self.innermost = self.table[innermost as usize].outer();
         }
-        if depth == 0 {
-            self.games += 1;
-        }
+        self.games += u32::from(depth == 0);
     }
 }

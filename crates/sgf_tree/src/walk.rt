@@ -117,7 +117,7 @@ impl<'c, 'a> SequenceNodes<'c, 'a> {
         Some(self.open())
     }
 
-    /// The same for a node that isn't recognized. There must be a node.
+    /// The same for a node that isn't recognized. There must be a node. This is the plain way.
     // Not inlined: it is called for few nodes.
     #[inline(never)]
     fn open(&mut self) -> NextNode<'a>

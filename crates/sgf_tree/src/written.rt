@@ -1,5 +1,7 @@
 //! Writing a node as the sgf form does. Text that already has that form is appended as it is. The rest is appended part by part.
 
+#![tactic(auto, using(crate::proofs::GoingOn::goes_on_on))]
+
 ghost use Rattle.std.specs.Prelude.{◌≡◌, ◌++◌, OnOk, drop};
 ghost use Rattle.std.specs.List.{flat_map};
 ghost use Rattle.sgf_tree.specs.Written.{value_text, property_text, node_text};
@@ -15,7 +17,6 @@ use crate::reader::scan::part;
 
 /// Appends the `;` of the node that the text begins with, and its properties.
 /// After a refusal of memory some of these may be appended.
-#[tactic(auto, using(crate::proofs::GoingOn::goes_on_on))]
 pub(crate) fn push_node(
     text: &[u8],
     long: &Vec<LongValue>,
@@ -33,7 +34,6 @@ pub(crate) fn push_node(
 
 /// Appends properties: those that are written as the sgf form writes them in one piece, and others part by part. After a refusal of memory
 /// some of them may be appended.
-#[tactic(auto, using(crate::proofs::GoingOn::goes_on_on))]
 fn push_properties(properties: Properties<'_, '_>, out: &mut Vec<u8>) -> Result<(), MemoryFault>
     ensures appended { OnOk result (out.new.items ≡ out.old.items ++ flat_map property_text properties.entry) }
     ensures goes_on { GoesOn out.old.items out.new.items }
@@ -48,8 +48,7 @@ fn push_properties(properties: Properties<'_, '_>, out: &mut Vec<u8>) -> Result<
     }
 }
 
-/// Appends the name of a property and its values. After a refusal of memory some of these may be appended.
-#[tactic(auto, using(crate::proofs::GoingOn::goes_on_on))]
+/// Appends the name of a property and its values. This is the plain way. After a refusal of memory some of these may be appended.
 fn push_property(property: &PropRef<'_>, out: &mut Vec<u8>) -> Result<(), MemoryFault>
     ensures appended { OnOk result (out.new.items ≡ out.old.items ++ property_text property.now) }
     ensures goes_on { GoesOn out.old.items out.new.items }
@@ -62,7 +61,6 @@ fn push_property(property: &PropRef<'_>, out: &mut Vec<u8>) -> Result<(), Memory
 }
 
 /// Appends a raw value between brackets. After a refusal of memory some of it may be appended.
-#[tactic(auto, using(crate::proofs::GoingOn::goes_on_on))]
 fn push_value(value: &[u8], out: &mut Vec<u8>) -> Result<(), MemoryFault>
     ensures appended { OnOk result (out.new.items ≡ out.old.items ++ value_text value.now) }
     ensures goes_on { GoesOn out.old.items out.new.items }

@@ -1,12 +1,9 @@
 //! Nodes such as `;B[pd]`: sixteen bytes are compared at once, each with the least and the greatest byte that may stand in its place.
 
-ghost use Rattle.std.specs.Prelude.{◌≡◌, true, ◌<◌, ◌≤◌, ◌+◌, ◌%◌, ℕ, List, length};
+ghost use Rattle.std.specs.Prelude.{◌≡◌, ◌≤◌, ◌+◌, ◌%◌, length};
 ghost use Rattle.sgf_tree.specs.inner.Progress.{IsMoveNode, EndsNode};
-ghost use Rattle.sgf_tree.specs.inner.PropertiesRead.{ArePropertiesRead};
 
-use crate::fault::MAX_LENGTH;
 use crate::quick::value::NEAR;
-use crate::reader::properties::PartRead;
 use std::simd::prelude::*;
 
 /// What `moves_in_place` returns for two moves, one after the other.
@@ -35,13 +32,4 @@ pub(crate) fn moves_in_place(text: &[u8], at: usize) -> u64
     (u8x16::from_slice(&text[at..]) - least)
         .simd_le(above)
         .to_bitmask()
-}
-
-/// How far a node such as `;B[pd]` was read, whose `;` is at `place` and after which a node ends at once.
-pub(crate) fn move_read(place: usize) -> PartRead
-    requires { place < MAX_LENGTH }
-    ensures is { result ≡ record { text_end = place + 6; end = place + 6; as_written = true } }
-    ensures read { (text : List ℕ) → IsMoveNode text place → EndsNode text (place + 6) → ArePropertiesRead text (place + 1) result }
-{
-    PartRead::to(place + 6)
 }

@@ -1,13 +1,10 @@
 //! Values such as `[pd]`, by tens of which stones are set up: four are compared at once, in place of reading each.
 
-ghost use Rattle.std.specs.Prelude.{◌≡◌, ◌≤◌, ◌+◌, length, IsTrue};
+ghost use Rattle.std.specs.Prelude.{◌≤◌, ◌+◌, length, IsTrue};
 ghost use Rattle.sgf_tree.specs.inner.Progress.{ArePoints, IsBracket};
 
 use crate::quick::value::NEAR;
 use std::simd::prelude::*;
-
-/// What `points_in_place` returns for four values such as `[pd]`, one after the other.
-const FOUR_POINTS: u64 = 65535;
 
 /// The offset after values such as `[pd]` which stand from `at` on, as far as they are found. If a `[` is at `at`, another value begins there.
 pub(crate) fn past_points(text: &[u8], at: usize) -> usize
@@ -31,16 +28,10 @@ fn are_four_points(text: &[u8], at: usize) -> bool
     ensures four { IsTrue result → ArePoints text.now at (at + 16) }
     ensures within { IsTrue result → at + NEAR ≤ length text.now }
 {
-    // The first test is cheap, and fails for most values.
-    text.len() - at >= NEAR && text[at + 3] == b']' && points_in_place(text, at) == FOUR_POINTS
-}
-
-/// Which of the bytes at `at` are as in `[pd][dd][cf][qq]`, all compared at once.
-#[inline(always)]
-fn points_in_place(text: &[u8], at: usize) -> u64
-    requires { at + NEAR ≤ length text.now }
-    ensures { result ≡ FOUR_POINTS → ArePoints text.now at (at + 16) }
-{
+    // This test is cheap, and fails for most values.
+    if text.len() - at < NEAR || text[at + 3] != b']' {
+        return false;
+    }
     // A byte is in place if it is at most so much above the least one. This wraps, so only `\` and `]` aren't plain.
     let least = u8x16::from_array([
         b'[', 94, 94, b']', b'[', 94, 94, b']', b'[', 94, 94, b']', b'[', 94, 94, b']',
@@ -48,7 +39,8 @@ fn points_in_place(text: &[u8], at: usize) -> u64
     let above = u8x16::from_array([
         0, 253, 253, 0, 0, 253, 253, 0, 0, 253, 253, 0, 0, 253, 253, 0,
     ]);
-    (u8x16::from_slice(&text[at..]) - least)
+    let in_place = (u8x16::from_slice(&text[at..]) - least)
         .simd_le(above)
-        .to_bitmask()
+        .to_bitmask();
+    in_place == 65535
 }

@@ -11,7 +11,7 @@ ghost use Rattle.sgf_tree.specs.declared.layout.Stretch.{Stretch};
 
 use crate::fault::{MAX_LENGTH, MemoryFault};
 use crate::layout::{LongValue, OwnNodes};
-use crate::quick::moves::{TWO_MOVES, move_read, moves_in_place};
+use crate::quick::moves::{TWO_MOVES, moves_in_place};
 use crate::quick::properties::short_properties;
 use crate::reader::fault::PartFault;
 use crate::reader::keeper::Keeper;
@@ -86,8 +86,8 @@ fn read_sequence<K: Keeper>(
     'nodes: while stands_at(text, next, b';') {
         let in_place = moves_in_place(text, next);
         if in_place == TWO_MOVES {
-            own = take_node(own, next, move_read(next), keeper)?;
-            own = take_node(own, next + 6, move_read(next + 6), keeper)?;
+            own = take_node(own, next, PartRead::to(next + 6), keeper)?;
+            own = take_node(own, next + 6, PartRead::to(next + 12), keeper)?;
             next += 12;
         } else {
             let read = match short_properties(text, next + 1, in_place % 64 == 63) {
@@ -126,11 +126,11 @@ fn take_node<K: Keeper>(
 {
     if own.goes_on(place, read) {
         keeper.node(place)?;
-        return Ok(own.with_next(place, read));
+        return Ok(own.with_node(place, read.text_end, own.start, own.written));
     }
     if own.count > 0 {
         keeper.stretch(own.last_stretch(false))?;
     }
     keeper.node(place)?;
-    Ok(own.with_apart(place, read))
+    Ok(own.with_node(place, read.text_end, place, read.as_written))
 }

@@ -29,31 +29,18 @@ impl OwnNodes {
         self.written & (self.end == place) & read.as_written
     }
 
-    /// One node more, which goes on with the last stretch. Its `;` is at `place`, and its properties were read so far.
-    pub(crate) fn with_next(self, place: usize, read: PartRead) -> OwnNodes
+    /// One node more. Its `;` is at `place`, and its text ends at `end`. The last stretch begins at `start` then, and is `written` or not.
+    pub(crate) fn with_node(self, place: usize, end: usize, start: usize, written: bool) -> OwnNodes
         requires few { self.count < MAX_LENGTH }
-        ensures { result ≡ record { first = self.first; last = place; end = read.text_end; count = self.count + 1; start = self.start; written = self.written } }
-    {
-        OwnNodes {
-            last: place,
-            end: read.text_end,
-            count: self.count + 1,
-            ..self
-        }
-    }
-
-    /// One node more, with which a stretch begins.
-    pub(crate) fn with_apart(self, place: usize, read: PartRead) -> OwnNodes
-        requires few { self.count < MAX_LENGTH }
-        ensures { result ≡ record { first = self.first; last = place; end = read.text_end; count = self.count + 1; start = place; written = read.as_written } }
+        ensures { result ≡ record { first = self.first; last = place; end = end; count = self.count + 1; start = start; written = written } }
     {
         OwnNodes {
             first: self.first,
             last: place,
-            end: read.text_end,
+            end,
             count: self.count + 1,
-            start: place,
-            written: read.as_written,
+            start,
+            written,
         }
     }
 

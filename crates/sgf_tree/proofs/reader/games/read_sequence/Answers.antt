@@ -1,12 +1,11 @@
-use Rattle.std.proofs.Common.{◌≡◌, ℕ, ◌+◌, inl, inr, sym, subst, ◌∙◌, arith}
+use Rattle.std.proofs.Common.{refl, ◌+◌, inl, inr, sym, ◌∙◌, arith}
 use Rattle.std.proofs.lemmas.Result.{err_from_is_err_and}
-use Rattle.sgf_tree.specs.inner.Progress.{EndsNode}
 use Rattle.sgf_tree.specs.inner.PropertiesRead.{ArePropertiesRead}
 use Rattle.sgf_tree.specs.inner.KeptEnds.{AreKeptEnds}
 use Rattle.sgf_tree.specs.inner.OwnNodes.{own_of}
 use Rattle.sgf_tree.specs.inner.GamesRead.{coming_of}
 use Rattle.sgf_tree.proofs.OwnStretches.{AreAllTold, ended-few, last-rises, last-within, own-told}
-use Rattle.sgf_tree.proofs.OwnRead.{OwnSoFar, move-ends, read-node, read-faulty, own-start, own-more, own-move, own-few, own-game, own-done}
+use Rattle.sgf_tree.proofs.OwnRead.{move-ends, read-node, read-faulty, own-start, own-more, own-move, own-few, own-game, own-done}
 use Rattle.sgf_tree.proofs.reader.games.read_sequence.Goals as goal
 use Rattle.sgf_tree.proofs.reader.games.read_sequence.Goals.{in-Some, in-None+in_ok-read-in-None, then-not-is_written+in_ok-stretch, else-not-is_written}
 
@@ -33,11 +32,9 @@ take_node-requires-then-in_place-eq-TWO_MOVES-clause-few g c =
     let moves = c.moves_in_place-in_place.ensures in
     let all = c.if-in_place-eq-TWO_MOVES.true in
     let first = moves.first (omega (arith, all)) in
-    let between = move-ends t (c.nodes.next + 6) (moves.second all) in
-    let one = c.move_read.ensures in
     let taken = c.in_ok-own.ensures in
-    let so_far = own-move t c.args.at kept (keeps c.nodes.keeper) (keeps c.take_node.new.keeper) c.nodes.next c.nodes.own c.in_ok-own.own c.move_read.result c.nodes.invariant.so_far
-    first between one.is (one.read t first between) (taken.taken t) taken.end taken.count in
+    let so_far = own-move t c.args.at kept (keeps c.nodes.keeper) (keeps c.take_node.new.keeper) c.nodes.next (c.nodes.next + 6) c.nodes.own c.in_ok-own.own c.to.result c.nodes.invariant.so_far
+    first (move-ends t (c.nodes.next + 6) (moves.second all)) refl c.to.ensures (taken.taken t) taken.end taken.count in
     let own = so_far.each o.0 o.1 in
     (t, o.0, own.nodes, own.ended, own.holds o.2, own.are, c.requires.short, own-few t c.args.at kept (keeps c.take_node.new.keeper) (c.nodes.next + 6) c.in_ok-own.own so_far o.0 o.3)
 
@@ -50,21 +47,14 @@ nodes-preserved-then-in_place-eq-TWO_MOVES g c =
     let kept = keeps c.args.keeper.now in
     let moves = c.moves_in_place-in_place.ensures in
     let all = c.if-in_place-eq-TWO_MOVES.true in
-    let first = moves.first (omega (arith, all)) in
     let second = moves.second all in
-    let between = move-ends t (next + 6) second in
-    let twelve : next + 6 + 6 ≡ next + 12 = omega arith in
-    let ends = subst (λ (i : ℕ). EndsNode t i) (sym twelve) (moves.ends all) in
-    let one = c.move_read.ensures in
-    let other = c.move_read-then-in_place-eq-TWO_MOVES.ensures in
     let taken = c.in_ok-own.ensures in
     let takes = c.in_ok-own-2.ensures in
-    let to_one = own-move t at kept (keeps c.nodes.keeper) (keeps c.take_node.new.keeper) next c.nodes.own c.in_ok-own.own c.move_read.result c.nodes.invariant.so_far
-    first between one.is (one.read t first between) (taken.taken t) taken.end taken.count in
-    let to_other = own-move t at kept (keeps c.take_node.new.keeper) (keeps c.take_node-then-in_place-eq-TWO_MOVES.new.keeper) (next + 6) c.in_ok-own.own c.in_ok-own-2.own
-    c.move_read-then-in_place-eq-TWO_MOVES.result to_one second ends other.is (other.read t second ends) (takes.taken t) takes.end takes.count in
+    let to_one = own-move t at kept (keeps c.nodes.keeper) (keeps c.take_node.new.keeper) next (next + 6) c.nodes.own c.in_ok-own.own c.to.result c.nodes.invariant.so_far
+    (moves.first (omega (arith, all))) (move-ends t (next + 6) second) refl c.to.ensures (taken.taken t) taken.end taken.count in
     record {
-      so_far = subst (λ (i : ℕ). OwnSoFar t at kept (keeps c.take_node-then-in_place-eq-TWO_MOVES.new.keeper) i c.in_ok-own-2.own) twelve to_other;
+      so_far = own-move t at kept (keeps c.take_node.new.keeper) (keeps c.take_node-then-in_place-eq-TWO_MOVES.new.keeper) (next + 6) (next + 12) c.in_ok-own.own c.in_ok-own-2.own
+          c.to-then-in_place-eq-TWO_MOVES.result to_one second (moves.ends all) (omega arith) c.to-then-in_place-eq-TWO_MOVES.ensures (takes.taken t) takes.end takes.count;
       long = c.nodes.invariant.long;
     }
 

@@ -14,7 +14,7 @@ returns-then-goes_on-clause-taken g c t k nodes ended node so_far first ends sam
     let (earlier, at_end) = and_parts own.written (eqb own.end c.args.place) both in
     record {
       ended = ended;
-      are = rw c.with_next.ensures (own-next t own nodes ended so_far c.args.place c.args.read node first ends same lt semicolon text earlier (eqb-true own.end c.args.place at_end) last);
+      are = rw c.with_node.ensures (own-next t own nodes ended so_far c.args.place c.args.read node first ends same lt semicolon text earlier (eqb-true own.end c.args.place at_end) last);
       holds = λ held. with-node (g.K.Keeper.keeps t c.node.new.self k) nodes ended node c.args.place same (c.in_ok-node.ensures.kept t k (coming_of nodes ended) held lt);
     }
 
@@ -25,12 +25,12 @@ returns-clause-taken g c t k nodes ended node so_far first ends same lt semicolo
     elim c.if-own-gt0.branch [
       | then-own-gt0+in_ok-stretch w ↦ record {
         ended = ended ++ last_of c.args.own false ∷ [];
-        are = rw c.with_apart.ensures (own-ends t c.args.own nodes ended so_far c.args.place c.args.read node first ends same lt semicolon text w.if-own-gt0.true);
+        are = rw c.with_node-2.ensures (own-ends t c.args.own nodes ended so_far c.args.place c.args.read node first ends same lt semicolon text w.if-own-gt0.true);
         holds = λ held. told _ (rw (w.keeper-is, ← w.last_stretch.ensures) (w.in_ok-stretch.ensures.kept t k (coming_of nodes ended) held));
       }
       | else-own-gt0 w ↦ record {
         ended = ended;
-        are = rw c.with_apart.ensures (own-begins t c.args.own nodes ended so_far c.args.place c.args.read node first ends same lt semicolon text (omega (arith, w.if-own-gt0.false)));
+        are = rw c.with_node-2.ensures (own-begins t c.args.own nodes ended so_far c.args.place c.args.read node first ends same lt semicolon text (omega (arith, w.if-own-gt0.false)));
         holds = λ held. told ended (rw w.keeper-is held);
       }
     ]

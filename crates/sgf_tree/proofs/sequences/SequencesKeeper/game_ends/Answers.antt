@@ -1,10 +1,10 @@
-use Rattle.std.proofs.Common.{◌≡◌, ◌≢◌, ℕ, ◌+◌, cond, get_or, Some, ap, arith, ne_eqb}
+use Rattle.std.proofs.Common.{◌≡◌, ℕ, ◌+◌, cond, get_or, Some, ap, arith}
 use Rattle.std.proofs.Math.Dec.{eqb}
 use Rattle.sgf_tree.specs.inner.OwnNodes.{nothing}
 use Rattle.sgf_tree.specs.inner.Outlining.{outer_by}
 use Rattle.sgf_tree.specs.declared.sequences.Sequence.{Sequence}
 use Rattle.sgf_tree.specs.declared.sequences.Sequences.{Sequences}
-use Rattle.sgf_tree.proofs.GameEnds.{open_games-least}
+use Rattle.sgf_tree.proofs.GameEnds.{open_games-least, cast-to, at_most_1}
 use Rattle.sgf_tree.proofs.KeptSequences.{innermost-within, sequences-ended}
 use Rattle.sgf_tree.proofs.sequences.SequencesKeeper.game_ends.Goals.{in-Some, in_default}
 use Rattle.sgf_tree.proofs.sequences.SequencesKeeper.game_ends.Goals as goal
@@ -22,32 +22,19 @@ overflow_add-self c =
       | in-Some w ↦ ap (λ (s : Sequences). s.games) w.self-is
       | in_default w ↦ ap (λ (s : Sequences). s.games) w.self-is
     ] in
-    omega (arith, open_games-least k.closed k.unclosed, holds.games_counted)
+    let is : c.from.result ≡ cond (eqb c.args.depth 0) 1 0 = cast-to (eqb c.args.depth 0) c.from.result (λ e. rw e at c.from.ensures) (λ e. rw e at c.from.ensures) in
+    omega (arith, open_games-least k.closed k.unclosed, holds.games_counted, at_most_1 (eqb c.args.depth 0))
 
-pub returns-then-depth-eq0 : goal.returns-then-depth-eq0
-returns-then-depth-eq0 c =
+pub returns : goal.returns
+returns c =
     let kept = c.args.self.now in
     let after = c.match-self.self in
     let outer : (i : ℕ) → kept.innermost ≡ Some i → (d : Sequence) × (after ≡ record kept { innermost = outer_by (get_or kept.table.items i d) }) = λ i is. elim c.match-self.branch [
       | in-Some w ↦ let e : i ≡ w.in-Some.innermost = cc in (w.index.result.now, cc)
       | in_default w ↦ absurd (w.in_default.not-Some i is)
     ] in
+    let is : c.from.result ≡ cond (eqb c.args.depth 0) 1 0 = cast-to (eqb c.args.depth 0) c.from.result (λ e. rw e at c.from.ensures) (λ e. rw e at c.from.ensures) in
     record {
       kept = λ text k next holds is_open closes.
-          sequences-ended text kept after outer c.args.depth (after.games + 1) (rw c.if-depth-eq0.true) k next closes holds is_open;
-    }
-
-pub returns-else-depth-eq0 : goal.returns-else-depth-eq0
-returns-else-depth-eq0 c =
-    let kept = c.args.self.now in
-    let after = c.match-self.self in
-    let outer : (i : ℕ) → kept.innermost ≡ Some i → (d : Sequence) × (after ≡ record kept { innermost = outer_by (get_or kept.table.items i d) }) = λ i is. elim c.match-self.branch [
-      | in-Some w ↦ let e : i ≡ w.in-Some.innermost = cc in (w.index.result.now, cc)
-      | in_default w ↦ absurd (w.in_default.not-Some i is)
-    ] in
-    let some : c.args.depth ≢ 0 = λ e. c.if-depth-eq0.false e in
-    let same : after.games ≡ after.games + cond (eqb c.args.depth 0) 1 0 = rw (ne_eqb c.args.depth 0 some) (omega arith) in
-    record {
-      kept = λ text k next holds is_open closes.
-          sequences-ended text kept after outer c.args.depth after.games same k next closes holds is_open;
+          sequences-ended text kept after outer c.args.depth (after.games + c.from.result) (ap (λ n. after.games + n) is) k next closes holds is_open;
     }
