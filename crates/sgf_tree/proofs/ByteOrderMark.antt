@@ -11,7 +11,7 @@ use Rattle.sgf_tree.proofs.GamesLoop.{game-next}
 use Rattle.sgf_tree.proofs.Run.{run-take-none, run-take-step}
 use Rattle.sgf_tree.proofs.Skipping.{stays-after_game}
 use Rattle.sgf_tree.proofs.Spans.{run-white}
-use Rattle.sgf_tree.proofs.ValueEnds.{ends-faulty, refused-faulty}
+use Rattle.sgf_tree.proofs.ValueEnds.{stops-faulty}
 
 -- no game yet
 abbrev nothing : Stack
@@ -54,22 +54,13 @@ module _ (t : List ℕ) where
       }
 
   -- a part of it
-  part-faulty : (at : ℕ) (z : MachineState) → at ≤ length t → ComesTo t at z → accepted z ≡ None → (at < length t → next_state at z (get_or t at 0) ≡ None) → IsFaultyAt t at
-  part-faulty at z le reached a refused =
-      elim (cases_lt at (length t)) [
-        | inl lt ↦ refused-faulty t at z lt reached (refused lt)
-        | inr ge ↦
-            let same : length t ≡ at = omega arith in
-            subst (IsFaultyAt t) same (ends-faulty t z (subst (λ i. ComesTo t i z) (sym same) reached) a)
-      ]
-
   pub first-faulty : 0 < length t → get_or t 0 0 ≡ 239 → (1 < length t → get_or t 1 0 ≢ 187) → IsFaultyAt t 1
   unfolding next_state accepted
-  first-faulty lt e other = part-faulty 1 first_of_mark (omega arith) (first-reached lt e) refl (λ h. rw (ne_eqb (get_or t 1 0) 187 (other h)))
+  first-faulty lt e other = stops-faulty t 1 first_of_mark (omega arith) (first-reached lt e) refl (λ h. rw (ne_eqb (get_or t 1 0) 187 (other h)))
 
   pub second-faulty : 1 < length t → get_or t 0 0 ≡ 239 → get_or t 1 0 ≡ 187 → (2 < length t → get_or t 2 0 ≢ 191) → IsFaultyAt t 2
   unfolding next_state accepted
-  second-faulty lt e f other = part-faulty 2 second_of_mark (omega arith) (second-reached lt e f) refl (λ h. rw (ne_eqb (get_or t 2 0) 191 (other h)))
+  second-faulty lt e f other = stops-faulty t 2 second_of_mark (omega arith) (second-reached lt e f) refl (λ h. rw (ne_eqb (get_or t 2 0) 191 (other h)))
 
   -- the white space before the first game
   pub games-begin : (mark at : ℕ) → IsMarkRead t mark → IsSpan is_white_space t mark at → StandsBetween t at nothing

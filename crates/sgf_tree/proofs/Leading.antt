@@ -17,6 +17,7 @@ use Rattle.sgf_tree.proofs.Iterating.{byte-at, white-between}
 use Rattle.sgf_tree.proofs.LoneNodes.{lone, spelled, ends-node}
 use Rattle.sgf_tree.proofs.NodeEnds.{nothing-skipped}
 use Rattle.sgf_tree.proofs.NodeTexts.{properties-in}
+use Rattle.sgf_tree.proofs.Spans.{empty-span}
 use Rattle.sgf_tree.proofs.Walking.{IsClosed, closed-ended, ended-held, ended-follows, ended-after, IsNextAt, next-begins, walk-on}
 use Rattle.sgf_tree.proofs.WrittenParts.{properties-more}
 
@@ -124,7 +125,7 @@ module _ (names : List (List ℕ)) (t : List ℕ) (at next : ℕ) (is : IsLedNod
     led-over =
         let ended = closed-ended t (at + next) led-closed in
         walk-on t at number end w more here.place (at + next)
-        (record { rises = omega arith; within = omega (arith, inside); passing = λ i low high. absurd (omega arith); stops = led-closed.stops })
+        (empty-span t (at + next) (omega (arith, inside)) led-closed.stops)
         (ended-held t (at + next) (at + next) ended) led-on
 
     pub led-next : (nodes_between (games_in t) number end ≡ node_in t at ∷ nodes_between (games_in t) (number + 1) end) × (properties_in (drop (at + next) t) ≡ [])

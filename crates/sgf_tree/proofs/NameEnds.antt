@@ -13,8 +13,8 @@ use Rattle.sgf_tree.specs.inner.PropertiesRead.{IsNameRead}
 use Rattle.sgf_tree.proofs.Classes.{white-not_upper, white-not_lower}
 use Rattle.sgf_tree.proofs.Run.{run-take-step}
 use Rattle.sgf_tree.proofs.Skipping.{stays-after_name}
-use Rattle.sgf_tree.proofs.Spans.{run-white, run-letters}
-use Rattle.sgf_tree.proofs.ValueEnds.{span-join, ends-faulty, refused-faulty}
+use Rattle.sgf_tree.proofs.Spans.{empty-span, run-white, run-letters}
+use Rattle.sgf_tree.proofs.ValueEnds.{span-join, stops-faulty}
 
 -- one byte
 pub span-one : (t : List ℕ) (at : ℕ) → at < length t → slice_range t at (at + 1) ≡ get_or t at 0 ∷ []
@@ -49,36 +49,13 @@ pub record StandsAfterName (t : List ℕ) (at : ℕ) (n : Started) (name : List 
   pub refused : at < length t → get_or t at 0 ≢ 91 → next_state at state (get_or t at 0) ≡ None
   pub unaccepted : accepted state ≡ None
 
-name-white : (at : ℕ) (n : Started) (name : List ℕ) (b : ℕ) → IsTrue (is_white_space b) → next_state at (in_name n name) b ≡ Some (after_name n name)
-unfolding next_state
-name-white at n name b h = rw (white-not_upper b h, white-not_lower b h, h)
-
-name-bracket : (at : ℕ) (n : Started) (name : List ℕ) → next_state at (in_name n name) 91 ≡ Some (in_value n name [] [])
-unfolding next_state
-name-bracket at n name = refl
-
 name-refused : (at : ℕ) (n : Started) (name : List ℕ) (b : ℕ) → is_letter b ≡ false → is_white_space b ≡ false → b ≢ 91 → next_state at (in_name n name) b ≡ None
 unfolding next_state
 name-refused at n name b letter white ne = grind (arith, common_steps, or_parts, ne_eqb)
 
-name-unaccepted : (n : Started) (name : List ℕ) → accepted (in_name n name) ≡ None
-unfolding accepted
-name-unaccepted n name = refl
-
-after-bracket : (at : ℕ) (n : Started) (name : List ℕ) → next_state at (after_name n name) 91 ≡ Some (in_value n name [] [])
-unfolding next_state
-after-bracket at n name = refl
-
-after-refused : (at : ℕ) (n : Started) (name : List ℕ) (b : ℕ) → is_white_space b ≡ false → b ≢ 91 → next_state at (after_name n name) b ≡ None
-unfolding next_state
-after-refused at n name b white ne = rw (white, ne_eqb b 91 ne)
-
-after-unaccepted : (n : Started) (name : List ℕ) → accepted (after_name n name) ≡ None
-unfolding accepted
-after-unaccepted n name = refl
-
 pub name-after : (t : List ℕ) (start end at : ℕ) (n : Started) → start < length t → IsTrue (is_upper (get_or t start 0)) → IsSpan is_letter t start end → IsSpan is_white_space t end at
     → ComesTo t (start + 1) (in_name n (get_or t start 0 ∷ [])) → StandsAfterName t at n (name_in (slice_range t start end))
+unfolding next_state accepted
 name-after t start end at n inside capital letters white begins =
     let name : List ℕ = name_in (slice_range t start end) in
     let h : ComesTo t end (in_name n name) = name-reached t start end n inside capital letters begins in
@@ -86,34 +63,29 @@ name-after t start end at n inside capital letters white begins =
     let within : at ≤ length t = white.within in
     elim (cases_lt end at) [
       | inl lt ↦
-          let first : ComesTo t (end + 1) (after_name n name) = run-take-step t end (in_name n name) (after_name n name) h (omega arith) (name-white end n name (get_or t end 0) (white.passing end (omega arith) lt)) in
+          let first : ComesTo t (end + 1) (after_name n name) = run-take-step t end (in_name n name) (after_name n name) h (omega arith)
+          (let space = white.passing end (omega arith) lt in rw (white-not_upper (get_or t end 0) space, white-not_lower (get_or t end 0) space, space)) in
           record {
             state = after_name n name;
             reached = run-white t (end + 1) at (after_name n name) (stays-after_name n name) (omega arith) white.within (λ i low high. white.passing i (omega arith) high) first;
-            bracket = after-bracket at n name;
-            refused = λ lt' ne. after-refused at n name (get_or t at 0) (white.stops lt') ne;
-            unaccepted = after-unaccepted n name;
+            bracket = refl;
+            refused = λ lt' ne. rw (white.stops lt', ne_eqb (get_or t at 0) 91 ne);
+            unaccepted = refl;
           }
       | inr le ↦
           let same : end ≡ at = omega arith in
           record {
             state = in_name n name;
             reached = subst (λ i. ComesTo t i (in_name n name)) same h;
-            bracket = name-bracket at n name;
+            bracket = refl;
             refused = λ lt' ne. name-refused at n name (get_or t at 0) (subst (λ i. is_letter (get_or t i 0) ≡ false) same (letters.stops (omega arith))) (white.stops lt') ne;
-            unaccepted = name-unaccepted n name;
+            unaccepted = refl;
           }
     ]
 
 -- a name without a `[` after it
 pub name-faulty : (t : List ℕ) (at : ℕ) (n : Started) (name : List ℕ) → StandsAfterName t at n name → at ≤ length t → (at < length t → get_or t at 0 ≢ 91) → IsFaultyAt t at
-name-faulty t at n name after le other =
-    elim (cases_lt at (length t)) [
-      | inl lt ↦ refused-faulty t at after.state lt after.reached (after.refused lt (other lt))
-      | inr ge ↦
-          let same : length t ≡ at = omega arith in
-          subst (IsFaultyAt t) same (ends-faulty t after.state (subst (λ i. ComesTo t i after.state) (sym same) after.reached) after.unaccepted)
-    ]
+name-faulty t at n name after le other = stops-faulty t at after.state le after.reached after.unaccepted (λ lt. after.refused lt (other lt))
 
 -- the `[`
 name-value : (t : List ℕ) (at : ℕ) (n : Started) (name : List ℕ) → StandsAfterName t at n name → at < length t → get_or t at 0 ≡ 91 → ComesTo t (at + 1) (in_value n name [] [])
@@ -133,10 +105,4 @@ name-read t start end at inside capital letters white stands =
 
 -- no white space stands before a `[` that is there
 pub bracket-here : (t : List ℕ) (at : ℕ) → IsBracket t at → IsSpan is_white_space t at at
-bracket-here t at stands =
-    record {
-      rises = omega arith;
-      within = omega (arith, stands.within);
-      passing = λ i low high. absurd (omega arith);
-      stops = λ lt. rw stands.bracket refl;
-    }
+bracket-here t at stands = empty-span t at (omega (arith, stands.within)) (λ lt. ap is_white_space stands.bracket)

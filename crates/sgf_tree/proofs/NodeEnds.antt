@@ -7,6 +7,7 @@ use Rattle.sgf_tree.specs.inner.Progress.{ComesTo, IsSpan}
 use Rattle.sgf_tree.specs.inner.PropertiesRead.{StandsAfterNode}
 use Rattle.sgf_tree.proofs.Classes.{between-not_white_space, upper-not_white_space, upper-not_bracket}
 use Rattle.sgf_tree.proofs.Run.{run-take-step}
+use Rattle.sgf_tree.proofs.Spans.{empty-span}
 
 -- the state in a node without properties, or after its last one
 abbrev pub state_of : Started → Option Property → MachineState
@@ -65,10 +66,4 @@ module _ (t : List ℕ) where
 
   -- nothing is skipped before a byte above the space
   pub nothing-skipped : (at : ℕ) → at < length t → 32 < get_or t at 0 → IsSpan is_white_space t at at
-  nothing-skipped at lt above =
-      record {
-        rises = omega arith;
-        within = omega arith;
-        passing = λ i low high. absurd (omega arith);
-        stops = λ lt'. between-not_white_space (get_or t at 0) above;
-      }
+  nothing-skipped at lt above = empty-span t at (omega arith) (λ lt'. between-not_white_space (get_or t at 0) above)

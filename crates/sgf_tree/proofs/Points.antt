@@ -4,6 +4,7 @@ use Rattle.std.proofs.lemmas.Bool.{cases_lt}
 use Rattle.sgf_tree.specs.Spelling.{is_white_space}
 use Rattle.sgf_tree.specs.inner.NodeText.{AreValuesWritten}
 use Rattle.sgf_tree.specs.inner.Progress.{IsSpan, IsValueEnd, IsPoint, ArePoints, IsBracket}
+use Rattle.sgf_tree.proofs.NameEnds.{bracket-here}
 use Rattle.sgf_tree.proofs.ValueUnits.{no-units, plain-units, units-ended}
 use Rattle.sgf_tree.proofs.ValuesRead.{ValuesSoFar, values-step, values-more}
 use Rattle.sgf_tree.proofs.WrittenParts.{values-one}
@@ -59,9 +60,6 @@ module _ (t : List ℕ) where
           (subst (AreValuesWritten t from) next (values-one t from at (at + 3) written (omega (arith, point.value.within)) point.begins value.rises value.within value.bracket value.spelled))
           (omega arith) (later-points at n each)
 
-  white-none : (at : ℕ) → at < length t → get_or t at 0 ≡ 91 → IsSpan is_white_space t at at
-  white-none at lt e = record { rises = omega arith; within = omega arith; passing = λ i low high. absurd (omega arith); stops = λ _. ap is_white_space e }
-
   -- They were read, if another value begins after them.
   pub points-read : (bracket at end : ℕ) → ValuesSoFar t bracket at → ArePoints t at end → IsBracket t end → ValuesSoFar t bracket end
   points-read bracket at end before points stands = go points.count at before points.ends points.each
@@ -80,6 +78,6 @@ module _ (t : List ℕ) where
           let close : at + 3 + 1 ≡ at + 4 = omega arith in
           go n (at + 4)
           (values-more t bracket (at + 4)
-          (values-step t bracket at (at + 3) (at + 4) so_far value (subst (λ i. IsSpan is_white_space t i (at + 4)) (sym close) (white-none (at + 4) there.within there.bracket)))
+          (values-step t bracket at (at + 3) (at + 4) so_far value (subst (λ i. IsSpan is_white_space t i (at + 4)) (sym close) (bracket-here t (at + 4) there)))
           there.within there.bracket)
           ends' more

@@ -13,19 +13,7 @@ use Rattle.sgf_tree.specs.inner.GamesRead.{StandsBetween}
 use Rattle.sgf_tree.proofs.Run.{run-take-step}
 use Rattle.sgf_tree.proofs.Skipping.{stays-opened}
 use Rattle.sgf_tree.proofs.Spans.{run-white}
-use Rattle.sgf_tree.proofs.ValueEnds.{ends-faulty, refused-faulty}
-
-opened-node : (at : ℕ) (k : Stack) → next_state at (opened k) 59 ≡ Some (new_node k true at)
-unfolding next_state
-opened-node at k = refl
-
-opened-refused : (at : ℕ) (k : Stack) (b : ℕ) → is_white_space b ≡ false → b ≢ 59 → next_state at (opened k) b ≡ None
-unfolding next_state
-opened-refused at k b white ne = rw (white, ne_eqb b 59 ne)
-
-opened-unaccepted : (k : Stack) → accepted (opened k) ≡ None
-unfolding accepted
-opened-unaccepted k = refl
+use Rattle.sgf_tree.proofs.ValueEnds.{stops-faulty}
 
 -- games that are open are no collection
 pub open-unaccepted : (closed : Games) (g : OpenGame) (gs : List OpenGame) → accepted (after_game (record { closed = closed; unclosed = g ∷ gs })) ≡ None
@@ -44,18 +32,13 @@ module _ (t : List ℕ) where
 
     -- no `;` after the `(`
     pub place-faulty : (place < length t → get_or t place 0 ≢ 59) → IsFaultyAt t place
-    place-faulty other =
-        let within : place ≤ length t = white.within in
-        elim (cases_lt place (length t)) [
-          | inl lt ↦ refused-faulty t place (opened k) lt place-reached (opened-refused place k (get_or t place 0) (white.stops lt) (other lt))
-          | inr ge ↦
-              let same : length t ≡ place = omega arith in
-              subst (IsFaultyAt t) same (ends-faulty t (opened k) (subst (λ i. ComesTo t i (opened k)) (sym same) place-reached) (opened-unaccepted k))
-        ]
+    unfolding next_state accepted
+    place-faulty other = stops-faulty t place (opened k) white.within place-reached refl (λ lt. rw (white.stops lt, ne_eqb (get_or t place 0) 59 (other lt)))
 
     -- the first node
     pub place-node : place < length t → get_or t place 0 ≡ 59 → ComesTo t (place + 1) (new_node k true place)
-    place-node lt e = run-take-step t place (opened k) (new_node k true place) place-reached lt (rw e (opened-node place k))
+    unfolding next_state
+    place-node lt e = run-take-step t place (opened k) (new_node k true place) place-reached lt (rw e)
 
   -- a further node
   pub next-node : (end : ℕ) (whole : Started) → StandsAfterNode t end whole → end < length t → get_or t end 0 ≡ 59 → ComesTo t (end + 1) (new_node (ended whole) false end)

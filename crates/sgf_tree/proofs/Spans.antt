@@ -1,27 +1,21 @@
 -- The machine over a span of a text, by the offsets of its bytes: white space, letters, the plain bytes of a value.
 use Rattle.std.proofs.lemmas.Grind.{common_steps}
-use Rattle.std.proofs.Common.{◌≡◌, ℕ, zero, suc, ◌+◌, ◌-◌, ◌<◌, ◌≤◌, ◌⊎◌, IsTrue, List, [], ◌∷◌, ◌++◌, length, get_or, take, drop, slice_range, filter, Some, ap, ◌∙◌, subst, inl, inr, add-zero, append_assoc, append-nil, get_or-drop, length-drop, arith}
+use Rattle.std.proofs.Common.{false, ◌≡◌, ℕ, zero, suc, ◌+◌, ◌-◌, ◌<◌, ◌≤◌, ◌⊎◌, IsTrue, List, [], ◌∷◌, ◌++◌, length, get_or, take, drop, slice_range, filter, Some, ap, ◌∙◌, subst, inl, inr, add-zero, append_assoc, append-nil, get_or-drop, length-drop, arith}
 use Rattle.std.proofs.lemmas.List.{take_more}
 use Rattle.std.proofs.lemmas.List.Elements.{filter-append}
 use Rattle.sgf_tree.specs.Spelling.{is_white_space, is_upper, is_lower}
+use Rattle.sgf_tree.specs.inner.Progress.{IsSpan}
 use Rattle.sgf_tree.specs.inner.Machine.{Started, MachineState, start, in_name, next_state, run}
 use Rattle.sgf_tree.proofs.Classes.{lower-not_upper}
 use Rattle.sgf_tree.proofs.Run.{run-take-step}
 use Rattle.sgf_tree.proofs.Skipping.{Stays}
 
 -- a letter, which goes on the name where it is an upper-case one
-one-upper : (at : ℕ) (n : Started) (name : List ℕ) (b : ℕ) → IsTrue (is_upper b) → next_state at (in_name n name) b ≡ Some (in_name n (name ++ b ∷ []))
-unfolding next_state
-one-upper at n name b h = rw h
-
-one-lower : (at : ℕ) (n : Started) (name : List ℕ) (b : ℕ) → IsTrue (is_lower b) → next_state at (in_name n name) b ≡ Some (in_name n name)
-unfolding next_state
-one-lower at n name b h = rw (lower-not_upper b h, h)
-
 one-letter : (at : ℕ) (n : Started) (name : List ℕ) (b : ℕ) → IsTrue (is_upper b) ⊎ IsTrue (is_lower b)
     → next_state at (in_name n name) b ≡ Some (in_name n (name ++ filter is_upper (b ∷ [])))
-one-letter at n name b (inl h) = grind (arith, common_steps, one-upper)
-one-letter at n name b (inr h) = grind (arith, common_steps, one-lower, append-nil, lower-not_upper)
+unfolding next_state
+one-letter at n name b (inl h) = rw h
+one-letter at n name b (inr h) = rw (lower-not_upper b h, h, append-nil)
 
 module _ (t : List ℕ) where
   -- each byte of the span takes the state of its offset to the next one's
@@ -46,6 +40,10 @@ module _ (t : List ℕ) where
       → run 0 start (take at t) ≡ Some z → run 0 start (take to t) ≡ Some z
   run-white at to z stays le within white h =
       run-span at to (λ i. z) le within (λ i low high. stays (get_or t i 0) i (white i low high)) h
+
+  -- no white space, before a byte that is none
+  pub empty-span : (at : ℕ) → at ≤ length t → (at < length t → is_white_space (get_or t at 0) ≡ false) → IsSpan is_white_space t at at
+  empty-span at within stops = record { rises = omega arith; within = within; passing = λ i low high. absurd (omega arith); stops = stops }
 
   -- a span of no byte, and one of one more byte
   pub span-none : (at : ℕ) → slice_range t at at ≡ []

@@ -1,9 +1,9 @@
 -- The units of a raw value, by the machine, and where the next `]` stands.
 use Rattle.std.proofs.lemmas.Grind.{common_steps}
-use Rattle.std.proofs.Common.{◌≡◌, ◌≢◌, ℕ, ◌+◌, ◌-◌, ◌<◌, ◌≤◌, true, not, List, [], ◌∷◌, ◌++◌, length, get_or, take, drop, slice_range, Some, None, refl, sym, ap, subst, ◌∙◌, arith, eqb-true, get_or-take, get_or-drop, ne_eqb, append_assoc, append-nil}
+use Rattle.std.proofs.Common.{inl, inr, ◌≡◌, ◌≢◌, ℕ, ◌+◌, ◌-◌, ◌<◌, ◌≤◌, true, not, List, [], ◌∷◌, ◌++◌, length, get_or, take, drop, slice_range, Some, None, refl, sym, ap, subst, ◌∙◌, arith, eqb-true, get_or-take, get_or-drop, ne_eqb, append_assoc, append-nil}
 use Rattle.std.proofs.Math.Seq.{take-add}
 use Rattle.std.proofs.Common.{length-take, length-drop}
-use Rattle.std.proofs.lemmas.Bool.{and_parts, not-true, eqb-false, eq-eqb}
+use Rattle.std.proofs.lemmas.Bool.{cases_lt, and_parts, not-true, eqb-false, eq-eqb}
 use Rattle.memchr.specs.Find.{IsFirstByte, is_byte}
 use Rattle.std.proofs.lemmas.List.{drop-drop, take_all}
 use Rattle.sgf_tree.specs.inner.Machine.{Started, MachineState, start, in_value, after_escape, next_state, run, accepted}
@@ -31,6 +31,16 @@ ends-faulty t z h a = grind (arith, common_steps, ended-fault, reaches-all)
 -- a byte is refused
 pub refused-faulty : (t : List ℕ) (at : ℕ) (z : MachineState) → at < length t → ComesTo t at z → next_state at z (get_or t at 0) ≡ None → IsFaultyAt t at
 refused-faulty t at z lt h s = grind (arith, common_steps, refused-fault)
+
+-- the byte at an offset is refused, or the text ends there and may not
+pub stops-faulty : (t : List ℕ) (at : ℕ) (z : MachineState) → at ≤ length t → ComesTo t at z → accepted z ≡ None → (at < length t → next_state at z (get_or t at 0) ≡ None) → IsFaultyAt t at
+stops-faulty t at z le reached a refused =
+    elim (cases_lt at (length t)) [
+      | inl lt ↦ refused-faulty t at z lt reached (refused lt)
+      | inr ge ↦
+          let same : length t ≡ at = omega arith in
+          subst (IsFaultyAt t) same (ends-faulty t z (subst (λ i. ComesTo t i z) (sym same) reached) a)
+    ]
 
 -- a plain byte is neither `]` nor `\`
 pub plain-other : (b : ℕ) → is_plain b ≡ true → (b ≢ 93) × (b ≢ 92)

@@ -9,14 +9,6 @@ use Rattle.sgf_tree.proofs.Skipping.{stays-after_value}
 use Rattle.sgf_tree.proofs.Spans.{run-white}
 use Rattle.sgf_tree.proofs.ValueEnds.{units-read}
 
-step-close : (at : ℕ) (n : Started) (name : List ℕ) (before : List (List ℕ)) (value : List ℕ) → next_state at (in_value n name before value) 93 ≡ Some (after_value n (property_of name before value))
-unfolding next_state
-step-close at n name before value = refl
-
-step-again : (at : ℕ) (n : Started) (p : Property) → next_state at (after_value n p) 91 ≡ Some (in_value n p.name (values p) [])
-unfolding next_state
-step-again at n p = refl
-
 module _ (t : List ℕ) where
   -- values were read, and a `[` stands at `at`
   pub record ValuesSoFar (bracket at : ℕ) : Type 0 where
@@ -34,6 +26,7 @@ module _ (t : List ℕ) where
         → (p : Property) × ComesTo t at (after_value n p)
 
   pub values-step : (bracket at end next : ℕ) → ValuesSoFar bracket at → IsValueEnd t (at + 1) end → IsSpan is_white_space t (end + 1) next → ValuesBefore bracket next
+  unfolding next_state
   values-step bracket at end next so_far is_end white =
       record {
         rises = omega (arith, so_far.rises, is_end.rises, white.rises);
@@ -43,17 +36,18 @@ module _ (t : List ℕ) where
             let p : Property = property_of before.0 before.1 raw in
             let value : ComesTo t end (in_value n before.0 before.1 raw) =
             units-read t (at + 1) end is_end.rises (omega (arith, is_end.within)) is_end.spelled n before.0 before.1 before.2 in
-            let closed : ComesTo t (end + 1) (after_value n p) = run-take-step t end (in_value n before.0 before.1 raw) (after_value n p) value is_end.within (rw is_end.bracket (step-close end n before.0 before.1 raw)) in
+            let closed : ComesTo t (end + 1) (after_value n p) = run-take-step t end (in_value n before.0 before.1 raw) (after_value n p) value is_end.within (rw is_end.bracket) in
             (p, run-white t (end + 1) next (after_value n p) (stays-after_value n p) white.rises white.within white.passing closed);
       }
 
   -- one more value follows
   pub values-more : (bracket at : ℕ) → ValuesBefore bracket at → at < length t → get_or t at 0 ≡ 91 → ValuesSoFar bracket at
+  unfolding next_state
   values-more bracket at before lt e =
       record {
         rises = omega (arith, before.rises);
         reached = λ n name h.
             let there = before.reached n name h in
             let p : Property = there.0 in
-            (p.name, values p, run-take-step t at (after_value n p) (in_value n p.name (values p) []) there.1 lt (rw e (step-again at n p)));
+            (p.name, values p, run-take-step t at (after_value n p) (in_value n p.name (values p) []) there.1 lt (rw e));
       }

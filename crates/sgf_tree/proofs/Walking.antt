@@ -22,6 +22,7 @@ use Rattle.sgf_tree.proofs.NodeEnds.{nothing-skipped}
 use Rattle.sgf_tree.proofs.NodesSpelled.{IsEnd, all, tail, end-WhiteSpace, end-IsNode, end-AreNodes, end-AreGames, end-ByteOrderMark, ends-at, own-spelled}
 use Rattle.sgf_tree.proofs.OrderedNodes.{length-ordered_nodes}
 use Rattle.sgf_tree.proofs.NodeTexts.{white-same, white-none, white-join, ends-values, properties-in}
+use Rattle.sgf_tree.proofs.Spans.{empty-span}
 use Rattle.sgf_tree.proofs.Outlined.{start-listed, end-listed, own-at, node-told, one-listed, sequence-some, sequence-within, entry-in}
 use Rattle.sgf_tree.proofs.WrittenParts.{head-same, upper-first}
 
@@ -238,7 +239,7 @@ module _ (t : List ℕ) where
       (past-white (drop from t) (at - from) (run-drop is_white_space t from at run) held)
 
   pub span-end : (from at : ℕ) → IsSpan is_white_space t from at → IsSpan is_white_space t at at
-  span-end from at run = record { rises = omega arith; within = run.within; passing = λ i low high. absurd (omega arith); stops = run.stops }
+  span-end from at run = empty-span t at run.within run.stops
 
   -- the `;` of a node
   pub node-closed : (p : ℕ) → p < length t → get_or t p 0 ≡ 59 → IsClosed t p × IsSpan is_white_space t p p
@@ -431,7 +432,7 @@ no-walk text spelled =
         spelled = spelled;
         rises = omega arith;
         within = omega arith;
-        stands = record { rises = omega arith; within = omega arith; passing = λ i low high. absurd (omega arith); stops = λ lt. absurd (omega arith) };
+        stands = empty-span text at (omega arith) (λ lt. absurd (omega arith));
         held = ended-held text at at ended;
         next_is = λ lt. absurd (omega arith);
         sequence = 0;

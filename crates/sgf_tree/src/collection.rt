@@ -1,9 +1,16 @@
 //! A collection that was read: its nodes in file order, numbered from 0.
 
-ghost use Rattle.std.specs.Prelude.{◌≡◌, ◌-◌, ◌<◌, ◌↔◌, ℕ, Some, IsTrue};
+ghost use Rattle.std.specs.Prelude.{◌≡◌, ◌-◌, ◌<◌, ◌↔◌, ℕ, Some, IsTrue, length, ◌≤◌};
 ghost use Rattle.sgf_tree.specs.declared.fault.TheConstants.{MAX_LENGTH};
-ghost use Rattle.sgf_tree.specs.Tree.{game_count, node_count};
-ghost use Rattle.sgf_tree.specs.FileOrder.{node_at, place_at, parent_at, IsLeaf, game_of, IsLastBelow, PlacesRise};
+ghost use Rattle.sgf_tree.specs.Tree.{game_count, node_count, Games};
+ghost use Rattle.sgf_tree.specs.FileOrder.{node_at, place_at, parent_at, IsLeaf, game_of, IsLastBelow, PlacesRise, ordered_nodes};
+ghost use Rattle.sgf_tree.specs.inner.TreeCode.{games_code};
+ghost use Rattle.sgf_tree.specs.inner.GamesRead.{lasts, whole};
+ghost use Rattle.sgf_tree.specs.inner.Placing.{ordered_places, HoldsNodes};
+ghost use Rattle.sgf_tree.specs.Spelling.{Spells};
+ghost use Rattle.sgf_tree.specs.inner.Machine.{games_in};
+ghost use Rattle.sgf_tree.specs.inner.OwnNodes.{nothing};
+ghost use Rattle.sgf_tree.specs.inner.KeptEnds.{AreKeptEnds};
 
 use crate::layout::LongValue;
 use crate::node::NodeRef;
@@ -23,17 +30,9 @@ pub struct Collection<'a> {
 }
 
 impl<'a> Model for Collection<'a> {
-    ghost use Rattle.sgf_tree.specs.Tree.{Games};
-    ghost use Rattle.sgf_tree.specs.inner.TreeCode.{games_code};
-
     ghost Value = { Games };
 
     ghost coded = { games_code };
-
-    ghost use Rattle.std.specs.Prelude.{◌≡◌};
-    ghost use Rattle.sgf_tree.specs.FileOrder.{ordered_nodes};
-    ghost use Rattle.sgf_tree.specs.inner.GamesRead.{lasts};
-    ghost use Rattle.sgf_tree.specs.inner.Placing.{ordered_places};
 
     ghost view = { λ c. c.outline };
 
@@ -41,14 +40,6 @@ impl<'a> Model for Collection<'a> {
 }
 
 impl<'a> Collection<'a> {
-    ghost use Rattle.std.specs.Prelude.{length, ◌≤◌};
-    ghost use Rattle.sgf_tree.specs.Spelling.{Spells};
-    ghost use Rattle.sgf_tree.specs.inner.Machine.{games_in};
-    ghost use Rattle.sgf_tree.specs.inner.OwnNodes.{nothing};
-    ghost use Rattle.sgf_tree.specs.inner.GamesRead.{whole};
-    ghost use Rattle.sgf_tree.specs.inner.Placing.{HoldsNodes};
-    ghost use Rattle.sgf_tree.specs.inner.KeptEnds.{AreKeptEnds};
-
     /// The collection that the text spells. The nodes must be those of this collection.
     pub(crate) fn new(text: &'a [u8], nodes: Numbered, long: Vec<LongValue>) -> Collection<'a>
         requires short { length text.now ≤ MAX_LENGTH }

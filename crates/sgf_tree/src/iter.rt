@@ -1,13 +1,14 @@
 //! Going forward over the properties of a node, and over the values of a property.
 //! All steps over a node together take time in proportion to its text, however many properties and values it has.
 
-ghost use Rattle.std.specs.Prelude.{◌≡◌, ◌↔◌, ◌≤◌, ◌<◌, [], ◌∷◌, length, drop, slice_index, IsTrue, IfSome, MatchOption};
+ghost use Rattle.std.specs.Prelude.{◌≡◌, ◌↔◌, ◌≤◌, ◌<◌, [], ◌∷◌, length, drop, slice_index, IsTrue, IfSome, MatchOption, List, ℕ, option_copied};
 ghost use Rattle.std.specs.Iterator.{YieldsFirst, YieldsFirstRef, item_count};
 ghost use Rattle.sgf_tree.specs.Tree.{Property};
 ghost use Rattle.sgf_tree.specs.Spelling.{is_white_space, is_upper, IsProperty};
 ghost use Rattle.sgf_tree.specs.inner.Progress.{IsSpan};
-ghost use Rattle.sgf_tree.specs.inner.NodeText.{properties_in, ArePropertiesIn, values_in, AreValuesIn, IsWrittenFront, IsValueAt, IsValuesEnd, IsNoPropValue};
+ghost use Rattle.sgf_tree.specs.inner.NodeText.{properties_in, ArePropertiesIn, values_in, AreValuesIn, IsWrittenFront, IsValueAt, IsValuesEnd, IsNoPropValue, values_left};
 ghost use Rattle.sgf_tree.specs.inner.KeptEnds.{AreKeptEnds};
+ghost use Rattle.sgf_tree.specs.inner.TreeCode.{properties_code, values_code};
 
 use crate::layout::LongValue;
 use crate::property::PropRef;
@@ -27,16 +28,9 @@ pub struct Properties<'c, 'a> {
 }
 
 impl<'c, 'a> Model for Properties<'c, 'a> {
-    ghost use Rattle.std.specs.Prelude.{List};
-    ghost use Rattle.sgf_tree.specs.Tree.{Property};
-    ghost use Rattle.sgf_tree.specs.inner.TreeCode.{properties_code};
-
     ghost Value = { List Property };
 
     ghost coded = { properties_code };
-
-    ghost use Rattle.sgf_tree.specs.inner.NodeText.{properties_in, ArePropertiesIn};
-    ghost use Rattle.sgf_tree.specs.inner.KeptEnds.{AreKeptEnds};
 
     ghost view = { λ n. properties_in n.rest.now };
 
@@ -100,14 +94,9 @@ pub struct Values<'a> {
 }
 
 impl<'a> Model for Values<'a> {
-    ghost use Rattle.std.specs.Prelude.{ℕ, List, option_copied};
-    ghost use Rattle.sgf_tree.specs.inner.TreeCode.{values_code};
-
     ghost Value = { List (List ℕ) };
 
     ghost coded = { values_code };
-
-    ghost use Rattle.sgf_tree.specs.inner.NodeText.{values_in, values_left, AreValuesIn};
 
     ghost view = { λ p. values_left (option_copied p.first) (values_in p.rest.now) };
 

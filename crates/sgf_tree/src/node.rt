@@ -1,9 +1,12 @@
 //! A node of a collection.
 
-ghost use Rattle.std.specs.Prelude.{◌≡◌, ◌<◌, ◌++◌, length, slice_get, find, Some, OnOk, OnErr};
+ghost use Rattle.std.specs.Prelude.{◌≡◌, ◌<◌, ◌++◌, length, slice_get, find, Some, OnOk, OnErr, drop};
 ghost use Rattle.std.specs.Str.{bytes_eq};
-ghost use Rattle.sgf_tree.specs.Tree.{told_property};
+ghost use Rattle.sgf_tree.specs.Tree.{told_property, Node};
 ghost use Rattle.sgf_tree.specs.Written.{node_text};
+ghost use Rattle.sgf_tree.specs.inner.TreeCode.{node_code};
+ghost use Rattle.sgf_tree.specs.inner.NodeText.{properties_in, IsNodeIn};
+ghost use Rattle.sgf_tree.specs.inner.KeptEnds.{AreKeptEnds};
 
 use crate::fault::MemoryFault;
 use crate::iter::Properties;
@@ -27,16 +30,9 @@ pub struct NodeRef<'c, 'a> {
 }
 
 impl<'c, 'a> Model for NodeRef<'c, 'a> {
-    ghost use Rattle.sgf_tree.specs.Tree.{Node};
-    ghost use Rattle.sgf_tree.specs.inner.TreeCode.{node_code};
-
     ghost Value = { Node };
 
     ghost coded = { node_code };
-
-    ghost use Rattle.std.specs.Prelude.{drop};
-    ghost use Rattle.sgf_tree.specs.inner.NodeText.{properties_in, IsNodeIn};
-    ghost use Rattle.sgf_tree.specs.inner.KeptEnds.{AreKeptEnds};
 
     ghost view = { λ n. record { place = n.place; properties = properties_in (drop 1 n.text.now) } };
 

@@ -3,12 +3,15 @@
 ghost use Rattle.std.specs.Prelude.{◌≡◌, ◌-◌, ◌<◌, ◌≤◌, ◌++◌, ◌↔◌, ℕ, [], Some, None, length, IsTrue, IfSome, OnOk, OnErr, MatchOption};
 ghost use Rattle.std.specs.List.{flat_map};
 ghost use Rattle.sgf_tree.specs.declared.fault.TheConstants.{MAX_LENGTH};
-ghost use Rattle.sgf_tree.specs.Tree.{game_count, node_count};
+ghost use Rattle.sgf_tree.specs.Tree.{game_count, node_count, Games};
 ghost use Rattle.sgf_tree.specs.Written.{node_text};
 ghost use Rattle.sgf_tree.specs.FileOrder.{node_at, nodes_at, place_at, parent_at, IsLeaf, game_of, PlacesRise};
 ghost use Rattle.sgf_tree.specs.FileOrder.{sequence_starts, sequence_start, sequence_end, sequence_numbers};
 ghost use Rattle.sgf_tree.specs.inner.NodeText.{GoesOn, IsNodeIn};
 ghost use Rattle.sgf_tree.specs.inner.KeptEnds.{AreKeptEnds};
+ghost use Rattle.sgf_tree.specs.inner.TreeCode.{games_code};
+ghost use Rattle.sgf_tree.specs.inner.Machine.{games_in};
+ghost use Rattle.sgf_tree.specs.inner.Outlining.{IsOutlined};
 
 use crate::fault::MemoryFault;
 use crate::layout::LongValue;
@@ -29,16 +32,9 @@ pub struct Outline<'a> {
 }
 
 impl<'a> Model for Outline<'a> {
-    ghost use Rattle.sgf_tree.specs.Tree.{Games};
-    ghost use Rattle.sgf_tree.specs.inner.TreeCode.{games_code};
-
     ghost Value = { Games };
 
     ghost coded = { games_code };
-
-    ghost use Rattle.sgf_tree.specs.inner.Machine.{games_in};
-    ghost use Rattle.sgf_tree.specs.inner.Outlining.{IsOutlined};
-    ghost use Rattle.sgf_tree.specs.inner.KeptEnds.{AreKeptEnds};
 
     ghost view = { λ c. games_in c.text.now };
 
@@ -46,9 +42,6 @@ impl<'a> Model for Outline<'a> {
 }
 
 impl<'a> Outline<'a> {
-    ghost use Rattle.sgf_tree.specs.inner.Machine.{games_in};
-    ghost use Rattle.sgf_tree.specs.inner.Outlining.{IsOutlined};
-
     /// The outline of the collection that the text spells. The table must hold its sequences.
     pub(crate) fn new(text: &'a [u8], sequences: Sequences, long: Vec<LongValue>) -> Outline<'a>
         requires outlined { IsOutlined text.now sequences }

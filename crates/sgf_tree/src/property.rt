@@ -1,8 +1,9 @@
 //! A property of a node.
 
 ghost use Rattle.std.specs.Prelude.{◌≡◌, ◌<◌, ◌↔◌, ◌∷◌, ◌++◌, ℕ, List, length, slice_get, Some, IsTrue, OnOk, OnErr};
-ghost use Rattle.sgf_tree.specs.Tree.{values};
-ghost use Rattle.sgf_tree.specs.inner.NodeText.{name_in};
+ghost use Rattle.sgf_tree.specs.Tree.{values, Property};
+ghost use Rattle.sgf_tree.specs.inner.NodeText.{name_in, BeginsName, values_in, AreValuesIn};
+ghost use Rattle.sgf_tree.specs.inner.TreeCode.{property_code};
 
 use crate::fault::MemoryFault;
 use crate::iter::Values;
@@ -18,14 +19,9 @@ pub struct PropRef<'a> {
 }
 
 impl<'a> Model for PropRef<'a> {
-    ghost use Rattle.sgf_tree.specs.Tree.{Property};
-    ghost use Rattle.sgf_tree.specs.inner.TreeCode.{property_code};
-
     ghost Value = { Property };
 
     ghost coded = { property_code };
-
-    ghost use Rattle.sgf_tree.specs.inner.NodeText.{name_in, BeginsName, values_in, AreValuesIn};
 
     ghost view = { λ p. record { name = name_in p.identifier.now; first = p.first.now; more = values_in p.more.now } };
 

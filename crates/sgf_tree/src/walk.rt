@@ -1,9 +1,15 @@
 //! Going over the nodes of a sequence, and over the properties of those that aren't recognized at a glance. No place of a node is kept: the
 //! next node is where the properties of the node before it end.
 
-ghost use Rattle.std.specs.Prelude.{◌≡◌, ◌==◌, ◌<◌, ◌∷◌, [], ℕ, List, length, MatchOption};
+ghost use Rattle.std.specs.Prelude.{◌≡◌, ◌==◌, ◌<◌, ◌∷◌, [], ℕ, List, length, MatchOption, drop};
 ghost use Rattle.sgf_tree.specs.Tree.{Node};
 ghost use Rattle.sgf_tree.specs.Walk.{IsTakenOff};
+ghost use Rattle.sgf_tree.specs.NodesLeft.{NodesLeft};
+ghost use Rattle.sgf_tree.specs.inner.TreeCode.{nodes_left_code};
+ghost use Rattle.sgf_tree.specs.inner.Machine.{games_in};
+ghost use Rattle.sgf_tree.specs.inner.NodeText.{properties_in};
+ghost use Rattle.sgf_tree.specs.inner.KeptEnds.{AreKeptEnds};
+ghost use Rattle.sgf_tree.specs.inner.Walking.{nodes_between, IsWalk};
 
 use crate::iter::property_at;
 use crate::layout::LongValue;
@@ -52,18 +58,9 @@ pub struct SequenceNodes<'c, 'a> {
 }
 
 impl<'c, 'a> Model for SequenceNodes<'c, 'a> {
-    ghost use Rattle.std.specs.Prelude.{drop};
-    ghost use Rattle.sgf_tree.specs.NodesLeft.{NodesLeft};
-    ghost use Rattle.sgf_tree.specs.inner.TreeCode.{nodes_left_code};
-
     ghost Value = { NodesLeft };
 
     ghost coded = { nodes_left_code };
-
-    ghost use Rattle.sgf_tree.specs.inner.Machine.{games_in};
-    ghost use Rattle.sgf_tree.specs.inner.NodeText.{properties_in};
-    ghost use Rattle.sgf_tree.specs.inner.KeptEnds.{AreKeptEnds};
-    ghost use Rattle.sgf_tree.specs.inner.Walking.{nodes_between, IsWalk};
 
     ghost view = { λ w. record {
       properties = properties_in (drop w.at w.text.now);
