@@ -57,13 +57,7 @@ module _ (s : List ℕ) (k : ℕ) (run : IsSpan is_white_space s 0 k) where
     where
       none : (ps : List Property) (r : List ℕ) → AreProperties ps s r → NoPropertyFollows r → properties_in s ≡ []
       none [] r are ends = properties-in are ends
-      none (p ∷ ps) r (properties (property {b} {t = t} w h l v vs) are) ends =
-          elim (cases_lt k (length s)) [
-            | inl lt ↦
-                let same : get_or s k 0 ≡ b = (white-same (white-to lt) w (run.stops lt) (upper-not_white_space b h)).0 in
-                absurd (false≢true (sym (other lt) ∙ ap is_upper same ∙ h))
-            | inr le ↦ absurd (white-none (white-all le) w (upper-not_white_space b h))
-          ]
+      none (p ∷ ps) r (properties (property {b} {t = t} w h l v vs) are) ends = grind (arith, common_steps, cases_lt, white-same, white-to, upper-not_white_space, false≢true, white-none, white-all)
 
   -- the properties in front stand after the white space
   pub past-white : ArePropertiesIn s → (properties_in s ≡ properties_in (drop k s)) × ArePropertiesIn (drop k s)
@@ -149,16 +143,10 @@ module _ (t : List ℕ) (from k : ℕ) (run : IsSpan is_white_space t from k) wh
 
   -- no `[` there
   pub no-bracket : (k < length t → get_or t k 0 ≢ 91) → IsNoPropValue (drop from t)
-  no-bracket other v r (prop_value {t = u} w h) =
-      elim (cases_lt k (length t)) [
-        | inl lt ↦ other lt (white-same (white-up-to lt) w (run.stops lt) refl).0
-        | inr le ↦ white-none (subst (WhiteSpace (drop from t)) (drop_all k t le) white-between) w refl
-      ]
+  no-bracket other v r (prop_value {t = u} w h) = grind (arith, common_steps, cases_lt, white-same, white-up-to, white-none, drop_all, white-between)
 
   pub no-end : k < length t → get_or t k 0 ≡ 91 → SpellsNoValue t (k + 1) → IsNoPropValue (drop from t)
-  no-end lt e none v r (prop_value {t = u} w h) =
-      let same : drop (k + 1) t ≡ u = (white-same (white-up-to lt) w (run.stops lt) refl).1 in
-      none v r (subst (λ x. IsValue v x (93 ∷ r)) (sym same) h)
+  no-end lt e none v r (prop_value {t = u} w h) = grind (arith, common_steps, white-same, white-up-to)
 
   pub first-value : (end : ℕ) → k < length t → get_or t k 0 ≡ 91 → end < length t → get_or t end 0 ≡ 93 → SpellsValue t (k + 1) end
       → IsPropValue (slice_range t (k + 1) end) (drop from t) (drop (end + 1) t)
@@ -173,11 +161,7 @@ values-more no_value h = value h no_value
 values-more (value u us) h = value u (values-more us h)
 
 pub no-value : {s : List ℕ} → AreValuesIn s → IsNoPropValue s → values_in s ≡ []
-no-value {s} held none = no held.values held.rest held.spelled held.ends
-  where
-    no : (vs : List (List ℕ)) (r : List ℕ) → ArePropValues vs s r → NoValueFollows r → values_in s ≡ []
-    no [] r are ends = values-in are ends
-    no (v ∷ vs) r (value {t} first more) ends = absurd (none v t first)
+no-value {s} held none = grind (arith, common_steps, values-in)
 
 pub next-value : {v s r : List ℕ} → AreValuesIn s → IsPropValue v s r → (values_in s ≡ v ∷ values_in r) × AreValuesIn r
 next-value {v} {s} {r} held h = next held.values held.rest held.spelled held.ends
@@ -224,9 +208,7 @@ module _ (s : List ℕ) (k : ℕ) (run : IsSpan is_white_space s 0 k) (held : Ar
 
 -- there are no more of them than bytes
 pub count-properties-held : {s : List ℕ} → ArePropertiesIn s → length (properties_in s) ≤ length s
-count-properties-held held =
-    let is = properties-in held.spelled held.ends in omega (arith, ap length is, count-properties held.spelled)
+count-properties-held held = grind (arith, common_steps, properties-in, count-properties)
 
 pub count-values_held : {s : List ℕ} → AreValuesIn s → length (values_in s) ≤ length s
-count-values_held held =
-    let is = values-in held.spelled held.ends in omega (arith, ap length is, count-values held.spelled)
+count-values_held held = grind (arith, common_steps, values-in, count-values)

@@ -42,42 +42,17 @@ flag-even false flag is = (0, is, refl)
 
 -- of a sequence that goes on from another one
 pub packs-outer : (written : Bool) (flag outer ordinal : ℕ) → flag ≡ cond written 2147483648 0 → outer < 1073741824 → Packs (outer + flag) written (Some outer) ordinal
-packs-outer written flag outer ordinal is low =
-    let half = flag-even written flag is in
-    let k : ℕ = half.0 in
-    let twice : flag ≡ k + k = half.1 in
-    let whole : k % 1073741824 ≡ 0 = half.2 in
-    let bit : (outer + flag) / 1073741824 % 2 ≡ 0 = omega arith in
-    let rest : (outer + flag) % 1073741824 ≡ outer = omega arith in
-    record {
-      outer_is = rw (bit, rest);
-      ordinal_is = λ e. absurd (cc);
-      written_is = flag-above written flag outer is (omega arith);
-    }
+packs-outer written flag outer ordinal is low = grind (arith, common_steps, flag-even, flag-above)
 
 -- of a sequence that begins a game
 pub packs-root : (written : Bool) (flag ordinal : ℕ) → flag ≡ cond written 2147483648 0 → ordinal < 1073741824 → Packs (ordinal + 1073741824 + flag) written None ordinal
-packs-root written flag ordinal is low =
-    let half = flag-even written flag is in
-    let k : ℕ = half.0 in
-    let twice : flag ≡ k + k = half.1 in
-    let whole : k % 1073741824 ≡ 0 = half.2 in
-    let bit : (ordinal + 1073741824 + flag) / 1073741824 % 2 ≡ 1 = omega arith in
-    let rest : (ordinal + 1073741824 + flag) % 1073741824 ≡ ordinal = omega arith in
-    record {
-      outer_is = rw bit;
-      ordinal_is = λ e. rest;
-      written_is = flag-above written flag (ordinal + 1073741824) is (omega arith);
-    }
+packs-root written flag ordinal is low = grind (arith, common_steps, flag-even, flag-above)
 
 -- the first of a list stay when the list grows
 take-grown : {A : Type 0} (own xs ys : List A) → take (length own) xs ≡ own → take (length own) (xs ++ ys) ≡ own
 take-grown [] xs ys e = refl
 take-grown (o ∷ own) [] ys e = absurd (cc)
-take-grown (o ∷ own) (x ∷ xs) ys e =
-    let same : x ≡ o = cc in
-    let rest : take (length own) xs ≡ own = cc in
-    rw (same, take-grown own xs ys rest) refl
+take-grown (o ∷ own) (x ∷ xs) ys e = grind (arith, common_steps)
 
 drop-grown : {A : Type 0} (own xs ys : List A) (i : ℕ) → take (length own) (drop i xs) ≡ own → take (length own) (drop i (xs ++ ys)) ≡ own
 drop-grown own xs ys zero e = take-grown own xs ys e
@@ -198,8 +173,7 @@ module _ (text : List ℕ) where
     -- where the stretches of a further game begin
     pub begun-few : (k : Stack) (coming : Coming) → HoldsSequences text kept k coming
         → length kept.stretches.items ≤ open_count k.closed k.unclosed + length coming.stretches
-    begun-few k coming holds =
-        omega (arith, holds.begun_few, length-map kept.stretches.items stretch_by, length-drop kept.begun (stretches_by kept), ap length holds.coming_are)
+    begun-few k coming holds = grind (arith, common_steps, length-map, length-drop)
 
     -- one more stretch
     pub stretch-kept : (after : Sequences) (new : KeptStretch) (stretch : Stretch) → stretch_by new ≡ stretch → after.stretches.items ≡ kept.stretches.items ++ new ∷ []

@@ -6,7 +6,7 @@ use Rattle.std.proofs.lemmas.List.Elements.{All-nil, All-push}
 use Rattle.sgf_tree.specs.Tree.{Property}
 use Rattle.sgf_tree.specs.Lead.{IsOtherName, IsLedBy}
 use Rattle.sgf_tree.specs.RawValue.{IsValue}
-use Rattle.sgf_tree.specs.Spelling.{is_white_space, is_upper, WhiteSpace, no_white_space, no_letter, upper, prop_value, no_value, IsProperty, property, AreProperties, no_property, properties}
+use Rattle.sgf_tree.specs.Spelling.{is_upper, WhiteSpace, no_white_space, no_letter, upper, prop_value, no_value, IsProperty, property, AreProperties, no_property, properties}
 use Rattle.sgf_tree.specs.inner.Lead.{IsOtherProperty, AreOtherProperties, AreOthers, IsLedNode, IsEmptyNode}
 use Rattle.sgf_tree.specs.inner.Machine.{games_in}
 use Rattle.sgf_tree.specs.inner.NodeText.{properties_in, node_in}
@@ -99,16 +99,10 @@ module _ (names : List (List ℕ)) (t : List ℕ) (at next : ℕ) (is : IsLedNod
   inside = omega (arith, is.others.ends.inside, length-drop at t)
 
   pub led-begins : (at < length t) × (get_or t at 0 ≡ 59)
-  led-begins =
-      let none : at + 0 ≡ at = omega arith in
-      (omega (arith, inside), ap (λ i. get_or t i 0) (sym none) ∙ sym (get_or-drop at t 0 0) ∙ is.begins)
+  led-begins = grind (arith, common_steps, inside, get_or-drop)
 
   pub led-closed : IsClosed t (at + next)
-  led-closed = record {
-    within = omega (arith, inside);
-    stops = λ _. ap is_white_space (sym last) ∙ is.others.ends.white_space.stops is.others.ends.inside;
-    ends = λ _. ((λ e. omega (arith, is.others.ends.below, last, e)), between-not_upper (get_or t (at + next) 0) (omega (arith, is.others.ends.below, last)));
-  }
+  led-closed = grind (arith, common_steps, inside, last, between-not_upper)
 
   pub led-on : (to : ℕ) → AreEnded t (at + next) to → AreEnded t (at + 1) to
   led-on to =
@@ -140,11 +134,7 @@ module _ (t : List ℕ) (at : ℕ) (is : IsEmptyNode (drop at t)) (number end : 
   room = omega (arith, is.ends.within, length-drop at t)
 
   empty-closed : IsClosed t (at + 1)
-  empty-closed = record {
-    within = omega (arith, room);
-    stops = λ _. (nothing-skipped t (at + 1) room (omega (arith, is.ends.above, after-byte))).stops room;
-    ends = λ _. ((λ e. omega (arith, is.ends.below, after-byte, e)), between-not_upper (get_or t (at + 1) 0) (omega (arith, is.ends.below, after-byte)));
-  }
+  empty-closed = grind (arith, common_steps, room, nothing-skipped, after-byte, between-not_upper)
 
   there-empty : IsNextAt t at number end w more
   there-empty =

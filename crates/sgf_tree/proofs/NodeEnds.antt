@@ -1,5 +1,6 @@
 -- How the properties of a node are read, one after another.
-use Rattle.std.proofs.Common.{◌≡◌, ◌≢◌, ℕ, ◌+◌, ◌<◌, false, IsTrue, List, [], ◌∷◌, length, get_or, Option, Some, None, refl, ap, subst, ◌∙◌, arith, ne_eqb}
+use Rattle.std.proofs.lemmas.Grind.{common_steps}
+use Rattle.std.proofs.Common.{◌≡◌, ◌≢◌, ℕ, ◌+◌, ◌<◌, false, IsTrue, List, [], ◌∷◌, length, get_or, Option, Some, None, refl, subst, arith, ne_eqb}
 use Rattle.sgf_tree.specs.Tree.{Property}
 use Rattle.sgf_tree.specs.Spelling.{is_white_space, is_upper}
 use Rattle.sgf_tree.specs.inner.Machine.{Started, MachineState, in_node, in_name, after_value, after_node, with_property, ended, next_state, accepted}
@@ -51,13 +52,7 @@ module _ (t : List ℕ) where
     pub other : at < length t → NoBracket last (get_or t at 0)
 
   pub node-done : (at : ℕ) (whole : Started) → StandsInNode at whole → (at < length t → is_white_space (get_or t at 0) ≡ false) → (at < length t → is_upper (get_or t at 0) ≡ false) → StandsAfterNode t at whole
-  node-done at whole stands white upper =
-      record {
-        state = state_of stands.done stands.last;
-        reached = stands.reached;
-        next = λ lt. node-ends at stands.done stands.last (get_or t at 0) (white lt) (upper lt) (stands.other lt) ∙ ap (λ n. after_node at (ended n) (get_or t at 0)) stands.whole_is;
-        unaccepted = node-unaccepted stands.done stands.last;
-      }
+  node-done at whole stands white upper = grind (arith, common_steps, node-ends, node-unaccepted)
 
   pub node-name : (at : ℕ) (whole : Started) → StandsInNode at whole → at < length t → IsTrue (is_upper (get_or t at 0)) → ComesTo t (at + 1) (in_name whole (get_or t at 0 ∷ []))
   node-name at whole stands lt capital =

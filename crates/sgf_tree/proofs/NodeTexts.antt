@@ -29,9 +29,7 @@ white-none (white_space l w) (white_space m v) h = white-none w v h
 
 -- a value in front has one form and one end
 pub prop-same : {u v s q r : List ℕ} → IsPropValue u s q → IsPropValue v s r → (u ≡ v) × (q ≡ r)
-prop-same {u} {v} {s} {q} {r} (prop_value {t = x} w h) (prop_value {t = y} z k) =
-    let e : x ≡ y = (white-same w z refl refl).1 in
-    value-same h (subst (λ t. IsValue v t (93 ∷ r)) (sym e) k)
+prop-same {u} {v} {s} {q} {r} (prop_value {t = x} w h) (prop_value {t = y} z k) = grind (arith, common_steps, white-same, value-same)
 
 pub ends-value : {v s r : List ℕ} → NoValueFollows s → ¬ IsPropValue v s r
 ends-value ends (prop_value {t} w h) = ends 91 t w refl

@@ -49,41 +49,20 @@ pub record IsParentWithin (at : ℕ) (rs : List OrderedNode) (j i : ℕ) : Type 
   pub next : parent_in rs (suc i - at) ≡ Some (Some i)
 
 within-left : (at : ℕ) (xs ys : List OrderedNode) (j i : ℕ) → IsParentWithin at xs j i → IsParentWithin at (xs ++ ys) j i
-within-left at xs ys j i w =
-    record {
-      from = w.from;
-      before = w.before;
-      next = parent_in-left xs ys (suc i - at) (parent_in-within xs (suc i - at) (Some i) w.next) ∙ w.next;
-    }
+within-left at xs ys j i w = grind (arith, common_steps, parent_in-left, parent_in-within)
 
 within-right : (at start : ℕ) (xs ys : List OrderedNode) (j k i : ℕ) → start ≡ at + length xs → j ≡ length xs + k → IsParentWithin start ys k i → IsParentWithin at (xs ++ ys) j i
-within-right at start xs ys j k i e f w =
-    let from : start ≤ i = w.from in
-    let before : i < start + k = w.before in
-    record {
-      from = omega arith;
-      before = omega arith;
-      next = parent_in-right xs ys (suc i - at) (suc i - start) (omega arith) ∙ w.next;
-    }
+within-right at start xs ys j k i e f w = grind (arith, common_steps, parent_in-right)
 
 -- the first of the nodes ys has the parent i, which is the last of the nodes xs
 within-last : (at last : ℕ) (xs ys : List OrderedNode) (j k i : ℕ) → last + 1 ≡ at + length xs → 0 < length xs → j ≡ length xs + k → last ≡ i → parent_in ys 0 ≡ Some (Some last) → IsParentWithin at (xs ++ ys) j i
-within-last at last xs ys j k i e some f same first =
-    record {
-      from = omega arith;
-      before = omega arith;
-      next = parent_in-right xs ys (suc i - at) 0 (omega arith) ∙ first ∙ ap (λ n. Some (Some n)) same;
-    }
+within-last at last xs ys j k i e some f same first = grind (arith, common_steps, parent_in-right)
 
 -- the game's own nodes: the first has the parent of the game, each further one the node before it
 own-within : (at : ℕ) (parent : Option ℕ) (first : OrderedNode) (more : List Node) (j i : ℕ) → first.parent ≡ parent → j < suc (length more) → parent_in (first ∷ further_nodes at more) j ≡ Some (Some i)
     → (parent ≡ Some i) ⊎ IsParentWithin at (first ∷ further_nodes at more) j i
 own-within at parent first more zero i e lt h = inl (cc)
-own-within at parent first more (suc j) i e lt h =
-    let here : parent_in (further_nodes at more) j ≡ Some (Some (at + j)) = parent_in-further at more j (omega arith) in
-    let same : i ≡ at + j = cc in
-    let place : suc i - at ≡ suc j = omega arith in
-    inr (record { from = omega arith; before = omega arith; next = rw place h })
+own-within at parent first more (suc j) i e lt h = grind (arith, common_steps, parent_in-further)
 
 -- what holds within each of two lists of ordered nodes holds within both
 joined-within : (at start : ℕ) (xs ys : List OrderedNode) (j i : ℕ) (P : Type 0) → start ≡ at + length xs → parent_in (xs ++ ys) j ≡ Some (Some i)

@@ -1,4 +1,5 @@
 -- How the own nodes of a game are read one by one, and what a keeper keeps of them.
+use Rattle.std.proofs.lemmas.Grind.{common_steps}
 use Rattle.std.proofs.Common.{◌≡◌, ◌≢◌, ℕ, ◌+◌, ◌<◌, ◌≤◌, true, List, [], ◌∷◌, ◌++◌, length, get_or, refl, sym, ap, subst, ◌∙◌, arith}
 use Rattle.sgf_tree.specs.Tree.{Property, Node, no_games, node_count}
 use Rattle.sgf_tree.specs.Spelling.{is_white_space}
@@ -114,19 +115,7 @@ module _ (t : List ℕ) (at : ℕ) where
       pub holds : kept k nothing → keeps k (coming_of (own_of game) ended)
 
     pub own-game : (keeps : Stack → Coming → Type 0) (end : ℕ) (own : OwnNodes) (k : Stack) → AreOwnTo kept keeps end own k → 0 < own.count → IsOwnGame keeps end own k
-    own-game keeps end own k so_far some = game-of so_far.nodes so_far.read so_far.are so_far.holds
-      where
-        game-of : (nodes : List Node) → AreReadTo k end nodes → AreOwnSoFar t own nodes so_far.ended → (kept k nothing → keeps k (coming_of nodes so_far.ended)) → IsOwnGame keeps end own k
-        game-of [] white are holds = absurd (omega (arith, are.counted))
-        game-of (first ∷ more) read are holds =
-            record {
-              game = record { first = first; more = more; below = no_games };
-              ended = so_far.ended;
-              nothing_below = refl;
-              nodes = read;
-              are = are;
-              holds = holds;
-            }
+    own-game keeps end own k so_far some = grind (arith, common_steps)
 
     -- no further node follows
     pub own-done : (keeps keeps' told : Stack → Coming → Type 0) (end : ℕ) (own : OwnNodes) → OwnSoFar kept keeps end own → 0 < own.count → (end < length t → get_or t end 0 ≢ 59)

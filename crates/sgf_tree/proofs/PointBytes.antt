@@ -1,7 +1,8 @@
 -- The bytes of four values such as `[pd]`, all compared at once with the least one that may stand there.
-use Rattle.std.proofs.Common.{◌≡◌, ◌∙◌, ℕ, zero, suc, ◌+◌, ◌*◌, ◌/◌, ◌%◌, ◌^◌, ◌<◌, ◌≤◌, IsTrue, List, [], ◌∷◌, length, get_or, inl, inr, refl, ap, arith}
+use Rattle.std.proofs.lemmas.Grind.{common_steps}
+use Rattle.std.proofs.Common.{◌≡◌, ◌∙◌, ℕ, zero, suc, ◌+◌, ◌*◌, ◌/◌, ◌%◌, ◌^◌, ◌<◌, ◌≤◌, List, [], ◌∷◌, length, get_or, refl, ap, arith}
 use Rattle.std.proofs.lemmas.Bool.{cases_lt}
-use Rattle.sgf_tree.specs.inner.Progress.{is_plain, IsPoint, ArePoints}
+use Rattle.sgf_tree.specs.inner.Progress.{IsPoint, ArePoints}
 use Rattle.sgf_tree.proofs.MoveBytes.{other-than, in-place}
 use Rattle.sgf_tree.proofs.PlacedBytes
 use Rattle.sgf_tree.proofs.PlacedBytes.{above}
@@ -9,23 +10,7 @@ use Rattle.sgf_tree.proofs.PlacedBytes.{above}
 -- a value, by how far its bytes are above the least ones
 point-from : (t : List ℕ) (at : ℕ) → ((i : ℕ) → get_or t i 0 < 256) → at + 3 < length t → above (get_or t at 0) 91 ≤ 0
     → above (get_or t (at + 1) 0) 94 ≤ 253 → above (get_or t (at + 2) 0) 94 ≤ 253 → above (get_or t (at + 3) 0) 93 ≤ 0 → IsPoint t at
-point-from t at fits within first second third fourth =
-    let three : at + 1 + 2 ≡ at + 3 = omega arith in
-    record {
-      begins = omega (arith, first, fits at);
-      value = record {
-        within = omega arith;
-        plain = record { rises = omega arith; within = omega arith; passing = plain };
-        bracket = rw three (omega (arith, fourth, fits (at + 3)));
-      };
-    }
-  where
-    plain : (i : ℕ) → at + 1 ≤ i → i < at + 1 + 2 → IsTrue (is_plain (get_or t i 0))
-    plain i low high =
-        elim (cases_lt i (at + 2)) [
-          | inl lt ↦ let same : i ≡ at + 1 = omega arith in rw same (other-than (get_or t (at + 1) 0) (fits (at + 1)) second)
-          | inr le ↦ let same : i ≡ at + 2 = omega arith in rw same (other-than (get_or t (at + 2) 0) (fits (at + 2)) third)
-        ]
+point-from t at fits within first second third fourth = grind (arith, common_steps, cases_lt, other-than)
 
 module _ (t : List ℕ) (at : ℕ) (room : at + 16 ≤ length t) (fits : (i : ℕ) → get_or t i 0 < 256) where
   abbrev four_least : List ℕ

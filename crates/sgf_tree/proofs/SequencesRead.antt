@@ -1,7 +1,6 @@
 -- How the machine goes over the own nodes of a game.
 use Rattle.std.proofs.lemmas.Grind.{common_steps}
-use Rattle.std.proofs.Common.{◌≡◌, ◌≢◌, ℕ, ◌+◌, ◌<◌, ◌≤◌, true, false, inl, inr, List, [], ◌∷◌, ◌++◌, length, get_or, Some, None, refl, sym, ap, subst, ◌∙◌, arith, ne_eqb}
-use Rattle.std.proofs.lemmas.Bool.{cases_lt}
+use Rattle.std.proofs.Common.{◌≡◌, ◌≢◌, ℕ, ◌+◌, ◌<◌, true, false, List, [], ◌∷◌, ◌++◌, length, get_or, None, refl, arith, ne_eqb}
 use Rattle.sgf_tree.specs.Tree.{Property, Node, Games, no_games, game}
 use Rattle.sgf_tree.specs.Spelling.{is_white_space}
 use Rattle.sgf_tree.specs.inner.Machine.{OpenGame, Stack, Started, opened, in_node, after_game, after_node, between_games, ended, new_game, new_node, next_state, accepted}
@@ -73,34 +72,12 @@ module _ (t : List ℕ) where
 
   pub nodes-next : (place : ℕ) (read : PartRead) (k : Stack) (last : OpenGame) → NodesSoFar place k last → place < length t → get_or t place 0 ≡ 59
       → ArePropertiesRead t (place + 1) read → (ps : List Property) × NodesSoFar read.end k (with_node last (record { place = place; properties = ps }))
-  nodes-next place whole k last so_far lt e read =
-      let k' : Stack = record { closed = k.closed; unclosed = last ∷ k.unclosed } in
-      let n : Started = record { stack = k'; opens = false; place = place; properties = [] } in
-      let begins : ComesTo t (place + 1) (in_node n) =
-      subst (λ s. ComesTo t (place + 1) (new_node s false place)) so_far.stack_is (next-node place so_far.whole so_far.stands lt e) in
-      let own = read.reached n refl begins in (
-        own.0,
-        record {
-          whole = with_properties n own.0;
-          stands = own.1;
-          stack_is = refl;
-          nothing_below = so_far.nothing_below;
-          not_white_space = read.white_space.stops;
-        },
-      )
+  nodes-next place whole k last so_far lt e read = grind (arith, common_steps, next-node)
 
   -- no further node follows
   pub nodes-done : (end : ℕ) (k : Stack) (last : OpenGame) → NodesSoFar end k last → (end < length t → get_or t end 0 ≢ 59)
       → StandsBetween t end (record { closed = k.closed; unclosed = last ∷ k.unclosed })
-  nodes-done end k last so_far other =
-      let k' : Stack = record { closed = k.closed; unclosed = last ∷ k.unclosed } in
-      record {
-        state = so_far.stands.state;
-        reached = so_far.stands.reached;
-        next = λ lt. so_far.stands.next lt ∙ ap (λ s. after_node end s (get_or t end 0)) so_far.stack_is ∙ node-between end k' (get_or t end 0) (so_far.not_white_space lt) (other lt);
-        end = so_far.stands.unaccepted ∙ sym (open-unaccepted k.closed last k.unclosed);
-        not_white_space = so_far.not_white_space;
-      }
+  nodes-done end k last so_far other = grind (arith, common_steps, node-between, open-unaccepted)
 
   -- a further node's `;` begins a node
   pub nodes-node : (end : ℕ) (k : Stack) (last : OpenGame) → NodesSoFar end k last → end < length t → get_or t end 0 ≡ 59

@@ -26,15 +26,7 @@ straight text_end end = record { text_end = text_end; end = end; as_written = tr
 pub property-read : (t : List ℕ) (start bracket : ℕ) (read : PartRead) → IsNameRead t start bracket → ValuesBefore t bracket read.end → bracket < read.text_end
     → IsSpan is_white_space t read.text_end read.end → (read.end < length t → get_or t read.end 0 ≢ 91)
     → (IsTrue read.as_written → IsSpan is_upper t start bracket × AreValuesWritten t bracket read.text_end) → IsPropertyRead t start read
-property-read t start bracket read name values some white other written =
-    record {
-      rises = omega (arith, name.rises);
-      white_space = white;
-      no_value = other;
-      reached = λ n h. let after = name.reached n h in values.reached n after.0 after.1;
-      written = λ is.
-          let both = written is in property-one t start bracket read.text_end both.0 both.1 (λ e. omega (arith, name.rises)) (λ e. omega arith) (record { next = read.end; white_space = white; other = other });
-    }
+property-read t start bracket read name values some white other written = grind (arith, common_steps, property-one)
 
 pub short-property : (t : List ℕ) (start bracket close next : ℕ) → start < length t → IsTrue (is_upper (get_or t start 0)) → IsSpan is_letter t start bracket
     → IsSpan is_upper t start bracket → IsBracket t bracket → IsValueEnd t (bracket + 1) close → AreValuesEnded t (close + 1) next → IsPropertyRead t start (straight (close + 1) next)
@@ -124,16 +116,7 @@ module _ (t : List ℕ) (at : ℕ) where
       })
 
   pub so-far-done : (read : PartRead) → ReadSoFar t at read → (read.end < length t → is_upper (get_or t read.end 0) ≡ false) → ArePropertiesRead t at read
-  so-far-done read so_far no_property =
-      record {
-        rises = so_far.rises;
-        white_space = so_far.white_space;
-        no_value = so_far.no_value;
-        no_property = no_property;
-        reached = λ n none h.
-            let before = so_far.reached n none h in (before.0, node-done t read.end (with_properties n before.0) before.1 so_far.white_space.stops no_property);
-        written = so_far.written;
-      }
+  so-far-done read so_far no_property = grind (arith, common_steps, node-done)
 
 -- The properties of a node were read up to a `]` just before `end`: whatever white space follows there, all before it is read.
 abbrev pub AreReadTo : List ℕ → ℕ → ℕ → Type 0
@@ -163,13 +146,7 @@ none-read t at ends =
 -- a move in front of a node's properties
 module _ (t : List ℕ) (at : ℕ) (is : IsMove t at) where
   move-name : (test : ℕ → Bool) → IsTrue (test (get_or t at 0)) → test 91 ≡ false → IsSpan test t at (at + 1)
-  move-name test first other =
-      record {
-        rises = omega arith;
-        within = omega (arith, is.value.within);
-        passing = λ i low high. let same : i ≡ at = omega arith in rw same first;
-        stops = λ lt. rw is.bracket other;
-      }
+  move-name test first other = grind (arith, common_steps)
 
   move-value : IsValueEnd t (at + 1 + 1) (at + 4)
   move-value =

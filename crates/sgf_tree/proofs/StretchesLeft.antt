@@ -90,9 +90,7 @@ module _ (text : List ℕ) (g : Games) (stretches : List Stretch) (all : List �
 
 module _ (text : List ℕ) (g : Games) (kept : Sequences) (all : List ℕ) (at : ℕ) (out : List ℕ) (left : AreLeft text g (stretches_by kept) all at out) where
   pub stretch-within : at < length kept.stretches.items
-  stretch-within =
-      let first = first-left text g (stretches_by kept) all at out left in
-      omega (arith, slice_get_within (stretches_by kept) at first.0 first.1.here, length-map kept.stretches.items stretch_by)
+  stretch-within = grind (arith, common_steps, first-left, slice_get_within, length-map)
 
   -- the one that is kept at the index
   pub stretch-is : (entry : KeptStretch) → entry ≡ get_or kept.stretches.items at entry → IsFirst text g (stretches_by kept) all at out (stretch_by entry)

@@ -1,7 +1,8 @@
 -- Which `]` ends a raw value: the first one with an even number of `\` directly before it.
-use Rattle.std.proofs.Common.{◌≡◌, ◌≢◌, ℕ, zero, suc, ◌+◌, ◌-◌, ◌*◌, ◌/◌, ◌%◌, ◌<◌, ◌≤◌, ◌⊎◌, inl, inr, List, length, get_or, true, refl, sym, ap, subst, ◌∙◌, arith}
+use Rattle.std.proofs.lemmas.Grind.{common_steps}
+use Rattle.std.proofs.Common.{◌≡◌, ◌≢◌, ℕ, zero, suc, ◌+◌, ◌-◌, ◌*◌, ◌/◌, ◌%◌, ◌<◌, ◌≤◌, ◌⊎◌, inl, inr, List, length, get_or, refl, sym, ap, subst, ◌∙◌, arith}
 use Rattle.std.proofs.lemmas.Bool.{cases_eq}
-use Rattle.sgf_tree.specs.inner.Progress.{is_plain, ArePlain, HasNoBracket, IsNextBracket, AreBackslashesBefore, AreEscapes, SpellsValue, IsValueEnd, IsUnended}
+use Rattle.sgf_tree.specs.inner.Progress.{ArePlain, HasNoBracket, IsNextBracket, AreBackslashesBefore, AreEscapes, SpellsValue, IsValueEnd, IsUnended}
 use Rattle.sgf_tree.proofs.ValueEnds.{other-plain, units-end, escape-end}
 use Rattle.sgf_tree.proofs.ValueSpelled.{spelled-none, spelled-plain, spelled-escape, none-ended, none-cut}
 
@@ -23,39 +24,19 @@ module _ (t : List ℕ) (at : ℕ) where
   no-units = record { rises = omega arith; spelled = spelled-none t at }
 
   pub plain-units : (a b : ℕ) → AreValueUnits t at a → ArePlain t a b → AreValueUnits t at b
-  plain-units a b units plain =
-      let low : at ≤ a = units.rises in
-      record {
-        rises = omega (arith, low, plain.rises);
-        spelled = spelled-plain t at a b low units.spelled plain;
-      }
+  plain-units a b units plain = grind (arith, common_steps, spelled-plain)
 
   one-plain : (a : ℕ) → a < length t → get_or t a 0 ≢ 93 → get_or t a 0 ≢ 92 → AreValueUnits t at a → AreValueUnits t at (a + 1)
-  one-plain a lt x y units =
-      plain-units a (a + 1) units (record {
-        rises = omega arith;
-        within = omega arith;
-        passing = λ i low high. let e : a ≡ i = omega arith in subst (λ k. is_plain (get_or t k 0) ≡ true) e (other-plain (get_or t a 0) x y);
-      })
+  one-plain a lt x y units = grind (arith, common_steps, plain-units, other-plain)
 
   escape-units : (a : ℕ) → a + 1 < length t → get_or t a 0 ≡ 92 → AreValueUnits t at a → AreValueUnits t at (a + 2)
-  escape-units a lt e units =
-      let low : at ≤ a = units.rises in
-      record {
-        rises = omega (arith, low);
-        spelled = spelled-escape t at a low lt e units.spelled;
-      }
+  escape-units a lt e units = grind (arith, common_steps, spelled-escape)
 
   -- where no `]` stands, units go on up to the end, or a `\` is left there
   units-to : (n start end : ℕ) → start + n ≡ end → end ≤ length t → HasNoBracket t start end → AreValueUnits t at start
       → AreValueUnits t at end ⊎ AreCutUnits t at start end
   units-to zero start end e within none units = let same : start ≡ end = omega arith in inl (subst (AreValueUnits t at) same units)
-  units-to (suc zero) start end e within none units =
-      let next : start + 1 ≡ end = omega arith in
-      elim (cases_eq (get_or t start 0) 92) [
-        | inl is ↦ inr (record { last = start; rises = omega arith; next = next; escape = is; before = units })
-        | inr other ↦ inl (subst (AreValueUnits t at) next (one-plain start (omega arith) (none start (omega arith) (omega arith)) other units))
-      ]
+  units-to (suc zero) start end e within none units = grind (arith, common_steps, cases_eq, one-plain)
   units-to (suc (suc n)) start end e within none units =
       elim (cases_eq (get_or t start 0) 92) [
         | inl is ↦ from-further (start + 2) (omega arith) (units-to n (start + 2) end (omega arith) within (λ i low high. none i (omega arith) high) (escape-units start (omega arith) is units))
@@ -79,8 +60,7 @@ module _ (t : List ℕ) (at : ℕ) where
       (escape-units a (omega arith) (subst (λ j. get_or t j 0 ≡ 92) here (escapes 0 (omega arith))) units))
 
   pub escapes-units : (a b : ℕ) → AreEscapes t a b → AreValueUnits t at a → AreValueUnits t at b
-  escapes-units a b escapes units =
-      subst (AreValueUnits t at) (sym escapes.bytes) (side-by-side escapes.count a (omega (arith, escapes.bytes, escapes.within)) escapes.each units)
+  escapes-units a b escapes units = grind (arith, common_steps, side-by-side)
 
   module _ (start first end : ℕ) (within : end ≤ length t) (none : HasNoBracket t start end) (run : AreBackslashesBefore t start first end) (units : AreValueUnits t at start) where
     -- the run of `\` begins between units
@@ -115,15 +95,11 @@ module _ (t : List ℕ) (at : ℕ) where
 
   -- the same where none stands there
   pub bare-units : (end : ℕ) → IsNextBracket t at end → (at < end → get_or t (end - 1) 0 ≢ 92) → AreValueUnits t at end
-  bare-units end next bare =
-      let inside : end < length t = next.within in
-      even-units at end end (omega (arith, inside)) next.before
-      (record { low = next.rises; rises = omega arith; escapes = λ i low lt. absurd (omega arith); begins = bare }) no-units (omega arith)
+  bare-units end next bare = grind (arith, common_steps, even-units, no-units)
 
   -- a `]` after whole units ends the value
   pub units-ended : (end : ℕ) → AreValueUnits t at end → end < length t → get_or t end 0 ≡ 93 → IsValueEnd t at end
-  units-ended end units within bracket =
-      record { rises = units.rises; within = within; bracket = bracket; spelled = units.spelled }
+  units-ended end units within bracket = grind (arith, common_steps)
 
   -- with no further `]` the value is unended
   pub endless : (start : ℕ) → start ≤ length t → HasNoBracket t start (length t) → AreValueUnits t at start → IsUnended t at

@@ -307,11 +307,7 @@ pub between-none : (g : Games) (k end : ℕ) → end ≤ k → length (nodes_bet
 between-none g k end le = let none : end - k ≡ 0 = omega arith in ap (λ n. length (nodes_at g (range_with_len k n))) none
 
 pub some-between : (g : Games) (k end : ℕ) → 0 < length (nodes_between g k end) → k < end
-some-between g k end some =
-    elim (cases_lt k end) [
-      | inl lt ↦ lt
-      | inr le ↦ absurd (omega (arith, some, between-none g k end le))
-    ]
+some-between g k end some = grind (arith, common_steps, cases_lt, between-none)
 
 node-there : (g : Games) (i : ℕ) → i < node_count g → (n : Node) × (node_at g i ≡ Some n)
 node-there g i lt =

@@ -1,14 +1,15 @@
 -- How all games of a text are read, and what holds then.
+use Rattle.std.proofs.lemmas.Grind.{common_steps}
 use Rattle.std.proofs.Common.{◌≡◌, ℕ, ◌+◌, ◌-◌, ◌<◌, ◌≤◌, ◌⊎◌, inl, inr, List, [], ◌∷◌, length, get_or, Some, None, unwrap_or, refl, sym, ap, subst, ◌∙◌, arith}
 use Rattle.sgf_tree.specs.Tree.{Games, no_games, game, game_count, node_count}
 use Rattle.sgf_tree.specs.Spelling.{Spells, is_white_space}
 use Rattle.sgf_tree.specs.Refusal.{IsFaultyAt}
-use Rattle.sgf_tree.specs.inner.Machine.{OpenGame, Stack, MachineState, after_game, close, close_in, whole_game, accepted, collection_of, games_in}
+use Rattle.sgf_tree.specs.inner.Machine.{OpenGame, Stack, MachineState, after_game, close, accepted, collection_of, games_in}
 use Rattle.sgf_tree.specs.inner.OwnNodes.{Coming, nothing}
 use Rattle.sgf_tree.specs.inner.Progress.{ComesTo, IsSpan}
 use Rattle.sgf_tree.specs.inner.GamesRead.{open_count, whole, StandsBetween, IsGameRead, ReadsWhole}
 use Rattle.sgf_tree.proofs.AcceptedSpelled.{accepted-spelled}
-use Rattle.sgf_tree.proofs.Completion.{add_games, closed-in}
+use Rattle.sgf_tree.proofs.Completion.{closed-in}
 use Rattle.sgf_tree.proofs.GamesLoop.{none-accepted, close-faulty, close-stands, games-unfinished, games-whole, games-accepted, open_count-closed, depth-closed}
 use Rattle.sgf_tree.proofs.Run.{collection-run}
 use Rattle.sgf_tree.proofs.SequencesRead.{open-unaccepted}
@@ -41,19 +42,7 @@ module _ (t : List ℕ) where
   -- the own nodes of a game
   pub games-opened : (keeps keeps' : Stack → Coming → Type 0) (start at depth end : ℕ) (so_far : GamesSoFar keeps start at depth)
       → at < end → end ≤ length t → IsGameRead keeps' t end so_far.stack → GamesSoFar keeps' start end (depth + 1)
-  games-opened keeps keeps' start at depth end so_far rises within read =
-      let k : Stack = so_far.stack in
-      record {
-        rises = omega (arith, so_far.rises);
-        within = within;
-        stack = record { closed = k.closed; unclosed = read.read ∷ k.unclosed };
-        stands = read.stands;
-        kept = read.kept;
-        few = read.few;
-        none = λ e. absurd (omega (arith, so_far.rises));
-        some = λ _. omega arith;
-        depth_is = omega (arith, so_far.depth_is);
-      }
+  games-opened keeps keeps' start at depth end so_far rises within read = grind (arith, common_steps)
 
   -- a `)`
   module _ (keeps : Stack → Coming → Type 0) (start at depth : ℕ) (so_far : GamesSoFar keeps start at depth) where
@@ -62,27 +51,7 @@ module _ (t : List ℕ) where
 
     pub games-closed : (keeps' : Stack → Coming → Type 0) (next : ℕ) → 0 < depth → at < length t → get_or t at 0 ≡ 41 → IsSpan is_white_space t (at + 1) next
         → ((k k' : Stack) → keeps k nothing → length k.unclosed ≡ depth - 1 + 1 → close k ≡ Some (after_game k') → keeps' k' nothing) → GamesSoFar keeps' start next (depth - 1)
-    games-closed keeps' next some lt e white ends = close-of so_far.stack.unclosed refl
-      where
-        close-of : (gs : List OpenGame) → so_far.stack.unclosed ≡ gs → GamesSoFar keeps' start next (depth - 1)
-        close-of [] none = absurd (omega (arith, so_far.depth_is, ap length none))
-        close-of (g ∷ gs) is =
-            let k : Stack = so_far.stack in
-            let k' : Stack = add_games k.closed gs (whole_game g) in
-            let count : open_count k'.closed k'.unclosed ≡ open_count k.closed k.unclosed = open_count-closed k.closed g gs ∙ sym (ap (open_count k.closed) is) in
-            let one : length k.unclosed ≡ length (g ∷ gs) = ap length is in
-            let open_one : 0 < open_count k.closed k.unclosed = subst (λ xs. 0 < open_count k.closed xs) (sym is) (omega arith) in
-            record {
-              rises = omega (arith, so_far.rises, white.rises);
-              within = white.within;
-              stack = k';
-              stands = close-stands t at k so_far.stands g gs next is lt e white;
-              kept = ends k k' so_far.kept (omega (arith, so_far.depth_is)) (ap (close_in k.closed) is ∙ closed-in k.closed g gs);
-              few = omega (arith, so_far.few, white.rises);
-              none = λ e'. absurd (omega (arith, so_far.rises, white.rises));
-              some = λ _. omega arith;
-              depth_is = omega (arith, so_far.depth_is, depth-closed k.closed g gs);
-            }
+    games-closed keeps' next some lt e white ends = grind (arith, common_steps, open_count-closed, close-stands, closed-in, depth-closed)
 
     -- the end of the text
     module _ (ends : at ≡ length t) where

@@ -1,16 +1,10 @@
-use Rattle.std.proofs.Common.{◌∙◌, sym, ap, arith}
+use Rattle.std.proofs.Common.{◌∙◌, sym, ap}
 use Rattle.sgf_tree.specs.Tree.{Node}
 use Rattle.sgf_tree.proofs.LoneNodes.{front-left}
 use Rattle.sgf_tree.proofs.node.NodeRef.front.Goals as goal
 
-pub new-left-requires : goal.new-left-requires
-new-left-requires c =
-    let is = c.is_lone_front.ensures c.if-is_lone_front.true in
-    record {
-      within = omega (arith, is.front.value.within);
-      held = (front-left c.self.inside.text.now is c.self.invariant.0.properties).1;
-      kept = c.self.invariant.1;
-    }
+pub new-left-requires-clause-held : goal.new-left-requires-clause-held
+new-left-requires-clause-held c = (front-left c.self.inside.text.now (c.is_lone_front.ensures c.if-is_lone_front.true) c.self.invariant.0.properties).1
 
 pub returns-then-is_lone_front : goal.returns-then-is_lone_front
 returns-then-is_lone_front c =

@@ -1,10 +1,7 @@
-use Rattle.std.proofs.Common.{◌∷◌, ◌∙◌, ap, sym, get_or, length, filter, if◌then◌else◌, arith}
+use Rattle.std.proofs.Common.{◌∷◌, ◌∙◌, ap, sym, get_or, filter, if◌then◌else◌}
 use Rattle.sgf_tree.specs.Spelling.{is_upper}
 use Rattle.sgf_tree.specs.Tree.{Property}
 use Rattle.sgf_tree.proofs.property.PropRef.initial.Goals as goal
-
-pub bounds-self-inside-0 : goal.bounds-self-inside-0
-bounds-self-inside-0 c = let (letter, rest, is, capital) = c.self.invariant.1 in omega (arith, ap length is)
 
 pub returns : goal.returns
 returns c =

@@ -1,5 +1,4 @@
-use Rattle.std.proofs.Common.{◌≢◌, All, List, ℕ, [], ◌∙◌, get_or, sym, subst}
-use Rattle.std.proofs.lemmas.List.{take_all}
+use Rattle.std.proofs.Common.{◌≢◌, List, ℕ, [], ◌∙◌, get_or, sym}
 use Rattle.std.proofs.lemmas.List.Elements.{All-more}
 use Rattle.std.specs.Cmp.Lexicographic.{other_text}
 use Rattle.sgf_tree.proofs.quick.lead.is_other.Goals as goal
@@ -10,8 +9,3 @@ loop-other-preserved c =
     let i = c.loop-other.other-index in
     All-more (λ (known : List ℕ). c.args.name ≢ known) names i [] c.loop-other-test.true c.loop-other.invariant
     (other_text c.args.name (get_or names i []) (sym c.if-eq.false ∙ c.eq.ensures))
-
-pub returns : goal.returns
-returns c _ =
-    let names = c.args.names.now in
-    subst (All (λ (known : List ℕ). c.args.name ≢ known)) (take_all c.loop-other.other-index names c.loop-other-test.false) c.loop-other.invariant

@@ -1,9 +1,6 @@
 use Rattle.std.proofs.Common.{arith}
-use Rattle.sgf_tree.proofs.Points.{points-none, points-more, fourth-stands}
+use Rattle.sgf_tree.proofs.Points.{points-more, fourth-stands}
 use Rattle.sgf_tree.proofs.quick.points.past_points.Goals as goal
-
-pub points-init : goal.points-init
-points-init c = record { points = points-none c.args.text.now c.args.at; within = c.requires; stands = λ is. is }
 
 pub points-preserved : goal.points-preserved
 points-preserved c =
