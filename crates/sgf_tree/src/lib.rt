@@ -28,7 +28,7 @@
 //! | `reader/own_nodes`, `reader/properties` | what is known of the own nodes of a game; reading the properties of a node |
 //! | `reader/counting` | counting games, nodes and leaves |
 //! | `reader/value` | what ends a raw value, and keeping where long values end |
-//! | `reader/mark`, `reader/scan` | the byte order mark; white space, identifiers and parts of a text |
+//! | `reader/mark`, `reader/scan` | the byte order mark; white space, where parts of a text end, and what stands at an offset |
 //! | `reader/fault` | why reading a text stopped, and how the place of the first fault is found |
 //! | `extent` | how much a text holds |
 //! | `sequences`, `outline`, `walk` | keeping the sequences of a collection; looking into them; going over the nodes of one |

@@ -1,4 +1,4 @@
-//! Where spans of a text end.
+//! Where spans of a text end, and what stands at an offset.
 
 ghost use Rattle.std.specs.Prelude.{◌≡◌, ◌≢◌, false, ◌≤◌, ◌<◌, ◌+◌, length, drop, slice_index, slice_range, IsTrue};
 ghost use Rattle.sgf_tree.specs.Spelling.{is_white_space, is_upper};
