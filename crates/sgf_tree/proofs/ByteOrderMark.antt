@@ -1,5 +1,5 @@
 -- The byte order mark, by the machine, and the white space after it.
-use Rattle.std.proofs.Common.{◌≡◌, ◌≢◌, ℕ, ◌+◌, ◌<◌, ◌≤◌, inl, inr, true, List, [], length, get_or, Some, refl, subst, ◌∙◌, arith, ne_eqb}
+use Rattle.std.proofs.Common.{rules, ◌≡◌, ◌≢◌, ℕ, ◌+◌, ◌<◌, ◌≤◌, inl, inr, true, List, [], length, get_or, Some, refl, subst, ◌∙◌, arith, ne_eqb}
 use Rattle.std.proofs.lemmas.Bool.{cases_lt}
 use Rattle.sgf_tree.specs.Tree.{no_games}
 use Rattle.sgf_tree.specs.Spelling.{is_white_space}
@@ -24,14 +24,7 @@ module _ (t : List ℕ) where
   -- no mark
   pub mark-none : (0 < length t → get_or t 0 0 ≢ 239) → IsMarkRead t 0
   unfolding next_state accepted
-  mark-none other =
-      record {
-        within = omega arith;
-        state = start;
-        reached = run-take-none t;
-        next = λ lt. rw (ne_eqb (get_or t 0 0) 239 (other lt));
-        end = refl;
-      }
+  mark-none other = search (rules, run-take-none, ne_eqb)
 
   first-reached : 0 < length t → get_or t 0 0 ≡ 239 → ComesTo t 1 first_of_mark
   unfolding next_state

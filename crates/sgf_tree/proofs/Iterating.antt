@@ -1,6 +1,6 @@
 -- A step forward over the properties in front of a text, or over the values.
 use Rattle.std.proofs.lemmas.Grind.{common_steps}
-use Rattle.std.proofs.Common.{◌≡◌, ◌≢◌, ℕ, zero, suc, ◌+◌, ◌-◌, ◌<◌, ◌≤◌, Bool, true, false, IsTrue, List, [], ◌∷◌, ◌++◌, length, get_or, take, drop, slice_range, filter, refl, sym, ap, subst, ◌∙◌, inl, inr, arith, add-one, get_or-drop, length-drop}
+use Rattle.std.proofs.Common.{rules, ◌≡◌, ◌≢◌, ℕ, zero, suc, ◌+◌, ◌-◌, ◌<◌, ◌≤◌, Bool, true, false, IsTrue, List, [], ◌∷◌, ◌++◌, length, get_or, take, drop, slice_range, filter, refl, sym, ap, subst, ◌∙◌, inl, inr, arith, add-one, get_or-drop, length-drop}
 use Rattle.std.proofs.lemmas.Bool.{cases_lt, false≢true}
 use Rattle.std.proofs.Math.Seq.{drop-cons}
 use Rattle.std.proofs.lemmas.List.{drop-drop, drop_all}
@@ -164,16 +164,7 @@ pub no-value : {s : List ℕ} → AreValuesIn s → IsNoPropValue s → values_i
 no-value {s} held none = grind (arith, common_steps, values-in)
 
 pub next-value : {v s r : List ℕ} → AreValuesIn s → IsPropValue v s r → (values_in s ≡ v ∷ values_in r) × AreValuesIn r
-next-value {v} {s} {r} held h = next held.values held.rest held.spelled held.ends
-  where
-    next : (vs : List (List ℕ)) (q : List ℕ) → ArePropValues vs s q → NoValueFollows q → (values_in s ≡ v ∷ values_in r) × AreValuesIn r
-    next [] q no_value ends = absurd (ends-value ends h)
-    next (u ∷ us) q (value {t} first more) ends =
-        let same = prop-same first h in
-        let left : ArePropValues us r q = subst (λ x. ArePropValues us x q) same.1 more in (
-          values-in (value first more) ends ∙ ap (λ x. x ∷ us) same.0 ∙ ap (λ xs. v ∷ xs) (sym (values-in left ends)),
-          record { values = us; rest = q; spelled = left; ends = ends },
-        )
+next-value {v} {s} {r} held h = search (rules, ends-value, prop-same, values-in)
 
 -- the first property of a text: its identifier stands between two offsets, v is its first value, its further ones stand in m, and
 -- r is left after it

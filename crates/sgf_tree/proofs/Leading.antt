@@ -1,6 +1,6 @@
 -- A move and other properties after it.
 use Rattle.std.proofs.lemmas.Grind.{common_steps}
-use Rattle.std.proofs.Common.{◌≡◌, ◌≢◌, ℕ, ◌+◌, ◌<◌, ◌≤◌, IsTrue, All, List, [], ◌∷◌, ◌++◌, length, get_or, drop, slice_range, refl, sym, ap, subst, ◌∙◌, arith, get_or-drop, length-drop}
+use Rattle.std.proofs.Common.{rules, ◌≡◌, ◌≢◌, ℕ, ◌+◌, ◌<◌, ◌≤◌, IsTrue, All, List, [], ◌∷◌, ◌++◌, length, get_or, drop, slice_range, refl, sym, ap, subst, ◌∙◌, arith, get_or-drop, length-drop}
 use Rattle.std.proofs.lemmas.List.{drop-drop}
 use Rattle.std.proofs.lemmas.List.Elements.{All-nil, All-push}
 use Rattle.sgf_tree.specs.Tree.{Property}
@@ -80,12 +80,7 @@ module _ (names : List (List ℕ)) (s : List ℕ) (next : ℕ) (is : IsLedNode n
   all-spelled = properties (spelled s is.front) is.others.properties.spelled
 
   pub led-properties : IsLedBy names (lone s is.front) (properties_in (drop 1 s))
-  led-properties =
-      record {
-        rest = is.others.properties.properties;
-        all = properties-in all-spelled (ends-node s is.others.end next is.others.ends);
-        others = is.others.properties.named;
-      }
+  led-properties = search (rules, properties-in, all-spelled, ends-node)
 
 -- where they end, in a text in which the node is at `at`
 module _ (names : List (List ℕ)) (t : List ℕ) (at next : ℕ) (is : IsLedNode names (drop at t) next) where

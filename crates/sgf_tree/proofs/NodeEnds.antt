@@ -1,6 +1,6 @@
 -- How the properties of a node are read, one after another.
 use Rattle.std.proofs.lemmas.Grind.{common_steps}
-use Rattle.std.proofs.Common.{◌≡◌, ◌≢◌, ℕ, ◌+◌, ◌<◌, false, IsTrue, List, [], ◌∷◌, length, get_or, Option, Some, None, refl, subst, arith, ne_eqb}
+use Rattle.std.proofs.Common.{rules, ◌≡◌, ◌≢◌, ℕ, ◌+◌, ◌<◌, false, IsTrue, List, [], ◌∷◌, length, get_or, Option, Some, None, refl, arith, ne_eqb}
 use Rattle.sgf_tree.specs.Tree.{Property}
 use Rattle.sgf_tree.specs.Spelling.{is_white_space, is_upper}
 use Rattle.sgf_tree.specs.inner.Machine.{Started, MachineState, in_node, in_name, after_value, after_node, with_property, ended, next_state, accepted}
@@ -55,9 +55,7 @@ module _ (t : List ℕ) where
   node-done at whole stands white upper = grind (arith, common_steps, node-ends, node-unaccepted)
 
   pub node-name : (at : ℕ) (whole : Started) → StandsInNode at whole → at < length t → IsTrue (is_upper (get_or t at 0)) → ComesTo t (at + 1) (in_name whole (get_or t at 0 ∷ []))
-  node-name at whole stands lt capital =
-      subst (λ n. ComesTo t (at + 1) (in_name n (get_or t at 0 ∷ []))) stands.whole_is
-      (run-take-step t at (state_of stands.done stands.last) (in_name (finished stands.done stands.last) (get_or t at 0 ∷ [])) stands.reached lt (name-begins at stands.done stands.last (get_or t at 0) capital))
+  node-name at whole stands lt capital = search (rules, run-take-step, name-begins)
 
   -- nothing is skipped before a byte above the space
   pub nothing-skipped : (at : ℕ) → at < length t → 32 < get_or t at 0 → IsSpan is_white_space t at at

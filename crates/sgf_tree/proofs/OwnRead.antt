@@ -1,6 +1,6 @@
 -- How the own nodes of a game are read one by one, and what a keeper keeps of them.
 use Rattle.std.proofs.lemmas.Grind.{common_steps}
-use Rattle.std.proofs.Common.{◌≡◌, ◌≢◌, ℕ, ◌+◌, ◌<◌, ◌≤◌, true, List, [], ◌∷◌, ◌++◌, length, get_or, refl, sym, ap, subst, ◌∙◌, arith}
+use Rattle.std.proofs.Common.{rules, ◌≡◌, ◌≢◌, ℕ, ◌+◌, ◌<◌, ◌≤◌, true, List, [], ◌∷◌, ◌++◌, length, get_or, refl, sym, ap, subst, ◌∙◌, arith}
 use Rattle.sgf_tree.specs.Tree.{Property, Node, no_games, node_count}
 use Rattle.sgf_tree.specs.Spelling.{is_white_space}
 use Rattle.sgf_tree.specs.Refusal.{IsFaultyAt}
@@ -137,11 +137,4 @@ module _ (t : List ℕ) (at : ℕ) where
   -- no node was read yet
   pub own-start : (keeps : Stack → Coming → Type 0) (first : ℕ) → IsSpan is_white_space t at first
       → OwnSoFar keeps keeps first (record { first = first; last = first; end = first; count = 0; start = first; written = true })
-  own-start keeps first white =
-      record {
-        within = white.within;
-        few = omega (arith, white.rises);
-        ends = omega arith;
-        first = λ _. refl;
-        each = λ k after. record { nodes = []; ended = []; read = white; are = own-none t first white.within; holds = λ held. held };
-      }
+  own-start keeps first white = search (rules, own-none)

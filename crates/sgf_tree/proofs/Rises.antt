@@ -1,6 +1,6 @@
 -- Numbers that rise strictly.
 use Rattle.std.proofs.lemmas.Grind.{common_steps}
-use Rattle.std.proofs.Common.{◌≡◌, ℕ, zero, suc, ◌+◌, ◌<◌, ◌≤◌, inl, inr, List, [], ◌∷◌, ◌++◌, length, get_or, Some, slice_get, ap, arith}
+use Rattle.std.proofs.Common.{rules, ◌≡◌, ℕ, zero, suc, ◌+◌, ◌<◌, ◌≤◌, List, [], ◌∷◌, ◌++◌, length, get_or, Some, slice_get, arith}
 use Rattle.std.proofs.lemmas.Bool.{cases_lt}
 use Rattle.std.proofs.lemmas.Option.{slice_get-get_or}
 
@@ -37,12 +37,7 @@ rises-pair low high (x ∷ ps) (suc i) (suc j) p q r h e f =
 
 -- a number is at most a later one
 pub rises-most : (low high : ℕ) (ps : List ℕ) (i j : ℕ) → Rises low ps high → i ≤ j → j < length ps → get_or ps i 0 ≤ get_or ps j 0
-rises-most low high ps i j r le within =
-    elim (cases_lt i j) [
-      | inl lt ↦
-          omega (arith, rises-pair low high ps i j _ _ r lt (slice_get-get_or ps i 0 (omega (arith, lt, within))) (slice_get-get_or ps j 0 within))
-      | inr ge ↦ let same : i ≡ j = omega (arith, le, ge) in omega (arith, ap (λ k. get_or ps k 0) same)
-    ]
+rises-most low high ps i j r le within = search (rules, cases_lt, rises-pair, slice_get-get_or)
 
 -- there is room for them
 pub rises-count : (low high : ℕ) (ps : List ℕ) → Rises low ps high → low + length ps ≤ high

@@ -1,6 +1,6 @@
 -- The units of a raw value, by the machine, and where the next `]` stands.
 use Rattle.std.proofs.lemmas.Grind.{common_steps}
-use Rattle.std.proofs.Common.{inl, inr, ◌≡◌, ◌≢◌, ℕ, ◌+◌, ◌-◌, ◌<◌, ◌≤◌, true, not, List, [], ◌∷◌, ◌++◌, length, get_or, take, drop, slice_range, Some, None, refl, sym, ap, subst, ◌∙◌, arith, eqb-true, get_or-take, get_or-drop, ne_eqb, append_assoc, append-nil}
+use Rattle.std.proofs.Common.{rules, inl, inr, ◌≡◌, ◌≢◌, ℕ, ◌+◌, ◌-◌, ◌<◌, ◌≤◌, true, not, List, [], ◌∷◌, ◌++◌, length, get_or, take, drop, slice_range, Some, None, refl, sym, ap, subst, ◌∙◌, arith, eqb-true, get_or-take, get_or-drop, ne_eqb, append_assoc, append-nil}
 use Rattle.std.proofs.Math.Seq.{take-add}
 use Rattle.std.proofs.Common.{length-take, length-drop}
 use Rattle.std.proofs.lemmas.Bool.{cases_lt, and_parts, not-true, eqb-false, eq-eqb}
@@ -56,24 +56,10 @@ span-at t end i le lt = grind (arith, common_steps, get_or-take, get_or-drop)
 -- the search for `]` finds the next one
 pub bracket-found : (t : List ℕ) (at further : ℕ) → at ≤ length t
     → IsFirstByte (is_byte 93) (slice_range t at (length t)) (Some further) → IsNextBracket t at (at + further)
-bracket-found t at further le found =
-    let hay : List ℕ = slice_range t at (length t) in
-    let long : length hay + at ≡ length t = omega (arith, length-take (length t - at) (drop at t), length-drop at t) in
-    let high : further < length hay = found.0.high in
-    let same : at + further - at ≡ further = omega arith in
-    record {
-      rises = omega arith;
-      within = omega arith;
-      bracket = sym (span-at t at (at + further) (omega arith) (omega arith)) ∙ ap (λ k. get_or hay k 0) same ∙ eqb-true (get_or hay further 0) 93 found.1;
-      before = λ i low lt is. found.0.before (i - at) (omega arith) (omega arith)
-          (eq-eqb (get_or hay (i - at) 0) 93 (span-at t at i low (omega arith) ∙ is));
-    }
+bracket-found t at further le found = search (rules, length-take, length-drop, span-at, eqb-true, eq-eqb)
 
 pub bracket-none : (t : List ℕ) (at : ℕ) → at ≤ length t → IsFirstByte (is_byte 93) (slice_range t at (length t)) None → HasNoBracket t at (length t)
-bracket-none t at le none =
-    let hay : List ℕ = slice_range t at (length t) in
-    let long : length hay + at ≡ length t = omega (arith, length-take (length t - at) (drop at t), length-drop at t) in
-    λ i low lt is. none (i - at) (omega arith) (omega arith) (eq-eqb (get_or hay (i - at) 0) 93 (span-at t at i low lt ∙ is))
+bracket-none t at le none = search (rules, length-take, length-drop, eq-eqb, span-at)
 
 -- the machine over the units of a value
 run-units : {v s r : List ℕ} (at : ℕ) (n : Started) (name : List ℕ) (before : List (List ℕ)) (so_far : List ℕ) → IsValue v s r
