@@ -1,8 +1,8 @@
 //! A node of a collection.
 
-ghost use Rattle.std.specs.Prelude.{◌≡◌, ◌<◌, ◌++◌, length, slice_get, find, Some, OnOk, OnErr, drop};
+ghost use Rattle.std.specs.Prelude.{◌≡◌, ◌<◌, ◌++◌, length, slice_get, find, Some, OnOk, OnErr, option_map, option_to_list, drop};
 ghost use Rattle.std.specs.Str.{bytes_eq};
-ghost use Rattle.sgf_tree.specs.Tree.{told_property, Node};
+ghost use Rattle.sgf_tree.specs.Tree.{lone_property, Node};
 ghost use Rattle.sgf_tree.specs.Written.{node_text};
 ghost use Rattle.sgf_tree.specs.inner.TreeCode.{node_code};
 ghost use Rattle.sgf_tree.specs.inner.NodeText.{properties_in, IsNodeIn};
@@ -61,7 +61,7 @@ impl<'c, 'a> NodeRef<'c, 'a> {
     ///
     /// The first property is recognized only if its name is one capital and its only value is two bytes without an escape.
     pub fn front(&self) -> (Option<(u8, &'a [u8])>, Properties<'c, 'a>)
-        ensures { self.now.properties ≡ told_property result.0 ++ result.1 }
+        ensures { self.now.properties ≡ option_to_list (option_map (λ lone. lone_property lone.0 lone.1.now) result.0) ++ result.1 }
     {
         let text = self.text;
         if is_lone_front(text) {
