@@ -19,7 +19,7 @@ import tempfile
 from compare import HERE, PEER, PROGRAM, peak, run, words
 
 FORMS = ["list", "sgf", "gtp", "count"]
-COLOURS = {"list": "#1f77b4", "sgf": "#2ca02c", "gtp": "#d62728", "count": "#9467bd", "scan": "#555555"}
+COLOURS = {**dict(zip(FORMS, ["#1f77b4", "#2ca02c", "#d62728", "#ff7f0e", "#8c564b", "#17becf"])), "count": "#9467bd", "scan": "#555555"}
 WIDTH, HEIGHT, LEFT, TOP = 440, 330, 70, 40
 
 

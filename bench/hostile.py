@@ -453,7 +453,7 @@ def beside(form, path, arguments, status, seen):
 
 def short(table):
     """A row for each input and size: seconds and nanoseconds per byte in each form, and the greatest memory per byte read."""
-    print("\n| Input | Bytes | list: s, ns | sgf: s, ns | gtp: s, ns | count: s, ns | memory |\n|---|---|---|---|---|---|---|")
+    print("\n| Input | Bytes | " + "".join(f"{form}: s, ns | " for form in FORMS) + "memory |\n" + "|---" * (3 + len(FORMS)) + "|")
     for name, size in dict.fromkeys((row[0], row[3]) for row in table):
         rows = {row[2]: row for row in table if (row[0], row[3]) == (name, size)}
         cells = []

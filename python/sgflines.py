@@ -21,7 +21,7 @@ milliseconds. The call then keeps no hold of the object: it can be changed, resi
 because places are offsets in bytes.
 
 Numbers: `after`, `limit` and `place` are ints from 0 to 2**64 - 1, or of another type that Python takes for an int, such as numpy's. A
-bool is refused. A wrong type raises TypeError. A number out of this range, and a form that isn't one of the three, raise ValueError.
+bool is refused. A wrong type raises TypeError. A number out of this range, and an unknown form, raise ValueError.
 
 Faults: a text that is refused, and a place that no line has, raise a Fault; its class says which. Refused memory raises MemoryError.
 Faults, rows and verdicts can be copied and pickled, so they come whole out of another process.
@@ -322,7 +322,7 @@ _ENDS = {"list": b"\n", "sgf": b")\n", "gtp": b"\n\n"}
 def records(text, form, after=None, limit=None):
     """The record of each line of play, as bytes: a row, a game or a script. The joined records are what `output` returns."""
     number, joined = _joined(text, form, after, limit)
-    if form == "sgf" and joined.count(_ENDS[form]) > number:
+    if _ENDS[form] == b")\n" and joined.count(_ENDS[form]) > number:
         return list(_games(joined))
     return list(_parts(joined, _ENDS[form]))
 

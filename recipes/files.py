@@ -1,9 +1,9 @@
 #!/usr/bin/env python3
-"""files.py [--form sgf|gtp|list] [-0] OUT FILE|FOLDER..
+"""files.py [--form FORM] [-0] OUT FILE|FOLDER..
 
 Writes each line of play to a file of its own, whose name is the line's place:
-OUT/dir/name/PLACE.sgf for dir/name.sgf, or PLACE.gtp, or PLACE.list. Line feeds
-and brackets in comments do no harm. A file that already has the right bytes
+OUT/dir/name/PLACE.sgf for dir/name.sgf. Another FORM is written in place of sgf,
+in the name too. Line feeds and brackets in comments do no harm. A file that already has the right bytes
 isn't written again. So if a call was stopped, the next one goes on, and the
 lines of a changed game are written anew.
 
@@ -36,8 +36,8 @@ def holds(path, record):
 
 def main(job):
     form = job.options.get("--form", "sgf")
-    if form not in ("sgf", "gtp", "list"):
-        raise sgfsplit.Words("--form wants sgf, gtp or list")
+    if form not in sgfsplit.ENDS:
+        raise sgfsplit.Words(f"--form wants one of {', '.join(sgfsplit.ENDS)}")
     for name, folder in job.outputs(job.first[0], "", "." + form):
         with job.going_on():
             write_lines(name, folder, form)

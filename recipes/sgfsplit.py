@@ -31,6 +31,7 @@ from typing import NamedTuple, Optional
 
 PROGRAM = "sgfsplit"  # a name to look for in PATH; `make install` replaces it by a path from this file's folder
 LIMIT = 67108864  # the most bytes that the program takes
+ENDS = {"list": "row", "sgf": "game", "gtp": "empty row"}  # the forms, and what each record ends with
 PIECE = 1 << 20
 MOST = 1 << 28  # the most bytes that are read of a mail, and of names on standard input
 ROW = re.compile(rb"[0-9]{1,20} [0-9]+ [0-9]+ (score|illegal|unjudged) [a-z0-9 -]+\n")
@@ -242,14 +243,13 @@ def rows(file, after=None, limit=None):
 
 
 def records(file, form="sgf", after=None, limit=None):
-    """The record of each line of play of a file in a form (list, sgf or gtp), in file order. Values may contain line feeds and brackets."""
-    ends = {"list": lambda line, inside: True, "gtp": lambda line, inside: line == b"\n", "sgf": lambda line, inside: not inside}[form]
+    """The record of each line of play of a file in a form, in file order. Values may contain line feeds and brackets."""
     with output(text_of(file), "split", "--form", form, *page(after, limit)) as lines:
         record, inside = [], False
         for line in whole(lines):
             record.append(line)
-            inside = form == "sgf" and is_inside(line, inside)
-            if ends(line, inside):
+            inside = ENDS[form] == "game" and is_inside(line, inside)
+            if not inside and (ENDS[form] != "empty row" or line == b"\n"):
                 yield b"".join(record)
                 record = []
 

@@ -7,7 +7,8 @@
  *   library refused FILE                   each request for memory refused in turn, in every form (built with REFUSED)
  *   library memory FILE                    the memory of a split into a room that is too small, in every form (built with REFUSED)
  *
- * Texts and rooms end where memory does, so that a byte too far is a fault, and a room is tried with one byte too few and with some more.
+ * It is built with FORMS, the number of forms. Texts and rooms end where memory does, so that a byte too far is a fault. A room is tried with
+ * one byte too few, and with some more.
  */
 #define _GNU_SOURCE
 #include <assert.h>
@@ -130,6 +131,17 @@ static int count_file(const char *name) {
     return say(status, counts.at);
 }
 
+static const char *const reasons[] = {
+    [SGF_LINES_MIXED] = "mixed",
+    [SGF_LINES_TWO_MOVES] = "two-moves",
+    [SGF_LINES_BAD_SETUP] = "bad-setup",
+    [SGF_LINES_BAD_POINT] = "bad-point",
+    [SGF_LINES_OVER] = "over",
+    [SGF_LINES_TURN] = "turn",
+    [SGF_LINES_OCCUPIED] = "occupied",
+    [SGF_LINES_REPEAT] = "repeat",
+};
+
 /* Judges a line, and checks that what its status and its verdict have no use for is 0. */
 static uint32_t judge(const uint8_t *text, size_t length, uint64_t place, struct sgf_lines_judged *judged) {
     memset(judged, MARK, sizeof *judged);
@@ -137,7 +149,7 @@ static uint32_t judge(const uint8_t *text, size_t length, uint64_t place, struct
     check(status <= SGF_LINES_OUT_OF_MEMORY && status != SGF_LINES_UNKNOWN_FORM && status != SGF_LINES_ROOM_TOO_SMALL);
     check((status == SGF_LINES_DONE) == (judged->verdict != SGF_LINES_NO_VERDICT) && judged->verdict <= SGF_LINES_BAD_SIZE);
     check(judged->verdict == SGF_LINES_SCORE || (!judged->black && !judged->white && !judged->over));
-    check((judged->verdict == SGF_LINES_ILLEGAL) == (judged->reason != SGF_LINES_NO_REASON) && judged->reason <= SGF_LINES_REPEAT);
+    check((judged->verdict == SGF_LINES_ILLEGAL) == (judged->reason != SGF_LINES_NO_REASON) && judged->reason < sizeof reasons / sizeof *reasons);
     check((judged->verdict == SGF_LINES_ILLEGAL) == (judged->turn != 0) && (judged->turn || !judged->place));
     check(judged->at == 0 || status == SGF_LINES_NOT_SGF || status == SGF_LINES_ENDS_EARLY || status == SGF_LINES_NO_SUCH_LINE);
     return status;
@@ -145,10 +157,6 @@ static uint32_t judge(const uint8_t *text, size_t length, uint64_t place, struct
 
 /* The verdict as it stands in the line's row. */
 static void write_verdict(const struct sgf_lines_judged *judged) {
-    static const char *const reasons[] = {[SGF_LINES_MIXED] = "mixed",         [SGF_LINES_TWO_MOVES] = "two-moves",
-                                          [SGF_LINES_BAD_SETUP] = "bad-setup", [SGF_LINES_BAD_POINT] = "bad-point",
-                                          [SGF_LINES_OVER] = "over",           [SGF_LINES_TURN] = "turn",
-                                          [SGF_LINES_OCCUPIED] = "occupied",   [SGF_LINES_REPEAT] = "repeat"};
     switch (judged->verdict) {
     case SGF_LINES_SCORE:
         printf("score %u %u %s\n", (unsigned)judged->black, (unsigned)judged->white, judged->over ? "over" : "open");
@@ -178,8 +186,8 @@ static int judge_file(const char *name) {
 
 struct shared {
     const uint8_t *text;
-    size_t length, needed[3];
-    uint8_t *wanted[3];
+    size_t length, needed[FORMS];
+    uint8_t *wanted[FORMS];
     uint64_t place;
     struct sgf_lines_judged judged;
 };
@@ -187,7 +195,7 @@ struct shared {
 static void *in_thread(void *given) {
     const struct shared *shared = given;
     for (int turn = 0; turn < 60; turn++) {
-        struct sgf_lines_asked asked = {.form = (uint32_t)turn % 3};
+        struct sgf_lines_asked asked = {.form = (uint32_t)turn % FORMS};
         struct sgf_lines_answer answer;
         struct sgf_lines_counts counts;
         struct sgf_lines_judged judged;
@@ -207,7 +215,7 @@ static int threads(const char *name) {
     struct shared shared;
     pthread_t started[4];
     shared.text = read_file(name, &shared.length);
-    for (uint32_t form = 0; form < 3; form++) {
+    for (uint32_t form = 0; form < FORMS; form++) {
         struct sgf_lines_asked asked = {.form = form};
         struct sgf_lines_answer answer;
         uint8_t none[1];
@@ -222,7 +230,7 @@ static int threads(const char *name) {
     check(!pthread_attr_init(&small) && !pthread_attr_setstacksize(&small, 128 * 1024));
     for (int at = 0; at < 4; at++) check(!pthread_create(&started[at], &small, in_thread, &shared));
     for (int at = 0; at < 4; at++) check(!pthread_join(started[at], NULL));
-    for (int form = 0; form < 3; form++) free(shared.wanted[form]);
+    for (int form = 0; form < FORMS; form++) free(shared.wanted[form]);
     return 0;
 }
 
@@ -326,7 +334,7 @@ static int refused(const char *name) {
     uint8_t *read = read_file(name, &length), *text = __real_malloc(length), *rows = __real_malloc(1 << 20);
     memcpy(text, read, length);
     long requests = refused_count(text, length), most_lines = 0;
-    for (uint32_t form = 0; form < 3; form++) {
+    for (uint32_t form = 0; form < FORMS; form++) {
         requests += refused_split(text, length, form, 1 << 20, &most_lines);
         requests += refused_split(text, length, form, 0, &most_lines);
     }
@@ -346,7 +354,7 @@ static int refused(const char *name) {
 static int memory(const char *name) {
     size_t length;
     uint8_t *text = read_file(name, &length), none[1];
-    for (uint32_t form = 0; form < 3; form++) {
+    for (uint32_t form = 0; form < FORMS; form++) {
         struct sgf_lines_asked asked = {.form = form};
         struct sgf_lines_answer answer;
         held = most_held = 0;

@@ -26,7 +26,8 @@ check 'it exports what the header declares' "$(cat declared)" "$(cat exported)"
 check 'it needs the C library alone' libc.so.6 "$(objdump -p "$library" | awk '$1 == "NEEDED" { print $2 }')"
 allowed='^(free|malloc|realloc|memcpy|memmove|memset|memcmp|bcmp|__.*|_ITM_.*)$'
 check 'it calls for memory, copies, and no more' '' "$(nm -D --undefined-only "$library" | awk '{ sub(/@.*/, "", $2); print $2 }' | grep -vE "$allowed")"
-strict=(-std=c11 -Wall -Wextra -Werror -pedantic -O1 -I "$top/include")
+forms=($(words form))
+strict=(-std=c11 -Wall -Wextra -Werror -pedantic -O1 -I "$top/include" -D "FORMS=${#forms[@]}")
 cc "${strict[@]}" -o called "$top/tests/library.c" "$library" -Wl,-rpath,"$top/out" -pthread 2> cc.txt
 check 'the test compiles with every warning' '' "$(cat cc.txt)"
 cc "${strict[@]}" -o rows "$top/examples/rows.c" "$library" -Wl,-rpath,"$top/out" 2> cc.txt
@@ -65,7 +66,6 @@ judged() {
     [ "$status" = $? ] && cmp -s want got && cmp -s want.err got.err || echo "judged: status $status, $(cat got.err)"
 }
 
-forms=($(words form))
 for file in inputs/*.sgf; do
     name=$(basename "$file" .sgf)
     problems=$(agrees count count "$file" -- count "$file")
@@ -74,9 +74,10 @@ for file in inputs/*.sgf; do
     done
     places=(0 $("$SGFSPLIT" split "$file" 2> /dev/null | cut -d ' ' -f 1 | awk 'NR <= 3 { print } { last = $1 } END { print last }'))
     for place in "${places[@]}"; do
-        for limit in 0 1 2; do
-            problems+=$(agrees "after $place, limit $limit" split $((limit % 3)) "$place" $limit "$file" \
-                -- split --form ${forms[limit % 3]} --after "$place" --limit $limit "$file")
+        for form in "${!forms[@]}"; do
+            limit=$((form % 3))
+            problems+=$(agrees "${forms[form]} after $place, limit $limit" split $form "$place" $limit "$file" \
+                -- split --form ${forms[form]} --after "$place" --limit $limit "$file")
         done
     done
     problems+=$(agrees 'limit 2' split 1 - 2 "$file" -- split --form sgf --limit 2 "$file")
@@ -93,7 +94,7 @@ for place in $(seq 0 31) 4294967304 18446744073709551615; do
 done
 check 'no line there to judge' '' "$problems"
 check 'the example writes the rows' "$("$SGFSPLIT" split "$top/examples/ko.sgf")" "$(./rows "$top/examples/ko.sgf")"
-./called split 3 - - "$top/examples/ko.sgf"
+./called split ${#forms[@]} - - "$top/examples/ko.sgf"
 check 'a form that there is none of' 8 $?
 ./called split 4294967295 7 7 "$top/examples/ko.sgf"
 check 'another one' 8 $?
@@ -125,7 +126,7 @@ if cc "${strict[@]}" -g -fsanitize=address -o sanitized "$top/tests/library.c" "
     check 'some after a line' 1 "$([ "$most" -gt 0 ] && echo 1)"
     { printf '(;SZ[9]C['; head -c 20000 /dev/zero | tr '\0' x; printf ']'; yes '(;B[aa])' | head -n 1000; printf ')'; } > lines.sgf
     ./sanitized memory lines.sgf > out 2> err
-    check 'the memory of a split into no room' '0  3' "$? $(cat err) $(grep -c '^form' out)"
+    check 'the memory of a split into no room' "0  ${#forms[@]}" "$? $(cat err) $(grep -c '^form' out)"
     for file in inputs/*.sgf; do
         for form in "${!forms[@]}"; do
             ./sanitized split $form - - "$file" > out 2> err

@@ -23,6 +23,8 @@ import sgflines
 TWO = b"(;SZ[3](;B[aa])(;B[bb];W[aa]))"
 CALLS = [sgflines.output, sgflines.rows, lambda text: sgflines.records(text, "sgf"), sgflines.count, lambda text: sgflines.judge(text, 8)]
 LIBRARY = os.path.realpath(sgflines._LIBRARY._name)
+with open(os.path.join(os.path.dirname(os.path.realpath(__file__)), "..", "packaging", "words.txt"), encoding="utf-8") as table:
+    FORMS = [row.split()[1] for row in table if row.startswith("form ")]
 
 
 def agree(what, want, got):

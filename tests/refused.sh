@@ -60,9 +60,14 @@ each() {
 
 nl=$'\n'
 memory='out of memory'
+declare -A ends=()  # the bytes after which an output in each form may be cut
+for form in $(words form); do
+    ends[$form]=$nl
+    ! grep -q "^form  *$form  *empty row  " "$top/packaging/words.txt" || ends[$form]=$nl$nl
+done
 printf '(;SZ[5]AB[ab][ba]AW[cc]C[one\ntwo];W[](;B[ee](;W[ed])(;W[de]))(;B[dd]C[%0400d]))(;GM[2])(;SZ[3];B[aa];W[aa])' 7 > input.sgf
-for form in list sgf; do
-    each "$form" REFUSE_MEMORY 4 "$memory" "$nl" split --form "$form" input.sgf
+for form in $(words form); do
+    each "$form" REFUSE_MEMORY 4 "$memory" "${ends[$form]}" split --form "$form" input.sgf
     for error in 4 5; do
         export REFUSE_ERROR=$error
         each "$form" REFUSE_READ 3 'read failed' '' split --form "$form"
@@ -77,7 +82,6 @@ for error in 4 5; do
     each 'help of split' REFUSE_WRITE 3 'write failed' '' split --help
 done
 unset REFUSE_ERROR
-each gtp REFUSE_MEMORY 4 "$memory" "$nl$nl" split --form gtp
 each page REFUSE_MEMORY 4 "$memory" "$nl" split --after 42 --limit 2
 each count REFUSE_MEMORY 4 "$memory" "$nl" count
 each count REFUSE_WRITE 3 'write failed' '' count
@@ -132,12 +136,12 @@ turns() {
 # have a move. The comment makes the longer script as long as needed.
 printf '(;SZ[19]C[%s]%s)' "$remark" "$(turns 304)" > input.sgf
 for form in list gtp; do
-    each "304 turns, $form" REFUSE_MEMORY 4 "$memory" "$nl" split --form "$form"
+    each "304 turns, $form" REFUSE_MEMORY 4 "$memory" "${ends[$form]}" split --form "$form"
 done
 check '304 turns' 'score 295 9 open' "$(cut -d ' ' -f 4- '304 turns, list.out')"
 printf '(;SZ[19]C[%s]%s%s)' "$remark" "$(turns 100)" "$(times 204 ';')" > input.sgf
 for form in list gtp; do
-    each "100 turns, $form" REFUSE_MEMORY 4 "$memory" "$nl" split --form "$form"
+    each "100 turns, $form" REFUSE_MEMORY 4 "$memory" "${ends[$form]}" split --form "$form"
 done
 grown '304 turns, list' '100 turns, list' 6
 grown_by_form '304 turns' '100 turns' gtp 1
@@ -168,9 +172,9 @@ grown '300 setups' '100 setups' 5
 # More pieces of a record than there is room for at first: 300 sequences of a node each on one line, and on two lines.
 for form in $(words form); do
     printf '(;%s%s)' "$(times 299 '(;')" "$(times 299 ')')" > input.sgf
-    each "300 sequences on a line, $form" REFUSE_MEMORY 4 "$memory" "$nl" split --form "$form"
+    each "300 sequences on a line, $form" REFUSE_MEMORY 4 "$memory" "${ends[$form]}" split --form "$form"
     printf '(;%s%s%s%s)' "$(times 150 '(;')" "$(times 150 ')')" "$(times 149 '(;')" "$(times 149 ')')" > input.sgf
-    each "300 sequences on two lines, $form" REFUSE_MEMORY 4 "$memory" "$nl" split --form "$form"
+    each "300 sequences on two lines, $form" REFUSE_MEMORY 4 "$memory" "${ends[$form]}" split --form "$form"
 done
 grown '300 sequences on a line, sgf' '300 sequences on two lines, sgf' 1
 grown_by_form '300 sequences on a line' '300 sequences on two lines' gtp 1
@@ -244,8 +248,6 @@ unset SHORT_WRITES
 for form in $(words form); do
     "$SGFSPLIT" split --form "$form" input.sgf > large.out 2> large.err
     echo $? > large.status
-    end=$nl
-    [ "$form" != gtp ] || end=$nl$nl
     whole=0 cut=0 none=0 problems=''
     for limit in $(seq 2304 64 8192) $(seq 9216 1024 32768); do
         (ulimit -v "$limit" && exec "$SGFSPLIT" split --form "$form" input.sgf) > out 2> err
@@ -253,7 +255,7 @@ for form in $(words form); do
         # The program doesn't start if the loader finds no memory for its libraries.
         [ "$status" != 127 ] && ! grep -q 'error while loading' err || continue
         case $status in 0) whole=$((whole + 1)) ;; 4) if [ -s out ]; then cut=$((cut + 1)); else none=$((none + 1)); fi ;; esac
-        problem=$(wrong large 4 "$memory" "$status" "$end")
+        problem=$(wrong large 4 "$memory" "$status" "${ends[$form]}")
         [ -z "$problem" ] || problems+="$limit KiB: $problem; "
     done
     check "$form: limits on memory, of which $none leave nothing, $cut some records and $whole all" '' "$problems"

@@ -1,6 +1,7 @@
 #!/usr/bin/env bash
 # Every place that repeats a word of packaging/words.txt, or the version, agrees with it. In a copy of the table each field is changed in turn,
-# and the order of two rows, and each change is found.
+# and the order of two rows, and each change is found. In a copy of the whole tree the table gets a form, a reason and a message. Then
+# `words.py --write` writes what the table determines, and names just the files that a person has to change.
 . "$(dirname "$0")/lib.sh"
 needs python3
 "$top/packaging/words.py" || failed 'these places differ from packaging/words.txt or from the file VERSION'
@@ -20,7 +21,7 @@ tried = 0
 
 
 def found(path, changed, what):
-    """The script names some place if the file has this text instead of its own."""
+    """The script names some place, or refuses the table, if the file has this text instead of its own."""
     global tried
     with open(path, encoding="utf-8") as file:
         whole = file.read()
@@ -29,7 +30,8 @@ def found(path, changed, what):
     ran = subprocess.run([f"{sys.argv[1]}/packaging/words.py"], capture_output=True, text=True)
     with open(path, "w", encoding="utf-8") as file:
         file.write(whole)
-    if ran.returncode != 1 or not ran.stdout.strip() or ran.stderr:
+    refused = ran.stderr.startswith("packaging/words.txt: not a row of the table")
+    if ran.returncode != 1 or bool(ran.stdout.strip()) == refused or bool(ran.stderr) != refused:
         sys.exit(f"{what}: status {ran.returncode}, {ran.stdout}{ran.stderr}")
     tried += 1
 
@@ -47,4 +49,64 @@ for at, row in enumerate(rows):
         found(table, "".join([*rows[:at], rows[at + 1], row, *rows[at + 2:]]), f"the row after {row}")
 found(version, "0.0\n", "another version")
 print(f"{tried} changes of the table are found")
+PYTHON
+
+python3 - "$top" <<'PYTHON'
+import os
+import re
+import shutil
+import subprocess
+import sys
+
+# what a person changes for a new form, a new reason and a new message
+BY_HAND = ["README.md", "crates/go_board/specs/Reason.antt", "crates/sgf*/specs/**/*.antt", "crates/sgf*/src/**/*.rt",
+           "crates/sgf_lines/specs/Form.antt", "docs/OUTPUT.md", "docs/RULES.md", "examples/illegal.sgf", "man/sgfsplit.1",
+           "python/sgflines.py", "tests/library.c", "tests/program.sh"]
+TABLE = "tree/packaging/words.txt"
+shutil.copytree(sys.argv[1], "tree", symlinks=True, ignore=shutil.ignore_patterns("out", ".git", "__pycache__"))
+
+
+def bytes_of(path):
+    with open(path, "rb") as file:
+        return file.read()
+
+
+def tree():
+    """The bytes of each file."""
+    paths = [os.path.join(folder, name) for folder, _, names in os.walk("tree") for name in names]
+    return {path: bytes_of(path) for path in paths if os.path.isfile(path)}
+
+
+def changed(words):
+    """Runs the script. Returns its status, what it says, and the files that it changed."""
+    before = tree()
+    ran = subprocess.run(["tree/packaging/words.py", *words], capture_output=True, text=True)
+    after = tree()
+    return ran.returncode, ran.stdout + ran.stderr, sorted(path for path in {*before, *after} if before.get(path) != after.get(path))
+
+
+def wanted(what, want, got):
+    if want != got:
+        sys.exit(f"{what}: wanted {want}, got {got}")
+
+
+status, told, files = changed(["--write"])
+wanted("the status of a tree that agrees", 0, status)
+wanted("what is written then", [], files)
+table = bytes_of(TABLE).decode()
+for kind, row in [("form", "form     moves  row  the moves of a line, as points, on one row"),
+                  ("reason", "reason   too-late   the line has more turns than points"),
+                  ("message", "message  1  no game begins at PLACE")]:
+    last = re.findall(rf"^{kind} .*\n", table, re.MULTILINE)[-1 if kind != "message" else 3]
+    table = table.replace(last, f"{last}{row}\n")
+with open(TABLE, "w", encoding="utf-8") as file:
+    file.write(table)
+status, told, files = changed([])
+wanted("what is written without --write", [], files)
+status, told, files = changed(["--write"])
+wanted("the status if places are left", 1, status)
+wanted("the places that are left", BY_HAND, sorted({re.match(r"[^ ,:]+", row)[0] for row in told.splitlines()}))
+wanted("the files that are written", True, len(files) > 15)
+wanted("the same again", (status, told, []), changed(["--write"]))
+print(f"{len(files)} files are written, and {len(BY_HAND)} places are left")
 PYTHON
