@@ -34,8 +34,8 @@ a game of its own. FILE is a Smart Game Format collection (FF[4]), at most
 64 MiB. Without FILE, or if it is -, standard input is read.
 
 Exit status: 0 all is written, 1 the input or the place of --after is refused,
-2 the words are wrong, 3 a file could not be opened, read or written, 4 out of
-memory.
+2 the command line is wrong, 3 a file could not be opened, read or written, 4
+out of memory.
 
 sgfsplit $version
 TEXT
@@ -79,14 +79,14 @@ Reasons, of which the first that holds is given:
   occupied   the point isn't empty
   repeat     the position was there before, since the last setup of stones
 
-A page of ten lines, and the page that follows a line of place 4711, are
+The first ten lines, and then the ten lines after the line of place 4711, are
   sgfsplit split --limit 10 joseki.sgf
   sgfsplit split --limit 10 --after 4711 joseki.sgf
 
-Some engines cut long rows and take the rest of a comment for a command. Take
-the comments of a file from elsewhere away before an engine reads the script:
+Some engines cut long rows and run the rest of a comment as a command. Remove
+the comments of an unknown file before an engine reads the script:
   sgfsplit split --form gtp game.sgf | grep -v '^#' | gnugo --mode gtp
-Escape sequences for terminals pass through the sgf and gtp forms.
+Records in sgf and gtp form keep escape sequences for terminals.
 TEXT
 
 shows count <<TEXT
@@ -103,7 +103,7 @@ Options:
 Example:
   sgfsplit count joseki.sgf
 
-writes three numbers: games, nodes, lines of play.
+writes the numbers of games, nodes and lines of play.
 TEXT
 
 grep -qx "\.Os sgfsplit $version" "$top/man/sgfsplit.1" || failed "the manual page's foot isn't of version $version"
