@@ -301,7 +301,8 @@ def check_forms(table):
     lists(MANUAL, "the forms", r"^\.Sh FORMS(.*?)^\.Sh", r"^\.It Cm (\w+)$", forms)
     lists("docs/OUTPUT.md", "the headings", r"(.*)", r"^## The (\w+) form$", forms)
     for path in ("README.md", "tests/program.sh"):
-        holds(path, *(f"--{table['option'][0][0]} {form} " for form in forms[1:]))
+        used = re.findall(r"--form[ =]([\w-]+)", read(path))
+        faults.extend(f"{path} lacks: --form {form}" for form in forms[1:] if form not in used)
     made(HEADER, "enum sgf_lines_form", r"^enum sgf_lines_form \{\n(.*?)^\}", constants([in_c(form) for form in forms], 0, [help for _, help in helps]))
     made(MODULE, "FORMS", r"^FORMS = \{(.*?)\}", ", ".join(f'"{form}": {number}' for number, form in enumerate(forms)))
     made(MODULE, "_ENDS", r"^_ENDS = \{(.*?)\}", ", ".join(f'"{form}": b"{ENDS[end].decode()}"'.replace("\n", "\\n") for form, end in ends.items()))

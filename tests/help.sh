@@ -1,6 +1,6 @@
 #!/usr/bin/env bash
 # The help of the program and of its commands is exactly this text. The last row of the help, the foot of the manual page and both changelogs
-# have the version of the file VERSION.
+# have the version of the file VERSION. A new word comes into this text by `packaging/words.py --write`.
 . "$(dirname "$0")/lib.sh"
 version=$(cat "$top/VERSION")
 name=$(basename "$SGFSPLIT")

@@ -48,6 +48,7 @@ impl LineForm for ListForm {
         }
     }
 
+    #[tactic(auto, using(crate::proofs::RunRecords::record_is))]
     fn put<T: Sink>(&self, sink: &mut T) -> Result<(), SinkFault> {
         put_all(self.row.text(), sink)
     }

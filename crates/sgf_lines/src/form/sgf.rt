@@ -49,6 +49,7 @@ impl LineForm for SgfForm {
         }
     }
 
+    #[tactic(auto, using(crate::proofs::RunRecords::record_is))]
     fn put<T: Sink>(&self, sink: &mut T) -> Result<(), SinkFault> {
         put_all(self.record.text(), sink)
     }
