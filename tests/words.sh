@@ -94,8 +94,8 @@ status, told, files = changed(["--write"])
 wanted("the status of a tree that agrees", 0, status)
 wanted("what is written then", [], files)
 table = bytes_of(TABLE).decode()
-for kind, row in [("form", "form     moves  row  the moves of a line, as points, on one row"),
-                  ("reason", "reason   too-late   the line has more turns than points"),
+for kind, row in [("form", "form     untried  row  a form that nobody has tried"),
+                  ("reason", "reason   not-tried  nobody has tried the move"),
                   ("message", "message  1  no game begins at PLACE")]:
     last = re.findall(rf"^{kind} .*\n", table, re.MULTILINE)[-1 if kind != "message" else 3]
     table = table.replace(last, f"{last}{row}\n")
