@@ -1,7 +1,7 @@
 //! Which games are judged: games of Go, on a square board of a size that boards can have (SGF FF[4], GM and SZ).
 
-ghost use Rattle.std.specs.Prelude.{◌≡◌, option_copied};
-ghost use Rattle.sgf_lines.specs.NodeContents.{first_value as first_value_rule};
+ghost use Rattle.std.specs.Prelude.{◌≡◌, codes, option_copied};
+ghost use Rattle.sgf_lines.specs.NodeContents.{first_value};
 ghost use Rattle.sgf_lines.specs.JudgedGames.{is_go as is_go_rule, side_of, game_kind};
 ghost use Rattle.sgf_lines.specs.inner.Judging.{size_said};
 
@@ -17,21 +17,34 @@ const USUAL_SIDE: i64 = 19;
 pub(crate) fn board_size(root: &NodeRef<'_, '_>) -> Result<Size, Verdict>
     ensures { result ≡ size_said (game_kind root.now.properties) }
 {
-    if !is_go(first_value(root, b"GM")) {
+    let (game, side) = game_and_side(root);
+    if !is_go(game) {
         return Err(Verdict::NotGo);
     }
-    match size(first_value(root, b"SZ")) {
+    match size(side) {
         Some(size) => Ok(size),
         None => Err(Verdict::BadSize),
     }
 }
 
-/// The first value of a node's first property with this name.
-fn first_value<'a>(node: &NodeRef<'_, 'a>, name: &[u8]) -> Option<&'a [u8]>
-    ensures { option_copied result ≡ first_value_rule name.now node.now.properties }
+/// The first values of a root's first GM and of its first SZ. Both are found in one pass over the properties, which ends at the later one.
+fn game_and_side<'a>(root: &NodeRef<'_, 'a>) -> (Option<&'a [u8]>, Option<&'a [u8]>)
+    ensures game { option_copied result.0 ≡ first_value (codes "GM") root.now.properties }
+    ensures side { option_copied result.1 ≡ first_value (codes "SZ") root.now.properties }
 {
-    let property = node.first(name)?;
-    Some(property.value(0))
+    let mut game = None;
+    let mut side = None;
+    for property in root.iter() {
+        if game.is_none() && property.is(b"GM") {
+            game = Some(property.value(0));
+        } else if side.is_none() && property.is(b"SZ") {
+            side = Some(property.value(0));
+        }
+        if game.is_some() && side.is_some() {
+            break;
+        }
+    }
+    (game, side)
 }
 
 /// Whether the game is Go by its GM: it has no GM, or the value is the number 1.
