@@ -4,18 +4,17 @@ use Rattle.std.specs.Prelude.{option_map, codes}
 use Rattle.std.specs.List.{concat}
 use Rattle.std.proofs.lemmas.List.{take_all}
 use Rattle.sgf_tree.specs.Tree.{Node}
-use Rattle.sgf_lines.specs.Lines.{Line, place_of}
+use Rattle.sgf_lines.specs.Lines.{Line}
 use Rattle.sgf_lines.specs.Record.{record_of, sgf_record}
-use Rattle.sgf_lines.specs.ListRow.{row_text, list_row}
+use Rattle.sgf_lines.specs.ListRow.{list_row}
 use Rattle.sgf_lines.specs.Script.{comment_row, commands_by}
 use Rattle.sgf_lines.specs.Verdict.{verdict_of}
 use Rattle.sgf_lines.specs.Cursor.{CursorState}
 use Rattle.sgf_lines.specs.JudgedGames.{game_kind, root_properties}
-use Rattle.sgf_lines.specs.declared.form.row.LineShown.{LineShown}
 use Rattle.sgf_lines.specs.declared.verdict.Verdict.{Verdict}
 use Rattle.sgf_lines.specs.declared.options.Form.{Form}
 use Rattle.sgf_lines.specs.declared.options.Form.TheVariants.{List as list_form, Sgf as sgf_form, Gtp as gtp_form}
-use Rattle.sgf_lines.specs.inner.Views.{line_shown}
+use Rattle.sgf_lines.specs.inner.Views.{row_of}
 use Rattle.sgf_lines.specs.inner.Following.{nodes_of, line_before, nodes_before}
 use Rattle.sgf_lines.specs.inner.Judging.{Judgement, judging, verdict_in}
 use Rattle.sgf_lines.specs.inner.Pieces.{PiecesState}
@@ -37,22 +36,18 @@ module _ (at : CursorState) (own : Line) (before : line_before at ≡ Some own) 
   nodes_are : nodes_before at ≡ own.nodes
   nodes_are = ap nodes_of before
 
-  module _ (line : LineShown) (shows : option_map line_shown (line_before at) ≡ Some line) (v : Verdict) (j : Judgement) (told : v ≡ verdict_in j) (judged : HoldsJudgement (nodes_before at) j) where
+  module _ (v : Verdict) (j : Judgement) (told : v ≡ verdict_in j) (judged : HoldsJudgement (nodes_before at) j) where
     -- the line's row
-    row_is : row_text line.place line.game line.nodes v ≡ list_row own
-    row_is =
-        let shown : option_map line_shown (Some own) ≡ Some line = rw before at shows in
-        let same : line_shown own ≡ line = cc in
-        let verdict : v ≡ verdict_of own.nodes = verdict_is (nodes_before at) j v told judged ∙ ap verdict_of nodes_are in
-        rw (← same) (ap (λ w. row_text (place_of own) own.game_number (length own.nodes) w) verdict)
+    row_is : row_of own v ≡ list_row own
+    row_is = ap (row_of own) (verdict_is (nodes_before at) j v told judged ∙ ap verdict_of nodes_are)
 
     -- in list form
-    pub made_row : (row : List ℕ) → row ≡ row_text line.place line.game line.nodes v ++ codes "\n" → Some row ≡ option_map (record_of list_form) (line_before at)
+    pub made_row : (row : List ℕ) → row ≡ row_of own v ++ codes "\n" → Some row ≡ option_map (record_of list_form) (line_before at)
     made_row row is = rw before (ap Some (is ∙ ap (λ t. t ++ codes "\n") row_is))
 
     -- in gtp form: its row as a comment, its commands, and an empty line
     pub made_script : (row : List ℕ) (script : ScriptState) → script ≡ script_ended (script_front (nodes_before at) (length (nodes_before at)))
-        → row ≡ comment_row (row_text line.place line.game line.nodes v) → Some (row ++ script_text script) ≡ option_map (record_of gtp_form) (line_before at)
+        → row ≡ comment_row (row_of own v) → Some (row ++ script_text script) ≡ option_map (record_of gtp_form) (line_before at)
     made_script row script said is =
         let nodes = nodes_before at in
         let kind = game_kind (root_properties own.nodes) in

@@ -1,12 +1,13 @@
--- The text that a row has so far, and what a row shows of a line.
+-- The text that a row has so far, and the row of a line.
 use Rattle.std.specs.Prelude.{ℕ, List, drop, length}
 use Rattle.sgf_lines.specs.Lines.{Line, place_of}
-use Rattle.sgf_lines.specs.declared.form.row.LineShown.{LineShown}
+use Rattle.sgf_lines.specs.ListRow.{row_text}
+use Rattle.sgf_lines.specs.declared.verdict.Verdict.{Verdict}
 use Rattle.sgf_lines.specs.declared.form.row.Row.{Row}
 
 abbrev pub built_text : Row → List ℕ
 built_text row = drop row.start row.bytes
 
--- its place, its game and how many nodes it has
-abbrev pub line_shown : Line → LineShown
-line_shown line = record { place = place_of line; game = line.game_number; nodes = length line.nodes }
+-- with this verdict, and without a line feed
+abbrev pub row_of : Line → Verdict → List ℕ
+row_of line told = row_text (place_of line) line.game_number (length line.nodes) told

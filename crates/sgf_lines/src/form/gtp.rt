@@ -8,7 +8,7 @@ ghost use Rattle.sgf_lines.specs.inner.Scripting.{script_ended, script_text};
 ghost use Rattle.sgf_lines.specs.inner.Views.{built_text};
 
 use crate::ends::sink::{Sink, SinkFault, put_all};
-use crate::form::row::{LineShown, Row};
+use crate::form::row::Row;
 use crate::form::script::Script;
 use crate::form::{LineForm, script};
 use crate::judging::judge::Judge;
@@ -36,8 +36,7 @@ impl LineKeeper for GtpForm {
 
     fn follow(&mut self, cursor: &SequenceCursor<'_, '_>, held: Front) -> Result<(), MemoryFault> {
         script::follow(cursor, held, &mut self.judge, &mut self.script)?;
-        self.row
-            .lay_out_comment(LineShown::of(cursor), self.judge.verdict());
+        self.row.lay_out_comment(cursor, self.judge.verdict());
         Ok(())
     }
 }

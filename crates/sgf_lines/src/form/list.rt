@@ -8,7 +8,7 @@ ghost use Rattle.sgf_lines.specs.inner.Views.{built_text};
 
 use crate::ends::sink::{Sink, SinkFault, put_all};
 use crate::form::LineForm;
-use crate::form::row::{LineShown, Row};
+use crate::form::row::Row;
 use crate::judging::judge::Judge;
 use crate::judging::judged::judge_line;
 use crate::over_lines::LineKeeper;
@@ -32,8 +32,7 @@ impl LineKeeper for ListForm {
 
     fn follow(&mut self, cursor: &SequenceCursor<'_, '_>, held: Front) -> Result<(), MemoryFault> {
         judge_line(cursor, held, &mut self.judge)?;
-        self.row
-            .lay_out(LineShown::of(cursor), self.judge.verdict());
+        self.row.lay_out(cursor, self.judge.verdict());
         Ok(())
     }
 }

@@ -1,8 +1,9 @@
 //! The row of a line, alone or as a comment. It is built from its end to its
 //! front, because the digits of a number are found last to first.
 
-ghost use Rattle.std.specs.Prelude.{◌≡◌, ◌<◌, ◌≤◌, ◌+◌, Some, [], ◌++◌, length, codes, decimal, option_map};
-ghost use Rattle.sgf_lines.specs.ListRow.{verdict_text, row_text};
+ghost use Rattle.std.specs.Prelude.{◌≡◌, ◌<◌, ◌≤◌, ◌+◌, Some, [], ◌++◌, length, codes, decimal};
+ghost use Rattle.sgf_lines.specs.Lines.{Line};
+ghost use Rattle.sgf_lines.specs.ListRow.{verdict_text};
 ghost use Rattle.sgf_lines.specs.Script.{comment_row};
 ghost use Rattle.sgf_lines.specs.inner.Following.{line_before};
 
@@ -13,33 +14,6 @@ use itoa::write_digits;
 /// The number of bytes that there is room for: five numbers of up to 20 digits, and the words of a verdict.
 const ROOM: usize = 160;
 
-/// What a row shows of a line, besides its verdict.
-#[derive(Clone, Copy)]
-pub(crate) struct LineShown {
-    /// The offset in bytes, from 0, of the `;` of its last node.
-    pub place: u64,
-    /// The number of its game, from 1.
-    pub game: usize,
-    /// The number of its nodes.
-    pub nodes: usize,
-}
-
-impl LineShown {
-    ghost use Rattle.sgf_lines.specs.inner.Views.{line_shown};
-
-    /// What is shown of the line before a cursor.
-    pub(crate) fn of(cursor: &SequenceCursor<'_, '_>) -> LineShown
-        requires { 0 < length cursor.now.ends }
-        ensures { option_map line_shown (line_before cursor.now.at) ≡ Some result }
-    {
-        LineShown {
-            place: cursor.place(),
-            game: cursor.game(),
-            nodes: cursor.len(),
-        }
-    }
-}
-
 /// The row of a line, or the end of it, which grows at its front.
 #[derive(Drop)]
 pub(crate) struct Row {
@@ -49,7 +23,7 @@ pub(crate) struct Row {
 }
 
 impl Row {
-    ghost use Rattle.sgf_lines.specs.inner.Views.{built_text};
+    ghost use Rattle.sgf_lines.specs.inner.Views.{built_text, row_of};
 
     /// The empty text.
     pub(crate) fn new() -> Row
@@ -70,27 +44,29 @@ impl Row {
         self.start = ROOM;
     }
 
-    /// Becomes the row of a line with this verdict, and a line feed.
-    pub(crate) fn lay_out(&mut self, line: LineShown, verdict: Verdict)
-        ensures text { built_text self.new ≡ row_text line.place line.game line.nodes verdict ++ codes "\n" }
+    /// Becomes the row of the line before a cursor, with this verdict, and a line feed.
+    pub(crate) fn lay_out(&mut self, cursor: &SequenceCursor<'_, '_>, verdict: Verdict)
+        requires { 0 < length cursor.now.ends }
+        ensures text { (line : Line) → line_before cursor.now.at ≡ Some line → built_text self.new ≡ row_of line verdict ++ codes "\n" }
         ensures room { 2 ≤ self.new.start }
     {
         self.clear();
         self.put(b"\n");
         self.put_verdict(verdict);
         self.put(b" ");
-        self.put_number(line.nodes as u64);
+        self.put_number(cursor.len() as u64);
         self.put(b" ");
-        self.put_number(line.game as u64);
+        self.put_number(cursor.game() as u64);
         self.put(b" ");
-        self.put_number(line.place);
+        self.put_number(cursor.place());
     }
 
-    /// Becomes the row of a line with this verdict as a comment, with a line feed.
-    pub(crate) fn lay_out_comment(&mut self, line: LineShown, verdict: Verdict)
-        ensures { built_text self.new ≡ comment_row (row_text line.place line.game line.nodes verdict) }
+    /// Becomes the same row as a comment, with a line feed.
+    pub(crate) fn lay_out_comment(&mut self, cursor: &SequenceCursor<'_, '_>, verdict: Verdict)
+        requires { 0 < length cursor.now.ends }
+        ensures { (line : Line) → line_before cursor.now.at ≡ Some line → built_text self.new ≡ comment_row (row_of line verdict) }
     {
-        self.lay_out(line, verdict);
+        self.lay_out(cursor, verdict);
         self.put(b"# ");
     }
 

@@ -21,6 +21,6 @@ returns-clause-holds c =
     let kept = c.in_ok-follow.ensures in (
       kept.judged,
       kept.said,
-      made_script cursor.at own.0 own.1 c.of.result c.of.ensures c.verdict.result c.follow.new.judge.judgement c.verdict.ensures kept.judged (built_text c.lay_out_comment.new.self) c.follow.new.script kept.said
-          c.lay_out_comment.ensures,
+      made_script cursor.at own.0 own.1 c.verdict.result c.follow.new.judge.judgement c.verdict.ensures kept.judged (built_text c.lay_out_comment.new.self) c.follow.new.script kept.said
+          (c.lay_out_comment.ensures own.0 own.1),
     )
