@@ -90,10 +90,7 @@ pub fn split_counted<S: Source, T: Sink>(
         return split_text(alloc, text, sink, options, plays);
     }
     let mut text = Vec::new(alloc);
-    match read_all(source, &mut text) {
-        Ok(()) => {}
-        Err(fault) => return Err(fault),
-    }
+    read_all(source, &mut text)?;
     split_text(alloc, &text, sink, options, plays)
 }
 
@@ -116,10 +113,7 @@ fn split_text<T: Sink>(
         Ok(outline) => outline,
         Err(fault) => return Err(RunFault::unread(fault, text.len())),
     };
-    let cursor = match cursor_after(alloc, &outline, options.after) {
-        Ok(cursor) => cursor,
-        Err(fault) => return Err(fault),
-    };
+    let cursor = cursor_after(alloc, &outline, options.after)?;
     // There are no more lines than nodes.
     let limit = options.limit.unwrap_or(outline.nodes() as u64);
     write_in(alloc, cursor, options.form, limit, sink, plays)
@@ -138,10 +132,8 @@ pub(crate) fn read_all<S: Source>(source: &mut S, text: &mut Vec<u8>) -> Result<
 {
     let mut chunk = [0u8; CHUNK];
     'read: loop {
-        match read_some(source, &mut chunk, text) {
-            Ok(0) => return Ok(()),
-            Ok(_) => {}
-            Err(fault) => return Err(fault),
+        if read_some(source, &mut chunk, text)? == 0 {
+            return Ok(());
         }
     }
 }
@@ -264,10 +256,7 @@ fn write<F: LineForm, T: Sink>(
     ensures delivered { OnOk result (HasDelivered (T.state sink.new)) }
     ensures failures { (T.state sink.new).failures ≡ (T.state sink.old).failures + write_failures result }
 {
-    let written = match write_lines(lines, limit, sink) {
-        Ok(written) => written,
-        Err(fault) => return Err(fault),
-    };
+    let written = write_lines(lines, limit, sink)?;
     match sink.flush() {
         Ok(()) => Ok(written),
         Err(SinkFault) => Err(RunFault::Write { lines: written }),

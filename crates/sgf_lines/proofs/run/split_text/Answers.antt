@@ -1,6 +1,7 @@
 -- What is said of the text is said of the run, whatever source gave it.
 use Rattle.std.proofs.Common.{◌≡◌, Err, take, drop, ap, ◌∙◌, arith, rules}
 use Rattle.std.specs.Prelude.{unwrap_or}
+use Rattle.std.proofs.lemmas.Result.{err_from_is_err_and}
 use Rattle.sgf_tree.specs.Tree.{node_count}
 use Rattle.sgf_tree.specs.Spelling.{Spells}
 use Rattle.sgf_tree.specs.declared.fault.TheConstants.{MAX_LENGTH}
@@ -12,30 +13,32 @@ use Rattle.sgf_lines.proofs.Touched.{nodes_within}
 use Rattle.sgf_lines.proofs.run.split_text.Goals as goal
 
 pub write_in-requires-clause-rise : goal.write_in-requires-clause-rise
-write_in-requires-clause-rise g c = rw c.in-Ok-cursor_after.ensures.same c.nodes.ensures.places_rise
+write_in-requires-clause-rise g c = rw c.in_ok-cursor.ensures.same c.nodes.ensures.places_rise
 
 pub write_in-requires-clause-few : goal.write_in-requires-clause-few
 write_in-requires-clause-few g c =
     let nodes = nodes_within c.in-Ok.outline c.nodes.ensures.places_rise MAX_LENGTH c.nodes.ensures.places_within in
-    omega (arith, nodes, ap node_count c.in-Ok-cursor_after.ensures.same)
+    omega (arith, nodes, ap node_count c.in_ok-cursor.ensures.same)
 
 pub returns-in-Err : goal.returns-in-Err
 returns-in-Err g c source new_source read =
     unread_run c.args.options.now source new_source c.args.text.now read (g.T.Sink.state c.args.sink.now) c.args.plays.now
     c.in-Err.fault c.unread.result c.unread.ensures (λ is. c.in-Err.ensures.too_long.0 (ap Err is)) c.in-Err.ensures.not_sgf (search rules) (search rules)
 
-pub returns-in-Err-cursor_after : goal.returns-in-Err-cursor_after
-returns-in-Err-cursor_after g c source new_source read =
-    no_start_run c.args.options.now source new_source c.args.text.now read (g.T.Sink.state c.args.sink.now) c.args.plays.now
-    c.in-Ok.outline c.in-Err-cursor_after.fault c.in-Ok.ensures.spelled (c.in-Err-cursor_after.ensures.start c.args.text.now c.in-Ok.ensures.spelled)
-    c.in-Err-cursor_after.ensures.no_read (omega (arith, c.in-Err-cursor_after.ensures.no_write))
+pub returns-in_err-cursor : goal.returns-in_err-cursor
+returns-in_err-cursor g c source new_source read =
+    let fault = err_from_is_err_and c.from_residual.result c.from_residual.ensures.1 in
+    rw (fault.1, fault.2)
+    (no_start_run c.args.options.now source new_source c.args.text.now read (g.T.Sink.state c.args.sink.now) c.args.plays.now
+    c.in-Ok.outline c.in_err-cursor.field-0.0 c.in-Ok.ensures.spelled (c.in_err-cursor.ensures.start c.args.text.now c.in-Ok.ensures.spelled)
+    c.in_err-cursor.ensures.no_read (omega (arith, c.in_err-cursor.ensures.no_write)))
 
 pub returns : goal.returns
 returns g c source new_source read =
     let o = c.args.options.now in
     let text = c.args.text.now in
     let games = c.in-Ok.outline in
-    let cursor = c.in-Ok-cursor_after.cursor in
+    let cursor = c.in_ok-cursor.cursor in
     let sink = g.T.Sink.state c.args.sink.now in
     let new_sink = g.T.Sink.state c.write_in.new.sink in
     let result = c.write_in.result in
@@ -44,8 +47,8 @@ returns g c source new_source read =
     c.unwrap_or-limit.ensures ∙ ap (unwrap_or c.args.options.now.limit) c.nodes.ensures.count in
     let plays = c.write_in.ensures.answer.0 in
     let wrote : WritesLines o.form (take c.unwrap_or-limit.result (drop cursor.at.index (lines games))) sink new_sink plays result =
-    rw c.in-Ok-cursor_after.ensures.same at c.write_in.ensures.answer.2 in
+    rw c.in_ok-cursor.ensures.same at c.write_in.ensures.answer.2 in
     lines_run o source new_source text read sink c.args.plays.now
-    games cursor new_sink plays c.write_in.new.plays result spelled (c.in-Ok-cursor_after.ensures.start text spelled)
+    games cursor new_sink plays c.write_in.new.plays result spelled (c.in_ok-cursor.ensures.start text spelled)
     (for_options o.form games cursor.at.index o.limit c.unwrap_or-limit.result sink new_sink plays result limit wrote)
     c.write_in.ensures.answer.1 c.write_in.ensures.delivered c.write_in.ensures.failures
