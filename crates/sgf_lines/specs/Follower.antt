@@ -22,8 +22,8 @@ abbrev pub GivesVerdict : FollowerState → Option Verdict → Type 0
 GivesVerdict follower told = option_map verdict (slice_get (lines follower.games) follower.index) ≡ told
 
 -- A returned verdict takes the follower one line on, and its row with it.
--- At the end it is unchanged. After a refusal the same line is next.
+-- At the end it is unchanged. After a refusal the same line is next, and no line was judged in a row.
 abbrev pub LeavesFollower : FollowerState → FollowerState → Result (Option Verdict) MemoryFault → Type 0
 LeavesFollower old new (Ok (Some told)) = new ≡ record { games = old.games; index = old.index + 1; row = old.row + 1 }
 LeavesFollower old new (Ok None) = new ≡ old
-LeavesFollower old new (Err fault) = (new.games ≡ old.games) × (new.index ≡ old.index)
+LeavesFollower old new (Err fault) = new ≡ record { games = old.games; index = old.index; row = 0 }
