@@ -100,27 +100,21 @@ module _ (c : Games) (next : ℕ) (parts : List Part) (h : IsAfterSequences c ne
       let shown = shows_line c (first_of c next) state.at at_is (part_numbers c parts) h.stands lt in
       some_ends state.ends (length (nodes_before state.at)) divided (omega (arith, nodes_long, shown.some_node))
 
-  -- the nodes of a part
-  pub sequence_nodes : (i : ℕ) (part : Part) → slice_get parts i ≡ Some part
-      → slice_get (sequences_of state.ends (nodes_before state.at)) i ≡ Some (nodes_at c (sequence_numbers c part.sequence))
-  sequence_nodes i part e =
-      let nodes : nodes_at c (part_numbers c parts) ≡ nodes_before state.at = nodes_after c (first_of c next) state.at at_is (part_numbers c parts) h.stands 0 in
-      rw (← ends_are, ← nodes) (part_nodes c 0 parts i part h.are e)
-
   pub part_there : (i : ℕ) (part : Part) → i < length state.ends → part ≡ get_or parts i part → slice_get parts i ≡ Some part
   part_there i part lt e = slice_get-get_or parts i part (omega (arith, as_many_parts)) ∙ ap Some (sym e)
 
-  -- the numbers of a part's nodes
-  pub numbers_are : (i start end : ℕ) (part : Part) → slice_get parts i ≡ Some part → start ≡ sequence_start c part.sequence → end ≡ sequence_end c part.sequence
-      → Some (nodes_at state.at.games (range_with_len start (end - start))) ≡ slice_get (sequences_of state.ends (nodes_before state.at)) i
-  numbers_are i start end part e first last =
-      ap (λ (games : Games). Some (nodes_at games (range_with_len start (end - start)))) (sym games_are) ∙ rw (first, last) (sym (sequence_nodes i part e))
+  -- the nodes of a part, and their numbers
+  pub sequence_nodes : (i : ℕ) (part : Part) → slice_get parts i ≡ Some part
+      → Some (nodes_at state.at.games (sequence_numbers state.at.games part.sequence)) ≡ slice_get (sequences_of state.ends (nodes_before state.at)) i
+  sequence_nodes i part e =
+      let nodes : nodes_at c (part_numbers c parts) ≡ nodes_before state.at = nodes_after c (first_of c next) state.at at_is (part_numbers c parts) h.stands 0 in
+      ap (λ (games : Games). Some (nodes_at games (sequence_numbers games part.sequence))) (sym games_are) ∙ rw (← ends_are, ← nodes) (sym (part_nodes c 0 parts i part h.are e))
 
-  pub range_is : (i start end : ℕ) (part : Part) → slice_get parts i ≡ Some part → start ≡ sequence_start c part.sequence → end ≡ sequence_end c part.sequence
-      → Some (range_with_len start (end - start)) ≡ slice_get (parts_from 0 state.ends (path_before state.at)) i
-  range_is i start end part e first last =
+  pub part_path : (i : ℕ) (part : Part) → slice_get parts i ≡ Some part
+      → Some (sequence_numbers state.at.games part.sequence) ≡ slice_get (parts_from 0 state.ends (path_before state.at)) i
+  part_path i part e =
       let path : path_before state.at ≡ part_numbers c parts = rw (← at_is) (path_is c (first_of c next) (part_numbers c parts) h.stands) in
-      rw (first, last, path, ← ends_are) (sym (part_range c 0 parts i part h.are e))
+      ap (λ (games : Games). Some (sequence_numbers games part.sequence)) (sym games_are) ∙ rw (path, ← ends_are) (sym (part_range c 0 parts i part h.are e))
 
   module _ (some : 0 < length state.ends) where
     some_nodes : 0 < length (nodes_before state.at)

@@ -7,7 +7,7 @@ ghost use Rattle.std.specs.Prelude.{◌≡◌, ◌+◌, ◌-◌, ◌<◌, ◌≤
 ghost use Rattle.std.specs.List.{flat_map, range_with_len};
 ghost use Rattle.sgf_tree.specs.Tree.{node_count};
 ghost use Rattle.sgf_tree.specs.declared.fault.TheConstants.{MAX_LENGTH};
-ghost use Rattle.sgf_tree.specs.FileOrder.{nodes_at, IsLeaf, PlacesRise, sequence_starts, sequence_start, sequence_end};
+ghost use Rattle.sgf_tree.specs.FileOrder.{nodes_at, IsLeaf, PlacesRise, sequence_starts, sequence_start, sequence_end, sequence_numbers};
 ghost use Rattle.sgf_tree.specs.Written.{node_text};
 ghost use Rattle.sgf_lines.specs.Lines.{lines, place_of};
 ghost use Rattle.sgf_lines.specs.Cursor.{advanced, IsAfterPlace, IsSeekFault};
@@ -180,8 +180,17 @@ impl<'c, 'a> SequenceCursor<'c, 'a> {
         nodes_in(&self.path, self.path.len())
     }
 
-    /// The number of the first node of a sequence of that line, and the number after that of its last node. Sequences of the line
-    /// are counted from 0, the root's first.
+    /// The number that a sequence of that line has in the collection. Sequences of the line are counted from 0, the root's first.
+    fn sequence(&self, index: usize) -> usize
+        requires { index < length self.now.ends }
+        ensures within { result < length (sequence_starts self.now.at.games) }
+        ensures nodes { Some (nodes_at self.now.at.games (sequence_numbers self.now.at.games result)) ≡ slice_get (sequences_of self.now.ends (nodes_before self.now.at)) index }
+        ensures path { Some (sequence_numbers self.now.at.games result) ≡ slice_get (parts_from 0 self.now.ends (path_before self.now.at)) index }
+    {
+        self.path[index].sequence as usize
+    }
+
+    /// The number of the first node of a sequence of that line, and the number after that of its last node.
     pub(crate) fn numbers(&self, index: usize) -> (usize, usize)
         requires { index < length self.now.ends }
         ensures nodes { Some (nodes_at self.now.at.games (range_with_len result.0 (result.1 - result.0))) ≡ slice_get (sequences_of self.now.ends (nodes_before self.now.at)) index }
@@ -189,7 +198,7 @@ impl<'c, 'a> SequenceCursor<'c, 'a> {
         ensures some { result.0 < result.1 }
         ensures within { result.1 ≤ node_count self.now.at.games }
     {
-        let sequence = self.path[index].sequence as usize;
+        let sequence = self.sequence(index);
         (
             self.outline.sequence_start(sequence),
             self.outline.sequence_end(sequence),
@@ -203,8 +212,7 @@ impl<'c, 'a> SequenceCursor<'c, 'a> {
             (λ nodes. out.new.items ≡ out.old.items ++ flat_map node_text nodes)) }
         ensures unchanged { OnErr result (out.new.items ≡ out.old.items) }
     {
-        self.outline
-            .push_sequence(self.path[index].sequence as usize, out)
+        self.outline.push_sequence(self.sequence(index), out)
     }
 
     /// The nodes of a sequence of that line.
@@ -212,8 +220,7 @@ impl<'c, 'a> SequenceCursor<'c, 'a> {
         requires { index < length self.now.ends }
         ensures { Some result.nodes ≡ slice_get (sequences_of self.now.ends (nodes_before self.now.at)) index }
     {
-        self.outline
-            .sequence_nodes(self.path[index].sequence as usize)
+        self.outline.sequence_nodes(self.sequence(index))
     }
 
     /// The root of that line.
