@@ -54,9 +54,9 @@ pub(crate) fn take_step<'a, P: Past>(
 {
     match next {
         NextNode::Led { letter, value, .. } => {
-            take_told_step(referee, Contents::of_lone(letter, value))
+            take_contents(referee, Contents::of_lone(letter, value), &[])
         }
-        NextNode::Empty { .. } => take_told_step(referee, Contents::nothing()),
+        NextNode::Empty { .. } => take_contents(referee, Contents::nothing(), &[]),
         NextNode::Open { front, .. } => take_any_step(referee, front, nodes, operations),
     }
 }
@@ -69,28 +69,6 @@ pub(crate) fn place_of(next: &NextNode<'_>) -> usize
         NextNode::Led { place, .. } => *place,
         NextNode::Empty { place } => *place,
         NextNode::Open { place, .. } => *place,
-    }
-}
-
-/// Takes the step of a node with these contents, which has no stones.
-// Inlined: what such a node doesn't need drops out.
-#[inline(always)]
-fn take_told_step<'a, P: Past>(
-    referee: &mut Referee<P>,
-    contents: Contents<'a>,
-) -> Result<TakenStep<'a>, TurnFault>
-    requires { (node : Node) × IsGathered referee.old.present.colouring.side node.properties [] contents }
-    ensures stepped { (node : Node) → IsGathered referee.old.present.colouring.side node.properties [] contents.entry
-        → IsStepped (step referee.old.present node) referee.old referee.new result }
-    ensures told { (node : Node) → IsGathered referee.old.present.colouring.side node.properties [] contents.entry
-        → IfOk result (IsStepOf referee.old.present.colouring.side node) }
-{
-    match take_contents(referee, &contents, &[]) {
-        Ok(effect) => Ok(TakenStep {
-            effect,
-            comment: contents.comment,
-        }),
-        Err(fault) => Err(fault),
     }
 }
 
@@ -113,19 +91,34 @@ fn take_any_step<'a, P: Past>(
     let Ok(contents) = gathered(front, nodes, size, operations) else {
         return Err(TurnFault::Memory);
     };
-    match take_contents(referee, &contents, operations) {
-        Ok(effect) => Ok(TakenStep {
-            effect,
-            comment: contents.comment,
-        }),
-        Err(fault) => Err(fault),
-    }
+    take_contents(referee, contents, operations)
 }
 
 /// Takes the step of a node with these contents. `operations` has the operations of the node's stones.
-// Inlined, as `take_told_step`.
+// Inlined: what a node without stones doesn't need drops out.
 #[inline(always)]
-fn take_contents<P: Past>(
+fn take_contents<'a, P: Past>(
+    referee: &mut Referee<P>,
+    contents: Contents<'a>,
+    operations: &[SetupOp],
+) -> Result<TakenStep<'a>, TurnFault>
+    requires { (node : Node) × IsGathered referee.old.present.colouring.side node.properties operations.now contents }
+    ensures stepped { (node : Node) → IsGathered referee.old.present.colouring.side node.properties operations.now contents.entry
+        → IsStepped (step referee.old.present node) referee.old referee.new result }
+    ensures told { (node : Node) → IsGathered referee.old.present.colouring.side node.properties operations.now contents.entry
+        → IfOk result (IsStepOf referee.old.present.colouring.side node) }
+{
+    let effect = effect_of(referee, &contents, operations)?;
+    Ok(TakenStep {
+        effect,
+        comment: contents.comment,
+    })
+}
+
+/// Does the same, and returns what the node did to the board.
+// Inlined, as `take_contents`.
+#[inline(always)]
+fn effect_of<P: Past>(
     referee: &mut Referee<P>,
     contents: &Contents<'_>,
     operations: &[SetupOp],
@@ -175,7 +168,7 @@ fn set_up<P: Past>(
 }
 
 /// Takes the turn of a move.
-// Inlined, as `take_told_step`.
+// Inlined, as `take_contents`.
 #[inline(always)]
 fn take_move<P: Past>(
     referee: &mut Referee<P>,

@@ -4,35 +4,35 @@ use Rattle.sgf_lines.specs.inner.Gathered.{HoldsAlone, IsGathered}
 use Rattle.sgf_lines.proofs.Gathered.{gathered_alone}
 use Rattle.sgf_lines.proofs.judging.step.take_step.Goals as goal
 
-pub take_told_step-requires : goal.take_told_step-requires
-take_told_step-requires g c = (record { place = 0; properties = lone_property c.in-Led.letter c.in-Led.value.now ∷ [] }, c.of_lone.ensures c.args.referee.now.present.colouring.side)
+pub take_contents-requires : goal.take_contents-requires
+take_contents-requires g c = (record { place = 0; properties = lone_property c.in-Led.letter c.in-Led.value.now ∷ [] }, c.of_lone.ensures c.args.referee.now.present.colouring.side)
 
-pub take_told_step-requires-in-Empty : goal.take_told_step-requires-in-Empty
-take_told_step-requires-in-Empty g c = (record { place = 0; properties = [] }, c.nothing.ensures c.args.referee.now.present.colouring.side)
+pub take_contents-requires-in-Empty : goal.take_contents-requires-in-Empty
+take_contents-requires-in-Empty g c = (record { place = 0; properties = [] }, c.nothing.ensures c.args.referee.now.present.colouring.side)
 
 pub returns-in-Led-clause-stepped : goal.returns-in-Led-clause-stepped
 returns-in-Led-clause-stepped g c node is =
     let alone : HoldsAlone (lone_property c.in-Led.letter c.in-Led.value.now) node.properties = (rw c.in-Led.is at is).1 in
     let side = c.args.referee.now.present.colouring.side in
-    c.take_told_step.ensures.stepped node (gathered_alone side (lone_property c.in-Led.letter c.in-Led.value.now) node.properties c.of_lone.result (c.of_lone.ensures side) alone)
+    c.take_contents.ensures.stepped node (gathered_alone side (lone_property c.in-Led.letter c.in-Led.value.now) node.properties c.of_lone.result (c.of_lone.ensures side) alone)
 
 pub returns-in-Led-clause-told : goal.returns-in-Led-clause-told
 returns-in-Led-clause-told g c node is =
     let alone : HoldsAlone (lone_property c.in-Led.letter c.in-Led.value.now) node.properties = (rw c.in-Led.is at is).1 in
     let side = c.args.referee.now.present.colouring.side in
-    c.take_told_step.ensures.told node (gathered_alone side (lone_property c.in-Led.letter c.in-Led.value.now) node.properties c.of_lone.result (c.of_lone.ensures side) alone)
+    c.take_contents.ensures.told node (gathered_alone side (lone_property c.in-Led.letter c.in-Led.value.now) node.properties c.of_lone.result (c.of_lone.ensures side) alone)
 
 pub returns-in-Empty-clause-stepped : goal.returns-in-Empty-clause-stepped
 returns-in-Empty-clause-stepped g c node is =
     let none : node.properties ≡ [] = (rw c.in-Empty.is at is).1 in
     let side = c.args.referee.now.present.colouring.side in
-    c.take_told_step-in-Empty.ensures.stepped node (subst (λ ps. IsGathered side ps [] c.nothing.result) (sym none) (c.nothing.ensures side))
+    c.take_contents-in-Empty.ensures.stepped node (subst (λ ps. IsGathered side ps [] c.nothing.result) (sym none) (c.nothing.ensures side))
 
 pub returns-in-Empty-clause-told : goal.returns-in-Empty-clause-told
 returns-in-Empty-clause-told g c node is =
     let none : node.properties ≡ [] = (rw c.in-Empty.is at is).1 in
     let side = c.args.referee.now.present.colouring.side in
-    c.take_told_step-in-Empty.ensures.told node (subst (λ ps. IsGathered side ps [] c.nothing.result) (sym none) (c.nothing.ensures side))
+    c.take_contents-in-Empty.ensures.told node (subst (λ ps. IsGathered side ps [] c.nothing.result) (sym none) (c.nothing.ensures side))
 
 pub returns-in-Open-clause-stepped : goal.returns-in-Open-clause-stepped
 returns-in-Open-clause-stepped g c node is =
