@@ -1,6 +1,5 @@
 -- How many lines a collection has at most, and the answer of a count.
-use Rattle.std.proofs.Common.{◌≡◌, ℕ, ◌+◌, ◌<◌, ◌≤◌, length, map, ap, ◌∙◌, arith, List, ◌++◌, take, Result, Ok, Err, refl, append_assoc, length-append}
-use Rattle.std.specs.Prelude.{codes}
+use Rattle.std.proofs.Common.{◌≡◌, ℕ, ◌+◌, ◌<◌, ◌≤◌, length, map, ap, ◌∙◌, arith, List, ◌++◌, take, Result, Ok, Err, refl, length-append}
 use Rattle.std.specs.Result.{IsErr}
 use Rattle.std.proofs.lemmas.List.{length-map, take-append-le}
 use Rattle.sgf_tree.specs.Tree.{Games, game_count, node_count}
@@ -70,7 +69,3 @@ first_cut A old new first second e (Err f) is k = (
   rw (take-append-le k.0 first second (omega (arith, k.1))) k.2,
   k.3,
 )
-
--- the row in three pieces
-pub row_pieces : (a b c : List ℕ) → a ++ codes " " ++ b ++ codes " " ++ c ++ codes "\n" ≡ (a ++ codes " ") ++ ((b ++ codes " ") ++ (c ++ codes "\n"))
-row_pieces a b c = simp append_assoc

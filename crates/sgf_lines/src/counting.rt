@@ -1,16 +1,16 @@
 //! Counting what a collection holds. No collection is made for that.
 
-ghost use Rattle.std.specs.Prelude.{◌≡◌, ◌<◌, ◌≤◌, ◌+◌, ◌++◌, ℕ, List, decimal};
+ghost use Rattle.std.specs.Prelude.{◌≡◌, ◌<◌, ◌≤◌, ◌+◌, ℕ, List};
 ghost use Rattle.sgf_tree.specs.Extent.{HasExtent};
 ghost use Rattle.sgf_lines.specs.Counts.{IsCount, IsWriting, counts_of, counts_row};
-ghost use Rattle.sgf_lines.specs.Ends.{PutsAll, SourceState};
+ghost use Rattle.sgf_lines.specs.Ends.{SourceState};
 ghost use Rattle.sgf_lines.specs.inner.Running.{HasReadAll};
 
 use crate::ends::sink::{Sink, SinkFault, put_all};
 use crate::ends::source::Source;
 use crate::fault::RunFault;
+use crate::form::row::Row;
 use crate::run::read_all;
-use itoa::Buffer;
 use sgf_tree::{Extent, MAX_LENGTH, measure};
 use std::alloc::Global;
 
@@ -78,31 +78,13 @@ pub fn write_counts<T: Sink>(sink: &mut T, counts: &Counts) -> Result<(), RunFau
     ensures { IsWriting (counts_row counts.now) (T.state sink.old) (T.state sink.new) result }
 {
     let fault = RunFault::Write { lines: 0 };
-    let Ok(()) = put_counts(counts, sink) else {
+    let mut row = Row::new();
+    row.lay_out_counts(counts);
+    let Ok(()) = put_all(row.text(), sink) else {
         return Err(fault);
     };
     match sink.flush() {
         Ok(()) => Ok(()),
         Err(SinkFault) => Err(fault),
     }
-}
-
-/// Puts the row of the counts.
-fn put_counts<T: Sink>(counts: &Counts, sink: &mut T) -> Result<(), SinkFault>
-    requires { (T.state sink.old).failures < u64.MAX }
-    ensures { PutsAll (T.state sink.old) (T.state sink.new) (counts_row counts.now) result }
-{
-    put_number(counts.games, b" ", sink)?;
-    put_number(counts.nodes, b" ", sink)?;
-    put_number(counts.lines, b"\n", sink)
-}
-
-/// Puts a number in decimal digits, and what ends it.
-fn put_number<T: Sink>(number: u64, end: &[u8], sink: &mut T) -> Result<(), SinkFault>
-    requires { (T.state sink.old).failures < u64.MAX }
-    ensures { PutsAll (T.state sink.old) (T.state sink.new) (decimal number ++ end.now) result }
-{
-    let mut buffer = Buffer::new();
-    put_all(buffer.format(number).as_bytes(), sink)?;
-    put_all(end, sink)
 }

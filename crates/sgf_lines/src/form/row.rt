@@ -1,12 +1,14 @@
-//! The row of a line, alone or as a comment. It is built from its end to its
+//! The row of a line, alone or as a comment, and the row of counts. It is built from its end to its
 //! front, because the digits of a number are found last to first.
 
 ghost use Rattle.std.specs.Prelude.{◌≡◌, ◌<◌, ◌≤◌, ◌+◌, Some, [], ◌++◌, length, codes, decimal};
+ghost use Rattle.sgf_lines.specs.Counts.{counts_row};
 ghost use Rattle.sgf_lines.specs.Lines.{Line};
 ghost use Rattle.sgf_lines.specs.ListRow.{verdict_text};
 ghost use Rattle.sgf_lines.specs.Script.{comment_row};
 ghost use Rattle.sgf_lines.specs.inner.Following.{line_before};
 
+use crate::counting::Counts;
 use crate::sequence_cursor::SequenceCursor;
 use crate::verdict::Verdict;
 use itoa::write_digits;
@@ -68,6 +70,19 @@ impl Row {
     {
         self.lay_out(cursor, verdict);
         self.put(b"# ");
+    }
+
+    /// Becomes the row of counts, with its line feed.
+    pub(crate) fn lay_out_counts(&mut self, counts: &Counts)
+        ensures { built_text self.new ≡ counts_row counts.now }
+    {
+        self.clear();
+        self.put(b"\n");
+        self.put_number(counts.lines);
+        self.put(b" ");
+        self.put_number(counts.nodes);
+        self.put(b" ");
+        self.put_number(counts.games);
     }
 
     /// Puts bytes before the text.
