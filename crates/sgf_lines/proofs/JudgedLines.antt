@@ -6,9 +6,11 @@ use Rattle.sgf_tree.specs.Tree.{Node}
 use Rattle.sgf_lines.specs.JudgedGames.{game_kind, root_properties}
 use Rattle.sgf_lines.specs.Verdict.{judged_on}
 use Rattle.sgf_lines.specs.inner.Judging.{Judging, IsSettled, judging, after, next_plays}
-use Rattle.sgf_lines.specs.inner.Keeping.{judging_front, fresh_plays, PlaysUpTo}
+use Rattle.sgf_lines.specs.inner.Keeping.{judging_front, script_front, fresh_plays, PlaysUpTo}
+use Rattle.sgf_lines.specs.inner.Scripting.{script_of}
 use Rattle.sgf_lines.proofs.Lists.{front_more}
 use Rattle.sgf_lines.proofs.Walking.{judged_of_front}
+use Rattle.sgf_lines.proofs.Scripts.{script_settled}
 use Rattle.sgf_lines.proofs.Judgements.{judging_more, plays_more, settled_all, one_at_most}
 
 -- how many nodes of a line are judged
@@ -60,18 +62,21 @@ pub fresh_of_err : {B E F : Type 0} (A : Type 0) {old new count : ℕ} (e : E) (
 fresh_of_err A e (Ok x) bad h = absurd cc
 fresh_of_err A e (Err f) is h = record { not_fewer = h.not_fewer; not_more = h.not_more; each = tt }
 
--- no node more is judged than the first `i`, and the judgement stays
+-- no node more is judged than the first `i`, and the judgement and the script stay
 module _ (nodes : List Node) (held old i : ℕ) (judge : Judging) (h : JudgesTo nodes held old i judge) where
   pub record IsWhole : Type 0 where
     pub judged : judging_front nodes (length nodes) ≡ judging_front nodes i
+    pub said : script_front nodes (length nodes) ≡ script_front nodes i
     pub count : judged_count nodes ≡ min i (judged_count nodes)
 
   -- all nodes
   pub all_whole : length nodes ≤ i → IsWhole
   all_whole past =
       let kind = game_kind (root_properties nodes) in
+      let all = take_all (length nodes) nodes (omega arith) ∙ sym (take_all i nodes past) in
       record {
-        judged = ap (judging kind) (take_all (length nodes) nodes (omega arith) ∙ sym (take_all i nodes past));
+        judged = ap (judging kind) all;
+        said = ap (script_of kind) all;
         count = ap (λ ns. length (judged_on kind ns)) (sym (take_all i nodes past)) ∙ front_count nodes i;
       }
 
@@ -79,10 +84,13 @@ module _ (nodes : List Node) (held old i : ℕ) (judge : Judging) (h : JudgesTo 
   pub settled_whole : IsSettled judge.judgement → IsWhole
   settled_whole settled =
       let kind = game_kind (root_properties nodes) in
-      let on = settled_all kind (take i nodes) (drop i nodes) (subst IsSettled h.judged settled) in
+      let stays = subst IsSettled h.judged settled in
+      let on = settled_all kind (take i nodes) (drop i nodes) stays in
       let parts : nodes ≡ take i nodes ++ drop i nodes = sym (take-append-drop i nodes) in
+      let all = take_all (length nodes) nodes (omega arith) ∙ parts in
       record {
-        judged = ap (judging kind) (take_all (length nodes) nodes (omega arith) ∙ parts) ∙ on.0;
+        judged = ap (judging kind) all ∙ on.0;
+        said = ap (script_of kind) all ∙ script_settled kind (take i nodes) (drop i nodes) stays;
         count = ap (λ ns. length (judged_on kind ns)) parts ∙ on.1 ∙ front_count nodes i;
       }
 

@@ -14,7 +14,7 @@ use Rattle.sgf_lines.specs.inner.Pieces.{PiecesState, cut}
 use Rattle.sgf_lines.specs.inner.Recording.{open_record, whole_record}
 use Rattle.sgf_lines.specs.inner.Scripting.{ScriptState, script_of, script_back, script_ended}
 use Rattle.sgf_lines.specs.inner.Following.{Continues, first_after, line_in, line_before, nodes_before, path_before}
-use Rattle.sgf_lines.specs.inner.Keeping.{judging_front, script_front, KeepsJudgement, KeepsRecord, KeepsScript, HoldsJudgement}
+use Rattle.sgf_lines.specs.inner.Keeping.{judging_front, script_front, KeepsJudgement, HoldsJudgement}
 use Rattle.sgf_lines.specs.inner.Sequences.{SequencesState, RiseTo, SharesFront, nodes_in}
 use Rattle.sgf_lines.specs.inner.Fronts.{sequences_before}
 use Rattle.sgf_lines.specs.inner.GoingOn.{IsHeldOf}
@@ -113,14 +113,14 @@ module _ (holds : SequencesState → Type 0) (cursor : SequencesState) (front : 
       (same_nodes old.at cursor.at front.nodes moved shares.nodes) j (of old h))
 
   pub script_kept : (script : ScriptState) → ((old : SequencesState) → holds old → script ≡ script_ended (script_front (nodes_before old.at) (length (nodes_before old.at))))
-      → KeepsScript (nodes_before cursor.at) front.nodes script
+      → 0 < front.nodes → script_back front.nodes script ≡ script_front (nodes_before cursor.at) front.nodes
   script_kept script of some =
       by_old (script_back front.nodes script ≡ script_front (nodes_before cursor.at) front.nodes) (some_front some) (λ old h moved shares.
       said_same (nodes_before old.at) (nodes_before cursor.at) front.nodes some (within_old old.at cursor.at front.nodes moved shares.nodes)
       (same_nodes old.at cursor.at front.nodes moved shares.nodes) script (of old h))
 
   pub record_kept : (game : PiecesState) → ((old : SequencesState) → holds old → game ≡ whole_record (sequences_before old)) → RiseTo 0 cursor.ends (length (nodes_before cursor.at))
-      → KeepsRecord (sequences_before cursor) front.sequences game
+      → 0 < front.sequences → cut (front.sequences + 1) game ≡ open_record (take front.sequences (sequences_before cursor))
   record_kept game of rise some =
       by_old (cut (front.sequences + 1) game ≡ open_record (take front.sequences (sequences_before cursor))) some (λ old h moved shares.
       let nodes = same_nodes old.at cursor.at front.nodes moved shares.nodes in

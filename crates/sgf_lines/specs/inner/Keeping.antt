@@ -5,9 +5,7 @@ use Rattle.sgf_lines.specs.JudgedGames.{game_kind, root_properties}
 use Rattle.sgf_lines.specs.Record.{record_of}
 use Rattle.sgf_lines.specs.Verdict.{judged_on}
 use Rattle.sgf_lines.specs.declared.options.Form.{Form}
-use Rattle.sgf_lines.specs.inner.Pieces.{PiecesState, cut}
-use Rattle.sgf_lines.specs.inner.Recording.{open_record}
-use Rattle.sgf_lines.specs.inner.Scripting.{ScriptState, script_of, script_back}
+use Rattle.sgf_lines.specs.inner.Scripting.{ScriptState, script_of}
 use Rattle.sgf_lines.specs.inner.Judging.{Judgement, judging, back}
 use Rattle.sgf_lines.specs.inner.Following.{line_before}
 use Rattle.sgf_lines.specs.inner.Sequences.{SequencesState}
@@ -19,16 +17,9 @@ judging_front nodes count = judging (game_kind (root_properties nodes)) (take co
 abbrev pub script_front : List Node → ℕ → ScriptState
 script_front nodes count = script_of (game_kind (root_properties nodes)) (take count nodes)
 
--- a judgement, or a script, can be cut back to the first `count` of a line's nodes; if `count` is 0, nothing is known
+-- a judgement can be cut back to the first `count` of a line's nodes; if `count` is 0, nothing is known
 abbrev pub KeepsJudgement : List Node → ℕ → Judgement → Type 0
 KeepsJudgement nodes count judgement = 0 < count → back count judgement ≡ judging_front nodes count
-
-abbrev pub KeepsScript : List Node → ℕ → ScriptState → Type 0
-KeepsScript nodes count script = 0 < count → script_back count script ≡ script_front nodes count
-
--- the same of the record of a line's sequences
-abbrev pub KeepsRecord : List (List Node) → ℕ → PiecesState → Type 0
-KeepsRecord sequences count game = 0 < count → cut (count + 1) game ≡ open_record (take count sequences)
 
 -- the judgement is that on a line with these nodes
 abbrev pub HoldsJudgement : List Node → Judgement → Type 0

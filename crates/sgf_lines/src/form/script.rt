@@ -2,19 +2,15 @@
 
 ghost use Rattle.std.specs.Prelude.{◌≡◌, ◌==◌, ◌+◌, ◌<◌, ◌≤◌, false, length, OnOk};
 ghost use Rattle.sgf_tree.specs.Tree.{Node};
-ghost use Rattle.sgf_lines.specs.inner.Following.{nodes_before};
 ghost use Rattle.sgf_lines.specs.inner.Gathered.{ComesAs};
-ghost use Rattle.sgf_lines.specs.inner.Fronts.{HasFront};
 ghost use Rattle.sgf_lines.specs.inner.Judging.{after, next_plays, board_in};
-ghost use Rattle.sgf_lines.specs.inner.Keeping.{HoldsJudgement, KeepsJudgement, KeepsScript, PlaysUpTo, fresh_plays, script_front};
+ghost use Rattle.sgf_lines.specs.inner.Keeping.{PlaysUpTo};
 ghost use Rattle.sgf_lines.specs.inner.Scripting.{IsLettered, IsPlayable, is_unreaching, no_script, said_after, said_on, script_back, script_begun, script_ended, script_on, script_text, step_script};
 
 use crate::form::pieces::Pieces;
 use crate::judging::judge::Judge;
-use crate::judging::judged::begin_or_go_back;
 use crate::judging::step::{Effect, TakenStep};
 use crate::line_nodes::LineNodes;
-use crate::sequence_cursor::{Front, SequenceCursor};
 use go_board::{Board, MAX_VERTEX_SIDE, Size};
 use itoa::Buffer;
 use sgf_tree::{MemoryFault, NextNode};
@@ -96,7 +92,7 @@ impl Script {
     }
 
     /// Judges a node, and adds it if its step was taken. `next` and `nodes` are as for `take_step`.
-    fn take<'a>(
+    pub(crate) fn take<'a>(
         &mut self,
         next: NextNode<'a>,
         nodes: &mut LineNodes<'_, '_, 'a>,
@@ -108,9 +104,7 @@ impl Script {
             → OnOk result (judge.new.judgement ≡ after judge.old.judgement node) }
         ensures said { (node : Node) → ComesAs node nodes.old.properties next.entry
             → OnOk result (self.new ≡ said_after self.old judge.old.judgement node) }
-        ensures plays { OnOk result (judge.new.plays ≡ judge.old.plays + next_plays judge.old.judgement) }
-        ensures not_fewer { judge.old.plays ≤ judge.new.plays }
-        ensures not_more { judge.new.plays ≤ judge.old.plays + next_plays judge.old.judgement }
+        ensures plays { PlaysUpTo judge.old.plays judge.new.plays (next_plays judge.old.judgement) result }
         ensures left { nodes.new.nodes ≡ nodes.old.nodes }
     {
         let Some(step) = judge.take(next, nodes)? else {
@@ -119,6 +113,25 @@ impl Script {
         match judge.board() {
             Some(board) => self.say(step, board),
             None => Ok(()),
+        }
+    }
+
+    /// Keeps the commands of the first `held` nodes. If `held` is 0, begins the commands of the game that is judged.
+    pub(crate) fn keep(&mut self, held: usize, judge: &Judge) -> Result<(), MemoryFault>
+        requires { held < usize.MAX }
+        ensures none { held ≡ 0 → OnOk result (self.new ≡ script_on (board_in judge.now.judgement)) }
+        ensures some { 0 < held → OnOk result (self.new ≡ script_back held self.old) }
+    {
+        if held > 0 {
+            self.cut_back(held);
+            return Ok(());
+        }
+        match judge.board() {
+            Some(board) => self.begin(board.size()),
+            None => {
+                self.silence();
+                Ok(())
+            }
         }
     }
 
@@ -132,7 +145,7 @@ impl Script {
     }
 
     /// Appends the empty row that ends the script. The script of the next line cuts this row off again.
-    fn end(&mut self) -> Result<(), MemoryFault>
+    pub(crate) fn end(&mut self) -> Result<(), MemoryFault>
         ensures { OnOk result (self.new ≡ script_ended self.old) }
     {
         self.pieces.push(b"\n")
@@ -147,57 +160,6 @@ impl Script {
             b"\n"
         } else {
             self.pieces.text()
-        }
-    }
-}
-
-/// Changes `script` to the script of the line before the cursor, and judges that line. The script and the judge have the front
-/// `held` of that line already. After a refusal of memory nothing is known of the script and of the judgement.
-pub(crate) fn follow(
-    cursor: &SequenceCursor<'_, '_>,
-    held: Front,
-    judge: &mut Judge,
-    script: &mut Script,
-) -> Result<(), MemoryFault>
-    requires front { HasFront cursor.now.ends held }
-    requires judged { KeepsJudgement (nodes_before cursor.now.at) held.nodes judge.old.judgement }
-    requires said { KeepsScript (nodes_before cursor.now.at) held.nodes script.old }
-    requires countable { judge.old.plays + length (nodes_before cursor.now.at) < u64.MAX }
-    ensures judged { OnOk result (HoldsJudgement (nodes_before cursor.now.at) judge.new.judgement) }
-    ensures said { OnOk result (script.new ≡ script_ended (script_front (nodes_before cursor.now.at) (length (nodes_before cursor.now.at)))) }
-    ensures plays { PlaysUpTo judge.old.plays judge.new.plays (fresh_plays (nodes_before cursor.now.at) held.nodes) result }
-{
-    let end = cursor.len();
-    begin_or_go_back(&cursor.root(), held.nodes, judge)?;
-    // A front has no more nodes than the line, since the ends of the sequences rise.
-    let _sequences = cursor.sequences();
-    keep(held.nodes, judge, script)?;
-    let mut nodes = LineNodes::after(cursor, held);
-    for index in held.nodes..end {
-        if judge.is_settled() {
-            return script.end();
-        }
-        let next = nodes.next();
-        script.take(next, &mut nodes, judge)?;
-    }
-    script.end()
-}
-
-/// Keeps the commands of the first `held` nodes. If `held` is 0, begins the commands of the game that is judged.
-fn keep(held: usize, judge: &Judge, script: &mut Script) -> Result<(), MemoryFault>
-    requires { held < usize.MAX }
-    ensures none { held ≡ 0 → OnOk result (script.new ≡ script_on (board_in judge.now.judgement)) }
-    ensures some { 0 < held → OnOk result (script.new ≡ script_back held script.old) }
-{
-    if held > 0 {
-        script.cut_back(held);
-        return Ok(());
-    }
-    match judge.board() {
-        Some(board) => script.begin(board.size()),
-        None => {
-            script.silence();
-            Ok(())
         }
     }
 }
