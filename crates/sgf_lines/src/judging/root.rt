@@ -35,10 +35,10 @@ fn game_and_side<'a>(root: &NodeRef<'_, 'a>) -> (Option<&'a [u8]>, Option<&'a [u
     let mut game = None;
     let mut side = None;
     for property in root.iter() {
-        if game.is_none() && property.is(b"GM") {
-            game = Some(property.value(0));
-        } else if side.is_none() && property.is(b"SZ") {
-            side = Some(property.value(0));
+        match property.initial() {
+            b'G' if game.is_none() && property.is(b"GM") => game = Some(property.value(0)),
+            b'S' if side.is_none() && property.is(b"SZ") => side = Some(property.value(0)),
+            _ => {}
         }
         if game.is_some() && side.is_some() {
             break;
