@@ -3,7 +3,7 @@
 //! | Module | What it has |
 //! |---|---|
 //! | `list`, `sgf`, `gtp` | the forms: what each keeps of a line, and the record that it makes |
-//! | `row` | the row of a line, alone or as a comment |
+//! | `row` | the row of a line, alone or as a comment; the row of counts |
 //! | `script`, `commands` | the script of a line in gtp form; the commands of a node |
 //! | `pieces` | a text in pieces |
 

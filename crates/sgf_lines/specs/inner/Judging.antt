@@ -1,7 +1,6 @@
 -- The judgement on a line after its first nodes.
 use Rattle.std.specs.Prelude.{◌≡◌, ◌<◌, ◌+◌, ℕ, Option, Some, None, List, [], ◌∷◌, fold, length, nat_le, if◌then◌else◌, unwrap_or, codes, option_copied, Result, Ok, Err}
 use Rattle.sgf_tree.specs.Tree.{Node}
-use Rattle.go_board.specs.declared.stones.Colour.{Colour}
 use Rattle.go_board.specs.declared.reason.Reason.{Reason}
 use Rattle.go_board.specs.declared.fault.TurnFault.{TurnFault}
 use Rattle.go_board.specs.declared.fault.TurnFault.TheVariants.{Illegal as IllegalTurn, Memory}
@@ -124,10 +123,6 @@ IsEffectBy side moves stones (one_play colour play) =
 
 abbrev pub IsEffect : ℕ → Node → Effect → Type 0
 IsEffect side node effect = IsEffectBy side (moves node) (stones node) effect
-
--- the effect of one move
-abbrev pub IsMoveOf : ℕ → Colour → List ℕ → Effect → Type 0
-IsMoveOf side colour raw effect = IsEffectBy side (record { player = colour; raw = raw } ∷ []) [] effect
 
 -- the effect of a setup
 abbrev pub setup_effect : List SetupOp → Effect

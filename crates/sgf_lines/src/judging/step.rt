@@ -1,13 +1,13 @@
 //! A node's step on a referee.
 
-ghost use Rattle.std.specs.Prelude.{◌≡◌, ◌<◌, ◌⊎◌, ◌++◌, [], List, length, All, IfOk, IsSome, Ok};
+ghost use Rattle.std.specs.Prelude.{◌≡◌, ◌<◌, ◌⊎◌, ◌∷◌, ◌++◌, [], List, length, All, IfOk, IsSome, Ok};
 ghost use Rattle.sgf_tree.specs.Tree.{Node, Property, told_property};
 ghost use Rattle.go_board.specs.Point.{IsRectOn};
 ghost use Rattle.go_board.specs.State.{set_up as set_up_rule};
 ghost use Rattle.sgf_lines.specs.NodeValues.{move_value as move_value_rule};
 ghost use Rattle.sgf_lines.specs.Step.{step, move_step};
 ghost use Rattle.sgf_lines.specs.inner.Gathered.{IsGathered, ComesAs};
-ghost use Rattle.sgf_lines.specs.inner.Judging.{IsStepped, IsStepOf, IsEffect, IsMoveOf, setup_effect};
+ghost use Rattle.sgf_lines.specs.inner.Judging.{IsStepped, IsStepOf, IsEffect, IsEffectBy, setup_effect};
 
 use crate::judging::contents::{Contents, Moves, Setup, gathered};
 use crate::line_nodes::LineNodes;
@@ -108,11 +108,13 @@ fn take_contents<'a, P: Past>(
     ensures told { (node : Node) → IsGathered referee.old.present.colouring.side node.properties operations.now contents.entry
         → IfOk result (IsStepOf referee.old.present.colouring.side node) }
 {
-    let effect = effect_of(referee, &contents, operations)?;
-    Ok(TakenStep {
-        effect,
-        comment: contents.comment,
-    })
+    match effect_of(referee, &contents, operations) {
+        Ok(effect) => Ok(TakenStep {
+            effect,
+            comment: contents.comment,
+        }),
+        Err(fault) => Err(fault),
+    }
 }
 
 /// Does the same, and returns what the node did to the board.
@@ -177,7 +179,7 @@ fn take_move<P: Past>(
 ) -> Result<Effect, TurnFault>
     ensures stepped { IsStepped (move_step referee.old.present colour (move_value_rule raw.now referee.old.present.colouring.side))
         referee.old referee.new result }
-    ensures effect { IfOk result (IsMoveOf referee.old.present.colouring.side colour raw.now) }
+    ensures effect { IfOk result (IsEffectBy referee.old.present.colouring.side (record { player = colour; raw = raw.now } ∷ []) []) }
 {
     let size = referee.board().size();
     let Some(play) = move_value(raw, size) else {

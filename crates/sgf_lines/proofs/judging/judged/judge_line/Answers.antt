@@ -35,31 +35,23 @@ loop-index-preserved c =
 
 pub returns-clause-judged : goal.returns-clause-judged
 returns-clause-judged c =
-    let nodes = nodes_before c.args.cursor.now.at in
-    let i = c.loop-index.index in
-    judged_all nodes c.args.held.nodes c.args.judge.now.plays i c.loop-index.judge c.loop-index.invariant.judges
-    (all_whole nodes c.args.held.nodes c.args.judge.now.plays i c.loop-index.judge c.loop-index.invariant.judges (omega (arith, c.loop-index-test.false, c.len-end.ensures.nodes)))
+    let h = c.loop-index.invariant.judges in
+    judged_all (nodes_before c.args.cursor.now.at) _ _ _ _ h (all_whole (nodes_before c.args.cursor.now.at) _ _ _ _ h (omega (arith, c.loop-index-test.false, c.len-end.ensures.nodes)))
 
 pub returns-clause-plays : goal.returns-clause-plays
 returns-clause-plays c =
-    let nodes = nodes_before c.args.cursor.now.at in
-    let i = c.loop-index.index in
-    fresh_all nodes c.args.held.nodes c.args.judge.now.plays i c.loop-index.judge c.loop-index.invariant.judges
-    (all_whole nodes c.args.held.nodes c.args.judge.now.plays i c.loop-index.judge c.loop-index.invariant.judges (omega (arith, c.loop-index-test.false, c.len-end.ensures.nodes))) _
+    let h = c.loop-index.invariant.judges in
+    fresh_all (nodes_before c.args.cursor.now.at) _ _ _ _ h (all_whole (nodes_before c.args.cursor.now.at) _ _ _ _ h (omega (arith, c.loop-index-test.false, c.len-end.ensures.nodes))) _
 
 pub returns-then-is_settled-clause-judged : goal.returns-then-is_settled-clause-judged
 returns-then-is_settled-clause-judged c =
-    let nodes = nodes_before c.args.cursor.now.at in
-    let i = c.loop-index.index in
-    judged_all nodes c.args.held.nodes c.args.judge.now.plays i c.loop-index.judge c.loop-index.invariant.judges
-    (settled_whole nodes c.args.held.nodes c.args.judge.now.plays i c.loop-index.judge c.loop-index.invariant.judges (c.is_settled.ensures c.if-is_settled.true))
+    let h = c.loop-index.invariant.judges in
+    judged_all (nodes_before c.args.cursor.now.at) _ _ _ _ h (settled_whole (nodes_before c.args.cursor.now.at) _ _ _ _ h (c.is_settled.ensures c.if-is_settled.true))
 
 pub returns-then-is_settled-clause-plays : goal.returns-then-is_settled-clause-plays
 returns-then-is_settled-clause-plays c =
-    let nodes = nodes_before c.args.cursor.now.at in
-    let i = c.loop-index.index in
-    fresh_all nodes c.args.held.nodes c.args.judge.now.plays i c.loop-index.judge c.loop-index.invariant.judges
-    (settled_whole nodes c.args.held.nodes c.args.judge.now.plays i c.loop-index.judge c.loop-index.invariant.judges (c.is_settled.ensures c.if-is_settled.true)) _
+    let h = c.loop-index.invariant.judges in
+    fresh_all (nodes_before c.args.cursor.now.at) _ _ _ _ h (settled_whole (nodes_before c.args.cursor.now.at) _ _ _ _ h (c.is_settled.ensures c.if-is_settled.true)) _
 
 pub returns-in_err-take-clause-plays : goal.returns-in_err-take-clause-plays
 returns-in_err-take-clause-plays c =
