@@ -108,13 +108,11 @@ fn take_contents<'a, P: Past>(
     ensures told { (node : Node) → IsGathered referee.old.present.colouring.side node.properties operations.now contents.entry
         → IfOk result (IsStepOf referee.old.present.colouring.side node) }
 {
-    match effect_of(referee, &contents, operations) {
-        Ok(effect) => Ok(TakenStep {
-            effect,
-            comment: contents.comment,
-        }),
-        Err(fault) => Err(fault),
-    }
+    let effect = effect_of(referee, &contents, operations)?;
+    Ok(TakenStep {
+        effect,
+        comment: contents.comment,
+    })
 }
 
 /// Does the same, and returns what the node did to the board.
