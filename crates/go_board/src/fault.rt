@@ -35,9 +35,9 @@ impl<T: Drop> From<AllocFailed<T>> for MemoryFault {
 /// Why a turn wasn't taken.
 #[derive(Clone, Copy, Debug, PartialEq, Eq)]
 pub enum TurnFault {
-    /// The turn isn't allowed.
+    /// The turn is illegal.
     Illegal(Reason),
-    /// The turn is allowed, but memory for it was refused.
+    /// The turn is legal, but memory for it was refused.
     Memory,
 }
 

@@ -32,7 +32,7 @@
 //! | `board/liberty` | which points of a row have a liberty |
 //! | `board/areas` | colouring areas and emptying sets of points |
 //! | `past` | the colourings that a game has been through; `past/list_past` keeps them as they are |
-//! | `reason`, `fault` | why a turn, or a node, isn't allowed; the errors |
+//! | `reason`, `fault` | why a turn, or a node, is illegal; the errors |
 //! | `referee` | the referee and undo; below it `plays`, `setup` and `turn` |
 //! | `laws` | what follows from the definitions |
 //! | `quick` | shortcuts; `quick/print_past` keeps colourings so that they are found by a number |

@@ -1,11 +1,11 @@
-//! Why a node or a turn isn't allowed.
+//! Why a node or a turn is illegal.
 
 ghost use Rattle.std.specs.Prelude.{◌≡◌};
 ghost use Rattle.go_board.specs.Reason.{word_of};
 
 use std::fmt;
 
-/// Why a turn or a node isn't allowed, in the order of checking (this project's choice). A referee returns only the last four.
+/// Why a turn or a node is illegal, in the order of checking (this project's choice). A referee returns only the last four.
 /// The others are faults of a node, found before a referee is asked.
 #[derive(Clone, Copy, Debug, PartialEq, Eq)]
 pub enum Reason {

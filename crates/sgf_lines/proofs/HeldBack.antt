@@ -2,7 +2,7 @@
 use Rattle.std.proofs.Common.{◌≡◌, ℕ, ◌≤◌, List, [], ◌++◌, take, drop, length, Option, Some, None, sym, ap, ◌∙◌, append-nil}
 use Rattle.std.specs.Io.KnownBytes.{Appends, Keeps, append_known}
 use Rattle.std.proofs.KnownBytes.{append_known-moved}
-use Rattle.sgf_lines.specs.Ends.{SinkState, Takes}
+use Rattle.sgf_lines.specs.Streams.{SinkState, Takes}
 use Rattle.std.proofs.lemmas.List.{take-append-drop, drop_all}
 
 -- the writer was handed a front of what is held back

@@ -5,7 +5,7 @@ use Rattle.std.specs.Io.KnownBytes.{Appends}
 use Rattle.std.proofs.KnownBytes.{Appends-trans}
 use Rattle.std.proofs.Math.Seq.{take-add}
 use Rattle.std.proofs.lemmas.List.{nil_from_length, take-append-drop, length-take-le, length-drop, drop-drop, take-append-le, take_all}
-use Rattle.sgf_lines.specs.Ends.{SourceState, Gives}
+use Rattle.sgf_lines.specs.Streams.{SourceState, Gives}
 
 -- how a source over a slice stands that has given g bytes
 abbrev stands : List ℕ → ℕ → SourceState

@@ -3,14 +3,14 @@
 ghost use Rattle.std.specs.Prelude.{◌≡◌, ◌<◌, ◌≤◌, ◌+◌, ℕ, List};
 ghost use Rattle.sgf_tree.specs.Extent.{HasExtent};
 ghost use Rattle.sgf_lines.specs.Counts.{IsCount, IsWriting, counts_of, counts_row};
-ghost use Rattle.sgf_lines.specs.Ends.{SourceState};
+ghost use Rattle.sgf_lines.specs.Streams.{SourceState};
 ghost use Rattle.sgf_lines.specs.inner.Running.{HasReadAll};
 
-use crate::ends::sink::{Sink, SinkFault, put_all};
-use crate::ends::source::Source;
 use crate::fault::RunFault;
 use crate::form::row::Row;
 use crate::run::read_all;
+use crate::streams::sink::{Sink, SinkFault, put_all};
+use crate::streams::source::Source;
 use sgf_tree::{Extent, MAX_LENGTH, measure};
 use std::alloc::Global;
 

@@ -40,7 +40,7 @@
 //! | `follower` | judging each of these lines |
 //! | `node_values` | what the values of a node say |
 //! | `form` | the forms in which a line is written: what each keeps of a line, and the record that it makes |
-//! | `ends` | where the bytes of a run come from, and where they go |
+//! | `streams` | where the bytes of a run come from, and where they go |
 //! | `run` | splitting what a source gives into records for a sink |
 //! | `plays` | the count of nodes played |
 //! | `counting` | the games, nodes and lines of what a source gives |
@@ -63,7 +63,6 @@
 
 mod counting;
 mod cursor;
-mod ends;
 mod fault;
 mod follower;
 mod form;
@@ -78,13 +77,11 @@ mod plays;
 mod run;
 mod seek;
 mod sequence_cursor;
+mod streams;
 mod verdict;
 
 pub use counting::{Counts, count, write_counts};
 pub use cursor::Cursor;
-pub use ends::buffered_sink::BufferedSink;
-pub use ends::sink::{ArraySink, Sink, SinkFault, WriteSink, put_all};
-pub use ends::source::{ReadSource, SliceSource, Source, SourceFault};
 pub use fault::RunFault;
 pub use follower::Follower;
 pub use go_board::Reason;
@@ -95,4 +92,7 @@ pub use plays::Plays;
 pub use run::{split, split_counted};
 pub use seek::SeekFault;
 pub use sgf_tree::{Collection, MAX_LENGTH, MemoryFault, ReadFault, read};
+pub use streams::buffered_sink::BufferedSink;
+pub use streams::sink::{ArraySink, Sink, SinkFault, WriteSink, put_all};
+pub use streams::source::{ReadSource, SliceSource, Source, SourceFault};
 pub use verdict::Verdict;

@@ -5,14 +5,12 @@ ghost use Rattle.sgf_tree.specs.declared.fault.TheConstants.{MAX_LENGTH};
 ghost use Rattle.sgf_tree.specs.FileOrder.{PlacesRise};
 ghost use Rattle.sgf_tree.specs.Spelling.{Spells};
 ghost use Rattle.sgf_tree.specs.Tree.{node_count};
-ghost use Rattle.sgf_lines.specs.Ends.{HasDelivered, SourceState};
+ghost use Rattle.sgf_lines.specs.Streams.{HasDelivered, SourceState};
 ghost use Rattle.sgf_lines.specs.Answer.{IsRun, read_failures, write_failures};
 ghost use Rattle.sgf_lines.specs.RunPlays.{IsRunWithPlays};
 ghost use Rattle.sgf_lines.specs.declared.over_lines.Before.TheVariants.{Unheld};
 ghost use Rattle.sgf_lines.specs.inner.Running.{AnswersSome, HasRead, HasReadAll, IsReading, IsStart, WritesLines, WritesPage, page_after};
 
-use crate::ends::sink::{Sink, SinkFault};
-use crate::ends::source::Source;
 use crate::fault::RunFault;
 use crate::form::LineForm;
 use crate::form::gtp::GtpForm;
@@ -24,6 +22,8 @@ use crate::over_lines::{Before, OverLines};
 use crate::plays::Plays;
 use crate::seek::SeekFault;
 use crate::sequence_cursor::SequenceCursor;
+use crate::streams::sink::{Sink, SinkFault};
+use crate::streams::source::Source;
 use sgf_tree::{MAX_LENGTH, MemoryFault, Outline, read_outline};
 use std::alloc::Global;
 
@@ -68,7 +68,7 @@ pub fn split<S: Source, T: Sink>(
 /// its step is worked out, and not again for another line that shares it. `plays` must have room for `MAX_LENGTH` more.
 ///
 /// After `Ok` the added number is that of the different nodes that are judged on the lines written. On a line these are all nodes,
-/// or the nodes up to and including the first that isn't allowed. If the line's game isn't judged, there are none.
+/// or the nodes up to and including the first that is illegal. If the line's game isn't judged, there are none.
 ///
 /// After `Write` or `Memory` the added number is at least that for the first `lines` lines, and at most that for these and the next
 /// line. After any other fault it is 0. In the form `Form::Sgf`, which has no verdict, it is always 0.

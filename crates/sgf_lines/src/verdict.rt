@@ -5,7 +5,7 @@ use go_board::Reason;
 /// What a referee says of a line of play, by the Tromp-Taylor rules.
 #[derive(Clone, Copy, Debug, PartialEq, Eq)]
 pub enum Verdict {
-    /// Every node is allowed.
+    /// Every node is legal.
     Score {
         /// Black's area score after the last node, in points.
         black: u32,
@@ -14,7 +14,7 @@ pub enum Verdict {
         /// Whether two passes in a row ended the game.
         over: bool,
     },
-    /// Some node isn't allowed. The nodes after the first such node aren't looked at.
+    /// Some node is illegal. The nodes after the first such node aren't looked at.
     Illegal {
         /// The number of turns made before that node, passes included, plus 1.
         turn: u64,

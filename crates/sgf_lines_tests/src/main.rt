@@ -3,7 +3,7 @@
 //! The program is run with its Nth request for memory refused, for N = 1, 2, .. (`tests/failing_calls.sh`). Each
 //! call then returns the result that it has with ample memory, or reports that memory was refused. In the second
 //! case the value whose method was called is unchanged, and a second call returns that result. A run to which memory was
-//! refused leaves whole records in its sink. Runs whose source or sink fails (`ends`) aren't made again. Texts, and
+//! refused leaves whole records in its sink. Runs whose source or sink fails (`streams`) aren't made again. Texts, and
 //! what the runs read and write, lie in arrays, so only the calls ask for memory. Some calls need more room than is taken at
 //! first. The program prints which of them was refused memory (`seen`).
 //!
@@ -15,10 +15,9 @@
 //! - `rooms` reads texts with more nodes than there is room for at first, `long_games` plays games with more turns and setups.
 //! - `long_texts` has texts longer than the buffers that they are read into, and counts how often their sources are asked.
 //! - `page` is a sink over an array, and counts its flushes.
-//! - `ends` has runs whose source gives little at a time and then fails, or whose sink takes little at a time and then fails.
+//! - `streams` has runs whose source gives little at a time and then fails, or whose sink takes little at a time and then fails.
 #![tactic(auto)]
 
-mod ends;
 mod lines;
 mod long_games;
 mod long_texts;
@@ -28,6 +27,7 @@ mod referee;
 mod rooms;
 mod runs;
 mod seen;
+mod streams;
 mod tree;
 
 use crate::seen::Seen;
@@ -62,6 +62,6 @@ fn all_calls(alloc: Global, seen: &mut Seen) {
     long_games::calls::<PrintPast>(alloc, "turns of prints", "setups of prints", seen);
     lines::calls(alloc, seen);
     runs::calls(alloc, seen);
-    ends::calls(alloc, seen);
+    streams::calls(alloc, seen);
     long_texts::calls(alloc, seen);
 }

@@ -132,7 +132,7 @@ impl<'a> Outline<'a> {
         self.sequences.table[i].last as usize
     }
 
-    /// The number, from 1, of the game that has sequence `i`.
+    /// The number, from 1, of the game that has sequence `i`. This goes over the sequences above it.
     pub fn game_of(&self, i: usize) -> usize
         requires { i < length (sequence_starts self.now) }
         ensures { result ≡ game_of self.now (sequence_start self.now i) }

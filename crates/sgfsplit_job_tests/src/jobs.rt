@@ -1,6 +1,6 @@
 //! Jobs over a reader and writers that count their calls.
 
-use crate::ends::{Reads, Writes};
+use crate::streams::{Reads, Writes};
 use sgf_lines::{BufferedSink, Form, Options, ReadSource, WriteSink};
 use sgfsplit_job::{Job, act};
 use std::alloc::{AllocError, Global};

@@ -4,16 +4,16 @@
 //! | Module | What it has |
 //! |---|---|
 //! | `in_memory` | a job over a text in memory, done as the program does it over its streams |
-//! | `ends` | a reader and a writer that count their calls, and may fail |
+//! | `streams` | a reader and a writer that count their calls, and may fail |
 //! | `jobs` | jobs over such a reader and such writers: how many calls are made, and that none follows a failure |
 //! | `words` | the jobs that words ask for |
 #![tactic(auto)]
 
-#[cfg(test)]
-mod ends;
 mod in_memory;
 #[cfg(test)]
 mod jobs;
+#[cfg(test)]
+mod streams;
 #[cfg(test)]
 mod words;
 

@@ -21,7 +21,7 @@ impl<P: Past> Referee<P> {
     /// Takes a player's turn (Tromp-Taylor). A stone's point must be on the board. After a refusal nothing is changed.
     ///
     /// - `Illegal`: the first of `Over`, `Turn`, `Occupied` and `Repeat` that holds. This refusal comes even if memory is refused.
-    /// - `Memory`: the turn is allowed, but memory was refused.
+    /// - `Memory`: the turn is legal, but memory was refused.
     // Not inlined: there is one copy of it, and what it calls is inlined there.
     #[inline(never)]
     pub fn turn(&mut self, colour: Colour, play: Play) -> Result<(), TurnFault>
@@ -45,7 +45,7 @@ impl<P: Past> Referee<P> {
         Ok(())
     }
 
-    /// The first reason, except `Repeat`, why a turn isn't allowed.
+    /// The first reason, except `Repeat`, why a turn is illegal.
     fn reason_before_repeat(&self, colour: Colour, play: Play) -> Option<Reason>
         requires { IsPlayOn self.now.present.colouring.side play }
         ensures known { IfSome result (λ reason. reason_of self.now.present colour play ≡ Some reason) }

@@ -7,7 +7,6 @@ ghost use Rattle.sgf_lines.specs.inner.Keeping.{HoldsJudgement, IsRecord, script
 ghost use Rattle.sgf_lines.specs.inner.Scripting.{script_ended, script_text};
 ghost use Rattle.sgf_lines.specs.inner.Views.{built_text};
 
-use crate::ends::sink::{Sink, SinkFault, put_all};
 use crate::form::LineForm;
 use crate::form::row::Row;
 use crate::form::script::Script;
@@ -16,6 +15,7 @@ use crate::judging::judged::begin_or_go_back;
 use crate::line_nodes::LineNodes;
 use crate::over_lines::LineKeeper;
 use crate::sequence_cursor::{Front, SequenceCursor};
+use crate::streams::sink::{Sink, SinkFault, put_all};
 use sgf_tree::MemoryFault;
 use std::alloc::Global;
 

@@ -6,13 +6,13 @@ ghost use Rattle.sgf_lines.specs.inner.Following.{nodes_before};
 ghost use Rattle.sgf_lines.specs.inner.Keeping.{HoldsJudgement, IsRecord};
 ghost use Rattle.sgf_lines.specs.inner.Views.{built_text};
 
-use crate::ends::sink::{Sink, SinkFault, put_all};
 use crate::form::LineForm;
 use crate::form::row::Row;
 use crate::judging::judge::Judge;
 use crate::judging::judged::judge_line;
 use crate::over_lines::LineKeeper;
 use crate::sequence_cursor::{Front, SequenceCursor};
+use crate::streams::sink::{Sink, SinkFault, put_all};
 use sgf_tree::MemoryFault;
 use std::alloc::Global;
 

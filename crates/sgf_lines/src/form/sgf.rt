@@ -8,11 +8,11 @@ ghost use Rattle.sgf_lines.specs.inner.Keeping.{IsRecord};
 ghost use Rattle.sgf_lines.specs.inner.Pieces.{cut};
 ghost use Rattle.sgf_lines.specs.inner.Recording.{open_record, whole_record};
 
-use crate::ends::sink::{Sink, SinkFault, put_all};
 use crate::form::LineForm;
 use crate::form::pieces::Pieces;
 use crate::over_lines::LineKeeper;
 use crate::sequence_cursor::{Front, SequenceCursor};
+use crate::streams::sink::{Sink, SinkFault, put_all};
 use sgf_tree::MemoryFault;
 use std::alloc::Global;
 

@@ -21,13 +21,13 @@ use std::marker::Model;
 /// judgement on the line, and the number of nodes that were played.
 #[derive(Drop)]
 pub(crate) struct Judge {
-    /// None if the game isn't judged. Each node that is allowed adds one state.
+    /// None if the game isn't judged. Each node that is legal adds one state.
     referee: Option<Referee<PrintPast>>,
 
     /// A buffer for what a node sets up.
     operations: Vec<SetupOp>,
 
-    /// The verdict, if it is known already: the game isn't judged, or a node isn't allowed.
+    /// The verdict, if it is known already: the game isn't judged, or a node is illegal.
     ended: Option<Verdict>,
 
     plays: u64,
@@ -93,7 +93,7 @@ impl Judge {
     }
 
     /// Takes one more node, and returns its step. `next` and `nodes` are as for `take_step`. None if the step isn't taken: the game isn't
-    /// judged, the node isn't allowed, or the line ended before it. After a refusal of memory nothing is changed.
+    /// judged, the node is illegal, or the line ended before it. After a refusal of memory nothing is changed.
     // Inlined: a caller that needs no step has no step put together.
     #[inline(always)]
     pub(crate) fn take<'a>(
@@ -157,7 +157,7 @@ impl Judge {
         }
     }
 
-    /// The verdict of the line.
+    /// The verdict of the line. `NotGo` before the first game.
     pub(crate) fn verdict(&self) -> Verdict
         ensures { result ≡ verdict_in self.now.judgement }
     {

@@ -37,7 +37,7 @@ pub(crate) struct TakenStep<'a> {
 /// Takes a node's step, which adds one state. It plays the node's move, sets up its stones and its player, or stays. `next` is the node, as
 /// `LineNodes::next` took it; the properties that are left of it are taken off. `operations` is a buffer.
 ///
-/// If the node isn't allowed, the first reason is returned. After a refusal the referee is unchanged.
+/// If the node is illegal, the first reason is returned. After a refusal the referee is unchanged.
 // Inlined: a caller that needs no step has none put together.
 #[inline(always)]
 pub(crate) fn take_step<'a, P: Past>(

@@ -1,4 +1,4 @@
-//! The ends of a run: where its bytes come from, and where they go.
+//! The streams of a run: where its bytes come from, and where they go.
 //!
 //! | Module | What it has |
 //! |---|---|

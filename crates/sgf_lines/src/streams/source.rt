@@ -3,7 +3,7 @@
 ghost use Rattle.std.specs.Borrow.{sem};
 ghost use Rattle.std.specs.Io.BufRead.{Rests};
 ghost use Rattle.std.specs.Prelude.{◌≡◌, ◌<◌, ◌≤◌, ◌+◌, List, ℕ, [], length, take, drop, Some, None};
-ghost use Rattle.sgf_lines.specs.Ends.{SourceState, IsGet, GivesRest, ends_told, rests_told};
+ghost use Rattle.sgf_lines.specs.Streams.{SourceState, IsGet, GivesRest, ends_told, rests_told};
 
 use std::io::Read;
 use thiserror::Error;

@@ -1,7 +1,7 @@
 -- The bytes are the next of the slice.
 use Rattle.std.proofs.Common.{◌+◌, ◌-◌, drop, length, arith}
 use Rattle.sgf_lines.proofs.SliceEnds.{slice_gives}
-use Rattle.sgf_lines.proofs.ends.source.SliceSourceSource.get.Goals as goal
+use Rattle.sgf_lines.proofs.streams.source.SliceSourceSource.get.Goals as goal
 
 pub returns-clause-gets : goal.returns-clause-gets
 returns-clause-gets c =

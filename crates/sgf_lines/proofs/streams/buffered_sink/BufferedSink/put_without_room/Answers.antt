@@ -2,7 +2,7 @@
 use Rattle.std.proofs.Common.{◌++◌, take, rules}
 use Rattle.std.specs.Io.KnownBytes.{Appends}
 use Rattle.std.proofs.KnownBytes.{Appends-trans}
-use Rattle.sgf_lines.proofs.ends.buffered_sink.BufferedSink.put_without_room.Goals as goal
+use Rattle.sgf_lines.proofs.streams.buffered_sink.BufferedSink.put_without_room.Goals as goal
 
 pub returns-in-Ok : goal.returns-in-Ok
 returns-in-Ok g c =

@@ -1,7 +1,7 @@
 -- The writer was handed all that was held back, or a front of it.
 use Rattle.std.proofs.Common.{take, refl, arith, ap, ◌+◌, sym}
 use Rattle.sgf_lines.proofs.HeldBack.{handed_on, all_handed_on}
-use Rattle.sgf_lines.proofs.ends.buffered_sink.BufferedSink.write_out.Goals as goal
+use Rattle.sgf_lines.proofs.streams.buffered_sink.BufferedSink.write_out.Goals as goal
 
 pub returns-then-handed-len-clause-out : goal.returns-then-handed-len-clause-out
 returns-then-handed-len-clause-out g c =

@@ -2,10 +2,10 @@
 
 ghost use Rattle.std.specs.Prelude.{◌≡◌, ◌<◌, ◌≤◌, ◌+◌, ◌++◌, [], length, take, drop, vec_len, vec_capacity, IfOk, OnOk};
 ghost use Rattle.std.specs.Io.KnownBytes.{Appends, append_known};
-ghost use Rattle.sgf_lines.specs.Ends.{IsPut, IsFlush};
+ghost use Rattle.sgf_lines.specs.Streams.{IsPut, IsFlush};
 ghost use Rattle.sgf_lines.specs.inner.HeldBack.{held_back};
 
-use crate::ends::sink::{Sink, SinkFault};
+use crate::streams::sink::{Sink, SinkFault};
 use std::alloc::{AllocError, Global};
 use std::io::Write;
 

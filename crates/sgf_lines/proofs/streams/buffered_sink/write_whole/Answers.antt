@@ -2,7 +2,7 @@
 use Rattle.std.proofs.Common.{arith}
 use Rattle.std.proofs.lemmas.List.{length-drop}
 use Rattle.sgf_lines.proofs.SliceEnds.{goes_on}
-use Rattle.sgf_lines.proofs.ends.buffered_sink.write_whole.Goals as goal
+use Rattle.sgf_lines.proofs.streams.buffered_sink.write_whole.Goals as goal
 
 pub writes-preserved : goal.writes-preserved
 writes-preserved g c =

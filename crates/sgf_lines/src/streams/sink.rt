@@ -2,7 +2,7 @@
 
 ghost use Rattle.std.specs.Prelude.{◌≡◌, ◌<◌, ◌≤◌, List, ℕ, [], length, take, Some, None, IfSome, OnErr};
 ghost use Rattle.std.proofs.KnownBytes.{Appends-nil};
-ghost use Rattle.sgf_lines.specs.Ends.{SinkState, IsPut, IsFlush, DeliversFront, PutsAll};
+ghost use Rattle.sgf_lines.specs.Streams.{SinkState, IsPut, IsFlush, DeliversFront, PutsAll};
 
 use std::io::Write;
 use thiserror::Error;

@@ -1,7 +1,7 @@
 -- A front of the bytes was taken, and the sink hasn't failed.
 use Rattle.std.proofs.Common.{length, take, ◌-◌, ◌≡◌, ◌≤◌}
 use Rattle.std.specs.Io.KnownBytes.{Appends}
-use Rattle.sgf_lines.proofs.ends.sink.put_all.Given as goal
+use Rattle.sgf_lines.proofs.streams.sink.put_all.Given as goal
 
 abbrev pub invariant-puts : goal.invariant-puts
 invariant-puts g l = record {

@@ -2,7 +2,7 @@
 use Rattle.std.proofs.Common.{◌∙◌, arith}
 use Rattle.std.proofs.lemmas.List.{length-drop}
 use Rattle.sgf_lines.proofs.SliceEnds.{goes_on}
-use Rattle.sgf_lines.proofs.ends.sink.put_all.Goals as goal
+use Rattle.sgf_lines.proofs.streams.sink.put_all.Goals as goal
 
 pub puts-preserved : goal.puts-preserved
 puts-preserved g c =
