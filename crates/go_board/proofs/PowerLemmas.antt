@@ -15,14 +15,14 @@ high times = 31 ^ (64 * times) % 2 ^ 64
 all_low : LOW ≡ map low (range_with_len 0 64)
 all_low = refl
 
-all_high : HIGH ≡ map high (range_with_len 0 43)
+all_high : HIGH ≡ map high (range_with_len 0 64)
 all_high = refl
 
 pub low_power : (exponent : ℕ) → exponent < 64 → get_or LOW exponent 0 ≡ 31 ^ exponent % 2 ^ 64
 low_power exponent few = ap (λ (l : List ℕ). get_or l exponent 0) all_low ∙ get_or-map-range_with_len low 0 64 exponent exponent 0 few (omega arith)
 
-high_power : (times : ℕ) → times < 43 → get_or HIGH times 0 ≡ 31 ^ (64 * times) % 2 ^ 64
-high_power times few = ap (λ (l : List ℕ). get_or l times 0) all_high ∙ get_or-map-range_with_len high 0 43 times times 0 few (omega arith)
+high_power : (times : ℕ) → times < 64 → get_or HIGH times 0 ≡ 31 ^ (64 * times) % 2 ^ 64
+high_power times few = ap (λ (l : List ℕ). get_or l times 0) all_high ∙ get_or-map-range_with_len high 0 64 times times 0 few (omega arith)
 
 pub any_power : (exponent : ℕ) → exponent < 2704 → (get_or LOW (exponent % 64) 0 * get_or HIGH (exponent / 64) 0) % 2 ^ 64 ≡ 31 ^ exponent % 2 ^ 64
 any_power exponent few =
