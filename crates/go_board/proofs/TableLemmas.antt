@@ -188,29 +188,6 @@ module _ (held : List Held) (table : Table) (is : IsTable held table) where
         subst (λ x. IsParting (length table.nodes.items) (bits_at linked_keys) key x place) (sym n.names)
         (way_parts tree place n.way n.stop within low (subst (λ x. Agree x key place) (sym one) (agree_back same)) (subst (λ (x : ℕ → Bool). x place ≢ key place) (sym one) (λ e. differ (sym e))))
 
-    -- its start and its print, if it has the front of the key
-    found_front : {end : ℕ} → Nearest end → (start print : ℕ) (any : Grid) → key ≡ key_bits start print any → start < 2 ^ 64 → print < 2 ^ 64 → Agree (bits_at linked_keys near) key 128
-        → (start ≤ near) × (get_or table.prints.items near 0 ≡ print)
-    found_front {end} n start print any is_key small fits a =
-        let low : near < length table.nodes.items = near_in n in
-        let high : near < length held = omega (arith, low, linked_few) in
-        let there = number_there held near high in
-        let grid = there.0 in
-        let front : Agree (key_bits (start_of (since near held)) (print_of grid) grid) (key_bits start print any) 128 =
-        subst (λ x. Agree x (key_bits start print any) 128) (key_there near (start_of (since near held)) (print_of grid) grid low there.1 refl refl) (subst (λ x. Agree (bits_at linked_keys near) x 128) is_key a) in
-        let before = start-before held near high in
-        let same = front_same (start_of (since near held)) start (print_of grid) print grid any (omega (arith, before, low, few_nodes)) small (print_small grid) fits front in
-        (omega (arith, before, same.0), print_there near grid high there.1 ∙ same.1)
-
-    -- If a colouring in the trie has that start and print, so has this one.
-    pub nearest_front : Nearest 128 → (start print number : ℕ) (any grid : Grid) → key ≡ key_bits start print any → start < 2 ^ 64 → print < 2 ^ 64
-        → number < length table.nodes.items → IsNumber held number grid → start_of (since number held) ≡ start → print_of grid ≡ print
-        → (start ≤ near) × (get_or table.prints.items near 0 ≡ print)
-    nearest_front n start print number any grid is_key small fits low at same_start same_print =
-        let agrees : Agree (bits_at linked_keys number) key 128 = subst (λ x. Agree x key 128) (sym (key_there number start print grid low at same_start same_print)) (subst (λ x. Agree (key_bits start print grid) x 128) (sym is_key)
-        (front_agrees start start print print grid any refl refl)) in
-        found_front n start print any is_key small fits (found_equal n (omega arith) number low agrees)
-
     -- If a colouring in the trie has these bits, so has this one.
     nearest_equal : Nearest WIDTH → (start print number : ℕ) (grid : Grid) → key ≡ key_bits start print grid
         → number < length table.nodes.items → IsNumber held number grid → start_of (since number held) ≡ start → print_of grid ≡ print → Agree (bits_at linked_keys near) key WIDTH
@@ -218,10 +195,19 @@ module _ (held : List Held) (table : Table) (is : IsTable held table) where
         let same_key : bits_at linked_keys number ≡ key = key_there number start print grid low at same_start same_print ∙ sym is_key in
         found_equal n (omega arith) number low (subst (λ x. Agree (bits_at linked_keys number) x WIDTH) same_key (agree_self (bits_at linked_keys number) WIDTH))
 
-    pub nearest_start : Nearest WIDTH → (start print number : ℕ) (grid : Grid) → key ≡ key_bits start print grid → start < 2 ^ 64 → print < 2 ^ 64
-        → number < length table.nodes.items → IsNumber held number grid → start_of (since number held) ≡ start → print_of grid ≡ print → start ≤ near
-    nearest_start n start print number grid is_key small fits low at same_start same_print =
-        (found_front n start print grid is_key small fits (agree_less 128 (omega arith) (nearest_equal n start print number grid is_key low at same_start same_print))).0
+    -- and it has the print and the stretch of that one
+    pub nearest_front : Nearest WIDTH → (start print number : ℕ) (grid : Grid) → key ≡ key_bits start print grid → start < 2 ^ 64 → print < 2 ^ 64
+        → number < length table.nodes.items → IsNumber held number grid → start_of (since number held) ≡ start → print_of grid ≡ print
+        → (start ≤ near) × (get_or table.prints.items near 0 ≡ print)
+    nearest_front n start print number grid is_key small fits low at same_start same_print =
+        let in_trie : near < length table.nodes.items = near_in n in
+        let high : near < length held = omega (arith, in_trie, linked_few) in
+        let there = number_there held near high in
+        let found = agree_less 128 (omega arith) (nearest_equal n start print number grid is_key low at same_start same_print) in
+        let front = subst (λ x. Agree x (key_bits start print grid) 128) (key_there near (start_of (since near held)) (print_of there.0) there.0 in_trie there.1 refl refl) (subst (λ x. Agree (bits_at linked_keys near) x 128) is_key found) in
+        let before = start-before held near high in
+        let same = front_same (start_of (since near held)) start (print_of there.0) print there.0 grid (omega (arith, before, in_trie, few_nodes)) small (print_small there.0) fits front in
+        (omega (arith, before, same.0), print_there near there.0 high there.1 ∙ same.1)
 
     pub nearest_whole : Nearest WIDTH → (start print number : ℕ) (grid grid' : Grid) → key ≡ key_bits start print grid
         → number < length table.nodes.items → IsNumber held number grid → start_of (since number held) ≡ start → print_of grid ≡ print → IsNumber held near grid'

@@ -209,22 +209,6 @@ impl Table {
         }
     }
 
-    /// Whether the trie may have a colouring of the stretch with this start and print.
-    fn has_front(&self, colourings: &Colourings, start: usize, print: u64) -> bool
-        requires { IsTable (all_of colourings.now) self.now }
-        ensures some { IsTrue result → 0 < length self.now.nodes.items }
-        ensures lacks { (number : ℕ) (grid : Grid) → IsFalse result → number < length self.now.nodes.items
-            → IsNumber (all_of colourings.now) number grid → start_of (since number (all_of colourings.now)) ≡ start
-            → print_of grid ≢ print }
-    {
-        if self.nodes.is_empty() {
-            return false;
-        }
-        let key = Key::new(start, print, colourings.newest());
-        let near = self.nearest(&key, FRONT);
-        near >= start && self.prints[near] == print
-    }
-
     /// Whether the present stretch has this colouring; `print` is its print. Colourings that aren't in the trie yet are compared one
     /// by one.
     pub(crate) fn has(&self, colourings: &Colourings, board: &Board, print: u64) -> bool
@@ -253,7 +237,8 @@ impl Table {
         false
     }
 
-    /// Whether a colouring from `start` on that is in the trie is this one; `start` begins the present stretch.
+    /// Whether a colouring from `start` on that is in the trie is this one; `start` begins the present stretch. If none has the print,
+    /// no colouring is worked out.
     fn has_linked(&self, colourings: &Colourings, start: usize, board: &Board, print: u64) -> bool
         requires table { IsTable (all_of colourings.now) self.now }
         requires side { HaveSide board.now.side colourings.now }
@@ -262,12 +247,12 @@ impl Table {
         ensures { IsTrue result ↔ HasNumber (all_of colourings.now) (λ number. (start ≤ number)
             × (number < length self.now.nodes.items)) board.now }
     {
-        if !self.has_front(colourings, start, print) {
+        if self.nodes.is_empty() {
             return false;
         }
         let key = Key::new(start, print, board);
         let near = self.nearest(&key, WIDTH);
-        if near < start {
+        if near < start || self.prints[near] != print {
             return false;
         }
         let past = colourings.board_at(near);
