@@ -149,15 +149,6 @@ whole_number m cells =
     sym (ap (λ (l : List Cell). fold (next_cell m) 0 l) (take_all (length cells) cells (omega arith)))
     ∙ fold_number m cells (length cells) (omega arith)
 
--- the low 14 bits of a print are the same fold modulo 2^14
-pub low_bits : (g : Grid) → print_of g % 2 ^ 14 ≡ fold (λ print cell. (31 * print + code cell) % 16384) 0 g.cells
-unfolding print_of
-low_bits g =
-    let number = in_base 31 (length g.cells) (digits g.cells) in
-    ap (λ n. n % 2 ^ 14) (whole_number (2 ^ 64) g.cells)
-    ∙ omega arith
-    ∙ sym (whole_number 16384 g.cells)
-
 pub print_small : (g : Grid) → print_of g < 2 ^ 64
 unfolding print_of
 print_small g = subst (λ n. n < 2 ^ 64) (sym (whole_number (2 ^ 64) g.cells)) (mod_below (in_base 31 (length g.cells) (digits g.cells)) (2 ^ 64) (pow_pos 64))

@@ -1,5 +1,6 @@
 -- A stone that stays can repeat a colouring of the stretch only on a point that was emptied.
-use Rattle.std.proofs.Common.{◌≡◌, ◌≢◌, ◌*◌, zero, suc, inl, inr, ℕ, Bool, true, false, cond, List, [], ◌∷◌, length, Contains, refl, ap, sym, subst, ◌∙◌, arith}
+use Rattle.std.proofs.Common.{◌≡◌, ◌≢◌, ◌*◌, zero, suc, inl, inr, ℕ, Bool, true, false, cond, List, [], ◌∷◌, length, Contains, Result, Ok, Err, refl, ap, sym, subst, ◌∙◌, arith}
+use Rattle.std.specs.Result.{IsErr}
 use Rattle.std.proofs.lemmas.Bool.{cases_Bool, false≢true}
 use Rattle.go_board.specs.declared.stones.Cell.TheVariants.{Empty}
 use Rattle.go_board.specs.declared.stones.Colour.{Colour}
@@ -8,7 +9,7 @@ use Rattle.go_board.specs.Colour.{same_cell, stone_of}
 use Rattle.go_board.specs.Point.{IsOn}
 use Rattle.go_board.specs.Grid.{Grid, cell_at}
 use Rattle.go_board.specs.Clearing.{play}
-use Rattle.go_board.specs.Past.{Held, PastColourings, all_of, newest_grid, with_next, stretch_of, present_stretch, AllHaveSide, HaveSide}
+use Rattle.go_board.specs.Past.{Held, PastColourings, all_of, newest_grid, with_next, stretch_of, present_stretch, AllHaveSide, HaveSide, IsPlayed}
 use Rattle.go_board.specs.Reason.{WasEmptied}
 use Rattle.go_board.specs.inner.Emptied.{HasEmptied, HasAllEmptied, IsLastStone}
 use Rattle.go_board.specs.inner.Groups.{IsMove}
@@ -105,3 +106,15 @@ never_back_with past k p q rows all move last stays_too stays (suc j, h, e) =
     let free : cell_at (play g k p) q ≡ Empty = last.new (play g k p) (j, omega (arith, h), e) in
     let other : q ≢ p = λ same. last.there (ap (cell_at g) same ∙ move.empty) in
     last.there (sym (cell_at-with_cell_elsewhere g p q (stone_of k) move.on_board last.on other) ∙ sym (move.taken.played.kept q last.on (λ taken. false≢true (sym stays_too ∙ taken))) ∙ free)
+
+-- what becomes of a past when a stone is played: the three ends of the call
+module _ {E : Type 0} (k : Colour) (p : Point) (old new : PastColourings) where
+  pub played_again : Contains (present_stretch old) (play (newest_grid old) k p) → new ≡ old → IsPlayed {E = E} k p old new (Ok false)
+  played_again has same = record { known = (λ _. has, λ _. refl); ok = same; refused = tt; err = tt }
+
+  pub played_new : (Contains (present_stretch old) (play (newest_grid old) k p) → ⊥) → new ≡ with_next old (play (newest_grid old) k p) false → IsPlayed {E = E} k p old new (Ok true)
+  played_new never made = record { known = (λ t. absurd (false≢true (sym t)), λ has. absurd (never has)); ok = made; refused = tt; err = tt }
+
+  pub played_refused : (r : Result Bool E) → IsErr r → (Contains (present_stretch old) (play (newest_grid old) k p) → ⊥) → new ≡ old → IsPlayed k p old new r
+  played_refused (Ok b) is never same = absurd (false≢true is)
+  played_refused (Err e) is never same = record { known = tt; ok = tt; refused = never; err = same }

@@ -45,7 +45,7 @@
 //! | a stone: capture, then suicide | `Board::place` (`board`); shortcuts: `takes_nothing_at_a_glance` (`quick/glance`), `Board::find_taken` (`quick/capture`) |
 //! | the area score | `Board::score` (`board`); shortcut below side 32: `Board::score_in_halves` (`quick/both_areas`) |
 //! | a turn; `over`, `turn` and `occupied` | `Referee::turn`, `Referee::reason_before_repeat` (`referee/turn`) |
-//! | `repeat` (positional superko) | `Past::play` (`past`); the colourings since the last setup: `ListPast::holds` (`past/list_past`); shortcuts: `PrintPast::may_repeat`, `PrintPast::play_looked_up` (`quick/print_past`) |
+//! | `repeat` (positional superko) | `Past::play` (`past`); the colourings since the last setup: `ListPast::holds` (`past/list_past`); shortcuts: `PrintPast::may_repeat`, `PrintPast::play_asked` (`quick/print_past`) |
 //! | a pass; two passes end the game | `Referee::take_pass` (`referee/turn`); `Referee::over` (`referee`) |
 //! | a setup of stones; a setup of the player | `Referee::begin_anew`; `Referee::set_player` (`referee/setup`) |
 //! | undo | `Referee::undo` (`referee`) |

@@ -19,7 +19,7 @@ code Black = 1
 code White = 2
 
 -- The print, a 64-bit number. The codes of the cells are the digits of a number in base 31: row by row from the top, from left to
--- right. The print is that number modulo 2^64. So its low 14 bits are the number modulo 16384 (`low_bits` in PrintLemmas.antt).
+-- right. The print is that number modulo 2^64.
 unfoldable pub print_of : Grid → ℕ
 print_of grid = fold (λ print cell. (31 * print + code cell) % 2 ^ 64) 0 grid.cells
 

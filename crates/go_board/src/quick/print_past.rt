@@ -21,17 +21,18 @@ mod print;
 mod table;
 mod trie;
 
-ghost use Rattle.std.specs.Prelude.{◌≡◌, ◌≢◌, ◌<◌, false, IsTrue, OnOk, OnErr, length};
+ghost use Rattle.std.specs.Prelude.{◌≡◌, ◌≢◌, ◌<◌, false, IsTrue, IfSome, OnOk, OnErr, length};
 ghost use Rattle.go_board.specs.declared.stones.Cell.TheVariants.{Empty};
 ghost use Rattle.go_board.specs.declared.points.Point.{Point};
 ghost use Rattle.go_board.specs.Point.{IsOn};
 ghost use Rattle.go_board.specs.Grid.{cell_at};
 ghost use Rattle.go_board.specs.Clearing.{play};
 ghost use Rattle.go_board.specs.Past.{all_of, newest_grid, with_next};
+ghost use Rattle.go_board.specs.inner.Emptied.{IsEmptied};
 ghost use Rattle.go_board.specs.inner.Groups.{IsMove};
 ghost use Rattle.go_board.specs.inner.Print.{print_of, IsPrintedMove};
 ghost use Rattle.go_board.specs.inner.Rows.{is_set};
-ghost use Rattle.go_board.specs.inner.Table.{IsTable};
+ghost use Rattle.go_board.specs.inner.Table.{IsGap, IsTable};
 
 use crate::board::Board;
 use crate::board::regions::no_rows;
@@ -110,7 +111,7 @@ impl Past for PrintPast {
     }
 
     /// Finds captures and suicide near the stone (`find_taken`), unless a glance shows that there are none. A repetition (positional
-    /// superko) is looked up by `play_looked_up`. The plain ways are `Past::play` and `Board::place`; the second is taken on a board
+    /// superko) is looked up by `play_asked`. The plain ways are `Past::play` and `Board::place`; the second is taken on a board
     /// that isn't settled (`play_on_copy`).
     fn play(&mut self, colour: Colour, point: Point) -> Result<bool, MemoryFault> {
         let newest = self.colourings.newest();
@@ -223,7 +224,16 @@ impl PrintPast {
         if self.may_repeat(point, taken) {
             return self.play_asked(colour, point, taken, print);
         }
-        self.add_made(colour, point, taken, print)?;
+        add_stone(
+            &mut self.colourings,
+            &mut self.table,
+            &mut self.emptied,
+            colour,
+            point,
+            taken,
+            print,
+            None,
+        )?;
         self.last_stone = Some(point);
         Ok(true)
     }
@@ -243,37 +253,8 @@ impl PrintPast {
         has_point(&self.emptied.rows, point) | has_point(taken, point)
     }
 
-    /// Adds the colouring that a stone makes; `print` is its print, and `taken` is what the stone takes off. After a refusal nothing
-    /// is changed.
-    #[inline(always)]
-    fn add_made(
-        &mut self,
-        colour: Colour,
-        point: Point,
-        taken: &[u64],
-        print: u64,
-    ) -> Result<(), MemoryFault>
-        requires stone { IsPrintedMove (newest_grid self.old) colour point taken.now print }
-        ensures ok { OnOk result (self.new ≡ with_next self.old (play (newest_grid self.old) colour point) false) }
-        ensures err { OnErr result (self.new ≡ self.old) }
-    {
-        self.colourings.newest().has_all_cells();
-        self.emptied.reserve(taken.len())?;
-        let number = self.table.next_number();
-        add_stone(
-            &mut self.colourings,
-            &mut self.table,
-            colour,
-            point,
-            taken,
-            print,
-        )?;
-        self.emptied.add(taken, number);
-        self.last_stone = None;
-        Ok(())
-    }
-
-    /// The same as `play_taking`, for a stone that may bring a colouring back; `print` is the print of what it makes.
+    /// The same as `play_taking`, for a stone that may bring a colouring back; `print` is the print of what it makes. Decides by positional
+    /// superko whether the stone may be played: looks up the colouring that it makes, and puts it into the trie at once.
     #[inline(never)]
     fn play_asked(
         &mut self,
@@ -286,54 +267,42 @@ impl PrintPast {
         requires stone { IsPrintedMove (newest_grid self.old) colour point taken.now print }
         ensures { IsPlayed colour point self.old self.new result }
     {
-        self.colourings.newest().has_all_cells();
-        if !has_point(taken, point) && self.last_stone_stays(taken) {
-            self.add_made(colour, point, taken, print)?;
-            return Ok(true);
+        let mut gap = None;
+        if !self.is_new(colour, point, taken, print) {
+            if self.has_near(colour, point, taken, print) {
+                return Ok(false);
+            }
+            self.table.link(&self.colourings);
+            gap = self.table.gap(&self.colourings, print);
+            if self.has_made(gap, colour, point, taken, print) {
+                return Ok(false);
+            }
         }
-        self.play_looked_up(colour, point, taken, print)
-    }
-
-    /// The same. Decides by positional superko whether the stone may be played: looks up the colouring that it makes, and puts it into the
-    /// trie at once.
-    fn play_looked_up(
-        &mut self,
-        colour: Colour,
-        point: Point,
-        taken: &[u64],
-        print: u64,
-    ) -> Result<bool, MemoryFault>
-        requires one_side { HaveSide (newest_grid self.old).side self.old }
-        requires stone { IsPrintedMove (newest_grid self.old) colour point taken.now print }
-        ensures { IsPlayed colour point self.old self.new result }
-    {
-        self.colourings.newest().has_all_cells();
-        if !self.table.may_have(print) {
-            self.add_made(colour, point, taken, print)?;
-            return Ok(true);
-        }
-        if self.has_near(colour, point, taken, print) {
-            return Ok(false);
-        }
-        self.table.link(&self.colourings);
-        let gap = self.table.gap(&self.colourings, print);
-        if self.has_made(gap, colour, point, taken, print) {
-            return Ok(false);
-        }
-        self.emptied.reserve(taken.len())?;
-        let number = self.table.next_number();
         add_stone(
             &mut self.colourings,
             &mut self.table,
+            &mut self.emptied,
             colour,
             point,
             taken,
             print,
+            gap,
         )?;
-        self.table.fill(gap);
-        self.emptied.add(taken, number);
         self.last_stone = None;
         Ok(true)
+    }
+
+    /// Whether it is known without the trie that a stone brings no colouring back. `print` is the print of what it makes.
+    fn is_new(&mut self, colour: Colour, point: Point, taken: &[u64], print: u64) -> bool
+        requires stone { IsPrintedMove (newest_grid self.old) colour point taken.now print }
+        ensures new { IsTrue result → ¬ Contains (present_stretch self.old) (play (newest_grid self.old) colour point) }
+        ensures unchanged { self.new ≡ self.old }
+    {
+        self.colourings.newest().has_all_cells();
+        if !has_point(taken, point) && self.last_stone_stays(taken) {
+            return true;
+        }
+        !self.table.may_have(print)
     }
 
     /// Whether the colouring that a stone makes is that before the newest, as in a simple ko, and in the present stretch; `print` is its
@@ -419,29 +388,38 @@ impl PrintPast {
     }
 }
 
-/// Adds the colouring that a stone makes to the colourings, and its print to their table; `taken` is what the stone takes off. After a
-/// refusal nothing is changed.
+/// Adds the colouring that a stone makes; `taken` is what the stone takes off, and `print` is the colouring's print. Puts it into the trie if
+/// its gap there is known. After a refusal nothing is changed.
 #[inline(always)]
 fn add_stone(
     colourings: &mut Colourings,
     table: &mut Table,
+    emptied: &mut Emptied,
     colour: Colour,
     point: Point,
     taken: &[u64],
     print: u64,
+    gap: Option<Gap>,
 ) -> Result<(), MemoryFault>
     requires table { IsTable (all_of colourings.old) table.old }
+    requires emptied { IsEmptied (all_of colourings.old) emptied.old }
     requires stone { IsPrintedMove (newest_grid colourings.old) colour point taken.now print }
+    requires gap { IfSome gap (IsGap (all_of colourings.old) table.old.nodes.items) }
     ensures ok { OnOk result (colourings.new ≡ with_next colourings.old (play (newest_grid colourings.old) colour point) false) }
-    ensures nodes { OnOk result (table.new.nodes.items ≡ table.old.nodes.items) }
     ensures err { OnErr result (colourings.new ≡ colourings.old) }
     ensures table { IsTable (all_of colourings.new) table.new }
+    ensures emptied { IsEmptied (all_of colourings.new) emptied.new }
 {
+    colourings.newest().has_all_cells();
+    emptied.reserve(taken.len())?;
+    let number = table.next_number();
     table.push(print)?;
     if colourings.add_stone(colour, point, taken).is_err() {
         table.pop();
         return Err(MemoryFault);
     }
+    table.fill(gap);
+    emptied.add(taken, number);
     Ok(())
 }
 

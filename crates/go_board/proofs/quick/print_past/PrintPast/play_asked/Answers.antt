@@ -1,27 +1,40 @@
-use Rattle.std.proofs.Common.{◌≡◌, ◌*◌, ◌∙◌, false, true, Contains, length, ap, sym, subst, rules}
+use Rattle.std.proofs.Common.{◌≡◌, ◌∙◌, Contains, false, ap, sym, subst}
 use Rattle.std.proofs.lemmas.Bool.{false≢true}
-use Rattle.go_board.specs.Grid.{Grid}
 use Rattle.go_board.specs.Clearing.{play}
-use Rattle.go_board.specs.Past.{PastColourings, newest_grid, present_stretch}
-use Rattle.go_board.proofs.RepeatLemmas.{never_back_with}
+use Rattle.go_board.specs.Past.{PastColourings, all_of, newest_grid, with_next, present_stretch}
+use Rattle.go_board.proofs.RepeatLemmas.{played_new, played_refused}
+use Rattle.go_board.proofs.TableLemmas.{gap_found}
 use Rattle.go_board.proofs.quick.print_past.PrintPast.play_asked.Goals as goal
-use Rattle.go_board.proofs.quick.print_past.PrintPast.play_asked.Goals.{After-last_stone_stays}
+use Rattle.go_board.proofs.quick.print_past.PrintPast.play_asked.Goals.{Joined-not-is_new, then-not-is_new+else-has_near+else-has_made, else-not-is_new}
 
-never : (c : After-last_stone_stays) → c.has_point.result ≡ false → c.last_stone_stays.result ≡ true
-    → Contains (present_stretch c.args.self.now) (play (newest_grid c.args.self.now) c.args.colour c.args.point) → ⊥
-never c not_there stays has =
-    let past = c.args.self.now in
-    let same : c.newest.result.now ≡ newest_grid past = c.newest.ensures ∙ ap (λ (held : PastColourings). newest_grid held) c.self.view_is in
-    let last = c.last_stone_stays.ensures stays in
-    never_back_with past c.args.colour c.args.point last.0 c.args.taken.now (subst (λ (g : Grid). length g.cells ≡ g.side * g.side) same c.has_all_cells.ensures.all)
-    c.requires.stone.move last.1 last.2 (sym c.has_point.ensures ∙ not_there) has
+pub has_made-requires-clause-lacks : goal.has_made-requires-clause-lacks
+has_made-requires-clause-lacks c = (gap_found (all_of c.self.inside.colourings) c.link.new.self.nodes.items c.args.print c.gap-gap.result c.gap-gap.ensures).1
 
-pub returns-in_err-add_made : goal.returns-in_err-add_made
-returns-in_err-add_made c =
-    let no = never (goal.at.returns-in_err-add_made c).After-last_stone_stays c.if-not-has_point.true c.if-last_stone_stays.true in
-    record { known = search rules; ok = search rules; refused = search (rules, no); err = search rules }
+-- the stone brings no colouring back
+never : (c : Joined-not-is_new) → Contains (present_stretch c.args.self.now) (play (newest_grid c.args.self.now) c.args.colour c.args.point) → ⊥
+never c has = elim c.if-not-is_new.branch [
+  | else-not-is_new w ↦ c.is_new.ensures.new w.if-not-is_new.false has
+  | then-not-is_new+else-has_near+else-has_made w ↦
+      false≢true (sym w.if-has_made.false ∙ w.has_made.ensures.1
+      (subst (λ (past : PastColourings). Contains (present_stretch past) (play (newest_grid past) c.args.colour c.args.point)) (sym (c.self.view_is ∙ c.is_new.ensures.unchanged)) has))
+]
 
-pub returns-then-last_stone_stays : goal.returns-then-last_stone_stays
-returns-then-last_stone_stays c =
-    let no = never (goal.at.returns-then-last_stone_stays c).After-last_stone_stays c.if-not-has_point.true c.if-last_stone_stays.true in
-    record { known = (λ t. absurd (false≢true (sym t)), λ has. absurd (no has)); ok = search rules; refused = search rules; err = search rules }
+kept : (c : Joined-not-is_new) → c.if-not-is_new.self-inside.colourings ≡ c.args.self.now
+kept c =
+    let same = c.self.view_is ∙ c.is_new.ensures.unchanged in
+    elim c.if-not-is_new.branch [
+      | else-not-is_new w ↦ rw w.self-inside-is same
+      | then-not-is_new+else-has_near+else-has_made w ↦ rw w.self-inside-is same
+    ]
+
+pub returns-in_err-add_stone : goal.returns-in_err-add_stone
+returns-in_err-add_stone c =
+    let w = (goal.at.returns-in_err-add_stone c).Joined-not-is_new in
+    played_refused c.args.colour c.args.point c.args.self.now c.add_stone.new.colourings c.from_residual.result c.from_residual.ensures.0 (never w) (c.in_err-add_stone.ensures.err ∙ kept w)
+
+pub returns : goal.returns
+returns c =
+    let w = (goal.at.returns c).Joined-not-is_new in
+    let k = c.args.colour in
+    let p = c.args.point in
+    played_new k p c.args.self.now c.add_stone.new.colourings (never w) (c.in_ok-add_stone.ensures.ok ∙ ap (λ (past : PastColourings). with_next past (play (newest_grid past) k p) false) (kept w))
