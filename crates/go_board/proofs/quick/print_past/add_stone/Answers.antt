@@ -1,4 +1,4 @@
-use Rattle.std.proofs.Common.{◌≡◌, ◌∷◌, IfSome, List, false, subst, sym, rules}
+use Rattle.std.proofs.Common.{◌≡◌, IfSome, List, false, subst, sym, rules}
 use Rattle.go_board.specs.declared.quick.print_past.trie.Node.{Node}
 use Rattle.go_board.specs.declared.stones.Colour.{Colour}
 use Rattle.go_board.specs.declared.points.Point.{Point}

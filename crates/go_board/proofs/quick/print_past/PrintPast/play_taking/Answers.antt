@@ -1,4 +1,4 @@
-use Rattle.std.proofs.Common.{◌≡◌, ◌∙◌, false, ap}
+use Rattle.std.proofs.Common.{◌∙◌, false, ap}
 use Rattle.go_board.specs.Clearing.{play}
 use Rattle.go_board.specs.Past.{PastColourings, newest_grid, with_next}
 use Rattle.go_board.proofs.RepeatLemmas.{played_new, played_refused}
