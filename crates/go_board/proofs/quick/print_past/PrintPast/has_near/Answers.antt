@@ -5,6 +5,9 @@ use Rattle.go_board.specs.Past.{PastColourings, all_of, newest_grid, present_str
 use Rattle.go_board.proofs.TableLemmas.{has_colouring, tabled}
 use Rattle.go_board.proofs.quick.print_past.PrintPast.has_near.Goals as goal
 
+pub is_at-requires : goal.is_at-requires
+is_at-requires c = omega (arith, c.in-Some.ensures.1, tabled (all_of c.self.inside.colourings) c.self.inside.table c.self.invariant.tabled)
+
 pub returns : goal.returns
 returns c = λ is.
     let inside = c.self.inside.colourings in

@@ -26,26 +26,12 @@ returns-then-left-eq0 c =
     let changes = c.args.changes.now in
     made-whole c.args.board.now c.each.board c.has_all_cells.ensures.all (take i changes) c.each.left c.each.invariant changes i refl c.if-left-eq0.true
 
-pub set_row-requires-clause-row : goal.set_row-requires-clause-row
+pub set_row-requires : goal.set_row-requires
 unfolding none
-set_row-requires-clause-row c =
+set_row-requires c =
     let side = ap (λ (g : Grid). g.side) c.each.invariant.board ∙ after-side c.args.board.now (take c.each.change-index c.args.changes.now) in
     let on = All-get_or (IsChangeOn c.args.board.now.side) c.args.changes.now c.each.change-index none c.each-test.true c.requires in
-    rw side on.row
-
-pub set_row-requires-clause-black : goal.set_row-requires-clause-black
-unfolding none
-set_row-requires-clause-black c =
-    let side = ap (λ (g : Grid). g.side) c.each.invariant.board ∙ after-side c.args.board.now (take c.each.change-index c.args.changes.now) in
-    let on = All-get_or (IsChangeOn c.args.board.now.side) c.args.changes.now c.each.change-index none c.each-test.true c.requires in
-    rw side on.black
-
-pub set_row-requires-clause-white : goal.set_row-requires-clause-white
-unfolding none
-set_row-requires-clause-white c =
-    let side = ap (λ (g : Grid). g.side) c.each.invariant.board ∙ after-side c.args.board.now (take c.each.change-index c.args.changes.now) in
-    let on = All-get_or (IsChangeOn c.args.board.now.side) c.args.changes.now c.each.change-index none c.each-test.true c.requires in
-    rw side on.white
+    record { row = rw side on.row; black = rw side on.black; white = rw side on.white }
 
 pub each-preserved : goal.each-preserved
 unfolding none
