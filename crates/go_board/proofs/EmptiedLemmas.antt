@@ -2,7 +2,7 @@
 use Rattle.std.proofs.Common.{◌≡◌, ℕ, ◌+◌, ◌-◌, ◌<◌, ◌≤◌, Bool, List, [], ◌∷◌, ◌++◌, length, length-append, reverse, get_or, slice_index, slice_set, bit_or, inl, inr, sym, ap, subst, ◌∙◌, arith}
 use Rattle.std.specs.Vec.{vec_capacity}
 use Rattle.std.proofs.lemmas.Bool.{cases_eq, or_left}
-use Rattle.std.proofs.lemmas.List.{get_or_append_left, get_or-set_same, get_or-set_other, length-set, set-get_or, reverse-append}
+use Rattle.std.proofs.lemmas.List.{get_or_append_left, get_or-set_same, get_or-set_other, length-set, set-get_or, reverse-append, set-set}
 use Rattle.std.proofs.lemmas.List.Elements.{All-push}
 use Rattle.go_board.specs.declared.quick.print_past.emptied.Emptied.{Emptied}
 use Rattle.go_board.specs.declared.quick.print_past.emptied.OldRow.{OldRow}
@@ -14,7 +14,6 @@ use Rattle.go_board.specs.inner.Rows.{has_bit, is_set, IsAmong}
 use Rattle.go_board.proofs.RepeatLemmas.{HasAllEmptied-more}
 use Rattle.go_board.proofs.TableLemmas.{oldest-same, oldest-all}
 use Rattle.go_board.proofs.TakenLemmas.{AddedBelow}
-use Rattle.go_board.proofs.TrieLemmas.{set-twice}
 use Rattle.go_board.proofs.WordLemmas.{has_bit-or}
 
 pub history_all : (rows : List ℕ) (log : List OldRow) (held : List Held) → HasHistory rows log held → HasAllEmptied (is_set rows) held
@@ -37,7 +36,7 @@ history_added : (rows : List ℕ) (log : List OldRow) (held : List Held) (last :
 history_added rows log held last more low word number has =
     let wider = slice_set rows last.row (bit_or (get_or rows last.row 0) more) in
     let back : slice_set wider last.row last.word ≡ rows =
-    set-twice rows last.row (bit_or (get_or rows last.row 0) more) last.word ∙ ap (λ w. slice_set rows last.row w) word ∙ set-get_or rows last.row 0 in (
+    set-set rows last.row (bit_or (get_or rows last.row 0) more) last.word ∙ ap (λ w. slice_set rows last.row w) word ∙ set-get_or rows last.row 0 in (
       HasAllEmptied-more (is_set rows) (is_set wider) held (among_set rows last.row more low) (history_all rows log held has),
       omega (arith, number),
       subst (λ (xs : List ℕ). HasHistory xs log (oldest last.number held)) (sym back) (subst (λ (hs : List Held). HasHistory rows log hs) (sym (oldest-all held last.number number)) has),

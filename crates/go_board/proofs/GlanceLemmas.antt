@@ -1,7 +1,7 @@
 -- What the words of bits around a point tell of a stone on it.
 use Rattle.std.proofs.Common.{◌≡◌, ◌≢◌, ◌⊎◌, inl, inr, ℕ, zero, suc, ◌+◌, ◌^◌, ◌<◌, ◌||◌, ◌&&◌, Bool, true, false, not, List, [], length, get_or, bit_and, bit_or, w64, refl, sym, ap, ◌∙◌, arith, subst}
 use Rattle.std.specs.Int.{bit_not}
-use Rattle.std.proofs.lemmas.Bool.{or_cases, or_parts, and_parts, and_from, not-true, false≢true, cases_eq}
+use Rattle.std.proofs.lemmas.Bool.{or_cases, or_parts, and_parts, and_from, or_right, not-true, false≢true, cases_eq}
 use Rattle.go_board.specs.declared.stones.Cell.TheVariants.{Empty}
 use Rattle.go_board.specs.declared.stones.Colour.{Colour}
 use Rattle.go_board.specs.declared.points.Point.{Point}
@@ -16,12 +16,13 @@ use Rattle.go_board.specs.inner.Regions.{AreRowsOf}
 use Rattle.go_board.specs.inner.Rows.{has_bit, is_set, row_above, IsInOrBeside}
 use Rattle.go_board.proofs.GridLemmas.{Decides-same_cell, cell_at-with_cell_elsewhere}
 use Rattle.go_board.proofs.GroupLemmas.{neither_stone}
+use Rattle.go_board.proofs.NeighbourLemmas.{DifferByOne-sym}
 use Rattle.go_board.proofs.ReachingLemmas.{path_by_step}
 use Rattle.go_board.proofs.SweepLemmas.{lowest_left}
 use Rattle.go_board.proofs.WordLemmas.{in_the_other, has_bit-or, has_bit-and, has_bit-without, has_bit-zero, column_below}
 
 -- between rows with no column
-pub only_beside : (here c : ℕ) → IsInOrBeside 0 here 0 c → (d : ℕ) × DifferByOne c d × (has_bit here d ≡ true)
+only_beside : (here c : ℕ) → IsInOrBeside 0 here 0 c → (d : ℕ) × DifferByOne c d × (has_bit here d ≡ true)
 only_beside here c (inl up) = absurd (false≢true (sym (has_bit-zero c) ∙ up))
 only_beside here c (inr (inl down)) = absurd (false≢true (sym (has_bit-zero c) ∙ down))
 only_beside here c (inr (inr near)) = near
@@ -153,10 +154,14 @@ row_free own others middle i r free at within p there on not_own not_other =
     (has_bit-or (get_or own r 0) (get_or others r 0) p.col
     ∙ or_from _ _ (ap (λ n. has_bit (get_or own n 0) p.col) (sym same) ∙ not_own) (ap (λ n. has_bit (get_or others n 0) p.col) (sym same) ∙ not_other))
 
-pub row_all_but : (own others : List ℕ) (middle i free : ℕ) (row : RowStones) → ((col : ℕ) → has_bit free col ≡ true → has_bit row.free col ≡ true)
+-- a row without one of its free columns
+pub row_but_one : (own others : List ℕ) (middle i free col : ℕ) (row : RowStones) → has_bit free col ≡ false → ((k : ℕ) → k ≢ col → has_bit free k ≡ has_bit row.free k)
     → IsRowAt own others middle i row → IsRowAt own others middle i (record { own = row.own; others = row.others; free = free })
-row_all_but own others middle i free row part is = record {
-  are_free = λ col there. is.are_free col (part col there);
+row_but_one own others middle i free col row gone elsewhere is = record {
+  are_free = λ n there. is.are_free n (elim (cases_eq n col) as (λ _. has_bit row.free n ≡ true) [
+    | inl same ↦ absurd (false≢true (sym gone ∙ ap (has_bit free) (sym same) ∙ there))
+    | inr other ↦ sym (elsewhere n other) ∙ there
+  ]);
   are_own = is.are_own;
   has_others = is.has_others;
 }
@@ -172,6 +177,28 @@ apart p q (inr (e, inr d)) same = (let col = ap (λ (x : Point). x.col) same in 
 abbrev pub AreBeside : Point → ℕ → ℕ → Type 0
 AreBeside p i columns = (q : Point) → q.row + 2 ≡ p.row + i → has_bit columns q.col ≡ true → AreAdjacent p q
 
+-- the column of a point alone, and the columns beside it
+module _ (p : Point) (col stone : ℕ) (same : col ≡ p.col) (put : has_bit stone col ≡ (has_bit 0 col || true)) (elsewhere : (k : ℕ) → k ≢ col → has_bit stone k ≡ has_bit 0 k) where
+  alone : (n : ℕ) → has_bit stone n ≡ true → n ≡ p.col
+  alone n is = elim (cases_eq n p.col) [
+    | inl at ↦ at
+    | inr other ↦ absurd (false≢true (sym (has_bit-zero n) ∙ sym (elsewhere n (λ e. other (e ∙ same))) ∙ is))
+  ]
+
+  pub column_there : has_bit stone p.col ≡ true
+  column_there = ap (has_bit stone) (sym same) ∙ put ∙ or_right (has_bit 0 col) true refl
+
+  pub beside_up : AreBeside p 1 stone
+  beside_up q row is = inl (sym (alone q.col is), inr (omega (arith, row)))
+
+  pub beside_down : AreBeside p 3 stone
+  beside_down q row is = inl (sym (alone q.col is), inl (omega (arith, row)))
+
+  pub beside_along : (wide : ℕ) → ((c : ℕ) → has_bit wide c ≡ true → IsInOrBeside 0 stone 0 c) → AreBeside p 2 wide
+  beside_along wide from q row is =
+      let w = only_beside stone q.col (from q.col is) in
+      inr (omega (arith, row), DifferByOne-sym q.col p.col (subst (DifferByOne q.col) (alone w.0 w.2) w.1))
+
 -- what a look at some columns of a row tells
 abbrev pub TellsAlive : ℕ → ℕ → RowStones → ℕ → ℕ → Type 0
 TellsAlive columns above row below alive =
@@ -182,20 +209,26 @@ abbrev pub TellsShut : ℕ → ℕ → RowStones → ℕ → ℕ → Type 0
 TellsShut columns above row below shut =
     (col : ℕ) → has_bit shut col ≡ false → has_bit columns col ≡ true → has_bit row.others col ≡ true → IsInOrBeside above row.free below col
 
-module _ (g : Grid) (k : Colour) (p : Point) (own others : List ℕ) (side : g.side ≡ length own) (on : IsOn g.side p)
+module _ (g : Grid) (k : Colour) (p : Point) (own others : List ℕ) (middle : ℕ) (at : middle ≡ p.row) (side : g.side ≡ length own) (on_own : IsOn (length own) p)
     (is_own : AreRowsOf g.side (λ q. same_cell (cell_at g q) (stone_of k)) own)
     (is_others : AreRowsOf g.side (λ q. same_cell (cell_at g q) (stone_of (opponent k))) others) where
   abbrev after : Grid
   after = with_cell g p (stone_of k)
 
+  on : IsOn g.side p
+  on = subst (λ n. IsOn n p) (sym side) on_own
+
+  around : (i : ℕ) (row : RowStones) → IsRowAt own others middle i row → IsRowAt own others p.row i row
+  around i row = subst (λ m. IsRowAt own others m i row) at
+
   -- the columns of a row around the stone's are those of free points
   abbrev pub AreFree : ℕ → ℕ → Type 0
   AreFree i word = (col : ℕ) → has_bit word col ≡ true → (z : Point) × IsInRowAround p.row i col z × IsOn g.side z × (cell_at (with_cell g p (stone_of k)) z ≡ Empty)
 
-  free_point : (i : ℕ) (row : RowStones) → IsRowAt own others p.row i row → ((z : Point) → IsInRowAround p.row i z.col z → has_bit row.free z.col ≡ true → z ≢ p) → AreFree i row.free
+  free_point : (i : ℕ) (row : RowStones) → IsRowAt own others middle i row → ((z : Point) → IsInRowAround p.row i z.col z → has_bit row.free z.col ≡ true → z ≢ p) → AreFree i row.free
   free_point i row is other =
       λ col set.
-      let found = is.are_free col set in
+      let found = (around i row is).are_free col set in
       let z = found.0 in
       let on_z : IsOn g.side z = (omega (arith, found.2.0, side), omega (arith, found.2.1, side)) in
       let another : z ≢ p = other z (refl, found.1.1) (ap (has_bit row.free) found.1.0 ∙ set) in (
@@ -209,20 +242,20 @@ module _ (g : Grid) (k : Colour) (p : Point) (own others : List ℕ) (side : g.s
   pub no_columns_free : (i : ℕ) → AreFree i 0
   no_columns_free i = λ col is. absurd (false≢true (sym (has_bit-zero col) ∙ is))
 
-  pub free_elsewhere : (i : ℕ) (row : RowStones) → IsRowAt own others p.row i row → i ≢ 2 → AreFree i row.free
+  pub free_elsewhere : (i : ℕ) (row : RowStones) → IsRowAt own others middle i row → i ≢ 2 → AreFree i row.free
   free_elsewhere i row is other = free_point i row is (λ z at _ same. other (let row = ap (λ (x : Point). x.row) same in omega (arith, row, at.1)))
 
-  pub free_besides : (row : RowStones) → IsRowAt own others p.row 2 row → has_bit row.free p.col ≡ false → AreFree 2 row.free
+  pub free_besides : (row : RowStones) → IsRowAt own others middle 2 row → has_bit row.free p.col ≡ false → AreFree 2 row.free
   free_besides row is none =
       free_point 2 row is (λ z at set same. false≢true (sym none ∙ ap (λ (x : Point). has_bit row.free x.col) (sym same) ∙ set))
 
-  pub free_adjacent : (i : ℕ) (row : RowStones) → IsRowAt own others p.row i row → AreBeside p i row.free → AreFree i row.free
+  pub free_adjacent : (i : ℕ) (row : RowStones) → IsRowAt own others middle i row → AreBeside p i row.free → AreFree i row.free
   free_adjacent i row is beside = free_point i row is (λ z at set. apart p z (beside z at.1 set))
 
   to_free : (q z : Point) → IsOn g.side q → AreAdjacent q z → IsOn g.side z → cell_at after z ≡ Empty → Reaches after Empty q
   to_free q z on_q next on_z empty = path_by_step after Empty q z on_q next on_z (inr empty) ([], (on_z, empty))
 
-  module _ (i columns above : ℕ) (row : RowStones) (below : ℕ) (is_row : IsRowAt own others p.row (i + 1) row)
+  module _ (i columns above : ℕ) (row : RowStones) (below : ℕ) (is_row : IsRowAt own others middle (i + 1) row)
       (free_above : AreFree i above) (free_here : AreFree (i + 1) row.free) (free_below : AreFree (i + 2) below) where
     open_reaches : (q : Point) → q.row + 2 ≡ p.row + (i + 1) → IsOn g.side q → IsInOrBeside above row.free below q.col → Reaches after Empty q
     open_reaches q at on_q is_open =
@@ -248,7 +281,7 @@ module _ (g : Grid) (k : Colour) (p : Point) (own others : List ℕ) (side : g.s
               let f = free_here some.0 free in
               to_free p f.0 on (beside f.0 f.1.1 (ap (has_bit columns) f.1.0 ∙ told.0)) f.2 f.3
           | inr both ↦
-              let found = is_row.are_own some.0 both.0 in
+              let found = (around (i + 1) row is_row).are_own some.0 both.0 in
               let q = found.0 in
               let on_q = is_own.off q found.2 in
               let next : AreAdjacent p q = beside q found.1.1 (ap (has_bit columns) found.1.0 ∙ told.0) in
@@ -262,8 +295,8 @@ module _ (g : Grid) (k : Colour) (p : Point) (own others : List ℕ) (side : g.s
     -- a stone of the opponent beside it has a liberty of its own
     pub left_reaches : (shut : ℕ) → TellsShut columns above row below shut → ((col : ℕ) → has_bit shut col ≡ false)
         → (q : Point) → q.row + 2 ≡ p.row + (i + 1) → IsOn g.side q → AreAdjacent p q → has_bit columns q.col ≡ true → ReachesIfStone after (opponent k) q
-    left_reaches shut tells none q at on_q next there =
+    left_reaches shut tells none q there_at on_q next there =
         λ stone.
         let before : cell_at g q ≡ stone_of (opponent k) = sym (cell_at-with_cell_elsewhere g p q (stone_of k) on on_q (apart p q next)) ∙ stone in
         let set : is_set others q ≡ true = is_others.on q on_q ∙ (Decides-same_cell _ _).1 before in
-        open_reaches q at on_q (tells q.col (none q.col) there (is_row.has_others q at set))
+        open_reaches q there_at on_q (tells q.col (none q.col) there ((around (i + 1) row is_row).has_others q there_at set))

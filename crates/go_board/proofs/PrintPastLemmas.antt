@@ -1,6 +1,7 @@
 -- The prints of past colourings.
 use Rattle.std.proofs.Common.{◌≡◌, ℕ, zero, suc, ◌-◌, ◌<◌, List, [], ◌∷◌, Some, length, get_or, map, take, drop, reverse, Contains, sym, ap, ◌∙◌, arith}
 use Rattle.std.proofs.lemmas.List.{get_or-reverse, length-reverse, length-map}
+use Rattle.std.proofs.lemmas.Option.{same_Some}
 use Rattle.go_board.specs.Grid.{Grid}
 use Rattle.go_board.specs.Past.{Held}
 use Rattle.go_board.specs.inner.Changes.{first_grid, IsNumber}
@@ -10,14 +11,10 @@ use Rattle.go_board.specs.inner.Print.{print_of, prints_of}
 abbrev pub IsAt : List Held → ℕ → Grid → Type 0
 IsAt held j g = first_grid (drop j held) ≡ Some g
 
--- a colouring that is there
-pub some_same : (a b : Grid) → Some a ≡ Some b → a ≡ b
-some_same a b e = cc
-
 -- its print is at that index of the prints
 print-at : (held : List Held) (j : ℕ) (g : Grid) → j < length held → IsAt held j g → get_or (prints_of held) j 0 ≡ print_of g
 print-at [] j g h at = absurd (omega (arith, h))
-print-at (x ∷ xs) zero g h at = ap print_of (some_same x.colouring g at)
+print-at (x ∷ xs) zero g h at = ap print_of (same_Some x.colouring g at)
 print-at (x ∷ xs) (suc j) g h at = print-at xs j g (omega (arith, h)) at
 
 -- a colouring among the newest n is at one of these indices, and the other way round
@@ -32,7 +29,7 @@ index-of (suc n) (x ∷ xs) g (suc k, h, e) =
 pub of-index : (n j : ℕ) (held : List Held) (g : Grid) → j < n → j < length held → IsAt held j g → Contains (map (λ (h : Held). h.colouring) (take n held)) g
 of-index zero j held g h l at = absurd (omega (arith, h))
 of-index (suc n) j [] g h l at = absurd (omega (arith, l))
-of-index (suc n) zero (x ∷ xs) g h l at = (zero, omega arith, some_same x.colouring g at)
+of-index (suc n) zero (x ∷ xs) g h l at = (zero, omega arith, same_Some x.colouring g at)
 of-index (suc n) (suc j) (x ∷ xs) g h l at =
     let rest = of-index n j xs g (omega (arith, h)) (omega (arith, l)) at in
     (suc rest.0, omega (arith, rest.1), rest.2)

@@ -3,7 +3,8 @@ use Rattle.std.proofs.Common.{◌≡◌, ◌≢◌, ℕ, zero, suc, ◌+◌, ◌
 use Rattle.std.specs.Int.{bit_at}
 use Rattle.std.specs.Vec.{vec_capacity}
 use Rattle.std.proofs.lemmas.Bool.{cases_lt, cases_Bool, false≢true}
-use Rattle.std.proofs.lemmas.List.{drop-drop, length-drop, reverse-append, length-map}
+use Rattle.std.proofs.lemmas.List.{drop-drop, length-drop, reverse-append, length-map, nil_from_length}
+use Rattle.std.proofs.lemmas.Option.{same_Some}
 use Rattle.go_board.specs.declared.quick.print_past.key.TheConstants.{WIDTH}
 use Rattle.go_board.specs.declared.quick.print_past.table.Gap.{Gap}
 use Rattle.go_board.specs.declared.quick.print_past.table.Table.{Table}
@@ -18,7 +19,7 @@ use Rattle.go_board.specs.inner.Table.{IsGap, IsTable}
 use Rattle.go_board.specs.inner.Trie.{Agree, IsTrie, IsTree, IsNearest, IsParting, bits_at, depth_of, kid_of, without_newest}
 use Rattle.go_board.proofs.KeyLemmas.{same_bit, other_bits, print_bit, front_same, front_agrees, whole_same}
 use Rattle.go_board.proofs.PrintLemmas.{print_small}
-use Rattle.go_board.proofs.PrintPastLemmas.{some_same, index-of, of-index, same_length, print-number}
+use Rattle.go_board.proofs.PrintPastLemmas.{index-of, of-index, same_length, print-number}
 use Rattle.go_board.proofs.TrieLemmas.{agree_self, agree_on, agree_back, agree_less, trie_tree, trie_length, bits_first, bits_before, way_equal, way_parts}
 
 -- Starts of stretches.
@@ -89,7 +90,7 @@ key_of [] number g low is = absurd (omega (arith, low))
 key_of (x ∷ xs) number g low is = elim (cases_lt number (length xs)) [
   | inr newest ↦
       let at : number ≡ length xs = omega (arith, low, newest) in
-      let one : x.colouring ≡ g = some_same x.colouring g (sym (ap (λ n. first_grid (since n (x ∷ xs))) at ∙ ap first_grid (since-newest x xs)) ∙ is) in
+      let one : x.colouring ≡ g = same_Some x.colouring g (sym (ap (λ n. first_grid (since n (x ∷ xs))) at ∙ ap first_grid (since-newest x xs)) ∙ is) in
       bits_first (key_bits (start_of (x ∷ xs)) (print_of x.colouring) x.colouring) (keys_of xs) number (omega (arith, at, length-keys xs))
       ∙ ap (λ (y : Grid). key_bits (start_of (x ∷ xs)) (print_of y) y) one
       ∙ ap (λ n. key_bits n (print_of g) g) (sym (ap (λ n. start_of (since n (x ∷ xs))) at ∙ ap start_of (since-newest x xs)))
@@ -136,7 +137,7 @@ oldest-next count held g low is =
     parts : (hs : List Held) → drop (length held - 1 - count) held ≡ hs → first_grid hs ≡ Some g → keys_of hs ≡ key_bits (start_of hs) (print_of g) g ∷ keys_of (drop (suc (length held - 1 - count)) held)
     parts [] at one = cc
     parts (x ∷ xs) at one =
-        let same : x.colouring ≡ g = some_same x.colouring g one in
+        let same : x.colouring ≡ g = same_Some x.colouring g one in
         ap (λ (y : Grid). key_bits (start_of (x ∷ xs)) (print_of y) y ∷ keys_of xs) same
         ∙ ap (λ (hs : List Held). key_bits (start_of (x ∷ xs)) (print_of g) g ∷ keys_of hs) (sym (drop-one (length held - 1 - count) held x xs at))
 
@@ -313,15 +314,11 @@ tabled_next held table next g is more prints filter room at trie =
     )
 
 -- the first one
-no_items : (held : List Held) → length held ≡ 0 → held ≡ []
-no_items [] none = refl
-no_items (x ∷ xs) none = absurd (omega (arith, none))
-
 -- an empty trie
 pub linked_none : (held : List Held) (nodes : List Node) → nodes ≡ [] → IsTrie WIDTH (keys_of (oldest (length nodes) held)) nodes
 linked_none held nodes none =
     let few : length nodes ≡ 0 = ap (λ (xs : List Node). length xs) none in
-    let first : oldest (length nodes) held ≡ [] = no_items (oldest (length nodes) held) (length-oldest (length nodes) held (omega (arith, few)) ∙ few) in
+    let first : oldest (length nodes) held ≡ [] = nil_from_length (oldest (length nodes) held) (length-oldest (length nodes) held (omega (arith, few)) ∙ few) in
     subst (λ (hs : List Held). IsTrie WIDTH (keys_of hs) nodes) (sym first) none
 
 pub tabled_first : (held : List Held) (table next : Table) (g : Grid) → IsTable held table → length table.nodes.items < length table.prints.items
@@ -330,7 +327,7 @@ pub tabled_first : (held : List Held) (table next : Table) (g : Grid) → IsTabl
     → IsTable held next × (length next.nodes.items ≡ length table.nodes.items + 1)
 tabled_first held table next g is more prints filter room at none trie =
     let count = length table.nodes.items in
-    let first : oldest count held ≡ [] = no_items (oldest count held) (length-oldest count held (omega (arith, none)) ∙ none) in
+    let first : oldest count held ≡ [] = nil_from_length (oldest count held) (length-oldest count held (omega (arith, none)) ∙ none) in
     tabled_next held table next g is more prints filter room at
     (subst (λ (hs : List Held). IsTrie WIDTH (key_bits (start_of (since count held)) (print_of g) g ∷ keys_of hs) next.nodes.items) (sym first) trie)
 
@@ -356,7 +353,7 @@ side-number side [] all number g low at = absurd (omega (arith, low))
 side-number side (x ∷ xs) all number g low at = elim (cases_lt number (length xs)) [
   | inr newest ↦
       let e : number ≡ length xs = omega (arith, low, newest) in
-      let one : x.colouring ≡ g = some_same x.colouring g (sym (ap (λ n. first_grid (since n (x ∷ xs))) e ∙ ap first_grid (since-newest x xs)) ∙ at) in
+      let one : x.colouring ≡ g = same_Some x.colouring g (sym (ap (λ n. first_grid (since n (x ∷ xs))) e ∙ ap first_grid (since-newest x xs)) ∙ at) in
       ap (λ (y : Grid). y.side) (sym one) ∙ all.0
   | inl older ↦ side-number side xs all.1 number g older (sym (ap first_grid (since-older number x xs older)) ∙ at)
 ]

@@ -1,7 +1,7 @@
 -- The trie: walks, and one item more.
 use Rattle.std.proofs.Common.{◌≡◌, ◌≢◌, ◌⊎◌, ℕ, ◌+◌, ◌-◌, ◌<◌, ◌≤◌, ◌==◌, zero, suc, Bool, true, false, not, if◌then◌else◌, List, [], ◌∷◌, ◌++◌, length, take, slice_set, length-append, inl, inr, refl, sym, ap, subst, ◌∙◌, arith}
 use Rattle.std.proofs.lemmas.Bool.{cases_lt, cases_eq, cases_order, false≢true, true≢false, eq-eqb, ne_eqb}
-use Rattle.std.proofs.lemmas.List.{get_or-set_same, get_or-set_other, get_or_append_left, set-get_or, length-set}
+use Rattle.std.proofs.lemmas.List.{get_or-set_same, get_or-set_other, get_or_append_left, set-get_or, set-set, length-set}
 use Rattle.std.proofs.Math.Seq.{get_or-append_seam, take-append_seam}
 use Rattle.go_board.specs.declared.quick.print_past.trie.Node.{Node}
 use Rattle.go_board.specs.declared.quick.print_past.trie.Slot.{Slot}
@@ -481,11 +481,6 @@ with_kid-back : (node : Node) (s : Bool) (x : ℕ) → with_kid (with_kid node s
 with_kid-back node true x = refl
 with_kid-back node false x = refl
 
-pub set-twice : {X : Type 0} (xs : List X) (i : ℕ) (x y : X) → slice_set (slice_set xs i x) i y ≡ slice_set xs i y
-set-twice [] i x y = refl
-set-twice (z ∷ zs) zero x y = refl
-set-twice (z ∷ zs) (suc i) x y = ap (λ (rest : List _). z ∷ rest) (set-twice zs i x y)
-
 -- what a slot named, named again
 named-back : (nodes : List Node) (i : ℕ) (s : Bool) (x : ℕ) → i < length nodes → with_named (with_named nodes i s x) i s (kid_of nodes i s) ≡ nodes
 named-back nodes i s x h =
@@ -493,7 +488,7 @@ named-back nodes i s x h =
     let changed : node_at (with_named nodes i s x) i ≡ with_kid node s x = get_or-set_same nodes i (with_kid node s x) no_node h in
     ap (λ (one : Node). slice_set (with_named nodes i s x) i (with_kid one s (kid_of nodes i s))) changed
     ∙ ap (λ (one : Node). slice_set (with_named nodes i s x) i one) (with_kid-back node s x)
-    ∙ set-twice nodes i (with_kid node s x) node
+    ∙ set-set nodes i (with_kid node s x) node
     ∙ set-get_or nodes i no_node
 
 abbrev undone : ℕ → Node → List Node → List Node

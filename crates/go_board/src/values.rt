@@ -3,7 +3,7 @@
 
 ghost use Rattle.std.specs.Prelude.{◌≡◌, IfSome};
 ghost use Rattle.go_board.specs.Point.{IsOn, IsRectOn};
-ghost use Rattle.go_board.specs.Values.{coordinate, rect_of, point_value, rect_value};
+ghost use Rattle.go_board.specs.Values.{coordinate, point_of, rect_of, point_value, rect_value};
 
 use crate::points::{Point, Rect};
 use crate::size::Size;
@@ -20,9 +20,19 @@ pub fn point(raw: &[u8], size: Size) -> Option<Point>
     let [col, row] = raw else {
         return None;
     };
+    point_of(*col, *row, size)
+}
+
+/// The point of the board that two letters name.
+// Inlined, as `point`.
+#[inline(always)]
+fn point_of(col: u8, row: u8, size: Size) -> Option<Point>
+    ensures value { result ≡ point_of size col row }
+    ensures on_board { IfSome result (λ p. IsOn size p) }
+{
     Some(Point {
-        col: coordinate_of(*col, size)?,
-        row: coordinate_of(*row, size)?,
+        col: coordinate_of(col, size)?,
+        row: coordinate_of(row, size)?,
     })
 }
 
@@ -49,17 +59,20 @@ fn coordinate_of(letter: u8, size: Size) -> Option<u8>
 /// upper left corner, a `:` and the lower right corner. None for any other value.
 ///
 /// The corners may be equal, and the upper left one must come first. Both are this project's choice.
-#[tactic(auto, unfolding(crate::specs::Values::point_value, crate::specs::Values::rect_value))]
+#[tactic(auto, unfolding(crate::specs::Values::rect_value))]
 pub fn rect(raw: &[u8], size: Size) -> Option<Rect>
     ensures value { result ≡ rect_value raw.now size }
     ensures on_board { IfSome result (λ r. IsRectOn size r) }
 {
     match raw {
-        [_, _] => {
-            let only = point(raw, size)?;
+        [col, row] => {
+            let only = point_of(*col, *row, size)?;
             ordered(only, only)
         }
-        [_, _, b':', _, _] => ordered(point(&raw[..2], size)?, point(&raw[3..], size)?),
+        [col, row, b':', last_col, last_row] => {
+            let first = point_of(*col, *row, size)?;
+            ordered(first, point_of(*last_col, *last_row, size)?)
+        }
         _ => None,
     }
 }

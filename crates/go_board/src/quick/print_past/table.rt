@@ -192,17 +192,9 @@ impl Table {
         ensures { (newest : Held) (older : List Held) → IsTable (newest ∷ older) self.old
             → IfSome gap (IsGap older self.old.nodes.items) → IsTable (newest ∷ older) self.new }
     {
-        if let Some(gap) = gap {
-            self.fill_gap(gap);
-        }
-    }
-
-    /// The same, if there is a gap.
-    fn fill_gap(&mut self, gap: Gap)
-        requires { (newest : Held) × (older : List Held) × IsTable (newest ∷ older) self.old × IsGap older self.old.nodes.items gap }
-        ensures { (newest : Held) (older : List Held) → IsTable (newest ∷ older) self.old
-            → IsGap older self.old.nodes.items gap → IsTable (newest ∷ older) self.new }
-    {
+        let Some(gap) = gap else {
+            return;
+        };
         if self.newest() == gap.print {
             let bit = has_column(gap.print, gap.place as usize);
             insert(&mut self.nodes, gap.slot, gap.place, bit);
