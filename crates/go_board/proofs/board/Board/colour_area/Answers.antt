@@ -1,6 +1,4 @@
-use Rattle.std.proofs.Common.{◌∙◌, nat_le, sym, ap, arith}
-use Rattle.std.proofs.lemmas.Bool.{and_parts, leb-true}
-use Rattle.go_board.specs.Grid.{Grid}
+use Rattle.std.proofs.Common.{◌∙◌, sym, ap, arith}
 use Rattle.go_board.specs.State.{is_in, with_area}
 use Rattle.go_board.specs.inner.Regions.{with_columns}
 use Rattle.go_board.proofs.AreaLemmas.{area_columns, area_rows}
@@ -10,12 +8,6 @@ use Rattle.go_board.proofs.board.Board.colour_area.Goals as goal
 pub rows-init : goal.rows-init
 rows-init c =
     sym (painted_none c.args.self.now (is_in c.args.op.area) c.args.op.cell _ c.has_all_cells.ensures.all (λ p is. (area_rows c.args.op.area p is).0))
-
-pub colour_columns-requires-clause-columns : goal.colour_columns-requires-clause-columns
-colour_columns-requires-clause-columns c = λ k is.
-    let area = c.args.op.area in
-    let both = and_parts (nat_le area.first.col k) (nat_le k area.last.col) (sym (c.columns_between-columns.ensures k) ∙ is) in
-    omega (arith, leb-true k area.last.col both.1, c.requires.1, ap (λ (g : Grid). g.side) c.rows.invariant)
 
 pub rows-preserved : goal.rows-preserved
 rows-preserved c =

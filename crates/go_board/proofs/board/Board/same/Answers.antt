@@ -1,18 +1,9 @@
-use Rattle.std.proofs.Common.{not, sym, ap, ◌∙◌}
+use Rattle.std.proofs.Common.{sym, ◌∙◌}
 use Rattle.std.proofs.lemmas.Bool.{false≢true, not-false}
 use Rattle.std.proofs.lemmas.Bool.Decides.{Decides-eqb}
 use Rattle.std.proofs.lemmas.Slice.Eq.{slice_eq-Decides}
-use Rattle.go_board.specs.Grid.{Grid}
 use Rattle.go_board.proofs.StoneRowsLemmas.{same_rows}
 use Rattle.go_board.proofs.board.Board.same.Goals as goal
-
-pub returns-then-ne : goal.returns-then-ne
-returns-then-ne c = (
-  λ is. absurd (false≢true is),
-  λ e.
-      let sizes = ap (λ (g : Grid). g.side) (c.self.view_is ∙ e ∙ sym c.other.view_is) in
-      sym (c.ne.ensures ∙ ap not ((Decides-eqb c.self.inside.size c.other.inside.size).1 sizes)) ∙ c.if-ne.true,
-)
 
 pub returns-then-eq : goal.returns-then-eq
 returns-then-eq c =

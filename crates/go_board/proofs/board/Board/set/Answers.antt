@@ -1,18 +1,9 @@
-use Rattle.std.proofs.Common.{◌≡◌, inl, inr, true, ◌∙◌, refl, subst, arith, sym}
+use Rattle.std.proofs.Common.{◌≡◌, true, ◌∙◌, refl, subst}
 use Rattle.std.proofs.Math.Bool.{or-true}
-use Rattle.std.proofs.lemmas.Bool.{false≢true}
 use Rattle.go_board.specs.inner.Rows.{has_bit}
-use Rattle.go_board.proofs.WordLemmas.{from_more, has_bit-zero}
+use Rattle.go_board.proofs.WordLemmas.{has_bit-zero}
 use Rattle.go_board.proofs.StoneRowsLemmas.{one_coloured}
 use Rattle.go_board.proofs.board.Board.set.Goals as goal
-
-pub colour_columns-requires-clause-columns : goal.colour_columns-requires-clause-columns
-colour_columns-requires-clause-columns c = λ k is.
-    let e = c.with_column-column.ensures in
-    elim (from_more _ _ _ e.there e.elsewhere k is) [
-      | inl none ↦ absurd (false≢true (sym (has_bit-zero k) ∙ none))
-      | inr at ↦ omega (arith, at, c.from.ensures, c.requires.0)
-    ]
 
 pub returns : goal.returns
 returns c =

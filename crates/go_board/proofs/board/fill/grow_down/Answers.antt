@@ -1,23 +1,9 @@
-use Rattle.std.proofs.Common.{◌≡◌, ◌≢◌, ◌<◌, ◌+◌, ◌/◌, ◌^◌, ℕ, suc, bit_and, w64, inl, inr, length, refl, sym, ap, ◌∙◌, arith, rules, slice_index}
+use Rattle.std.proofs.Common.{◌≡◌, ◌≢◌, ◌<◌, ◌+◌, ◌/◌, ◌^◌, ℕ, suc, bit_and, w64, inl, inr, length, sym, ap, ◌∙◌, arith, rules, slice_index}
 use Rattle.std.specs.Int.{bit_not}
-use Rattle.std.proofs.lemmas.Bool.{false≢true}
 use Rattle.go_board.specs.inner.Rows.{has_bit, row_above}
-use Rattle.go_board.proofs.WordLemmas.{has_bit-zero, has_bit-right}
-use Rattle.go_board.proofs.GrowLemmas.{Grows-none}
+use Rattle.go_board.proofs.WordLemmas.{has_bit-right}
 use Rattle.go_board.proofs.FillLemmas.{filled_to_more, part_with, from_with, taken_with, none_left}
 use Rattle.go_board.proofs.board.fill.grow_down.Goals as goal
-
-pub rows-init : goal.rows-init
-rows-init c = record {
-  filled = record {
-    all = c.requires.same;
-    grows = Grows-none c.args.region.now c.args.rows.now c.requires.within;
-    rows_in = λ r is. absurd (false≢true (sym (has_bit-zero r) ∙ is));
-    closed = λ r below. absurd (omega (arith, below));
-  };
-  above = refl;
-  lacking = λ r before. absurd (omega (arith, before));
-}
 
 pub rows-preserved : goal.rows-preserved
 rows-preserved c =
@@ -55,15 +41,4 @@ rows-preserved c =
       lacking = λ r before.
           let same : row ≡ r = omega (arith, before) in
           ap (λ k. bit_and (slice_index region k) (bit_not w64 (slice_index next k))) same;
-    }
-
-pub returns : goal.returns
-returns c =
-    let l = c.rows in
-    let was = l.invariant.filled in
-    record {
-      all = was.all;
-      grows = was.grows;
-      rows_in = was.rows_in;
-      closed = λ r below none. was.closed r (omega (arith, below, was.all, c.rows-test.false)) none;
     }

@@ -1,8 +1,8 @@
-use Rattle.std.proofs.Common.{◌≡◌, ◌≢◌, ◌^◌, ◌<◌, ℕ, true, w64, length, sym, ap, ◌∙◌, arith, rules}
+use Rattle.std.proofs.Common.{◌≡◌, ◌≢◌, ◌^◌, ◌<◌, ℕ, true, w64, length, ap, arith, rules}
 use Rattle.std.specs.Int.{trailing_zeros}
 use Rattle.go_board.specs.inner.Rows.{has_bit, lacking}
 use Rattle.go_board.proofs.SweepLemmas.{lowest_left, next_smaller}
-use Rattle.go_board.proofs.FillLemmas.{filled_same, filled_more}
+use Rattle.go_board.proofs.FillLemmas.{filled_more}
 use Rattle.go_board.proofs.board.fill.grow_lowest.Goals as goal
 
 lowest_in : (waiting count : ℕ) → waiting ≢ 0 → waiting < 2 ^ 64 → ((row : ℕ) → has_bit waiting row ≡ true → row < count) → trailing_zeros w64 waiting < count
@@ -19,25 +19,10 @@ bounds-rows-row-2 c =
     let long : length c.grow_row.new.rows ≡ length c.args.rows.now = search rules in
     omega (arith, lowest_in c.args.waiting _ c.requires.wait.some (omega (arith, c.ranges.waiting.fits)) c.requires.wait.rows_in, c.requires.within.same, long)
 
-pub with_rows_lacking-requires : goal.with_rows_lacking-requires
-with_rows_lacking-requires c =
-    let long : length c.grow_row.new.rows ≡ length c.args.rows.now = search rules in
-    record {
-      same = sym (long ∙ c.requires.within.same);
-      few = omega (arith, long, c.requires.within.few);
-      row = omega (arith, lowest_in c.args.waiting _ c.requires.wait.some (omega (arith, c.ranges.waiting.fits)) c.requires.wait.rows_in, c.requires.within.same, long);
-    }
-
 pub returns-then-rows-row-clause-row : goal.returns-then-rows-row-clause-row
 returns-then-rows-row-clause-row c =
     let long : length c.grow_row.new.rows ≡ length c.args.rows.now = search rules in
     omega (arith, lowest_in c.args.waiting _ c.requires.wait.some (omega (arith, c.ranges.waiting.fits)) c.requires.wait.rows_in, c.requires.within.same, long)
-
-pub returns-then-rows-row-clause-filled : goal.returns-then-rows-row-clause-filled
-returns-then-rows-row-clause-filled c = λ first was.
-    let long : length c.grow_row.new.rows ≡ length c.args.rows.now = search rules in
-    filled_same c.args.region.now first c.args.rows.now c.grow_row.new.rows c.args.waiting c.without_column-left.result (trailing_zeros w64 c.args.waiting) was c.without_column-left.ensures.there c.without_column-left.ensures.elsewhere long c.grow_row.ensures.grows c.grow_row.ensures.closed
-    (c.grow_row.ensures.unchanged c.if-rows-row.true)
 
 pub returns-then-rows-row-clause-less : goal.returns-then-rows-row-clause-less
 returns-then-rows-row-clause-less c =

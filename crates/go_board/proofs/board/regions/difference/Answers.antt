@@ -1,13 +1,6 @@
-use Rattle.std.proofs.Common.{◌≡◌, ◌∙◌, slice_index, bit_and, w64, refl, arith, rules}
-use Rattle.std.specs.Int.{bit_not}
-use Rattle.go_board.proofs.RegionLemmas.{written_more, IsDifference-all}
+use Rattle.std.proofs.Common.{◌∙◌, arith, rules}
+use Rattle.go_board.proofs.RegionLemmas.{IsDifference-all}
 use Rattle.go_board.proofs.board.regions.difference.Goals as goal
-
-pub loop-row-preserved : goal.loop-row-preserved
-loop-row-preserved c =
-    let l = c.loop-row in
-    written_more (λ r w. w ≡ bit_and (slice_index c.args.rows.now r) (bit_not w64 (slice_index c.args.others.now r))) l.left l.row _
-    (omega (arith, c.loop-row-test.true, l.auto.left, c.requires.left)) l.invariant refl
 
 pub returns : goal.returns
 returns c =

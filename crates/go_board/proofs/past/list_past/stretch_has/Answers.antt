@@ -1,12 +1,8 @@
 use Rattle.std.proofs.Common.{◌≡◌, ◌+◌, ◌-◌, ◌<◌, length, arith, refl, ap, sym, ◌∙◌}
 use Rattle.std.proofs.lemmas.Bool.{false≢true}
-use Rattle.std.proofs.lemmas.List.{take_all}
 use Rattle.go_board.specs.Past.{Held}
-use Rattle.go_board.proofs.ListPastLemmas.{Has-none, Has-found, Has-more, Has-cases}
+use Rattle.go_board.proofs.ListPastLemmas.{Has-found, Has-more, Has-cases}
 use Rattle.go_board.proofs.past.list_past.stretch_has.Goals as goal
-
-pub loop-i-init : goal.loop-i-init
-loop-i-init c = rw (take_all (length c.args.older.now) c.args.older.now (omega arith)) (λ h. h, λ h. h)
 
 pub returns-then-same : goal.returns-then-same
 returns-then-same c =
@@ -14,17 +10,6 @@ returns-then-same c =
     let low : c.loop-i.i - 1 < length c.args.older.now = omega arith in
     let is = ap (λ (h : Held). h.colouring) (sym c.index-older-i.is ∙ sym c.kept.view_is) ∙ c.same.ensures.0 c.if-same.true in
     (λ _. c.loop-i.invariant.1 (Has-found _ _ _ _ c.index-older-i.result next low is), λ _. refl)
-
-pub returns-then-kept : goal.returns-then-kept
-returns-then-kept c =
-    let next : c.loop-i.i ≡ (c.loop-i.i - 1) + 1 = omega arith in
-    let low : c.loop-i.i - 1 < length c.args.older.now = omega arith in
-    let one = sym c.index-older-i.is ∙ sym c.kept.view_is in (
-      λ t. absurd (false≢true t),
-      λ h.
-          let later = Has-cases _ _ _ _ c.index-older-i.result next low (λ same. false≢true (sym c.if-same.false ∙ c.same.ensures.1 (sym (ap (λ (k : Held). k.colouring) one) ∙ same))) (c.loop-i.invariant.0 h) in
-          sym later.0 ∙ ap (λ (k : Held). k.begins) one ∙ c.if-kept.true,
-    )
 
 pub loop-i-preserved : goal.loop-i-preserved
 loop-i-preserved c =
@@ -35,8 +20,3 @@ loop-i-preserved c =
           (Has-cases _ _ _ _ c.index-older-i.result next low (λ same. false≢true (sym c.if-same.false ∙ c.same.ensures.1 (sym (ap (λ (k : Held). k.colouring) one) ∙ same))) (c.loop-i.invariant.0 h)).1,
       λ h. c.loop-i.invariant.1 (Has-more _ _ _ _ c.index-older-i.result next low (ap (λ (k : Held). k.begins) one ∙ c.if-kept.false) h),
     )
-
-pub returns : goal.returns
-returns c =
-    let none : c.loop-i.i ≡ 0 = omega arith in
-    (λ t. absurd (false≢true t), λ h. absurd (Has-none _ _ _ none (c.loop-i.invariant.0 h)))

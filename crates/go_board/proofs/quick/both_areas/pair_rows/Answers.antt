@@ -1,6 +1,6 @@
 use Rattle.std.proofs.Common.{◌∙◌, sym, subst, length, slice_index, arith}
 use Rattle.go_board.proofs.RegionLemmas.{AreOthers, written_more}
-use Rattle.go_board.proofs.AreaHalvesLemmas.{fits_half, IsPair, IsPairOfOthers, paired_all, others_paired_all}
+use Rattle.go_board.proofs.AreaHalvesLemmas.{fits_half, IsPair, IsPairOfOthers, others_paired_all}
 use Rattle.go_board.proofs.quick.both_areas.pair_rows.Goals as goal
 
 pub paired-requires-clause-low : goal.paired-requires-clause-low
@@ -30,13 +30,6 @@ rows-preserved c =
       region = written_more (IsPairOfOthers (length black) black white) l.region l.row _
           (omega (arith, c.rows-test.true, l.auto.region, c.requires.region)) l.invariant.region (low, high);
     }
-
-pub returns-clause-areas : goal.returns-clause-areas
-returns-clause-areas c =
-    let l = c.rows in
-    let long = l.auto.areas ∙ c.requires.areas in
-    paired_all c.args.black.now c.args.white.now l.areas long (long ∙ sym c.requires.stones.same)
-    (λ r below. l.invariant.areas r (omega (arith, below, long, c.rows-test.false)))
 
 pub returns-clause-region : goal.returns-clause-region
 returns-clause-region c =

@@ -13,12 +13,6 @@ one_column from col word at elsewhere k is =
       | inr other ↦ absurd (false≢true (sym (has_bit-zero k) ∙ sym (elsewhere k other) ∙ is))
     ]
 
-pub widened-requires : goal.widened-requires
-widened-requires c = λ col is.
-    ap (λ r. has_bit (slice_index c.args.own.now r) col) c.from-2.ensures
-    ∙ ap (has_bit (slice_index c.args.own.now c.args.from.row)) (one_column c.args.from.col c.from.result c.with_column-stone.result c.from.ensures c.with_column-stone.ensures.elsewhere col is)
-    ∙ c.requires.stone
-
 pub returns : goal.returns
 returns c = record {
   start = c.widened.ensures.kept c.args.from.col

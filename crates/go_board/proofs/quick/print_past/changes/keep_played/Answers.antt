@@ -1,6 +1,5 @@
 use Rattle.std.proofs.Common.{◌≡◌, ◌==◌, length, refl, sym, ◌∙◌, arith}
 use Rattle.std.proofs.lemmas.Bool.{eq-eqb, eqb-true, false≢true}
-use Rattle.go_board.specs.inner.Rows.{has_bit}
 use Rattle.go_board.proofs.ChangesLemmas.{stone_covered}
 use Rattle.go_board.proofs.quick.print_past.changes.keep_played.Goals as goal
 
@@ -17,10 +16,3 @@ returns-then-not-all-clause-ok c =
         whole = λ is r low. absurd (false≢true (sym c.if-not-all.true ∙ is));
       };
     }
-
-pub returns-clause-ok : goal.returns-clause-ok
-returns-clause-ok c = record {
-  rows = has_bit c.rows_played-rows.result;
-  kept = c.in_ok-keep_rows.ensures.ok;
-  cover = c.rows_played-rows.ensures.cover;
-}

@@ -1,25 +1,17 @@
-use Rattle.std.proofs.Common.{◌≡◌, ◌&&◌, ◌++◌, [], ◌∷◌, inl, inr, Bool, true, false, not, length, take, sym, ap, subst, ◌∙◌, rules}
+use Rattle.std.proofs.Common.{◌≡◌, ◌&&◌, ◌++◌, [], ◌∷◌, inl, inr, Bool, true, false, not, sym, ap, subst, ◌∙◌, rules}
 use Rattle.std.specs.Int.{trailing_zeros}
 use Rattle.std.proofs.Common.{w64}
 use Rattle.std.proofs.lemmas.Bool.{cases_eq, false≢true}
 use Rattle.go_board.specs.declared.quick.print_past.changes.Change.{Change}
 use Rattle.go_board.specs.inner.Changes.{IsRowOf}
 use Rattle.go_board.specs.inner.Rows.{has_bit}
-use Rattle.go_board.proofs.ChangesLemmas.{KeepRows-none, KeepRows-more, KeepRows-like, KeepRows-front}
+use Rattle.go_board.proofs.ChangesLemmas.{KeepRows-more}
 use Rattle.go_board.proofs.SweepLemmas.{lowest_left, next_smaller}
-use Rattle.go_board.proofs.WordLemmas.{has_bit-zero}
 use Rattle.go_board.proofs.quick.print_past.changes.keep_rows.Goals as goal
 
 not_both : (b : Bool) → (b && not b) ≡ true → ⊥
 not_both true e = false≢true e
 not_both false e = false≢true e
-
-pub each-init : goal.each-init
-each-init c = record {
-  low = search rules;
-  part = λ k is. is;
-  kept = KeepRows-none c.args.board.now _ c.args.changes.now.items (λ r is. not_both (has_bit c.args.rows r) is);
-}
 
 pub each-smaller : goal.each-smaller
 each-smaller c =
@@ -63,20 +55,3 @@ each-preserved c =
           ])
           c.each.invariant.kept;
     }
-
-pub returns-then-is_err-clause-err : goal.returns-then-is_err-clause-err
-returns-then-is_err-clause-err c =
-    let same : c.push.new.self.items ≡ c.each.changes.items = search rules in
-    let start : c.len-start.result ≡ length c.args.changes.now.items = search rules in
-    c.truncate.ensures.items
-    ∙ ap (λ n. take n c.push.new.self.items) start
-    ∙ ap (take (length c.args.changes.now.items)) same
-    ∙ KeepRows-front c.args.board.now _ c.args.changes.now.items c.each.changes.items c.each.invariant.kept
-
-pub returns-clause-ok : goal.returns-clause-ok
-returns-clause-ok c =
-    KeepRows-like c.args.board.now _ (has_bit c.args.rows) c.args.changes.now.items c.each.changes.items
-    (λ r there.
-    let gone : has_bit c.each.left r ≡ false = ap (λ n. has_bit n r) c.each-test.false ∙ has_bit-zero r in
-    ap (λ b. b && not (has_bit c.each.left r)) there ∙ ap not gone)
-    c.each.invariant.kept
