@@ -17,7 +17,8 @@ use crate::quick::group::{has_liberty, lives_by_row};
 use crate::stones::{Cell, Colour};
 
 impl Board {
-    /// Finds what a stone on an empty point takes off, by capture or else by suicide. False is returned only if that is nothing.
+    /// Finds what a stone on an empty point takes off, by capture or else by suicide. `taken` must be empty, and becomes the points taken off.
+    /// False is returned only if that is nothing.
     /// Before the move every stone on the board must reach empty. So after it only the stone's own group and the groups beside the
     /// stone can be without a liberty. The stone is put on the board for this search, and removed again.
     pub(crate) fn find_taken(&mut self, colour: Colour, point: Point, taken: &mut [u64]) -> bool

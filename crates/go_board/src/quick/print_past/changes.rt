@@ -1,4 +1,4 @@
-//! Past colourings. The newest is kept whole. An older one is kept as the rows that lead back to it.
+//! The rows that lead back from a colouring to the one before it.
 
 ghost use Rattle.std.specs.Prelude.{◌≡◌, ◌≢◌, ◌==◌, ◌<◌, ◌≤◌, ℕ, IsTrue, OnOk, OnErr, length, slice_index};
 ghost use Rattle.go_board.specs.declared.stones.Colour.{Colour};
