@@ -1,4 +1,4 @@
--- Why a turn isn't allowed: the reasons as facts, in their order, and as a function that computes.
+-- Why a turn is illegal: the reasons as facts, in their order, and as a function that computes.
 use Rattle.std.specs.Prelude.{◌≡◌, ◌≢◌, ◌⊎◌, ℕ, ◌<◌, Bool, false, not, ◌&&◌, ◌==◌, if◌then◌else◌, Option, Some, None, List, [], ◌∷◌, Contains, codes}
 use Rattle.std.specs.List.{list_any}
 use Rattle.std.specs.Cmp.Lexicographic.{pointwise}
@@ -71,7 +71,7 @@ abbrev pub is_repeat : State → Colour → Play → Bool
 is_repeat state colour Pass = false
 is_repeat state colour (Stone point) = list_any (same_grid (play state.colouring colour point)) state.seen
 
--- the first reason, in this order, for which a turn isn't allowed
+-- the first reason, in this order, for which a turn is illegal
 abbrev pub reason_of : State → Colour → Play → Option Reason
 reason_of state colour turn =
     if is_over state then Some Over

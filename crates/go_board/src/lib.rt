@@ -40,9 +40,9 @@
 //! | Rule (docs/RULES.md) | Function, and its module |
 //! |---|---|
 //! | the side of a board | `Size::new` (`size`) |
-//! | reaching a colour | `fill` (`board/fill`), which clearing and the score use. `Board::reaching` (`board`) goes point by point, and only callers use it |
+//! | reaching a colour | `fill` (`board/fill`), which clearing and the score use. `Board::reaching` (`board/flood`) goes point by point, and only callers use it |
 //! | clearing a colour, which captures its groups without a liberty | `Board::clear` (`board`); which stones have none: `Board::shut_stones` (`board/regions`) |
-//! | a stone: capture, then suicide | `Board::place` (`board`); shortcuts: `takes_nothing_at_a_glance` (`quick/glance`), `Board::find_taken` (`quick/capture`) |
+//! | a stone: capture, then suicide | `Board::place` (`board`); shortcuts: `Board::takes_nothing_at_a_glance` (`quick/glance`), `Board::find_taken` (`quick/capture`) |
 //! | the area score | `Board::score` (`board`); shortcut below side 32: `Board::score_in_halves` (`quick/both_areas`) |
 //! | a turn; `over`, `turn` and `occupied` | `Referee::turn`, `Referee::reason_before_repeat` (`referee/turn`) |
 //! | `repeat` (positional superko) | `Past::play` (`past`); the colourings since the last setup: `ListPast::holds` (`past/list_past`); shortcuts: `PrintPast::may_repeat`, `PrintPast::play_asked` (`quick/print_past`) |

@@ -71,7 +71,7 @@ abbrev judged : List (Games × List ℕ)
 judged =
     -- each node once
     (variations, 1 ∷ 8 ∷ 16 ∷ 22 ∷ []) ∷
-    -- none after the first node that isn't allowed, and none of another game
+    -- none after the first node that is illegal, and none of another game
     (suicide, 1 ∷ 7 ∷ []) ∷
     (not_go, []) ∷
     []

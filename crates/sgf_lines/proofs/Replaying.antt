@@ -145,7 +145,7 @@ module _ (laws : BoardLaws) (side : ℕ) (small : side ≤ 25) where
   stone_on : (n : ℕ) (raw : List ℕ) (p : Point) → move_value raw n ≡ Some (Stone p) → IsOn n p
   stone_on n raw p e = stone_by n raw p (is_pass raw n) e
 
-  -- the command of a play that is allowed
+  -- the command of a legal play
   plays_on : (s t : State) (k : Colour) (raw : List ℕ) (x : Play) → IsFull side s.colouring → move_value raw (side_in s) ≡ Some x → reason_of s k x ≡ None
       → t ≡ turned s k x → Carries (shows s.colouring) (play_command side k x) (shows t.colouring) × IsFull side t.colouring
   plays_on s t k raw Pass full value none is =

@@ -26,7 +26,7 @@ node_places games = map (λ ordered. ordered.node.place) (ordered_nodes games)
 abbrev pub touched_places : List Line → List ℕ
 touched_places lines = different (flat_map (λ line. places_of line.nodes) lines)
 
--- the places of a line's judged nodes: all nodes up to and including the first that isn't allowed
+-- the places of a line's judged nodes: all nodes up to and including the first that is illegal
 abbrev pub judged_places : Line → List ℕ
 judged_places line = places_of (judged_nodes line)
 

@@ -1,5 +1,5 @@
 -- The verdict of a line: the area score at its end, or the first node that
--- isn't allowed (Tromp-Taylor), or that the line isn't judged.
+-- is illegal (Tromp-Taylor), or that the line isn't judged.
 use Rattle.std.specs.Prelude.{◌≡◌, ℕ, ◌+◌, Option, Some, None, option_map, List, [], slice_get}
 use Rattle.sgf_tree.specs.Tree.{Node, Games}
 use Rattle.sgf_tree.specs.FileOrder.{place_at}
@@ -38,7 +38,7 @@ verdict_of nodes = verdict_by (game_kind (root_properties nodes)) nodes
 abbrev pub verdict : Line → Verdict
 verdict line = verdict_of line.nodes
 
--- the judged nodes of a line: all, or those up to and including the first that isn't allowed, or none
+-- the judged nodes of a line: all, or those up to and including the first that is illegal, or none
 abbrev pub judged_on : GameKind → List Node → List Node
 judged_on not_go nodes = []
 judged_on bad_size nodes = []

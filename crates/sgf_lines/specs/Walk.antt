@@ -54,7 +54,7 @@ pub data IsAfter : State → List Node → State → Type 0 where
   one_node : {from between last : State} {node : Node} {nodes : List Node} → step from node ≡ Ok between → IsAfter between nodes last
       → IsAfter from (node ∷ nodes) last
 
--- one of the nodes is the first that isn't allowed, in the state after the nodes before it
+-- one of the nodes is the first that is illegal, in the state after the nodes before it
 pub record HasIllegal (from : State) (nodes : List Node) : Type 0 where
   pub before : List Node
   pub illegal : Node

@@ -9,7 +9,7 @@
 //! | `moves`: two nodes such as `;B[pd]` are recognized by one comparison | `read_properties` of `reader::properties` |
 //! | `properties`: a property with a short name and a short value is read at once | `read_property` of `reader::properties` |
 //! | `points`: four values such as `[pd]` are recognized by one comparison | reading each value |
-//! | `name`: a name of one or two capitals is recognized | the loops over the letters in `reader::scan`, `reader::properties` and `property` |
+//! | `name`: a name of one or two capitals is recognized | `read_far_name` of `reader::properties`, `letters_end` of `reader::scan`, `is_name_in` of `property` |
 //! | `value`: a short value's end is found by one comparison | the searches of `reader::value` |
 //! | `kept`: the end of a long value is looked up | the same searches |
 //! | `front`: the first property of a node such as `;B[pd]` is recognized | `Properties::next` |

@@ -254,7 +254,7 @@ impl PrintPast {
     }
 
     /// The same as `play_taking`, for a stone that may bring a colouring back; `print` is the print of what it makes. Decides by positional
-    /// superko whether the stone may be played: looks up the colouring that it makes, and puts it into the trie at once.
+    /// superko whether the stone may be played. If a look-up is needed to tell, it puts the colouring into the trie at once.
     #[inline(never)]
     fn play_asked(
         &mut self,
@@ -390,6 +390,7 @@ impl PrintPast {
 
 /// Adds the colouring that a stone makes; `taken` is what the stone takes off, and `print` is the colouring's print. Puts it into the trie if
 /// its gap there is known. After a refusal nothing is changed.
+// No method: between its steps the invariant of the past doesn't hold.
 #[inline(always)]
 fn add_stone(
     colourings: &mut Colourings,

@@ -78,7 +78,7 @@ abbrev pub state_of : Result State Reason → Option State
 state_of (Ok state) = Some state
 state_of (Err reason) = None
 
--- the state that a node leads to; None if the node isn't allowed, or if the verdict is known already
+-- the state that a node leads to; None if the node is illegal, or if the verdict is known already
 abbrev pub state_after : Judgement → Node → Option State
 state_after (unjudged told) node = None
 state_after (judged states (Some told)) node = None

@@ -16,7 +16,7 @@ use itoa::write_digits;
 /// The number of bytes that there is room for: five numbers of up to 20 digits, and the words of a verdict.
 const ROOM: usize = 160;
 
-/// The row of a line, or the end of it, which grows at its front.
+/// A row, or the end of it, which grows at its front.
 #[derive(Drop)]
 pub(crate) struct Row {
     bytes: [u8; ROOM],

@@ -2,7 +2,8 @@
 //!
 //! A look-up walks down a trie of keys (see `trie` and `key`) by the bits of the colouring that is looked up. It ends at one past
 //! colouring, and compares with that one alone: first the start of the stretch and the print, and if these are equal, all points.
-//! So it costs at most one past colouring worked out, and at most `WIDTH` steps down for each of two walks, whatever was played before.
+//! So it costs at most one past colouring worked out, and one walk of at most `WIDTH` steps down, whatever was played before. `gap`, which
+//! comes before it, takes at most two walks by the bits of the print.
 //! To put a colouring into the trie costs at most two colourings worked out, its own and that at the end of its walk, and this only if
 //! they have the same print. To take one out is one step. None of this depends on how many colourings there are, or on what was played:
 //! equal prints make no look-up longer.
