@@ -11,7 +11,7 @@
 //! This is so once `link` has put all colourings into the trie. The past calls it before each look-up of a stone that `may_have` doesn't
 //! answer (see `filter`). `has` itself changes nothing: it compares one by one with the colourings that aren't there yet.
 
-ghost use Rattle.std.specs.Prelude.{◌≡◌, ◌≢◌, ◌↔◌, ℕ, ◌+◌, ◌<◌, ◌≤◌, ◌^◌, [], ◌∷◌, List, length, slice_index, IsTrue, IsFalse, IsSome, IfSome, IfOk, OnOk, OnErr, Contains};
+ghost use Rattle.std.specs.Prelude.{◌≡◌, ◌↔◌, ◌+◌, ◌<◌, ◌≤◌, ◌^◌, [], ◌∷◌, List, length, slice_index, IsTrue, IsFalse, IsSome, IfSome, IfOk, OnOk, OnErr, Contains};
 ghost use Rattle.std.specs.Vec.{vec_capacity};
 ghost use Rattle.go_board.specs.declared.quick.print_past.trie.Node.{Node};
 ghost use Rattle.go_board.specs.Grid.{Grid};
