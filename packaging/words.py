@@ -17,6 +17,8 @@ TOP = os.path.dirname(os.path.dirname(os.path.realpath(__file__)))
 FIELDS = {"limit": 1, "program": 2, "command": 2, "file": 2, "option": 3, "form": 3, "verdict": 3, "reason": 2, "status": 2, "message": 2,
           "result": 1}
 ENDS = {"row": b"\n", "game": b")\n", "empty row": b"\n\n"}
+NAMES = {"limit": r"\d+", "command": "[a-z]+", "option": "[a-z]+", "form": "[a-z]+", "reason": "[a-z]+(-[a-z]+)*"}
+UNQUOTED = dict.fromkeys(["program", "command", "option"], r"""["'\\$`:\[\]]""")  # what shells read between quotation marks
 COMMAND = "crates/sgfsplit_job/src/command.rt"
 HELP = "tests/help.sh"
 MANUAL = "man/sgfsplit.1"
@@ -39,8 +41,11 @@ def read_table(path):
         if not line or line.startswith("#"):
             continue
         kind, *fields = re.split(r"  +", line)
-        if len(fields) != FIELDS.get(kind) or (kind == "form" and fields[1] not in ENDS):
+        plain = re.fullmatch(NAMES.get(kind, ".+"), fields[0]) and not re.search(UNQUOTED.get(kind, r'["\\]'), line)
+        if len(fields) != FIELDS.get(kind) or not plain or (kind == "form" and fields[1] not in ENDS):
             sys.exit(f"{path}: not a row of the table: {line}")
+        if kind in NAMES and fields[0] in [row[0] for row in rows[kind]]:
+            sys.exit(f"{path}: twice in the table: {kind} {fields[0]}")
         rows[kind].append(fields)
     return rows
 
@@ -181,6 +186,7 @@ def check_limit(table):
         (MODULE, r"MAX_LENGTH = (\d+)"),
         (MODULE, r"more than ([\d,]+) bytes"),
         (MANUAL, r"The input may have at most ([\d,]+) bytes"),
+        ("docs/PROVED.md", r"more than ([\d,]+) bytes"),
         ("docs/GRAMMAR.md", r"at most ([\d,]+) bytes"),
         ("recipes/sgfsplit.py", r"LIMIT = (\d+)"),
         ("recipes/parts.py", r"without --most it is (\d+)"),
@@ -188,10 +194,14 @@ def check_limit(table):
         ("crates/sgf_tree/src/**/*.rt", r"pub const MAX_LENGTH: usize = ([\d_]+);"),
     ]:
         made(path, "the limit", pattern, number(limit))
-    for path, before in [(COMMAND, "at most"), (HEADER, "length of a text in bytes:"), ("docs/GRAMMAR.md", "which is"),
-                         ("README.md", "(?:at most|more than)"), ("docs/RECIPES.md", "(?:reads at most|collection of more than)"),
-                         ("docs/PROVED.md", "at most")]:
-        made(path, "the limit in MiB", before + r"\s+(\d+)\s+MiB", number(limit >> 20))
+    if limit % (1 << 20):
+        faults.append("packaging/words.txt: the limit isn't a number of MiB")
+    for path, before in [(COMMAND, r"at most\s"), (HELP, r"at most\s"), (HEADER, "length of a text in bytes: "), (MANUAL, r"bytes \("),
+                         ("docs/GRAMMAR.md", "(?:which is|limit of) "), ("README.md", "(?:at most|more than) "), ("docs/PROVED.md", "at most "),
+                         ("docs/RECIPES.md", r"(?:reads at most|(?:collection|game) of more than)\s"),
+                         ("recipes/parts.py", "(?:takes|more than|once) "), ("crates/sgf_tree/src/fault.rt", "may have: "),
+                         ("crates/sgf_tree/src/lib.rt", "at most ")]:
+        made(path, "the limit in MiB", before + r"(\d+)\s+MiB", number(limit >> 20))
     for path in sorted(glob.glob(f"{TOP}/tests/*.*")):
         if re.search(r"input is longer than \d", read(path)):
             made(os.path.relpath(path, TOP), "the limit", r"input is longer than (\d+) bytes", number(limit))

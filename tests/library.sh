@@ -75,9 +75,10 @@ for file in inputs/*.sgf; do
     places=(0 $("$SGFSPLIT" split "$file" 2> /dev/null | cut -d ' ' -f 1 | awk 'NR <= 3 { print } { last = $1 } END { print last }'))
     for place in "${places[@]}"; do
         for form in "${!forms[@]}"; do
-            limit=$((form % 3))
-            problems+=$(agrees "${forms[form]} after $place, limit $limit" split $form "$place" $limit "$file" \
-                -- split --form ${forms[form]} --after "$place" --limit $limit "$file")
+            for limit in 0 1 2; do
+                problems+=$(agrees "${forms[form]} after $place, limit $limit" split $form "$place" $limit "$file" \
+                    -- split --form ${forms[form]} --after "$place" --limit $limit "$file")
+            done
         done
     done
     problems+=$(agrees 'limit 2' split 1 - 2 "$file" -- split --form sgf --limit 2 "$file")

@@ -157,7 +157,7 @@ def arguments_are_looked_at():
         agree(f"form {wrong!r}", (TypeError, f"form is a str, not {type(wrong).__name__}"), (type(raised), str(raised)))
     for wrong in ("", "rows", "SGF"):
         raised = fault(lambda: sgflines.output(TWO, wrong))
-        agree(f"form {wrong}", (ValueError, "form is one of list, sgf, gtp"), (type(raised), str(raised)))
+        agree(f"form {wrong}", (ValueError, f"form is one of {', '.join(FORMS)}"), (type(raised), str(raised)))
     agree("the greatest numbers", sgflines.NoSuchLine, type(fault(lambda: sgflines.rows(TWO, after=2 ** 64 - 1))))
     agree("the greatest limit", sgflines.rows(TWO), sgflines.rows(TWO, limit=2 ** 64 - 1))
 

@@ -62,8 +62,12 @@ nl=$'\n'
 memory='out of memory'
 declare -A ends=()  # the bytes after which an output in each form may be cut
 for form in $(words form); do
-    ends[$form]=$nl
-    ! grep -q "^form  *$form  *empty row  " "$top/packaging/words.txt" || ends[$form]=$nl$nl
+    case $(sed -n "s/^form  *$form  *\(row\|game\|empty row\)  .*/\1/p" "$top/packaging/words.txt") in
+        row) ends[$form]=$nl ;;
+        game) ends[$form]=")$nl" ;;
+        'empty row') ends[$form]=$nl$nl ;;
+        *) failed "$form: no end" ;;
+    esac
 done
 printf '(;SZ[5]AB[ab][ba]AW[cc]C[one\ntwo];W[](;B[ee](;W[ed])(;W[de]))(;B[dd]C[%0400d]))(;GM[2])(;SZ[3];B[aa];W[aa])' 7 > input.sgf
 for form in $(words form); do

@@ -1,7 +1,7 @@
 #!/usr/bin/env bash
 # Every place that repeats a word of packaging/words.txt, or the version, agrees with it. In a copy of the table each field is changed in turn,
 # and the order of two rows, and each change is found. In a copy of the whole tree the table gets a form, a reason and a message. Then
-# `words.py --write` writes what the table determines, and names just the files that a person has to change.
+# `words.py --write` writes what the table determines, and names just the places with words that are left to a person.
 . "$(dirname "$0")/lib.sh"
 needs python3
 "$top/packaging/words.py" || failed 'these places differ from packaging/words.txt or from the file VERSION'
@@ -18,6 +18,7 @@ import sys
 
 table, version = f"{sys.argv[1]}/packaging/words.txt", f"{sys.argv[1]}/VERSION"
 tried = 0
+OTHERS = {"row": "game", "game": "row", "empty row": "row"}  # a record can't end otherwise
 
 
 def found(path, changed, what):
@@ -30,8 +31,7 @@ def found(path, changed, what):
     ran = subprocess.run([f"{sys.argv[1]}/packaging/words.py"], capture_output=True, text=True)
     with open(path, "w", encoding="utf-8") as file:
         file.write(whole)
-    refused = ran.stderr.startswith("packaging/words.txt: not a row of the table")
-    if ran.returncode != 1 or bool(ran.stdout.strip()) == refused or bool(ran.stderr) != refused:
+    if ran.returncode != 1 or not ran.stdout.strip() or ran.stderr:
         sys.exit(f"{what}: status {ran.returncode}, {ran.stdout}{ran.stderr}")
     tried += 1
 
@@ -42,7 +42,7 @@ for at, row in enumerate(rows):
     if not row.strip() or row.startswith("#"):
         continue
     for field in list(re.finditer(r"(?<=  )\S(?:\S| (?! ))*", row)):
-        word = field[0] + ("1" if field[0].isdigit() else "x")
+        word = OTHERS.get(field[0]) or field[0] + ("1" if field[0].isdigit() else "x")
         found(table, "".join([*rows[:at], row[:field.start()] + word + row[field.end():], *rows[at + 1:]]), f"{word} in {row}")
     group = 2 if row.startswith("message") else 1
     if at + 1 < len(rows) and rows[at + 1].split()[:group] == row.split()[:group]:

@@ -44,7 +44,7 @@
 //!
 //! | Rule (docs/GRAMMAR.md) | Function, and its module |
 //! |---|---|
-//! | Collection, GameTree and its sequence of nodes | `read_games`, `read_sequence` (`reader/games`) |
+//! | Collection and GameTree; Sequence; Node | `read_games`; `read_sequence`; `take_node` (`reader/games`) |
 //! | Property; PropIdent | `read_property`; `read_far_name` (`reader/properties`) |
 //! | the name of a property | `PropRef::is`, `PropRef::push_name` (`property`) |
 //! | the end of a raw value | `far_value_end` (`reader/value`) |
