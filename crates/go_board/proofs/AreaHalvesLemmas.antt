@@ -1,9 +1,9 @@
 -- The areas of both colours in the halves of words.
-use Rattle.std.proofs.Common.{◌≡◌, ◌≢◌, inl, inr, ℕ, ◌/◌, ◌%◌, ◌^◌, ◌<◌, ◌≤◌, Bool, true, List, length, slice_index, sym, ap, ◌∙◌, arith, subst}
-use Rattle.std.proofs.lemmas.Bool.{or_right, cases_lt}
+use Rattle.std.proofs.Common.{◌≡◌, ◌≢◌, ℕ, ◌/◌, ◌%◌, ◌^◌, ◌<◌, Bool, true, List, length, slice_index, sym, ◌∙◌, arith, subst}
+use Rattle.std.proofs.lemmas.Bool.{or_right}
 use Rattle.std.proofs.lemmas.List.{length-map}
 use Rattle.std.proofs.lemmas.Nat.{mod_below, pow_pos}
-use Rattle.std.proofs.Math.ListN.{get_or-map, get_or-eq_default}
+use Rattle.std.proofs.Math.ListN.{get_or-map}
 use Rattle.go_board.specs.declared.points.Point.{Point}
 use Rattle.go_board.specs.declared.stones.Cell.TheVariants.{Black as BlackStone, White as WhiteStone, Empty}
 use Rattle.go_board.specs.declared.stones.Colour.TheVariants.{Black, White}
@@ -28,25 +28,6 @@ IsPair black white row word = (word % 2 ^ 32 ≡ slice_index black row) × (word
 abbrev pub IsPairOfOthers : ℕ → List ℕ → List ℕ → ℕ → ℕ → Type 0
 IsPairOfOthers side black white row word =
     AreOthers side (slice_index white row) (word % 2 ^ 32) × AreOthers side (slice_index black row) (word / 2 ^ 32)
-
-half_is : (f : ℕ → ℕ) (rows set : List ℕ) → f 0 ≡ 0 → length rows ≡ length set → ((r : ℕ) → r < length rows → f (slice_index rows r) ≡ slice_index set r) → (p : Point) → has_bit (f (slice_index rows p.row)) p.col ≡ is_set set p
-half_is f rows set zero long each p =
-    elim (cases_lt p.row (length rows)) [
-      | inl below ↦ ap (λ w. has_bit w p.col) (each p.row below)
-      | inr past ↦
-          (let of_set : length set ≤ p.row = omega (arith, past, long) in
-          ap (λ w. has_bit w p.col) (ap f (get_or-eq_default rows 0 {n = p.row} past) ∙ zero ∙ sym (get_or-eq_default set 0 {n = p.row} of_set)))
-    ]
-
-pub paired_all : (black white rows : List ℕ) → length rows ≡ length black → length rows ≡ length white → ((r : ℕ) → r < length rows → IsPair black white r (slice_index rows r)) → ArePaired black white rows
-paired_all black white rows long_black long_white each = record {
-  low = λ p.
-      ap (λ w. has_bit w p.col) (get_or-map (λ w. w % 2 ^ 32) rows p.row 0)
-      ∙ half_is (λ w. w % 2 ^ 32) rows black (omega arith) long_black (λ r below. (each r below).0) p;
-  high = λ p.
-      ap (λ w. has_bit w p.col) (get_or-map (λ w. w / 2 ^ 32) rows p.row 0)
-      ∙ half_is (λ w. w / 2 ^ 32) rows white (omega arith) long_white (λ r below. (each r below).1) p;
-}
 
 pub others_paired_all : (black white rows : List ℕ) → length rows ≡ length black → length rows ≡ length white → ((r : ℕ) → r < length rows → IsPairOfOthers (length black) black white r (slice_index rows r)) → AreOthersPaired black white rows
 others_paired_all black white rows long_black long_white each = record {

@@ -2,7 +2,7 @@
 use Rattle.std.proofs.Common.{◌≡◌, ◌≢◌, ◌⊎◌, ◌==◌, ℕ, ◌*◌, ◌<◌, inl, inr, Bool, true, false, cond, List, [], ◌∷◌, ◌++◌, length, take, drop, refl, sym, ap, subst, ◌∙◌, append_assoc, All, slice_index}
 use Rattle.std.proofs.lemmas.Bool.{cases_Bool, cases_eq, false≢true}
 use Rattle.std.proofs.lemmas.Bool.Decides.{Decides-eqb}
-use Rattle.std.proofs.lemmas.List.{append-nil, take_at, take-append-drop, length-set}
+use Rattle.std.proofs.lemmas.List.{append-nil, take-append-drop, length-set}
 use Rattle.std.proofs.lemmas.List.Elements.{All-nil, All-push, All-head, All-tail, All-weaker}
 use Rattle.go_board.specs.declared.stones.Cell.{Cell}
 use Rattle.go_board.specs.declared.stones.Cell.TheVariants.{Black, White, Empty}
@@ -212,12 +212,6 @@ KeepRows-more g rows more a b next c pushed is each h = record {
   are = All-push (IsRowOf g) h.more c h.are is;
   all = λ r there. elim (each r there) [ inl at ↦ has_row-last r h.more c at | inr before ↦ has_row-front r h.more c (h.all r before) ];
 }
-
-pub KeepRows-front : (g : Grid) (rows : ℕ → Bool) (a b : List Change) → KeepRows g rows a b → take (length a) b ≡ a
-KeepRows-front g rows a b h = ap (take (length a)) h.added ∙ take_at a h.more (length a) refl
-
-pub KeepRows-like : (g : Grid) (rows more : ℕ → Bool) (a b : List Change) → ((row : ℕ) → more row ≡ true → rows row ≡ true) → KeepRows g rows a b → KeepRows g more a b
-KeepRows-like g rows more a b each h = record { more = h.more; added = h.added; are = h.are; all = λ r there. h.all r (each r there) }
 
 -- the rows of a stone and of what it takes off are all that it changes
 pub stone_covered : (g : Grid) (k : Colour) (p : Point) (taken : List ℕ) (rows : ℕ → Bool) → IsOn g.side p → TakesOff g k p taken → rows p.row ≡ true → ((row : ℕ) → row < length taken → slice_index taken row ≢ 0 → rows row ≡ true) → (q : Point) → IsOn g.side q → rows q.row ≡ false → cell_at (play g k p) q ≡ cell_at g q

@@ -3,7 +3,6 @@ use Rattle.std.proofs.Common.{◌≡◌, ◌≢◌, ◌⊎◌, inl, inr, ℕ, �
 use Rattle.std.proofs.lemmas.Bool.{or_cases, or_left, or_right, and_parts, and_from, false≢true, cases_lt, cases_eq}
 use Rattle.std.specs.Int.{bit_not}
 use Rattle.std.proofs.Math.Bool.{or_self}
-use Rattle.std.proofs.Math.ListN.{get_or-eq_default}
 use Rattle.std.proofs.Math.Nat.{mod-eq_of_lt}
 use Rattle.std.proofs.lemmas.Nat.{pow_below}
 use Rattle.std.proofs.lemmas.List.{get_or-set_same, get_or-set_other}
@@ -21,7 +20,7 @@ use Rattle.go_board.specs.inner.Rows.{has_bit, is_set, IsAmong, IsClosed, Grows}
 use Rattle.go_board.specs.inner.Regions.{is_either, AreRowsOf, IsDifference, reaches_through_own}
 use Rattle.go_board.proofs.GridLemmas.{Decides-same_cell}
 use Rattle.go_board.proofs.GrowLemmas.{row_below}
-use Rattle.go_board.proofs.WordLemmas.{has_bit-zero, has_bit-and, has_bit-without, bit_at-gone}
+use Rattle.go_board.proofs.WordLemmas.{has_bit-and, has_bit-without, bit_at-gone}
 use Rattle.go_board.proofs.ReachingLemmas.{Decides-reaches}
 
 -- a word with one bit set
@@ -88,13 +87,6 @@ pub row_zero : (rows : List ℕ) (row : ℕ) → ((p : Point) → is_set rows p 
 row_zero rows row none =
     same_from_bits (slice_index rows row) 0
     (λ col. bit_at-gone (slice_index rows row) col (none (record { col = col; row = row })) ∙ sym (bit_at-zero col))
-
-pub all_zero : (rows : List ℕ) → ((r : ℕ) → r < length rows → slice_index rows r ≡ 0) → (p : Point) → is_set rows p ≡ false
-all_zero rows zeros p =
-    elim (cases_lt p.row (length rows)) [
-      | inl below ↦ ap (λ w. has_bit w p.col) (zeros p.row below) ∙ has_bit-zero p.col
-      | inr past ↦ ap (λ w. has_bit w p.col) (get_or-eq_default rows 0 {n = p.row} past) ∙ has_bit-zero p.col
-    ]
 
 -- the same rows by another test
 pub AreRowsOf-same : (side : ℕ) (test other : Point → Bool) (rows : List ℕ) → ((p : Point) → IsOn side p → test p ≡ other p) → AreRowsOf side test rows → AreRowsOf side other rows
