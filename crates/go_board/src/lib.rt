@@ -45,9 +45,10 @@
 //! | a stone: capture, then suicide | `Board::place` (`board`); shortcuts: `Board::takes_nothing_at_a_glance` (`quick/glance`), `Board::find_taken` (`quick/capture`) |
 //! | the area score | `Board::score` (`board`); shortcut below side 32: `Board::score_in_halves` (`quick/both_areas`) |
 //! | a turn; `over`, `turn` and `occupied` | `Referee::turn`, `Referee::reason_before_repeat` (`referee/turn`) |
-//! | `repeat` (positional superko) | `Past::play` (`past`); the colourings since the last setup: `ListPast::holds` (`past/list_past`); shortcuts: `PrintPast::may_repeat`, `PrintPast::play_asked` (`quick/print_past`) |
+//! | `repeat` (positional superko) | `Past::play` (`past`); the colourings since the last setup: `ListPast::holds` (`past/list_past`); shortcuts: `PrintPast::may_repeat`, `PrintPast::play_asked`, and `PrintPast::play_on_copy` after a setup that leaves a stone without a liberty (`quick/print_past`); the present stretch begins at `Colourings::stretch_start` there |
 //! | a pass; two passes end the game | `Referee::take_pass` (`referee/turn`); `Referee::over` (`referee`) |
-//! | a setup of stones; a setup of the player | `Referee::begin_anew`; `Referee::set_player` (`referee/setup`) |
+//! | which setup it is; passes and player after a setup of stones; a setup of the player | `Referee::setup`; `Referee::begin_anew`; `Referee::set_player` (`referee/setup`) |
+//! | the colouring that a setup makes; the list of colourings begins anew | `Board::colour_areas` (`board/areas`); `Past::set_up` (`past`) |
 //! | undo | `Referee::undo` (`referee`) |
 //! | points and rectangles that values name | `point`, `rect` (`values`) |
 //! | vertices | `vertex` (`vertices`) |

@@ -50,12 +50,13 @@
 //! |---|---|
 //! | the order of the lines | `SequenceCursor::advance` (`sequence_cursor`) |
 //! | `--after`; `--limit` | `cursor_after`; `write_lines` (`run`) |
+//! | which values are moves, stones and players | `kind_of` (`judging/contents`) |
 //! | which games are judged: GM; SZ | `is_go`; `size` (`judging/root`) |
 //! | `mixed`, `two-moves` and `bad-setup`; `bad-point` | `effect_of`; `take_move` (`judging/step`) |
 //! | which values are passes; the last value of PL | `is_pass` (`node_values`); `last_player`, `with_player` (`judging/contents`) |
 //! | the other reasons | the crate `go_board` |
 //! | TURN, PLACE and REASON of the first illegal node | `Judge::take` (`judging/judge`) |
-//! | a row; the row of counts; a script | `Row::lay_out`; `Row::lay_out_counts` (`form/row`); `Script::say` (`form/script`) |
+//! | a row; the row of counts; a script | `Row::lay_out`; `Row::lay_out_counts` (`form/row`); `Script::begin`, `Script::say`, `Script::text` (`form/script`); a node's commands: `push_step` (`form/commands`) |
 //! | a game without variations | `SgfForm::follow` (`form/sgf`) |
 //!
 //! The tests of the program (`tests/`) cover what a run writes. The crate `sgf_lines_tests` covers the other calls.

@@ -44,13 +44,14 @@
 //!
 //! | Rule (docs/GRAMMAR.md) | Function, and its module |
 //! |---|---|
-//! | Collection and GameTree; Sequence; Node | `read_games`; `read_sequence`; `take_node` (`reader/games`) |
-//! | Property; PropIdent | `read_property`; `read_far_name` (`reader/properties`) |
+//! | Collection and GameTree; Sequence, and the `;` of a Node | `read_games`; `read_sequence` (`reader/games`) |
+//! | the properties of a Node; Property | `read_properties`; `read_property` (`reader/properties`) |
+//! | PropIdent: its first capital; its letters; the `[` after it | `read_properties` (`reader/properties`); `letters_end` (`reader/scan`); `read_far_name` (`reader/properties`) |
 //! | the name of a property | `PropRef::is`, `PropRef::push_name` (`property`) |
 //! | the end of a raw value | `far_value_end` (`reader/value`) |
-//! | white space | `is_white_space` (`reader/scan`) |
+//! | white space: its bytes; its places | `is_white_space` (`reader/scan`); where `reader`, `reader/games` and `reader/properties` call `skip_white_space` |
 //! | the byte order mark | `mark_end` (`reader/mark`) |
-//! | the first fault | where `NotSgf` is returned; `reader/fault` says why that is the first |
+//! | the first fault | where these return `NotSgf`: `read_games`, `read_sequence` (`reader/games`), `read_far_name` (`reader/properties`), `read_far_value` (`reader/value`), `mark_end` (`reader/mark`); `reader/fault` says why that is the first |
 //! | at most 64 MiB | `read`, `read_outline`, `measure` (`reader`) |
 //! | decoded text; numbers | `push_text` (`text`); `number` (`numbers`) |
 //!
