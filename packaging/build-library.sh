@@ -6,7 +6,7 @@ cd "$(dirname "$0")/.."
 top=$PWD
 crate=crates/sgf_lines_c
 archive=$crate/out/libsgf_lines_c.a
-below=(sgf_tree go_board sgf_lines)
+below=(sgf_tree go_board byte_streams sgf_lines)
 kit=$(dirname "$(dirname "$(readlink -f "$(command -v rt)")")")
 log=out/sgf_lines_c.log
 mkdir -p out "$crate/out"
@@ -26,7 +26,7 @@ just_proved() {
 build_over() {
     local name words=(-L "dependency=$kit/rlibs")
     for name in "${below[@]}"; do words+=(-L "dependency=$top/crates/$name/out/rlib"); done
-    for name in sgf_tree go_board sgf_lines; do words+=(--extern "$name=$top/crates/$name/out/rlib/$name.rlib"); done
+    for name in "${below[@]}"; do words+=(--extern "$name=$top/crates/$name/out/rlib/$name.rlib"); done
     (cd "$crate" && "$kit/bin/rattle" build --crate-name sgf_lines_c src/lib.rt --extern "std=$kit/rlibs/std.rlib" "${words[@]}" \
         --antt-project "$kit/rattle/logic/antt-project.json" --logic-built "$kit/logic_built" --links sgf_lines_c= --jobs 2 \
         --crate-type staticlib --toolchain "$kit/toolchain" --backend llvm -o out/libsgf_lines_c.a)

@@ -3,7 +3,7 @@ use Rattle.std.proofs.Common.{◌≡◌, ℕ, List, [], ◌++◌, Option, Some, 
 use Rattle.std.specs.Io.KnownBytes.{Appends, Consumes, IsAtEnd}
 use Rattle.sgf_lines.specs.Lines.{Line}
 use Rattle.sgf_lines.specs.Record.{output}
-use Rattle.sgf_lines.specs.Streams.{SourceState, SinkState}
+use Rattle.byte_streams.specs.Streams.{SourceState, SinkState}
 use Rattle.sgf_lines.specs.Answer.{HasPage, IsRun}
 use Rattle.sgf_lines.specs.declared.options.Options.{Options}
 

@@ -1,5 +1,4 @@
 pub mod Examples
-pub mod HeldBack
 pub mod ExamplesOfVerdicts
 pub mod ExamplesOfPlays
 pub mod ExamplesOfReplay
@@ -31,7 +30,6 @@ pub mod CutTexts
 pub mod Placing
 pub mod ScriptRows
 pub mod Replaying
-pub mod SliceEnds
 pub mod PlayCounts
 pub mod Running
 pub mod LeafLines

@@ -15,7 +15,7 @@ use Rattle.sgf_tree.specs.Spelling.{Spells}
 use Rattle.sgf_tree.specs.Refusal.{IsFaultyWhereNotSgf}
 use Rattle.sgf_tree.specs.declared.fault.ReadFault.{ReadFault}
 use Rattle.sgf_tree.specs.declared.fault.ReadFault.TheVariants.{TooLong as TextTooLong, NotSgf as TextNotSgf, Memory as TextMemory}
-use Rattle.sgf_lines.specs.Streams.{SourceState, SinkState, PutsAll}
+use Rattle.byte_streams.specs.Streams.{SourceState, SinkState, PutsAll}
 use Rattle.sgf_lines.specs.Answer.{read_failures, unread}
 use Rattle.sgf_lines.specs.Counts.{counts_of, AnswersCount, IsCount}
 use Rattle.sgf_lines.specs.inner.Running.{HasReadAll}

@@ -27,7 +27,7 @@ use Rattle.std.specs.Io.KnownBytes.{Appends}
 use Rattle.std.proofs.KnownBytes.{Appends-trans, Appends-kept}
 use Rattle.sgf_lines.specs.Page.{limited}
 use Rattle.sgf_lines.specs.Record.{record_of, output}
-use Rattle.sgf_lines.specs.Streams.{SinkState, TakesNothing}
+use Rattle.byte_streams.specs.Streams.{SinkState, TakesNothing}
 use Rattle.sgf_lines.specs.Cursor.{CursorState, advanced}
 use Rattle.sgf_lines.specs.Answer.{IsCutShort}
 use Rattle.sgf_lines.specs.RunPlays.{plays_of, plays_in, ArePlaysFor}

@@ -6,7 +6,7 @@ use Rattle.std.proofs.KnownBytes.{Appends-trans}
 use Rattle.std.proofs.lemmas.List.{take_all, take-append-drop, length-drop}
 use Rattle.sgf_lines.specs.Lines.{Line, lines}
 use Rattle.sgf_lines.specs.Record.{record_of, output}
-use Rattle.sgf_lines.specs.Streams.{SinkState, SourceState, HasDelivered}
+use Rattle.byte_streams.specs.Streams.{SinkState, SourceState, HasDelivered}
 use Rattle.sgf_lines.specs.Answer.{IsCutShort, read_failures, IsWhole, IsGood, Answers, write_failures, unread}
 use Rattle.sgf_lines.specs.inner.Running.{WritesLines, HasReadAll, IsStart}
 use Rattle.sgf_lines.specs.declared.options.Form.{Form}

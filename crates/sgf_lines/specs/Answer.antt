@@ -11,7 +11,7 @@ use Rattle.sgf_tree.specs.declared.fault.ReadFault.TheVariants.{TooLong as TextT
 use Rattle.sgf_lines.specs.Lines.{Line, HasNoLineAt}
 use Rattle.sgf_lines.specs.Page.{page}
 use Rattle.sgf_lines.specs.Record.{record_of, output}
-use Rattle.sgf_lines.specs.Streams.{SourceState, SinkState, HasDelivered}
+use Rattle.byte_streams.specs.Streams.{SourceState, SinkState, HasDelivered}
 use Rattle.sgf_lines.specs.declared.options.Form.{Form}
 use Rattle.sgf_lines.specs.declared.options.Options.{Options}
 use Rattle.sgf_lines.specs.declared.fault.RunFault.{RunFault}

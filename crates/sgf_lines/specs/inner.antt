@@ -16,4 +16,3 @@ pub mod Keeping
 pub mod GoingOn
 pub mod Followers
 pub mod Cutting
-pub mod HeldBack

@@ -3,14 +3,13 @@
 ghost use Rattle.std.specs.Prelude.{◌≡◌, ◌<◌, ◌≤◌, ◌+◌, ℕ, List};
 ghost use Rattle.sgf_tree.specs.Extent.{HasExtent};
 ghost use Rattle.sgf_lines.specs.Counts.{IsCount, IsWriting, counts_of, counts_row};
-ghost use Rattle.sgf_lines.specs.Streams.{SourceState};
+ghost use Rattle.byte_streams.specs.Streams.{SourceState};
 ghost use Rattle.sgf_lines.specs.inner.Running.{HasReadAll};
 
 use crate::fault::RunFault;
 use crate::form::row::Row;
 use crate::run::read_all;
-use crate::streams::sink::{Sink, SinkFault, put_all};
-use crate::streams::source::Source;
+use byte_streams::{Sink, SinkFault, Source, put_all};
 use sgf_tree::{Extent, MAX_LENGTH, measure};
 use std::alloc::Global;
 

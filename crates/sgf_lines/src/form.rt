@@ -13,11 +13,11 @@ ghost use Rattle.sgf_lines.specs.Record.{record_of};
 ghost use Rattle.sgf_lines.specs.RunPlays.{plays_in};
 ghost use Rattle.sgf_lines.specs.declared.options.Form.{Form};
 ghost use Rattle.sgf_lines.specs.inner.Following.{line_before};
-ghost use Rattle.sgf_lines.specs.Streams.{PutsAll};
+ghost use Rattle.byte_streams.specs.Streams.{PutsAll};
 ghost use Rattle.sgf_lines.specs.inner.Sequences.{SequencesState};
 
 use crate::over_lines::LineKeeper;
-use crate::streams::sink::{Sink, SinkFault};
+use byte_streams::{Sink, SinkFault};
 use std::alloc::Global;
 
 pub(crate) mod commands;

@@ -40,7 +40,6 @@
 //! | `follower` | judging each of these lines |
 //! | `node_values` | what the values of a node say |
 //! | `form` | the forms in which a line is written: what each keeps of a line, and the record that it makes |
-//! | `streams` | where the bytes of a run come from, and where they go |
 //! | `run` | splitting what a source gives into records for a sink |
 //! | `plays` | the count of nodes played |
 //! | `counting` | the games, nodes and lines of what a source gives |
@@ -58,6 +57,8 @@
 //! | TURN, PLACE and REASON of the first illegal node | `Judge::take` (`judging/judge`) |
 //! | a row; the row of counts; a script | `Row::lay_out`; `Row::lay_out_counts` (`form/row`); `Script::begin`, `Script::say`, `Script::text` (`form/script`); a node's commands: `push_step` (`form/commands`) |
 //! | a game without variations | `SgfForm::follow` (`form/sgf`) |
+//!
+//! A run reads from a [`Source`] and writes to a [`Sink`], which are the crate `byte_streams`.
 //!
 //! The tests of the program (`tests/`) cover what a run writes. The crate `sgf_lines_tests` covers the other calls.
 #![tactic(auto)]
@@ -78,9 +79,12 @@ mod plays;
 mod run;
 mod seek;
 mod sequence_cursor;
-mod streams;
 mod verdict;
 
+pub use byte_streams::{
+    ArraySink, BufferedSink, ReadSource, Sink, SinkFault, SliceSource, Source, SourceFault,
+    WriteSink, put_all,
+};
 pub use counting::{Counts, count, write_counts};
 pub use cursor::Cursor;
 pub use fault::RunFault;
@@ -93,7 +97,4 @@ pub use plays::Plays;
 pub use run::{split, split_counted};
 pub use seek::SeekFault;
 pub use sgf_tree::{Collection, MAX_LENGTH, MemoryFault, ReadFault, read};
-pub use streams::buffered_sink::BufferedSink;
-pub use streams::sink::{ArraySink, Sink, SinkFault, WriteSink, put_all};
-pub use streams::source::{ReadSource, SliceSource, Source, SourceFault};
 pub use verdict::Verdict;

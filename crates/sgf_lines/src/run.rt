@@ -5,7 +5,7 @@ ghost use Rattle.sgf_tree.specs.declared.fault.TheConstants.{MAX_LENGTH};
 ghost use Rattle.sgf_tree.specs.FileOrder.{PlacesRise};
 ghost use Rattle.sgf_tree.specs.Spelling.{Spells};
 ghost use Rattle.sgf_tree.specs.Tree.{node_count};
-ghost use Rattle.sgf_lines.specs.Streams.{HasDelivered, SourceState};
+ghost use Rattle.byte_streams.specs.Streams.{HasDelivered, SourceState};
 ghost use Rattle.sgf_lines.specs.Answer.{IsRun, read_failures, write_failures};
 ghost use Rattle.sgf_lines.specs.RunPlays.{IsRunWithPlays};
 ghost use Rattle.sgf_lines.specs.declared.over_lines.Before.TheVariants.{Unheld};
@@ -22,8 +22,7 @@ use crate::over_lines::{Before, OverLines};
 use crate::plays::Plays;
 use crate::seek::SeekFault;
 use crate::sequence_cursor::SequenceCursor;
-use crate::streams::sink::{Sink, SinkFault};
-use crate::streams::source::Source;
+use byte_streams::{Sink, SinkFault, Source};
 use sgf_tree::{MAX_LENGTH, MemoryFault, Outline, read_outline};
 use std::alloc::Global;
 

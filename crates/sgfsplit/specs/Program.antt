@@ -1,6 +1,6 @@
 -- How the program ends, given the words of its command line.
 use Rattle.std.specs.Prelude.{◌≡◌, ◌⊎◌, ℕ, List, Option, None, IsSome}
-use Rattle.sgf_lines.specs.Streams.{SourceState, SinkState}
+use Rattle.byte_streams.specs.Streams.{SourceState, SinkState}
 use Rattle.clap.specs.declared.error.kind.ErrorKind.{ErrorKind}
 use Rattle.sgfsplit_job.specs.Act.{IsAct, Shows, job_file}
 use Rattle.sgfsplit_job.specs.CommandLine.{AreFaultless, HasFault}

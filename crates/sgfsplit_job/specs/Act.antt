@@ -5,7 +5,7 @@ use Rattle.std.specs.Result.{result_err}
 use Rattle.std.specs.Io.KnownBytes.{Appends}
 use Rattle.clap.specs.declared.error.kind.ErrorKind.{ErrorKind}
 use Rattle.clap.specs.declared.error.kind.ErrorKind.TheVariants.{DisplayHelp, DisplayVersion}
-use Rattle.sgf_lines.specs.Streams.{SinkState, SourceState, Delivers, HasDelivered, TakesNothing}
+use Rattle.byte_streams.specs.Streams.{SinkState, SourceState, Delivers, HasDelivered, TakesNothing}
 use Rattle.sgf_lines.specs.Answer.{IsRun, reads_failed, writes_failed}
 use Rattle.sgf_lines.specs.Counts.{IsCount, IsWriting, counts_row}
 use Rattle.sgf_lines.specs.declared.counting.Counts.{Counts}

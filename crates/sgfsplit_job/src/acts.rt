@@ -4,7 +4,7 @@ ghost use Rattle.std.specs.Prelude.{◌≡◌, ◌<◌, ◌+◌, ℕ, Some, OnOk
 ghost use Rattle.std.specs.Result.{result_err};
 ghost use Rattle.clap.specs.Values.{kind_of};
 ghost use Rattle.sgf_lines.specs.Answer.{reads_failed, writes_failed};
-ghost use Rattle.sgf_lines.specs.Streams.{HasDelivered};
+ghost use Rattle.byte_streams.specs.Streams.{HasDelivered};
 ghost use Rattle.sgf_lines.specs.declared.fault.RunFault.TheVariants.{Memory};
 ghost use Rattle.sgfsplit_job.specs.Fault.{fault_row, status_of};
 ghost use Rattle.sgfsplit_job.specs.Act.{DoesJob, FlushesAfter, IsAct, Shows, TakesText, Tells};

@@ -6,7 +6,7 @@ use Rattle.sgf_tree.specs.Tree.{Games}
 use Rattle.sgf_tree.specs.Spelling.{Spells}
 use Rattle.sgf_lines.specs.Lines.{Line}
 use Rattle.sgf_lines.specs.Record.{output}
-use Rattle.sgf_lines.specs.Streams.{SourceState, SinkState}
+use Rattle.byte_streams.specs.Streams.{SourceState, SinkState}
 use Rattle.sgf_lines.specs.Answer.{HasPage, IsRun}
 use Rattle.sgf_lines.specs.Counts.{IsCount, IsWriting, counts_of, counts_row}
 use Rattle.sgf_lines.specs.declared.counting.Counts.{Counts}

@@ -1,6 +1,6 @@
 -- The vector was empty at first, and the source had the whole text to come.
 use Rattle.std.proofs.Common.{Some, sym, ap, ◌∙◌}
-use Rattle.sgf_lines.specs.Streams.{SourceState, SinkState}
+use Rattle.byte_streams.specs.Streams.{SourceState, SinkState}
 use Rattle.lines_in_memory.proofs.InMemory.{in_memory}
 use Rattle.lines_in_memory.proofs.records.Goals as goal
 

@@ -6,7 +6,7 @@ use Rattle.sgf_tree.specs.declared.fault.TheConstants.{MAX_LENGTH}
 use Rattle.sgf_lines.specs.Lines.{Line, lines, HasNoLineAt}
 use Rattle.sgf_lines.specs.Page.{lines_asked}
 use Rattle.sgf_lines.specs.Record.{output}
-use Rattle.sgf_lines.specs.Streams.{SourceState, SinkState}
+use Rattle.byte_streams.specs.Streams.{SourceState, SinkState}
 use Rattle.sgf_lines.specs.Cursor.{CursorState}
 use Rattle.sgf_lines.specs.Answer.{IsWhole, IsCutShort}
 use Rattle.sgf_lines.specs.inner.Sequences.{SequencesState}

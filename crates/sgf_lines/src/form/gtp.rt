@@ -15,7 +15,7 @@ use crate::judging::judged::begin_or_go_back;
 use crate::line_nodes::LineNodes;
 use crate::over_lines::LineKeeper;
 use crate::sequence_cursor::{Front, SequenceCursor};
-use crate::streams::sink::{Sink, SinkFault, put_all};
+use byte_streams::{Sink, SinkFault, put_all};
 use sgf_tree::MemoryFault;
 use std::alloc::Global;
 

@@ -12,7 +12,7 @@ use crate::judging::judge::Judge;
 use crate::judging::judged::judge_line;
 use crate::over_lines::LineKeeper;
 use crate::sequence_cursor::{Front, SequenceCursor};
-use crate::streams::sink::{Sink, SinkFault, put_all};
+use byte_streams::{Sink, SinkFault, put_all};
 use sgf_tree::MemoryFault;
 use std::alloc::Global;
 

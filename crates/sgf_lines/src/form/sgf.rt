@@ -12,7 +12,7 @@ use crate::form::LineForm;
 use crate::form::pieces::Pieces;
 use crate::over_lines::LineKeeper;
 use crate::sequence_cursor::{Front, SequenceCursor};
-use crate::streams::sink::{Sink, SinkFault, put_all};
+use byte_streams::{Sink, SinkFault, put_all};
 use sgf_tree::MemoryFault;
 use std::alloc::Global;
 

@@ -3,7 +3,7 @@ use Rattle.std.proofs.Common.{Ok, Err, [], ◌+◌, ◌∙◌, ap, append-nil, d
 use Rattle.std.proofs.KnownBytes.{Appends-kept}
 use Rattle.std.proofs.lemmas.List.{take-append-drop}
 use Rattle.sgf_lines.specs.Counts.{counts_row}
-use Rattle.sgf_lines.specs.Streams.{PutsAll}
+use Rattle.byte_streams.specs.Streams.{PutsAll}
 use Rattle.sgf_lines.proofs.counting.write_counts.Goals as goal
 
 pub returns-in_default : goal.returns-in_default

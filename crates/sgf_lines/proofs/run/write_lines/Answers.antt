@@ -6,10 +6,10 @@ use Rattle.sgf_lines.specs.Cursor.{CursorState, advanced}
 use Rattle.sgf_lines.specs.Lines.{lines}
 use Rattle.sgf_lines.specs.Record.{record_of}
 use Rattle.sgf_lines.specs.declared.over_lines.Before.TheVariants.{Held}
-use Rattle.sgf_lines.specs.declared.streams.sink.SinkFault.{SinkFault}
+use Rattle.byte_streams.specs.declared.sink.SinkFault.{SinkFault}
 use Rattle.sgf_lines.specs.inner.Following.{line_before, nodes_before}
 use Rattle.sgf_lines.specs.inner.GoingOn.{PlaysLine, StandsBy, next_by}
-use Rattle.sgf_lines.specs.Streams.{PutsAll}
+use Rattle.byte_streams.specs.Streams.{PutsAll}
 use Rattle.sgf_lines.proofs.Keeping.{line_next}
 use Rattle.sgf_lines.proofs.PlayCounts.{one_written, cut_short, none_left, limit_met, few, goes_forth, one_played, played_then_cut, played_in_part}
 use Rattle.sgf_lines.proofs.run.write_lines.Given.{Over}

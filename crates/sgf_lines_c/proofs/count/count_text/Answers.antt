@@ -1,6 +1,6 @@
 -- The source began with the whole text to come.
 use Rattle.std.proofs.Common.{ap}
-use Rattle.sgf_lines.specs.Streams.{SourceState}
+use Rattle.byte_streams.specs.Streams.{SourceState}
 use Rattle.sgf_lines_c.proofs.InMemory.{count_refused}
 use Rattle.sgf_lines_c.proofs.count.count_text.Goals as goal
 

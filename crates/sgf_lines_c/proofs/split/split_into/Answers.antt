@@ -1,6 +1,6 @@
 -- The vector was empty at first, and the source had the whole text to come.
 use Rattle.std.proofs.Common.{Some, sym, ap, ◌∙◌}
-use Rattle.sgf_lines.specs.Streams.{SourceState, SinkState}
+use Rattle.byte_streams.specs.Streams.{SourceState, SinkState}
 use Rattle.sgf_lines_c.proofs.InMemory.{run_refused, taken_in_memory, put_of_run}
 use Rattle.sgf_lines_c.proofs.split.split_into.Goals as goal
 

@@ -1,6 +1,6 @@
 -- The vector was empty at first, and the source had the whole text to come.
 use Rattle.std.proofs.Common.{[], ◌++◌, Some, sym, ap, ◌∙◌}
-use Rattle.sgf_lines.specs.Streams.{SourceState, SinkState}
+use Rattle.byte_streams.specs.Streams.{SourceState, SinkState}
 use Rattle.sgfsplit_job_tests.proofs.InMemory.{has_written}
 use Rattle.sgfsplit_job_tests.proofs.in_memory.done_in_memory.Goals as goal
 

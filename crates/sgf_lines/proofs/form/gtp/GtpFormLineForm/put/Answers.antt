@@ -2,7 +2,7 @@
 use Rattle.std.proofs.Common.{◌++◌, Err}
 use Rattle.std.specs.Io.KnownBytes.{Appends}
 use Rattle.sgf_lines.specs.declared.options.Form.TheVariants.{Gtp as gtp_form}
-use Rattle.sgf_lines.specs.Streams.{PutsAll}
+use Rattle.byte_streams.specs.Streams.{PutsAll}
 use Rattle.sgf_lines.specs.inner.Views.{built_text}
 use Rattle.sgf_lines.specs.inner.Scripting.{script_text}
 use Rattle.sgf_lines.proofs.LineCounts.{both_put, first_cut}

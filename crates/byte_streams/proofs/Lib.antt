@@ -1,0 +1,2 @@
+pub mod HeldBack
+pub mod SliceEnds

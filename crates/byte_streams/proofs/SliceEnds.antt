@@ -1,0 +1,40 @@
+-- What a source over a slice gives, and what calls for all of some bytes hand on.
+use Rattle.std.proofs.Common.{◌≡◌, ℕ, ◌+◌, ◌-◌, ◌<◌, ◌≤◌, List, ◌++◌, length, take, drop, Option, Some, refl, sym, ap, ◌∙◌, arith, length-append}
+use Rattle.std.specs.Prelude.{min}
+use Rattle.std.specs.Io.KnownBytes.{Appends}
+use Rattle.std.proofs.KnownBytes.{Appends-trans}
+use Rattle.std.proofs.Math.Seq.{take-add}
+use Rattle.std.proofs.lemmas.List.{nil_from_length, take-append-drop, length-take-le, length-drop, drop-drop, take-append-le, take_all}
+use Rattle.byte_streams.specs.Streams.{SourceState, Gives}
+
+-- how a source over a slice stands that has given g bytes
+abbrev stands : List ℕ → ℕ → SourceState
+stands bytes g = record { failures = 0; given = Some (take g bytes); to_come = Some (drop g bytes) }
+
+pub slice_gives : (bytes sl rest : List ℕ) (g n m room : ℕ) → g ≤ length bytes → sl ≡ take m (drop g bytes) → m ≡ n → n ≡ min room (length bytes - g) → 0 < room
+    → (n ≤ length (sl ++ rest)) × Gives (stands bytes g) (stands bytes (g + n)) (take n (sl ++ rest))
+slice_gives bytes sl rest g n m room le is same count some =
+    let left : length (drop g bytes) ≡ length bytes - g = length-drop g bytes in
+    let fits : n ≤ length (drop g bytes) = omega (arith, left, count) in
+    let sl_is : sl ≡ take n (drop g bytes) = is ∙ ap (λ k. take k (drop g bytes)) same in
+    let long : length sl ≡ n = ap length sl_is ∙ length-take-le n (drop g bytes) fits in
+    let front : take n (sl ++ rest) ≡ take n (drop g bytes) =
+    take-append-le n sl rest (omega (arith, long)) ∙ take_all n sl (omega (arith, long)) ∙ sl_is in (
+      omega (arith, length-append sl rest, long),
+      record {
+        never_failed = refl;
+        failures = refl;
+        given = take-add g n bytes ∙ ap (λ bs. take g bytes ++ bs) (sym front);
+        to_come = sym (take-append-drop n (drop g bytes)) ∙ ap (λ bs. take n (drop g bytes) ++ bs) (drop-drop n g bytes) ∙ ap (λ bs. bs ++ drop (g + n) bytes) (sym front);
+        none_at_end = λ none.
+            let zero_bytes : n ≡ 0 = sym (length-take-le n (drop g bytes) fits) ∙ ap length (sym front) ∙ ap length none in
+            nil_from_length (drop (g + n) bytes) (omega (arith, length-drop (g + n) bytes, count, zero_bytes));
+      },
+    )
+
+-- bytes go on where those before them ended
+pub goes_on : (old now new : Option (List ℕ)) (bytes : List ℕ) (done n : ℕ) → Appends old now (take done bytes)
+    → Appends now new (take n (take (length bytes - done) (drop done bytes))) → Appends old new (take (done + n) bytes)
+goes_on old now new bytes done n front more =
+    let left : take (length bytes - done) (drop done bytes) ≡ drop done bytes = take_all (length bytes - done) (drop done bytes) (omega (arith, length-drop done bytes)) in
+    rw (take-add done n bytes) (Appends-trans old now new (take done bytes) (take n (drop done bytes)) front (rw left at more))

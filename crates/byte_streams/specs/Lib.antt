@@ -1,0 +1,3 @@
+-- What the public contracts cite. Words of ghost fields and members are in `inner`.
+pub mod Streams
+pub mod inner

@@ -1,0 +1,2 @@
+-- Words of ghost fields and members.
+pub mod HeldBack
