@@ -1,6 +1,7 @@
 #!/usr/bin/env bash
 # Each public function of the libraries has a doc comment and a contract, which cites no definition of specs/inner/. docs/PROVED.md names each
-# law of the code, and each call in its table of promises exists. Each definition that a table of docs/ names is in the file that the table
+# law of the code, and each call in its table of promises exists. Each function that a table of rules in a lib.rt names is in the module that the
+# table gives. Each definition that a table of docs/ names is in the file that the table
 # gives. Each file that a table of CONTRIBUTING.md names exists.
 . "$(dirname "$0")/lib.sh"
 needs python3
@@ -53,6 +54,17 @@ for path in glob.glob(f"{top}/crates/*/src/laws.rt") + glob.glob(f"{top}/crates/
     with open(path, encoding="utf-8") as file:
         laws = re.findall(r"^pub fn (\w+)\(", file.read(), re.MULTILINE)
     faults.extend(f"{path[len(top) + 1:]}: docs/PROVED.md doesn't name the law {name}" for name in laws if f"`{name}`" not in page)
+decided = 0
+for crate in LIBRARIES:
+    with open(f"{top}/crates/{crate}/src/lib.rt", encoding="utf-8") as file:
+        table = re.search(r"Function, and its module \|\n((?://! \|.*\n)*)", file.read())
+    for names, module in re.findall(r"((?:`[\w:]+`(?:, | and )?)+)(?:, [^`(;|]*)? ?\(`([\w/]+)`\)", table[1] if table else ""):
+        with open(f"{top}/crates/{crate}/src/{module}.rt", encoding="utf-8") as file:
+            code = file.read()
+        for name in re.findall(r"(?:\w+::)?(\w+)`", names):
+            decided += 1
+            if not re.search(rf"\bfn {name}\b", code):
+                faults.append(f"crates/{crate}/src/lib.rt: there is no {name} in {module}")
 defined = 0
 for path in glob.glob(f"{top}/docs/*.md"):
     for line in open(path, encoding="utf-8"):
@@ -72,6 +84,6 @@ for row in re.findall(r"^\|.*", tables, re.MULTILINE):
         path = crate + word if re.match("(src|specs|proofs)/", word) else word
         if not glob.glob(f"{top}/{path}"):
             faults.append(f"CONTRIBUTING.md: there is no {path}")
-print("\n".join(faults) or f"{len(calls)} calls, {defined} definitions")
+print("\n".join(faults) or f"{len(calls)} calls, {decided} functions of rules, {defined} definitions")
 sys.exit(bool(faults))
 PYTHON

@@ -2,7 +2,9 @@
 //!
 //! A [`Source`] gives bytes up to an end, and a [`Sink`] takes bytes and passes them on. Contracts see what a source gave and has still to
 //! give, and what a sink took and delivered. So a caller's contract can say which bytes it read and wrote, whatever failed on the way.
-//! A source or sink over bytes in memory reports each byte. One over a reader or writer reports those that the reader or writer reports.
+//!
+//! A source or sink *reports* bytes if contracts can see them. Over bytes in memory it reports all of them. A `ReadSource` reports only the
+//! bytes still to come, and only if its reader does. A sink over a writer reports what its writer reports.
 //!
 //! ```text
 //! let mut source = SliceSource::new(b"(;B[aa])");
@@ -18,7 +20,8 @@
 //! | `sink` | what takes bytes; sinks over a writer and over an array; putting bytes until all are taken |
 //! | `buffered_sink` | a sink over a writer that holds bytes back |
 //!
-//! Only `BufferedSink::new` takes memory. The crate `sgf_lines_tests` makes sources and sinks fail at each call.
+//! Only `BufferedSink::new` takes memory. (A reader or writer may take memory of its own, as a vector does.) The crates `sgf_lines_tests` and
+//! `sgfsplit_job_tests` make sources and sinks fail at each call.
 #![tactic(auto)]
 
 mod buffered_sink;
