@@ -15,7 +15,7 @@
 //! ```
 //!
 //! The code outside `quick` plays by the rules and can be read by itself, with `ListPast` as the past. `quick` has faster ways to the
-//! same answers, and may be skipped. A run judges with the past of `quick`, `PrintPast`.
+//! same answers, and may be skipped. `sgf_lines` judges with the past of `quick`, `PrintPast`.
 //!
 //! | Module | What it has |
 //! |---|---|
@@ -30,7 +30,7 @@
 //! | `board/flood`, `board/search` | the flood that counts its steps, and its worklist |
 //! | `board/regions`, `board/fill` | sets of points as rows of bits; filling them, which shows the score and who reaches empty |
 //! | `board/liberty` | which points of a row have a liberty |
-//! | `board/areas` | colouring areas and emptying sets of points |
+//! | `board/areas` | colouring the rectangles of a setup, and emptying sets of points |
 //! | `past` | the colourings that a game has been through; `past/list_past` keeps them as they are |
 //! | `reason`, `fault` | why a turn, or a node, is illegal; the errors |
 //! | `referee` | the referee and undo; below it `plays`, `setup` and `turn` |
@@ -40,12 +40,13 @@
 //! | Rule (docs/RULES.md) | Function, and its module |
 //! |---|---|
 //! | the side of a board | `Size::new` (`size`) |
-//! | reaching a colour | `fill` (`board/fill`), which clearing and the score use. `Board::reaching` (`board/flood`) goes point by point, and only callers use it |
+//! | reaching a colour | `fill` (`board/fill`), which clearing and the score use. `Board::reaching` (`board/flood`) goes point by point, and only the tests call it here |
 //! | clearing a colour, which captures its groups without a liberty | `Board::clear` (`board`); which stones have none: `Board::shut_stones` (`board/regions`) |
-//! | a stone: capture, then suicide | `Board::place` (`board`); shortcuts: `Board::takes_nothing_at_a_glance` (`quick/glance`), `Board::find_taken` (`quick/capture`) |
+//! | a stone: capture, then suicide | `Board::place` (`board`); shortcuts: `Board::takes_nothing_at_a_glance` (`quick/glance`), `Board::find_taken` and `Board::put`, which takes off what was found (`quick/capture`) |
 //! | the area score | `Board::score` (`board`); shortcut below side 32: `Board::score_in_halves` (`quick/both_areas`) |
-//! | a turn; `over`, `turn` and `occupied` | `Referee::turn`, `Referee::reason_before_repeat` (`referee/turn`) |
-//! | `repeat` (positional superko) | `Past::play` (`past`); the colourings since the last setup: `ListPast::holds` (`past/list_past`); shortcuts: `PrintPast::may_repeat`, `PrintPast::play_asked`, and `PrintPast::play_on_copy` after a setup that leaves a stone without a liberty (`quick/print_past`); the present stretch begins at `Colourings::stretch_start` there |
+//! | taking a turn; the reasons `over`, `turn` and `occupied` | `Referee::turn`, `Referee::reason_before_repeat` (`referee/turn`) |
+//! | `repeat` (positional superko; suicide of one stone is a case of it) | `Past::play` (`past`); shortcuts: `PrintPast::play_asked`, if `may_repeat` says that it may, and `play_on_copy` after a setup that leaves a stone without a liberty (`quick/print_past`) |
+//! | the colourings that `repeat` looks at: those since the last setup of stones | `ListPast::holds`, `stretch_has` (`past/list_past`); shortcuts: `Table::has` (`quick/print_past/table`), from `Colourings::stretch_start` (`quick/print_past/colourings`) on |
 //! | a pass; two passes end the game | `Referee::take_pass` (`referee/turn`); `Referee::over` (`referee`) |
 //! | which setup it is; passes and player after a setup of stones; a setup of the player | `Referee::setup`; `Referee::begin_anew`; `Referee::set_player` (`referee/setup`) |
 //! | the colouring that a setup makes; the list of colourings begins anew | `Board::colour_areas` (`board/areas`); `Past::set_up` (`past`) |

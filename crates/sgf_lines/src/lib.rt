@@ -1,7 +1,7 @@
 //! The lines of play of a Smart Game Format (SGF FF[4]) collection, from the root of a game to a leaf.
 //!
 //! A [`Cursor`] returns the lines one by one, in file order, over a collection that was read once. [`judge`] returns the verdict
-//! of a line: its first illegal node, or the area score at its end (Tromp-Taylor). A [`Follower`] judges the lines after a cursor
+//! of a line: its first illegal node, or the area score at its end (Tromp-Taylor), or that its game isn't judged. A [`Follower`] judges the lines after a cursor
 //! one by one, and plays shared nodes once. [`split`] writes each line as a record, a text of its own.
 //!
 //! ```text
@@ -17,7 +17,7 @@
 //! }
 //! ```
 //!
-//! The loops end because each pass leaves one line fewer. (`lines_in_memory` has the whole loops, with their proofs.)
+//! The loops end because each pass leaves one line fewer. (`lines_in_memory` has the whole loops, with their proofs. Here are the measures of the two labelled loops.)
 //!
 //! ```text
 //! decreases-lines l = length (lines l.cursor.games) - l.cursor.index
@@ -33,7 +33,7 @@
 //! | `sequence_cursor`, `line_nodes` | going over the lines by their sequences; going over the nodes of one line |
 //! | `options`, `fault` | what a run is asked for; how it may fail |
 //! | `verdict`, `judging` | the verdict of a line; judging lines, in the modules below |
-//! | `judging/one_line`, `judging/judge` | one line, by its leaf or its place; a judge that goes along a line's nodes, and back |
+//! | `judging/one_line`, `judging/judge` | `judge` and `judge_at`: one line, by its leaf or its place; `Judge`, which goes along a line's nodes, and back |
 //! | `judging/judged` | judging a line from the first node that it does not share with the line before it |
 //! | `judging/root`, `judging/contents`, `judging/step` | the board of a root's game; what a node holds; playing a node |
 //! | `over_lines` | going over the lines that follow a cursor, and what is kept from line to line |
@@ -48,17 +48,20 @@
 //! | Rule (docs/OUTPUT.md, docs/RULES.md) | Function, and its module |
 //! |---|---|
 //! | the order of the lines | `SequenceCursor::advance` (`sequence_cursor`) |
-//! | `--after`; `--limit` | `cursor_after`; `write_lines` (`run`) |
-//! | which values are moves, stones and players | `kind_of` (`judging/contents`) |
+//! | `--after`; `--limit` | `end_at`, which `SequenceCursor::seek_after` calls (`sequence_cursor`); `write_lines` (`run`) |
+//! | at most 64 MiB of a source | `read_some` (`run`) |
+//! | which values are moves, stones and players | `kind_of`; `Contents::of_lone` for a node that is recognized at a glance (`judging/contents`) |
 //! | which games are judged: GM; SZ | `is_go`; `size` (`judging/root`) |
-//! | `mixed`, `two-moves` and `bad-setup`; `bad-point` | `effect_of`; `take_move` (`judging/step`) |
+//! | `mixed`, `two-moves` and `bad-setup`; `bad-point` | `effect_of`; `take_move` (`judging/step`); a faulty value of a setup: `push_areas`, `last_player` (`judging/contents`) |
 //! | which values are passes; the last value of PL | `is_pass` (`node_values`); `last_player`, `with_player` (`judging/contents`) |
 //! | the other reasons | the crate `go_board` |
 //! | TURN, PLACE and REASON of the first illegal node | `Judge::take` (`judging/judge`) |
-//! | a row; the row of counts; a script | `Row::lay_out`; `Row::lay_out_counts` (`form/row`); `Script::begin`, `Script::say`, `Script::text` (`form/script`); a node's commands: `push_step` (`form/commands`) |
-//! | a game without variations | `SgfForm::follow` (`form/sgf`) |
+//! | PLACE, GAME and NODES of a row | `SequenceCursor::place`, `SequenceCursor::game`, `SequenceCursor::len` (`sequence_cursor`) |
+//! | a row; the row of counts | `Row::lay_out`; `Row::lay_out_counts` (`form/row`) |
+//! | a script, and that it stops before an illegal node | `Script::begin`, `Script::take`, `Script::text` (`form/script`); a node's commands: `push_step` (`form/commands`) |
+//! | a game without variations | `SgfForm::follow` (`form/sgf`); its nodes: `Outline::push_sequence` of `sgf_tree` |
 //!
-//! A run reads from a [`Source`] and writes to a [`Sink`], which are the crate `byte_streams`.
+//! A run reads from a [`Source`] and writes to a [`Sink`], both of the crate `byte_streams`.
 //!
 //! The tests of the program (`tests/`) cover what a run writes. The crate `sgf_lines_tests` covers the other calls.
 #![tactic(auto)]

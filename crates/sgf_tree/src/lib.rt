@@ -4,11 +4,12 @@
 //! spells, or the first byte that no text of the grammar can have there.
 //! [`measure`] only counts the games, nodes and leaves, which is faster and takes less memory.
 //!
-//! An [`Outline`] ([`read_outline`]) keeps the sequences of a collection, which are the nodes between a `(` and the next parenthesis: in 20 bytes
-//! each, where it stands in the text, the number of its first node, and the sequence that it goes on from. If white space stands between its
-//! nodes, it keeps in 8 bytes where each stretch without any is. The nodes are found on the text, one after another.
-//! A [`Collection`] numbers its nodes from 0 in file order. Beside its outline it keeps the place of each node, in 4 bytes. The properties of
-//! a node and their raw values are read from the text again when they are asked for, one after another. Reading them takes no memory.
+//! An [`Outline`] ([`read_outline`]) keeps the sequences of a collection. A sequence is the nodes between a `(` and the next parenthesis. For
+//! each it keeps, in 20 bytes, where the sequence stands in the text, the number of its first node, and the sequence that it goes on from. If
+//! the sgf form may not copy a sequence in one piece, it keeps each stretch of it in 8 bytes. The nodes are found on the text, one after another.
+//! A [`Collection`] numbers its nodes from 0 in file order. Beside its outline it keeps, in 4 bytes, the place of each node, and for each
+//! sequence the last node below it. The properties of a node and their raw values are read from the text again when they are asked for, one
+//! after another. Reading them takes no memory.
 //!
 //! ```text
 //! let collection = read(alloc, text)?;
@@ -25,7 +26,7 @@
 //! |---|---|
 //! | `reader` | reading a text, and the first fault |
 //! | `reader/keeper`, `reader/games` | what a reader tells the one who keeps a part of it; reading games |
-//! | `reader/own_nodes`, `reader/properties` | what is known of the own nodes of a game; reading the properties of a node |
+//! | `reader/own_nodes`, `reader/properties` | adding nodes one by one to the own nodes of a game; reading the properties of a node |
 //! | `reader/counting` | counting games, nodes and leaves |
 //! | `reader/value` | what ends a raw value, and keeping where long values end |
 //! | `reader/mark`, `reader/scan` | the byte order mark; white space, where parts of a text end, and what stands at an offset |
@@ -36,7 +37,7 @@
 //! | `node`, `property` | looking into a node and a property |
 //! | `iter` | the properties of a node and the values of a property, one after another |
 //! | `written` | writing a node as the sgf form does |
-//! | `layout` | what is known of the own nodes of a game and of a long value |
+//! | `layout` | the types of own nodes, stretches and long values |
 //! | `text`, `numbers` | the decoded text of a value; the value of a number |
 //! | `quick` | shortcuts for what nearly all texts have |
 //! | `fault` | how a call may fail |
@@ -50,14 +51,15 @@
 //! | the name of a property | `PropRef::is`, `PropRef::push_name` (`property`) |
 //! | the end of a raw value | `far_value_end` (`reader/value`) |
 //! | white space: its bytes; its places | `is_white_space` (`reader/scan`); where `reader`, `reader/games` and `reader/properties` call `skip_white_space` |
-//! | the byte order mark | `mark_end` (`reader/mark`) |
+//! | the byte order mark: its bytes; once, before white space | `mark_end` (`reader/mark`); `read_whole` (`reader`) |
 //! | the first fault | where these return `NotSgf`: `read_games`, `read_sequence` (`reader/games`), `read_far_name` (`reader/properties`), `read_far_value` (`reader/value`), `mark_end` (`reader/mark`); `reader/fault` says why that is the first |
 //! | at most 64 MiB | `read`, `read_outline`, `measure` (`reader`) |
-//! | decoded text; numbers | `push_text` (`text`); `number` (`numbers`) |
+//! | decoded text; numbers | `decode_front`, which `push_text` calls (`text`); `number` (`numbers`) |
+//! | a node in sgf form | `push_property`, `push_value` (`written`) |
 //!
 //! The plain code is complete without the shortcuts in `quick`. A shortcut ensures no more than the plain function that it stands in for.
-//! Outside `quick` two things are there only for speed: the ends of long values (`long`), and whether a node is as written (`as_written`),
-//! which tells the sgf form what it may copy at once. A first reader may take `long` to be empty and `as_written` to be false.
+//! Outside `quick` three things are there only for speed: the ends of long values (`long`), whether a node is as written (`as_written`), which
+//! tells the sgf form what it may copy at once, and what a glance shows of a node (`NextNode::Led`, `NextNode::Empty`, `NodeRef::front`). A first reader may take `long` to be empty and `as_written` to be false.
 //!
 //! Worked examples are in the crate `sgf_tree_tests`, and those that the program shows are in `tests/`.
 #![tactic(auto)]

@@ -1,5 +1,5 @@
 //! Shortcuts for what nearly all texts have: moves, short names, short values, and no white space. Each looks at a few bytes, most at sixteen
-//! at once. One is for long values. The rest of the crate is complete without them, so a newcomer may skip this wing.
+//! at once. One is for long values. The rest of the crate is complete without them, so a newcomer may skip this module.
 //!
 //! A shortcut stands in for a plain function, and ensures no more than that one. If it returns None or false, nothing is known: the caller
 //! then calls the plain function. A shortcut that returns an offset or a count may stop early.
