@@ -126,6 +126,7 @@ impl<'a> Iterator for Values<'a> {
 
     /// Takes off the next raw value, and returns it: the bytes between its `[` and its `]`, a part of the text that was read.
     /// After the last one it returns None, however often it is called.
+    #[inline(always)]
     fn next(&mut self) -> Option<&'a [u8]> {
         if let Some(first) = self.first {
             self.first = None;
