@@ -1,6 +1,6 @@
 //! A judge goes along the nodes of a line, and back to the last node that the next line shares.
 
-ghost use Rattle.std.specs.Prelude.{◌≡◌, ◌+◌, ◌<◌, IsTrue, OnOk, OnErr, IfOk, option_copied};
+ghost use Rattle.std.specs.Prelude.{◌≡◌, ◌+◌, ◌<◌, IsTrue, OnOk, OnErr, IfOk, Some, option_copied};
 ghost use Rattle.sgf_tree.specs.Tree.{Node};
 ghost use Rattle.sgf_lines.specs.inner.Gathered.{ComesAs};
 ghost use Rattle.go_board.specs.State.{begun};
@@ -86,7 +86,7 @@ impl Judge {
                     return Err(MemoryFault);
                 };
             }
-            None => self.referee = Some(new_referee(*self.operations.allocator(), size)?),
+            None => put_referee(*self.operations.allocator(), size, &mut self.referee)?,
         }
         self.ended = None;
         Ok(())
@@ -194,14 +194,22 @@ impl Judge {
     }
 }
 
-/// A referee of a game on a board of that size. This is a function of its own because whole boards
-/// stand on its stack. Inlined, it would make each call of `begin_on` set aside room for them.
+/// Puts a referee of a game on a board of that size into `place`. After a refusal of memory `place` is unchanged.
+// Not inlined: whole boards stand on its stack, and each call of `begin_on` would set room for them to zeros.
 #[inline(never)]
-fn new_referee(alloc: Global, size: Size) -> Result<Referee<PrintPast>, MemoryFault>
-    ensures { IfOk result (λ referee. referee ≡ begun size) }
+fn put_referee(
+    alloc: Global,
+    size: Size,
+    place: &mut Option<Referee<PrintPast>>,
+) -> Result<(), MemoryFault>
+    ensures ok { OnOk result (place.new ≡ Some (begun size)) }
+    ensures err { OnErr result (place.new ≡ place.old) }
 {
     match Referee::new(alloc, size) {
-        Ok(referee) => Ok(referee),
+        Ok(referee) => {
+            *place = Some(referee);
+            Ok(())
+        }
         Err(_) => Err(MemoryFault),
     }
 }
