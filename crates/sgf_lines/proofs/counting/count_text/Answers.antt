@@ -7,8 +7,3 @@ pub returns-in-Ok : goal.returns-in-Ok
 returns-in-Ok c source new_source read =
     let held = c.in-Ok.ensures.measured in
     count_of_games source new_source c.args.text.now read held.collection _ held.spelled (c.counted.ensures c.args.text.now held)
-
-pub returns-in-Err : goal.returns-in-Err
-returns-in-Err c source new_source read =
-    count_of_unread source new_source c.args.text.now read c.in-Err.fault c.unread.result c.unread.ensures
-    (λ is. c.in-Err.ensures.too_long.0 (ap Err is)) c.in-Err.ensures.not_sgf

@@ -7,14 +7,6 @@ use Rattle.go_board.proofs.PointLemmas.{length-points}
 use Rattle.sgf_lines.proofs.Cut.{stones-by_point}
 use Rattle.sgf_lines.proofs.form.commands.push_stones.Goals as goal
 
-pub rows-init : goal.rows-init
-rows-init c =
-    let none : 0 * c.args.board.now.side ≡ 0 = omega arith in
-    rw none (sym (append-nil c.args.output.now.items))
-
-pub rows-preserved : goal.rows-preserved
-rows-preserved c = c.in_ok-push_row.ensures c.args.output.now.items c.rows.invariant
-
 pub returns : goal.returns
 returns c =
     let g = c.args.board.now in

@@ -6,9 +6,6 @@ use Rattle.sgf_lines.proofs.RunRecords.{verdict_is}
 use Rattle.sgf_lines.proofs.SequenceCursors.{some_end}
 use Rattle.sgf_lines.proofs.judging.one_line.judge_before.Goals as goal
 
-pub judge_line-requires-clause-front : goal.judge_line-requires-clause-front
-judge_line-requires-clause-front c = record { more = omega (arith, c.sequences-sequences.ensures.some c.requires, c.sequences-sequences.ensures.count); count = refl }
-
 pub returns : goal.returns
 returns c =
     let at = c.args.cursor.now.at in

@@ -22,18 +22,6 @@ returns-in-Led-clause-told g c node is =
     let side = c.args.referee.now.present.colouring.side in
     c.take_contents.ensures.told node (gathered_alone side (lone_property c.in-Led.letter c.in-Led.value.now) node.properties c.of_lone.result (c.of_lone.ensures side) alone)
 
-pub returns-in-Empty-clause-stepped : goal.returns-in-Empty-clause-stepped
-returns-in-Empty-clause-stepped g c node is =
-    let none : node.properties ≡ [] = (rw c.in-Empty.is at is).1 in
-    let side = c.args.referee.now.present.colouring.side in
-    c.take_contents-in-Empty.ensures.stepped node (subst (λ ps. IsGathered side ps [] c.nothing.result) (sym none) (c.nothing.ensures side))
-
-pub returns-in-Empty-clause-told : goal.returns-in-Empty-clause-told
-returns-in-Empty-clause-told g c node is =
-    let none : node.properties ≡ [] = (rw c.in-Empty.is at is).1 in
-    let side = c.args.referee.now.present.colouring.side in
-    c.take_contents-in-Empty.ensures.told node (subst (λ ps. IsGathered side ps [] c.nothing.result) (sym none) (c.nothing.ensures side))
-
 pub returns-in-Open-clause-stepped : goal.returns-in-Open-clause-stepped
 returns-in-Open-clause-stepped g c node is =
     let left : node.properties ≡ told_property c.in-Open.front ++ c.args.nodes.now.properties = (rw c.in-Open.is at is).1 in
