@@ -1,15 +1,13 @@
 -- What is said of the text is said of the run, whatever source gave it.
-use Rattle.std.proofs.Common.{◌≡◌, Err, take, drop, ap, ◌∙◌, arith, rules}
+use Rattle.std.proofs.Common.{◌≡◌, take, drop, ap, ◌∙◌, arith}
 use Rattle.std.specs.Prelude.{unwrap_or}
 use Rattle.std.proofs.lemmas.Result.{err_from_is_err_and}
 use Rattle.sgf_tree.specs.Tree.{node_count}
 use Rattle.sgf_tree.specs.Spelling.{Spells}
-use Rattle.sgf_tree.specs.declared.fault.TheConstants.{MAX_LENGTH}
 use Rattle.sgf_lines.specs.Lines.{lines}
 use Rattle.sgf_lines.specs.inner.Running.{WritesLines}
 use Rattle.sgf_lines.proofs.PlayCounts.{for_options}
-use Rattle.sgf_lines.proofs.Running.{unread_run, no_start_run, lines_run}
-use Rattle.sgf_lines.proofs.Touched.{nodes_within}
+use Rattle.sgf_lines.proofs.Running.{no_start_run, lines_run}
 use Rattle.sgf_lines.proofs.run.split_text.Goals as goal
 
 pub returns-in_err-cursor : goal.returns-in_err-cursor

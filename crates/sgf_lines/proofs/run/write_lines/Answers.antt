@@ -1,6 +1,6 @@
 -- One record more was written, or the sink failed within it.
 use Rattle.std.proofs.Common.{◌≡◌, true, None, Some, Ok, Err, slice_get, sym, ap, ◌∙◌, arith}
-use Rattle.sgf_tree.specs.Tree.{node_count}
+use Rattle.std.proofs.lemmas.Grind.{common_steps}
 use Rattle.sgf_tree.specs.declared.fault.MemoryFault.{MemoryFault}
 use Rattle.sgf_lines.specs.Cursor.{CursorState, advanced}
 use Rattle.sgf_lines.specs.Lines.{lines}
@@ -19,10 +19,7 @@ use Rattle.sgf_lines.proofs.run.write_lines.Goals as goal
 use Rattle.sgf_lines.proofs.run.write_lines.Goals.{After-flush, In-Ok-true, else-page-test, then-page-test+in-Ok-false}
 
 pub next-requires-clause-countable : goal.next-requires-clause-countable
-next-requires-clause-countable g c =
-    let at = c.args.lines.now.cursor.at in
-    let fewer = few at.games c.requires.rise at.index c.args.limit g.F.LineForm.form c.page.written in
-    omega (arith, fewer, c.requires.few, c.page.invariant.plays, ap node_count c.page.invariant.written.same)
+next-requires-clause-countable g c = grind (arith, common_steps, few)
 
 -- the next line was kept
 module _ (g : Over) (c : In-Ok-true g) where

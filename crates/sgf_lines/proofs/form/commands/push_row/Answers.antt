@@ -1,4 +1,4 @@
-use Rattle.std.proofs.Common.{◌≡◌, Some, slice_get, ◌*◌, ◌+◌, [], subst, sym, arith}
+use Rattle.std.proofs.Common.{◌≡◌, Some, slice_get, ◌*◌, ◌+◌, [], subst, arith}
 use Rattle.go_board.specs.declared.points.Point.{Point}
 use Rattle.go_board.specs.Point.{points}
 use Rattle.go_board.proofs.PointLemmas.{slice_get-points}

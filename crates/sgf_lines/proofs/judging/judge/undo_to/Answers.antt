@@ -1,7 +1,6 @@
 -- Each state more is taken back, until no more are there.
-use Rattle.std.proofs.Common.{List, ◌∙◌, ap, sym, arith}
-use Rattle.go_board.specs.State.{State}
-use Rattle.sgf_lines.proofs.Judgements.{back_none, back_undone}
+use Rattle.std.proofs.Common.{◌∙◌, sym, arith}
+use Rattle.sgf_lines.proofs.Judgements.{back_none}
 use Rattle.sgf_lines.proofs.judging.judge.undo_to.Goals as goal
 
 pub returns : goal.returns

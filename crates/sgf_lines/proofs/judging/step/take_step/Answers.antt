@@ -1,6 +1,6 @@
-use Rattle.std.proofs.Common.{◌≡◌, ◌++◌, ◌∷◌, [], sym, subst}
+use Rattle.std.proofs.Common.{◌≡◌, ◌++◌, ◌∷◌, []}
 use Rattle.sgf_tree.specs.Tree.{lone_property, told_property}
-use Rattle.sgf_lines.specs.inner.Gathered.{HoldsAlone, IsGathered}
+use Rattle.sgf_lines.specs.inner.Gathered.{HoldsAlone}
 use Rattle.sgf_lines.proofs.Gathered.{gathered_alone}
 use Rattle.sgf_lines.proofs.judging.step.take_step.Goals as goal
 
