@@ -1,11 +1,12 @@
 -- What a source over a slice gives, and what calls for all of some bytes hand on.
-use Rattle.std.proofs.Common.{◌≡◌, ℕ, ◌+◌, ◌-◌, ◌<◌, ◌≤◌, List, ◌++◌, length, take, drop, Option, Some, refl, sym, ap, ◌∙◌, arith, length-append}
+use Rattle.std.proofs.Common.{◌≡◌, ℕ, ◌+◌, ◌-◌, ◌<◌, ◌≤◌, List, ◌++◌, length, take, drop, Option, Some, refl, sym, ap, ◌∙◌, arith, length-append, rules, [], append-nil}
+use Rattle.std.proofs.lemmas.Grind.{common_steps}
 use Rattle.std.specs.Prelude.{min}
-use Rattle.std.specs.Io.KnownBytes.{Appends}
-use Rattle.std.proofs.KnownBytes.{Appends-trans}
+use Rattle.std.specs.Io.KnownBytes.{Appends, Keeps, append_known}
+use Rattle.std.proofs.KnownBytes.{Appends-trans, append_known-moved}
 use Rattle.std.proofs.Math.Seq.{take-add}
-use Rattle.std.proofs.lemmas.List.{nil_from_length, take-append-drop, length-take-le, length-drop, drop-drop, take-append-le, take_all}
-use Rattle.byte_streams.specs.Streams.{SourceState, Gives}
+use Rattle.std.proofs.lemmas.List.{nil_from_length, take-append-drop, length-take-le, length-drop, drop-drop, take-append-le, take_all, drop_all}
+use Rattle.byte_streams.specs.Streams.{SourceState, Gives, SinkState, Takes}
 
 -- how a source over a slice stands that has given g bytes
 abbrev stands : List ℕ → ℕ → SourceState
@@ -35,6 +36,25 @@ slice_gives bytes sl rest g n m room le is same count some =
 -- bytes go on where those before them ended
 pub goes_on : (old now new : Option (List ℕ)) (bytes : List ℕ) (done n : ℕ) → Appends old now (take done bytes)
     → Appends now new (take n (take (length bytes - done) (drop done bytes))) → Appends old new (take (done + n) bytes)
-goes_on old now new bytes done n front more =
-    let left : take (length bytes - done) (drop done bytes) ≡ drop done bytes = take_all (length bytes - done) (drop done bytes) (omega (arith, length-drop done bytes)) in
-    rw (take-add done n bytes) (Appends-trans old now new (take done bytes) (take n (drop done bytes)) front (rw left at more))
+goes_on old now new bytes done n front more = first_of (search rules, grind (arith, common_steps, Appends-trans, length-drop, take-add, take_all))
+
+-- ---- What a sink holds back, after the bytes that its writer was handed.
+
+-- the writer was handed a front of what is held back
+pub handed_on : (old new : Option (List ℕ)) (buffer : List ℕ) (before handed : ℕ) → before ≡ 0 → Appends old new (take handed buffer)
+    → Keeps (append_known old (drop before buffer)) (append_known new (drop handed buffer))
+handed_on old new buffer before handed none grew = first_of (search rules, grind (arith, common_steps, append_known-moved, take-append-drop))
+
+-- nothing is held back
+pub none_held : (known : Option (List ℕ)) (held : List ℕ) → held ≡ [] → Keeps known (append_known known held)
+none_held known held is = first_of (search rules, grind (arith, common_steps, append-nil))
+
+-- the writer was handed all that was held back, and the buffer was emptied
+pub all_handed_on : (old new : Option (List ℕ)) (buffer emptied : List ℕ) (before handed : ℕ) → before ≡ 0 → length buffer ≤ handed → emptied ≡ []
+    → Appends old new (take handed buffer) → Keeps (append_known old (drop before buffer)) (append_known new (drop before emptied)) × Keeps new (append_known new (drop before emptied))
+all_handed_on old new buffer emptied before handed none all is grew = first_of (search rules, grind (arith, common_steps, drop_all, handed_on, none_held))
+
+-- a sink that holds nothing back delivers what it takes
+pub takes_at_once : (old new : SinkState) (bytes : List ℕ) → old.failures ≡ 0 → new.failures ≡ old.failures → Appends old.taken new.taken bytes → old.delivered ≡ old.taken → new.delivered ≡ new.taken
+    → Takes old new bytes
+takes_at_once old new bytes never same takes before after = first_of (search rules, grind (arith, common_steps))

@@ -1,12 +1,20 @@
 -- A text that is cut where a test passes, by the first byte where it does.
-use Rattle.std.proofs.Common.{◌≡◌, ℕ, ◌<◌, ◌+◌, ◌-◌, ◌++◌, Option, Some, None, Bool, true, false, List, [], ◌∷◌, zero, suc, length, take, drop, get_or, refl, sym, ap, ◌∙◌, arith, length-append}
-use Rattle.std.specs.Prelude.{◌==◌, is_some}
+use Rattle.std.proofs.Common.{◌≡◌, ℕ, ◌<◌, ◌+◌, ◌-◌, ◌++◌, Option, Some, None, Bool, true, false, List, [], ◌∷◌, zero, suc, length, take, drop, get_or, refl, sym, ap, ◌∙◌, arith, length-append, rules, append_assoc, Result, Ok, Err}
+use Rattle.std.proofs.lemmas.Grind.{common_steps}
+use Rattle.std.specs.Prelude.{◌==◌, is_some, filter, OnOk}
 use Rattle.std.specs.List.{flat_map, slice_split}
 use Rattle.std.proofs.Math.Seq.{drop-append_seam}
 use Rattle.std.proofs.lemmas.Bool.{false_from_ne_true}
 use Rattle.std.proofs.lemmas.List.{take_all, length-drop, append-nil, append_assoc}
 use Rattle.memchr.specs.Find.{IsFirstByte}
-use Rattle.sgf_lines.specs.Script.{text_rows, comment_row}
+use Rattle.sgf_lines.specs.Script.{text_rows, comment_row, play_command, stone_commands}
+use Rattle.go_board.specs.declared.stones.Colour.{Colour}
+use Rattle.go_board.specs.declared.points.Point.{Point}
+use Rattle.go_board.specs.declared.referee.plays.Play.TheVariants.{Stone}
+use Rattle.go_board.specs.Colour.{stone_of, same_cell}
+use Rattle.go_board.specs.Point.{points}
+use Rattle.go_board.specs.Grid.{Grid, cell_at}
+use Rattle.sgf_lines.specs.inner.Cutting.{commands_at}
 
 module _ (test : ℕ → Bool) where
   -- no byte before `end` passes
@@ -42,21 +50,16 @@ module _ (test : ℕ → Bool) where
   pub rows-none : (row : List ℕ → List ℕ) (t : List ℕ) (r : Option ℕ) → IsFirstByte test t r → ((end : ℕ) → r ≡ Some end → ⊥)
       → flat_map row (slice_split test t) ≡ row t
   rows-none row t (Some end) first never = absurd (never end refl)
-  rows-none row t None first never =
-      let whole = pieces-none t (λ i before. false_from_ne_true (test (get_or t i 0)) (first i (omega arith) before)) in
-      rw whole (append-nil (row t))
+  rows-none row t None first never = first_of (search rules, grind (arith, common_steps, append-nil, false_from_ne_true, pieces-none))
 
   -- so they are appended one after another
   pub rows-on : (row : List ℕ → List ℕ) (t : List ℕ) (end : ℕ) (old new whole : List ℕ) → IsFirstByte test t (Some end) → new ≡ old ++ row (take end t)
       → old ++ flat_map row (slice_split test t) ≡ whole → new ++ flat_map row (slice_split test (take (length t - (end + 1)) (drop (end + 1) t))) ≡ whole
-  rows-on row t end old new whole found appended before =
-      let later : List ℕ = flat_map row (slice_split test (take (length t - (end + 1)) (drop (end + 1) t))) in
-      ap (λ bs. bs ++ later) appended ∙ append_assoc old (row (take end t)) later ∙ ap (λ bs. old ++ bs) (sym (rows-found row t end found)) ∙ before
+  rows-on row t end old new whole found appended before = first_of (search rules, grind (arith, common_steps, append_assoc, rows-found))
 
 -- the comment rows of a text that isn't empty
 pub of_pieces : (bs : List ℕ) → (length bs ≡ 0 → ⊥) → text_rows bs ≡ flat_map comment_row (slice_split (λ c. c == 10) bs)
-of_pieces [] some = absurd (some refl)
-of_pieces (b ∷ bs) some = refl
+of_pieces bs known = first_of (search rules, grind (arith, common_steps))
 
 -- a text in which no line feed was found is one row
 pub one_row : (t : List ℕ) (r : Option ℕ) → (length t ≡ 0 → ⊥) → IsFirstByte (λ b. b == 10) t r → is_some r ≡ false → text_rows t ≡ comment_row t
@@ -65,6 +68,24 @@ one_row t None some first never = of_pieces t some ∙ rows-none (λ b. b == 10)
 
 -- what was appended is the text from the offset on at which it was appended
 pub appended_last : (head text whole : List ℕ) (start : ℕ) → whole ≡ head ++ text → start ≡ length head → take (length whole - start) (drop start whole) ≡ text
-appended_last head text whole start e s =
-    let last : drop start whole ≡ text = rw (e, s) (drop-append_seam head text) in
-    rw last (take_all (length whole - start) text (omega (arith, ap length e, length-append head text)))
+appended_last head text whole start e s = first_of (search rules, grind (arith, common_steps, drop-append_seam, length-append, take_all))
+
+-- ---- The parts of a script, appended one after another.
+
+-- the stones of a colour, point by point
+lines_of_points : (g : Grid) (k : Colour) (ps : List Point)
+    → flat_map (λ p. play_command g.side k (Stone p)) (filter (λ p. same_cell (cell_at g p) (stone_of k)) ps) ≡ flat_map (commands_at g k) ps
+lines_of_points g k [] = refl
+lines_of_points g k (p ∷ ps) = first_of (search rules, grind (arith, common_steps, lines_of_points g k ps))
+
+pub stones-by_point : (g : Grid) (k : Colour) → flat_map (commands_at g k) (points g.side) ≡ stone_commands g k
+stones-by_point g k = sym (lines_of_points g k (points g.side))
+
+-- two and three texts, appended one after another
+pub joins_two : {E : Type 0} (r : Result (Unit {0}) E) (old mid new a b : List ℕ) → mid ≡ old ++ a → OnOk r (new ≡ mid ++ b) → OnOk r (new ≡ old ++ (a ++ b))
+joins_two (Ok u) old mid new a b e f = f ∙ ap (λ t. t ++ b) e ∙ append_assoc old a b
+joins_two (Err fault) old mid new a b e f = tt
+
+pub joins_three : {E : Type 0} (r : Result (Unit {0}) E) (old first second new a b d : List ℕ) → first ≡ old ++ a → second ≡ first ++ b → OnOk r (new ≡ second ++ d)
+    → OnOk r (new ≡ old ++ ((a ++ b) ++ d))
+joins_three r old first second new a b d e f g = joins_two r old second new (a ++ b) d (f ∙ ap (λ t. t ++ b) e ∙ append_assoc old a b) g

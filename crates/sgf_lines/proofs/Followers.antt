@@ -1,5 +1,6 @@
 -- A follower goes on by a line: the verdict that it gives, and the nodes that it plays for the lines judged in a row.
-use Rattle.std.proofs.Common.{◌≡◌, ℕ, ◌+◌, ◌-◌, ◌<◌, ◌≤◌, List, length, take, drop, slice_get, Some, refl, sym, ap, subst, ◌∙◌, arith}
+use Rattle.std.proofs.Common.{◌≡◌, ℕ, ◌+◌, ◌-◌, ◌<◌, ◌≤◌, List, length, take, drop, slice_get, Some, refl, sym, ap, subst, ◌∙◌, arith, rules}
+use Rattle.std.proofs.lemmas.Grind.{common_steps}
 use Rattle.std.specs.Prelude.{option_map}
 use Rattle.std.proofs.lemmas.List.{take-take}
 use Rattle.std.proofs.lemmas.Option.{slice_get_within}
@@ -26,12 +27,7 @@ use Rattle.sgf_lines.proofs.PlayCounts.{page_from, few, adds, shares_by, Shares}
 
 module _ (before : Before) (old : CursorState) (now : Judging) (path : List ℕ) (row : ℕ) (h : Follows before old now path row) where
   row_within : row ≤ index_by before old.index
-  row_within = by before h.is_row
-    where
-      by : (b : Before) → IsRow b old.index row → row ≤ index_by b old.index
-      by Unheld is = omega (arith, is)
-      by Held is = is.1
-      by Refused is = omega (arith, is)
+  row_within = first_of (search rules, grind (arith, common_steps))
 
   abbrev first : ℕ
   first = index_by before old.index - row

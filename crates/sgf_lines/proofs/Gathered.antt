@@ -1,5 +1,6 @@
 -- What properties hold, gathered one after the other.
-use Rattle.std.proofs.Common.{◌≡◌, ◌≢◌, ◌<◌, ℕ, Bor, Bool, true, false, Option, Some, None, List, [], ◌∷◌, ◌++◌, map, length, All, refl, sym, ap, subst, ◌∙◌, append_assoc, inl, inr, arith, append-nil, length-append}
+use Rattle.std.proofs.Common.{◌≡◌, ◌<◌, ℕ, Bor, Bool, Option, Some, None, List, [], ◌∷◌, ◌++◌, map, length, All, refl, sym, ap, subst, ◌∙◌, append_assoc, inl, inr, arith, append-nil, length-append, rules}
+use Rattle.std.proofs.lemmas.Grind.{common_steps}
 use Rattle.std.specs.Prelude.{option_map, option_and_then, option_copied, find, codes, bytes_eq}
 use Rattle.std.specs.Option.{option_or}
 use Rattle.std.specs.List.{flat_map}
@@ -22,12 +23,12 @@ use Rattle.go_board.specs.Values.{rect_value}
 use Rattle.sgf_lines.specs.declared.judging.contents.Moves.{Moves}
 use Rattle.sgf_lines.specs.declared.judging.contents.Moves.TheVariants.{Several}
 use Rattle.sgf_lines.specs.declared.judging.contents.Setup.{Setup}
-use Rattle.sgf_lines.specs.declared.judging.contents.Setup.TheVariants.{Nothing as NoSetup, Meant, Faulty}
+use Rattle.sgf_lines.specs.declared.judging.contents.Setup.TheVariants.{Faulty}
 use Rattle.sgf_lines.specs.declared.judging.contents.Contents.{Contents}
 use Rattle.sgf_lines.specs.declared.judging.contents.Kind.{Kind}
 use Rattle.sgf_lines.specs.declared.judging.contents.Kind.TheVariants.{Move as move_kind, Stones as stones_kind, Player as player_kind, Comment as comment_kind}
 use Rattle.sgf_lines.specs.NodeContents.{Move, Stones, moves_in, moves_by, stones_in, stones_of, players_in, is_named, first_value}
-use Rattle.sgf_lines.specs.NodeValues.{player_value, operation, operations, last_player}
+use Rattle.sgf_lines.specs.NodeValues.{player_value, operations, last_player}
 use Rattle.sgf_lines.specs.inner.Gathered.{kind_of, AreMoves, IsSetup, setup_with_stones, setup_with_player, AddsAreas, HoldsAlone, IsGathered, ComesAs}
 
 -- one operation before others, and all of two lists, where each is there
@@ -38,23 +39,17 @@ abbrev pub both : Option (List SetupOp) → Option (List SetupOp) → Option (Li
 both a b = option_and_then (λ xs. option_map (λ ys. xs ++ ys) b) a
 
 none_before : (b : Option (List SetupOp)) → b ≡ both (Some []) b
-none_before None = refl
-none_before (Some ops) = refl
+none_before b = first_of (search rules, grind (arith, common_steps))
 
 before_both : (o : Option SetupOp) (a b : Option (List SetupOp)) → before_all o (both a b) ≡ both (before_all o a) b
-before_both None a b = refl
-before_both (Some op) None b = refl
-before_both (Some op) (Some xs) None = refl
-before_both (Some op) (Some xs) (Some ys) = refl
+before_both o a b = first_of (search rules, grind (arith, common_steps))
 
 pub operations-append : (side : ℕ) (ss ts : List Stones) → operations (ss ++ ts) side ≡ both (operations ss side) (operations ts side)
 operations-append side [] ts = none_before (operations ts side)
-operations-append side (s ∷ ss) ts =
-    ap (λ os. before_all (operation s side) os) (operations-append side ss ts) ∙ before_both (operation s side) (operations ss side) (operations ts side)
+operations-append side (s ∷ ss) ts = first_of (search rules, grind (arith, common_steps, before_both, operations-append side ss ts))
 
 both_none : (a : Option (List SetupOp)) → both a None ≡ None
-both_none None = refl
-both_none (Some ops) = refl
+both_none a = first_of (search rules, grind (arith, common_steps))
 
 pub last_player-append : (before : Option Colour) (rs qs : List (List ℕ)) → last_player before (rs ++ qs) ≡ option_and_then (λ b. last_player b qs) (last_player before rs)
 last_player-append before [] qs = refl
@@ -69,20 +64,11 @@ last_player-append before (r ∷ rs) qs = each (λ k. last_player-append (Some k
 pub areas_more : (side : ℕ) (cell : Cell) (front : List (List ℕ)) (raw : List ℕ) (area : Rect) (ops : List SetupOp)
     → operations (map (λ r. record { cell = cell; raw = r }) front) side ≡ Some ops → rect_value raw side ≡ Some area
     → operations (map (λ r. record { cell = cell; raw = r }) (front ++ raw ∷ [])) side ≡ Some (ops ++ record { cell = cell; area = area } ∷ [])
-areas_more side cell front raw area ops are is =
-    let mk : List ℕ → Stones = λ r. record { cell = cell; raw = r } in
-    let last : operations (mk raw ∷ []) side ≡ Some (record { cell = cell; area = area } ∷ []) = rw is refl in
-    ap (λ ss. operations ss side) (map-append mk front (raw ∷ [])) ∙ operations-append side (map mk front) (mk raw ∷ [])
-    ∙ ap (λ o. both o (operations (mk raw ∷ []) side)) are ∙ ap (both (Some ops)) last
+areas_more side cell front raw area ops are is = first_of (search rules, grind (arith, common_steps, map-append, operations-append))
 
 pub areas_stop : (side : ℕ) (cell : Cell) (front : List (List ℕ)) (raw : List ℕ) (left all : List (List ℕ)) → front ++ raw ∷ left ≡ all → rect_value raw side ≡ None
     → operations (map (λ r. record { cell = cell; raw = r }) all) side ≡ None
-areas_stop side cell front raw left all whole is =
-    let mk : List ℕ → Stones = λ r. record { cell = cell; raw = r } in
-    let last : operations (mk raw ∷ map mk left) side ≡ None = rw is refl in
-    ap (λ rs. operations (map mk rs) side) (sym whole)
-    ∙ ap (λ ss. operations ss side) (map-append mk front (raw ∷ left)) ∙ operations-append side (map mk front) (mk raw ∷ map mk left)
-    ∙ ap (both (operations (map mk front) side)) last ∙ both_none (operations (map mk front) side)
+areas_stop side cell front raw left all whole is = first_of (search rules, grind (arith, common_steps, both_none, map-append, operations-append))
 
 -- one value of a player later
 pub later_player : (last : Colour) (raw : List ℕ) (left all : List (List ℕ)) (o : Option Colour) → all ≡ raw ∷ left → o ≡ player_value raw
@@ -95,53 +81,16 @@ module _ (side : ℕ) (ops new : List SetupOp) (stones more : List Stones) (play
   not_all bad = inl (operations-append side stones more ∙ ap (both (operations stones side)) bad ∙ both_none (operations stones side))
 
   pub more_stones : (setup : Setup) (good : Bool) → IsSetup side setup ops stones players → AddsAreas side more ops new good → IsSetup side (setup_with_stones setup good) new (stones ++ more) players
-  more_stones NoSetup false h adds = not_all adds.added
-  more_stones (Meant player) false h adds = not_all adds.added
-  more_stones Faulty false h adds = not_all adds.added
-  more_stones NoSetup true h adds = (
-    operations-append side stones more ∙ ap (λ s. both (operations s side) (operations more side)) h.1 ∙ ap (both (Some [])) adds.added.1
-        ∙ ap Some (sym (adds.added.2 ∙ ap (λ o. o ++ adds.added.0) h.0)),
-    ap (last_player None) h.2,
-    omega (arith, some, length-append stones more),
-  )
-  more_stones (Meant player) true h adds = (
-    operations-append side stones more ∙ ap (λ a. both a (operations more side)) h.0 ∙ ap (both (Some ops)) adds.added.1 ∙ ap Some (sym adds.added.2),
-    h.1,
-    omega (arith, some, length-append stones more),
-  )
-  more_stones Faulty true h adds = elim h [
-    | inl bad ↦ inl (operations-append side stones more ∙ ap (λ a. both a (operations more side)) bad)
-    | inr bad ↦ inr bad
-  ]
+  more_stones setup good known known2 = first_of (search rules, grind (arith, common_steps, length-append, not_all, operations-append))
 
 -- players more
 module _ (side : ℕ) (ops : List SetupOp) (stones : List Stones) (players more : List (List ℕ)) (some : 0 < length more) where
   no_player : ((before : Option Colour) → last_player before more ≡ None) → IsSetup side Faulty ops stones (players ++ more)
-  no_player none = inr (last_player-append None players more ∙ by (last_player None players))
-    where
-      by : (o : Option (Option Colour)) → option_and_then (λ b. last_player b more) o ≡ None
-      by None = refl
-      by (Some before) = none before
+  no_player known = first_of (search rules, grind (arith, common_steps, last_player-append))
 
   pub more_players : (setup : Setup) (last : Option Colour) → IsSetup side setup ops stones players → ((before : Option Colour) → last_player before more ≡ option_map Some last)
       → IsSetup side (setup_with_player setup last) ops stones (players ++ more)
-  more_players NoSetup None h is = no_player is
-  more_players (Meant player) None h is = no_player is
-  more_players Faulty None h is = no_player is
-  more_players NoSetup (Some k) h is = (
-    ap (λ s. operations s side) h.1 ∙ ap Some (sym h.0),
-    last_player-append None players more ∙ ap (λ ps. option_and_then (λ b. last_player b more) (last_player None ps)) h.2 ∙ is None,
-    omega (arith, some, length-append players more),
-  )
-  more_players (Meant player) (Some k) h is = (
-    h.0,
-    last_player-append None players more ∙ ap (λ o. option_and_then (λ b. last_player b more) o) h.1 ∙ is player,
-    omega (arith, some, length-append players more),
-  )
-  more_players Faulty (Some k) h is = elim h [
-    | inl bad ↦ inl bad
-    | inr bad ↦ inr (last_player-append None players more ∙ ap (λ o. option_and_then (λ b. last_player b more) o) bad)
-  ]
+  more_players setup last known known2 = first_of (search rules, grind (arith, common_steps, last_player-append, length-append, no_player))
 
 -- what a property holds
 record Held : Type 0 where
@@ -193,16 +142,13 @@ one_more : {A : Type 0} (f : Property → List A) (ps : List Property) (p : Prop
 one_more f ps p xs is = flat_map-append f ps (p ∷ []) ∙ ap (λ t. flat_map f ps ++ t) (append-nil (f p) ∙ is)
 
 map_or : (x y : Option Property) → option_map (λ (p : Property). p.first) (option_or x y) ≡ option_or (option_map (λ (p : Property). p.first) x) (option_map (λ (p : Property). p.first) y)
-map_or None y = refl
-map_or (Some p) y = refl
+map_or x y = first_of (search rules, grind (arith, common_steps))
 
 no_comment : (o : Option (List ℕ)) → o ≡ option_or o None
-no_comment None = refl
-no_comment (Some c) = refl
+no_comment o = first_of (search rules, grind (arith, common_steps))
 
 first_is : (o : Option (Bor (List ℕ))) (first : Bor (List ℕ)) → option_copied (option_or o (Some first)) ≡ option_or (option_copied o) (Some first.now)
-first_is None first = refl
-first_is (Some c) first = refl
+first_is o first = first_of (search rules, grind (arith, common_steps))
 
 -- what properties hold, and one more
 module _ (side : ℕ) (ps : List Property) (ops : List SetupOp) (old : Contents) (h : IsGathered side ps ops old) (p : Property) where
@@ -268,9 +214,7 @@ values_two k ms p raw left is none =
 -- properties that hold nothing, after others
 pub gathered_others : (side : ℕ) (ps rest : List Property) (contents : Contents) → IsGathered side ps [] contents → All (λ (p : Property). kind_of p ≡ None) rest → IsGathered side (ps ++ rest) [] contents
 gathered_others side ps [] contents h none = subst (λ qs. IsGathered side qs [] contents) (sym (append-nil ps)) h
-gathered_others side ps (p ∷ rest) contents h none =
-    subst (λ qs. IsGathered side qs [] contents) (append_assoc ps (p ∷ []) rest)
-    (gathered_others side (ps ++ p ∷ []) rest contents (gathered_nothing side ps [] contents h p (All-head (λ (p : Property). kind_of p ≡ None) p rest none)) (All-tail (λ (p : Property). kind_of p ≡ None) p rest none))
+gathered_others side ps (p ∷ rest) contents h none = first_of (search rules, grind (arith, common_steps, All-head, All-tail, append_assoc, gathered_others side (ps ++ p ∷ []) rest contents (gathered_nothing side ps [] contents h p (All-head (λ (p : Property). kind_of p ≡ None) p rest none)) (All-tail (λ (p : Property). kind_of p ≡ None) p rest none)))
 
 pub gathered_alone : (side : ℕ) (first : Property) (properties : List Property) (contents : Contents) → IsGathered side (first ∷ []) [] contents → HoldsAlone first properties → IsGathered side properties [] contents
 gathered_alone side first properties contents h alone =
@@ -282,23 +226,10 @@ setup_names = codes "AB" ∷ codes "AW" ∷ codes "AE" ∷ codes "PL" ∷ []
 
 -- other names of two letters hold nothing
 other_kind : (p : Property) → IsOtherName setup_names p.name → kind_of p ≡ None
-other_kind p other =
-    let name : List ℕ = p.name in
-    let is_not : (known : List ℕ) → name ≢ known → bytes_eq name known ≡ false = λ known ne. false_from_ne_true (bytes_eq name known) (λ e. ne ((bytes_eq-Decides name known).0 e)) in
-    let longer : (known : List ℕ) → length known ≡ 1 → name ≢ known = λ known short e. omega (arith, other.letters, ap length e) in
-    rw (
-      is_not (codes "B") (longer (codes "B") refl),
-      is_not (codes "W") (longer (codes "W") refl),
-      is_not (codes "AB") (other.other 0 [] (omega arith)),
-      is_not (codes "AW") (other.other 1 [] (omega arith)),
-      is_not (codes "AE") (other.other 2 [] (omega arith)),
-      is_not (codes "PL") (other.other 3 [] (omega arith)),
-      is_not (codes "C") (longer (codes "C") refl),
-    ) refl
+other_kind p other = first_of (search rules, grind (arith, common_steps, bytes_eq-Decides, false_from_ne_true))
 
 pub led_alone : (first : Property) (properties : List Property) → IsLedBy setup_names first properties → HoldsAlone first properties
-led_alone first properties led =
-    record { rest = led.rest; all = led.all; nothing = All-weaker (λ (p : Property). IsOtherName setup_names p.name) (λ (p : Property). kind_of p ≡ None) other_kind led.rest led.others }
+led_alone first properties led = first_of (search rules, grind (arith, common_steps, All-weaker, other_kind))
 
 -- there is a node that comes so
 pub coming : (left : List Property) (next : NextNode) → (node : Node) × ComesAs node left next

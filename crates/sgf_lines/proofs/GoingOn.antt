@@ -1,13 +1,13 @@
 -- The cursor went on to the next line, and so many nodes are played for that line.
-use Rattle.std.proofs.Common.{◌≡◌, ℕ, ◌-◌, ◌<◌, length, slice_get, Result, Ok, Err, inr, sym, ap, subst, ◌∙◌, arith}
+use Rattle.std.proofs.Common.{◌≡◌, ℕ, ◌-◌, ◌<◌, length, Result, Ok, Err, inr, ap, subst, arith, rules}
+use Rattle.std.proofs.lemmas.Grind.{common_steps}
 use Rattle.std.specs.Prelude.{Bool}
 use Rattle.std.specs.Result.{IsErr}
-use Rattle.sgf_lines.specs.Lines.{lines}
 use Rattle.sgf_lines.specs.Cursor.{CursorState}
 use Rattle.sgf_lines.specs.declared.sequence_cursor.Front.{Front}
 use Rattle.sgf_lines.specs.declared.over_lines.Before.{Before}
 use Rattle.sgf_lines.specs.declared.over_lines.Before.TheVariants.{Unheld, Held, Refused}
-use Rattle.sgf_lines.specs.inner.Following.{nodes_of, nodes_before, path_before, Continues}
+use Rattle.sgf_lines.specs.inner.Following.{nodes_before, path_before, Continues}
 use Rattle.sgf_lines.specs.inner.GoingOn.{AreHeld, GoesOnBy, HasPlays, PlaysLine, StandsBy, index_by}
 use Rattle.sgf_lines.specs.inner.Keeping.{PlaysUpTo, fresh_plays}
 use Rattle.sgf_lines.specs.inner.Sequences.{SequencesState}
@@ -43,17 +43,7 @@ goes_on Holds Refused old new held stands go = record {
 }
 
 pub has_plays : (before : Before) (old new : SequencesState) (held : Front) → IsNext before old new held → (counts : ℕ → ℕ) → HasPlays counts before old.at (counts (fresh_plays (nodes_before new.at) held.nodes))
-has_plays before old new held next counts =
-    let own = some_line new.at next.some_node in
-    record {
-      line = own.0;
-      found =
-          ap (slice_get (lines old.at.games)) (sym next.index) ∙ ap (λ g. slice_get (lines g) (new.at.index - 1)) (sym next.games)
-          ∙ sym (line_is new.at (some_before new.at next.some_node)) ∙ own.1;
-      held = held.nodes;
-      are_held = next.are_held;
-      count_is = ap (λ o. counts (fresh_plays (nodes_of o) held.nodes)) own.1;
-    }
+has_plays before old new held next counts = first_of (search rules, grind (arith, common_steps, line_is, some_before, some_line))
 
 -- what was counted for it
 pub plays_refused : {E F : Type 0} (A : Type 0) (counts : ℕ → ℕ) (b : Before) (at : CursorState) (old new count : ℕ) (e : E) (r : Result Bool F) → IsErr r → HasPlays counts b at count

@@ -1,13 +1,15 @@
 -- How many nodes are judged of a front of a line, and of the whole.
-use Rattle.std.proofs.Common.{◌≡◌, ℕ, ◌+◌, ◌-◌, ◌≤◌, List, length, min, take, drop, ◌++◌, slice_get, Some, Result, Ok, Err, OnOk, sym, ap, subst, ◌∙◌, arith}
+use Rattle.std.proofs.Common.{◌≡◌, ℕ, ◌+◌, ◌-◌, ◌≤◌, List, [], ◌∷◌, refl, length, min, take, drop, ◌++◌, slice_get, Option, Some, Result, Ok, Err, OnOk, sym, ap, subst, ◌∙◌, arith, rules}
+use Rattle.std.proofs.lemmas.Grind.{common_steps}
+use Rattle.std.specs.Prelude.{IfSome}
 use Rattle.std.specs.Result.{IsErr}
 use Rattle.std.proofs.lemmas.List.{take_all, take-append-drop, length-take}
 use Rattle.sgf_tree.specs.Tree.{Node}
 use Rattle.sgf_lines.specs.JudgedGames.{game_kind, root_properties}
 use Rattle.sgf_lines.specs.Verdict.{judged_on}
-use Rattle.sgf_lines.specs.inner.Judging.{Judging, IsSettled, judging, after, next_plays}
-use Rattle.sgf_lines.specs.inner.Keeping.{judging_front, script_front, fresh_plays, PlaysUpTo}
-use Rattle.sgf_lines.specs.inner.Scripting.{script_of}
+use Rattle.sgf_lines.specs.inner.Judging.{Judging, IsSettled, begun_game, judging, after, next_plays}
+use Rattle.sgf_lines.specs.inner.Keeping.{HoldsJudgement, judging_front, script_front, fresh_plays, PlaysUpTo}
+use Rattle.sgf_lines.specs.inner.Scripting.{ScriptState, script_of}
 use Rattle.sgf_lines.proofs.Lists.{front_more}
 use Rattle.sgf_lines.proofs.Walking.{judged_of_front}
 use Rattle.sgf_lines.proofs.Scripts.{script_settled}
@@ -30,6 +32,11 @@ pub record JudgesTo (nodes : List Node) (held old i : ℕ) (judge : Judging) : T
 pub judges_begun : (nodes : List Node) (held old : ℕ) (judge : Judging) → judge.judgement ≡ judging_front nodes held → judge.plays ≡ old → JudgesTo nodes held old held judge
 judges_begun nodes held old judge is plays = record { judged = is; plays = omega (arith, plays); few = omega (arith, plays) }
 
+-- the judgement before the root is that of its game
+pub begun_front : (nodes : List Node) (root : Node) (held : ℕ) → slice_get nodes 0 ≡ Some root → held ≡ 0 → begun_game (game_kind root.properties) ≡ judging_front nodes held
+begun_front [] root held e none = absurd cc
+begun_front (n ∷ ns) root held e none = let same : n ≡ root = cc in rw (none, same) refl
+
 module _ (nodes : List Node) (held old i : ℕ) (judge : Judging) (h : JudgesTo nodes held old i judge) (le : held ≤ i) (n : Node) (at : slice_get nodes i ≡ Some n) where
   judging_next : after judge.judgement n ≡ judging_front nodes (i + 1)
   judging_next =
@@ -50,17 +57,14 @@ module _ (nodes : List Node) (held old i : ℕ) (judge : Judging) (h : JudgesTo 
   }
 
   -- or none, or its play alone, for want of memory
-  pub stopped : {A E : Type 0} (e : E) (new : ℕ) → judge.plays ≤ new → new ≤ judge.plays + next_plays judge.judgement → PlaysUpTo {A = A} old new (fresh_plays nodes held) (Err e)
-  stopped e new more less = record { not_fewer = omega (arith, h.plays, more); not_more = omega (arith, h.plays, less, plays_next, le, one_at_most judge.judgement); each = tt }
+  pub stopped : {A E : Type 0} (r : Result A E) → IsErr r → (new : ℕ) → judge.plays ≤ new → new ≤ judge.plays + next_plays judge.judgement → PlaysUpTo old new (fresh_plays nodes held) r
+  stopped (Ok x) is new more less = absurd cc
+  stopped (Err e) is new more less = record { not_fewer = omega (arith, h.plays, more); not_more = omega (arith, h.plays, less, plays_next, le, one_at_most judge.judgement); each = tt }
 
 -- as much was counted, whatever came of the rest
 pub on_any : {A E : Type 0} {P : Type 0} (r : Result A E) → P → OnOk r P
 on_any (Ok x) p = p
 on_any (Err e) p = tt
-
-pub fresh_of_err : {B E F : Type 0} (A : Type 0) {old new count : ℕ} (e : E) (r : Result B F) → IsErr r → PlaysUpTo {A = A} old new count (Err e) → PlaysUpTo old new count r
-fresh_of_err A e (Ok x) bad h = absurd cc
-fresh_of_err A e (Err f) is h = record { not_fewer = h.not_fewer; not_more = h.not_more; each = tt }
 
 -- no node more is judged than the first `i`, and the judgement and the script stay
 module _ (nodes : List Node) (held old i : ℕ) (judge : Judging) (h : JudgesTo nodes held old i judge) where
@@ -71,14 +75,7 @@ module _ (nodes : List Node) (held old i : ℕ) (judge : Judging) (h : JudgesTo 
 
   -- all nodes
   pub all_whole : length nodes ≤ i → IsWhole
-  all_whole past =
-      let kind = game_kind (root_properties nodes) in
-      let all = take_all (length nodes) nodes (omega arith) ∙ sym (take_all i nodes past) in
-      record {
-        judged = ap (judging kind) all;
-        said = ap (script_of kind) all;
-        count = ap (λ ns. length (judged_on kind ns)) (sym (take_all i nodes past)) ∙ front_count nodes i;
-      }
+  all_whole past = first_of (search rules, grind (arith, common_steps, front_count, take_all))
 
   -- a verdict that is known
   pub settled_whole : IsSettled judge.judgement → IsWhole
@@ -94,9 +91,14 @@ module _ (nodes : List Node) (held old i : ℕ) (judge : Judging) (h : JudgesTo 
         count = ap (λ ns. length (judged_on kind ns)) parts ∙ on.1 ∙ front_count nodes i;
       }
 
-  pub judged_all : IsWhole → judge.judgement ≡ judging_front nodes (length nodes)
-  judged_all whole = h.judged ∙ sym whole.judged
-
-  pub fresh_all : IsWhole → {A E : Type 0} (r : Result A E) → PlaysUpTo old judge.plays (fresh_plays nodes held) r
-  fresh_all whole r =
-      record { not_fewer = omega (arith, h.plays); not_more = omega (arith, h.plays, whole.count); each = on_any r (omega (arith, h.plays, whole.count)) }
+  pub finish : IsWhole → (told : Option ScriptState) → IfSome told (λ t. t ≡ script_front nodes i) → {A E : Type 0} (r : Result A E)
+      → record {
+        judged : OnOk r (HoldsJudgement nodes judge.judgement);
+        told : OnOk r (IfSome told (λ t. t ≡ script_front nodes (length nodes)));
+        plays : PlaysUpTo old judge.plays (fresh_plays nodes held) r;
+      }
+  finish whole told is r = record {
+    judged = on_any r (h.judged ∙ sym whole.judged);
+    told = on_any r (rw whole.said is);
+    plays = record { not_fewer = omega (arith, h.plays); not_more = omega (arith, h.plays, whole.count); each = on_any r (omega (arith, h.plays, whole.count)) };
+  }

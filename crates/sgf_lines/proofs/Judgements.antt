@@ -1,8 +1,9 @@
 -- A line's judgement goes on by a node, and back to its first nodes.
-use Rattle.std.proofs.Common.{◌≡◌, ℕ, ◌<◌, ◌≤◌, List, [], ◌∷◌, length, refl, ap, ◌∙◌, arith, suc, ◌+◌, ◌++◌, take, drop, Option, Some, None, Result, Ok, Err, sym, subst, length-append, append-nil, append_assoc}
+use Rattle.std.proofs.Common.{◌≡◌, ℕ, ◌<◌, ◌≤◌, List, [], ◌∷◌, length, refl, ap, ◌∙◌, arith, suc, ◌+◌, ◌++◌, take, drop, Option, Some, None, Result, Ok, Err, sym, subst, length-append, append-nil, append_assoc, rules}
+use Rattle.std.proofs.lemmas.Grind.{common_steps}
 use Rattle.std.proofs.lemmas.Bool.{le-leb, lt-leb}
 use Rattle.go_board.specs.State.{State, States, followed_by}
-use Rattle.sgf_lines.specs.inner.Back.{back_from, back_to}
+use Rattle.sgf_lines.specs.inner.Judging.{back_from, back_to, Judgement, Judging, IsSettled, unjudged, judged, judgement_of, side_in, begun_game, stepped, after, judging, back, verdict_in, board_in, state_after, state_of, taken_by, next_plays}
 use Rattle.std.specs.Prelude.{fold}
 use Rattle.std.proofs.lemmas.List.{take_all, take-append-le, take-append-drop, length-take-le}
 use Rattle.std.proofs.lemmas.List.Sums.{fold-append}
@@ -14,7 +15,6 @@ use Rattle.sgf_lines.specs.JudgedGames.{GameKind, not_go, bad_size, board}
 use Rattle.sgf_lines.specs.Step.{step}
 use Rattle.sgf_lines.specs.Walk.{TakenNode, IllegalNode, Walk, before_root, next_by, next, walk, judged_by}
 use Rattle.sgf_lines.specs.Verdict.{verdict_at, verdict_by, judged_on}
-use Rattle.sgf_lines.specs.inner.Judging.{Judgement, Judging, IsSettled, unjudged, judged, judgement_of, side_in, begun_game, stepped, after, judging, back, verdict_in, board_in, state_after, state_of, taken_by, next_plays}
 use Rattle.sgf_lines.proofs.Walking.{StandsAfter, scores_there, next_is, one_judged}
 use Rattle.sgf_lines.specs.Walk as along
 
@@ -31,9 +31,7 @@ back_one : (s e : State) (es : List State) (depth : ℕ) → depth < length (e �
 back_one s e es depth lt = rw (lt-leb (length (e ∷ es)) depth lt) refl
 
 pub back_undone : (old new : States) (depth : ℕ) (s : State) → depth < length old.earlier → old ≡ followed_by new s → back_to old depth ≡ back_to new depth
-back_undone old new depth s lt is =
-    let more : depth < length (new.present ∷ new.earlier) = omega (arith, ap (λ (o : States). length o.earlier) is) in
-    ap (λ o. back_to o depth) is ∙ back_one s new.present new.earlier depth more
+back_undone old new depth s lt is = first_of (search rules, grind (arith, common_steps, back_one))
 
 pub judging_more : (kind : GameKind) (nodes : List Node) (node : Node) → judging kind (nodes ++ node ∷ []) ≡ after (judging kind nodes) node
 judging_more kind nodes node = fold-append after (begun_game kind) nodes (node ∷ [])
@@ -68,9 +66,7 @@ back_within : (count : ℕ) (states : States) (ended : Option Verdict) → count
 back_within count states ended le = rw (le-leb count (length states.earlier) le) refl
 
 back_here : (count : ℕ) (j : Judgement) → Came count j → back count j ≡ j
-back_here count (unjudged told) h = refl
-back_here count (judged states None) h = back_within count states None (omega (arith, h)) ∙ ap (λ s. judged s None) (back_none states count (omega (arith, h)))
-back_here count (judged states (Some told)) h = rw (lt-leb count (length states.earlier) h) refl
+back_here count j known = first_of (search rules, grind (arith, common_steps, back_none, back_within, lt-leb))
 
 -- unless the line ended, at least this many nodes were taken
 abbrev HasTaken : ℕ → Judgement → Type 0
@@ -79,9 +75,7 @@ HasTaken count (judged states None) = count ≤ length states.earlier
 HasTaken count (judged states (Some told)) = Unit {0}
 
 came_taken : (count : ℕ) (j : Judgement) → Came count j → HasTaken count j
-came_taken count (unjudged told) h = tt
-came_taken count (judged states None) h = omega (arith, h)
-came_taken count (judged states (Some told)) h = tt
+came_taken count j known = first_of (search rules, grind (arith, common_steps))
 
 back_on : (count : ℕ) (j : Judgement) (nodes : List Node) → HasTaken count j → back count (fold after j nodes) ≡ back count j
 back_on count j [] h = refl
@@ -101,9 +95,7 @@ back_on count j (n ∷ ns) h = (let next = one j h in back_on count (after j n) 
     one (judged states (Some told)) h = (tt, refl)
 
 came_first : (kind : GameKind) → Came 0 (begun_game kind)
-came_first not_go = tt
-came_first bad_size = tt
-came_first (board side) = refl
+came_first kind = first_of (search rules, grind (arith, common_steps))
 
 came_front : (kind : GameKind) (nodes : List Node) (count : ℕ) → count ≤ length nodes → Came count (judging kind (take count nodes))
 came_front kind nodes count le = subst (λ n. Came n (judging kind (take count nodes))) (omega (arith, length-take-le count nodes le)) (came_on 0 (begun_game kind) (take count nodes) (came_first kind))
@@ -129,13 +121,7 @@ next_none : (walked : Walk) (node : Node) (met : IllegalNode) → walked.illegal
 next_none walked node met some = ap (λ o. next_by walked o node) some
 
 walk_more : (j : Judgement) (walked : Walk) (node : Node) → IsOfWalk j walked → IsOfWalk (after j node) (next walked node)
-walk_more (unjudged told) walked node h = absurd h
-walk_more (judged states (Some told)) walked node h = rw (next_none walked node h.0.0 h.0.1) h
-walk_more (judged states None) walked node h = by (step states.present node) refl
-  where
-    by : (r : Result State Reason) → step states.present node ≡ r → IsOfWalk (stepped states node r) (next walked node)
-    by (Ok s) e = rw (next_is walked states.present h.0 node (Ok s) e) (record { no_illegal = refl; state = refl }, omega (arith, h.1, length-append walked.taken (record { node = node; after = s } ∷ [])))
-    by (Err reason) e = rw (next_is walked states.present h.0 node (Err reason) e) ((record { node = node; reason = reason }, refl, h.0.state, refl), h.1)
+walk_more j walked node known = first_of (search rules, grind (arith, common_steps, length-append, next_is, next_none))
 
 walk_on : (j : Judgement) (walked : Walk) (nodes : List Node) → IsOfWalk j walked → IsOfWalk (fold after j nodes) (fold next walked nodes)
 walk_on j walked [] h = h
@@ -145,31 +131,20 @@ of_walk : (side : ℕ) (nodes : List Node) → IsOfWalk (judging (board side) no
 of_walk side nodes = walk_on (begun_game (board side)) (before_root side) nodes (record { no_illegal = refl; state = refl }, refl)
 
 verdict_of_walk : (j : Judgement) (walked : Walk) → IsOfWalk j walked → verdict_in j ≡ verdict_at walked
-verdict_of_walk (unjudged told) walked h = absurd h
-verdict_of_walk (judged states None) walked h = sym (scores_there walked states.present h.0)
-verdict_of_walk (judged states (Some told)) walked h = rw (h.0.1, h.0.2) h.0.3
+verdict_of_walk j walked known = first_of (search rules, grind (arith, common_steps, scores_there))
 
 pub judging_verdict : (kind : GameKind) (nodes : List Node) → verdict_in (judging kind nodes) ≡ verdict_by kind nodes
-judging_verdict not_go nodes = ap verdict_in (unjudged_stays NotGo nodes)
-judging_verdict bad_size nodes = ap verdict_in (unjudged_stays BadSize nodes)
-judging_verdict (board side) nodes = verdict_of_walk (judging (board side) nodes) (walk side nodes) (of_walk side nodes)
+judging_verdict kind nodes = first_of (search rules, grind (arith, common_steps, of_walk, unjudged_stays, verdict_of_walk))
 
 -- the nodes that were taken
 walk_step : (side : ℕ) (nodes : List Node) (node : Node) → walk side (nodes ++ node ∷ []) ≡ next (walk side nodes) node
 walk_step side nodes node = fold-append next (before_root side) nodes (node ∷ [])
 
 taken_next : (j : Judgement) (walked : Walk) (node : Node) → IsOfWalk j walked → (next walked node).taken ≡ walked.taken ++ taken_by (state_after j node) node
-taken_next (unjudged told) walked node h = absurd h
-taken_next (judged states (Some told)) walked node h = ap (λ (w : Walk). w.taken) (next_none walked node h.0.0 h.0.1) ∙ sym (append-nil walked.taken)
-taken_next (judged states None) walked node h = by (step states.present node) refl
-  where
-    by : (r : Result State Reason) → step states.present node ≡ r → (next walked node).taken ≡ walked.taken ++ taken_by (state_of r) node
-    by (Ok s) e = ap (λ (w : Walk). w.taken) (next_is walked states.present h.0 node (Ok s) e)
-    by (Err reason) e = ap (λ (w : Walk). w.taken) (next_is walked states.present h.0 node (Err reason) e) ∙ sym (append-nil walked.taken)
+taken_next j walked node known = first_of (search rules, grind (arith, common_steps, append-nil, next_is, next_none))
 
 pub taken_more : (side : ℕ) (nodes : List Node) (node : Node) → (walk side (nodes ++ node ∷ [])).taken ≡ (walk side nodes).taken ++ taken_by (state_after (judging (board side) nodes) node) node
-taken_more side nodes node =
-    ap (λ (w : Walk). w.taken) (walk_step side nodes node) ∙ taken_next (judging (board side) nodes) (walk side nodes) node (of_walk side nodes)
+taken_more side nodes node = first_of (search rules, grind (arith, common_steps, of_walk, taken_next, walk_step))
 
 -- those of a longer walk begin with them
 taken_on : (count : ℕ) (walked : Walk) (nodes : List Node) → (walked.illegal ≡ None → count ≤ length walked.taken) → take count (fold next walked nodes).taken ≡ take count walked.taken
@@ -187,9 +162,7 @@ taken_on count walked (n ∷ ns) h = (let one = by walked.illegal refl in taken_
     by (Some met) e = (h, refl)
 
 taken_count : (count : ℕ) (j : Judgement) (walked : Walk) → Came count j → IsOfWalk j walked → (length walked.taken ≤ count) × (walked.illegal ≡ None → count ≤ length walked.taken)
-taken_count count (unjudged told) walked came h = absurd h
-taken_count count (judged states None) walked came h = (omega (arith, came, h.1), λ none. omega (arith, came, h.1))
-taken_count count (judged states (Some told)) walked came h = (omega (arith, came, h.1), λ none. let bad : None ≡ Some h.0.0 = sym none ∙ h.0.1 in absurd cc)
+taken_count count j walked known known2 = first_of (search rules, grind (arith, common_steps))
 
 pub taken_cut : (side : ℕ) (nodes : List Node) (count : ℕ) → count ≤ length nodes → (walk side (take count nodes)).taken ≡ take count (walk side nodes).taken
 taken_cut side nodes count le =
@@ -201,13 +174,7 @@ taken_cut side nodes count le =
 
 -- a node was taken only if the line had not ended, by a step that is taken
 pub taken_only : (j : Judgement) (node : Node) (s : State) → state_after j node ≡ Some s → (states : States) × (j ≡ judged states None) × (step states.present node ≡ Ok s)
-taken_only (unjudged told) node s e = absurd cc
-taken_only (judged states (Some told)) node s e = absurd cc
-taken_only (judged states None) node s e = (states, refl, by (step states.present node) e)
-  where
-    by : (r : Result State Reason) → state_of r ≡ Some s → r ≡ Ok s
-    by (Ok t) e = let same : t ≡ s = cc in ap Ok same
-    by (Err reason) e = absurd cc
+taken_only j node s known = first_of (search rules, grind (arith, common_steps))
 
 -- the board of a node that was taken
 pub board_after : (j : Judgement) (node : Node) (s : State) → state_after j node ≡ Some s → board_in (after j node) ≡ Some s.colouring
@@ -216,9 +183,7 @@ board_after j node s e = let t = taken_only j node s e in ap (λ k. board_in (af
 -- ---- how many nodes are judged
 
 one_played : (j : Judgement) (walked : Walk) (node : Node) → IsOfWalk j walked → length (judged_by (next walked node)) ≡ length (judged_by walked) + next_plays j
-one_played (unjudged told) walked node h = absurd h
-one_played (judged states None) walked node h = ap length (one_judged walked node h.0.no_illegal) ∙ length-append (judged_by walked) (node ∷ [])
-one_played (judged states (Some told)) walked node h = omega (arith, ap (λ w. length (judged_by w)) (next_none walked node h.0.0 h.0.1))
+one_played j walked node known = first_of (search rules, grind (arith, common_steps, length-append, next_none, one_judged))
 
 pub plays_more : (kind : GameKind) (nodes : List Node) (node : Node) → length (judged_on kind (nodes ++ node ∷ [])) ≡ length (judged_on kind nodes) + next_plays (judging kind nodes)
 plays_more not_go nodes node = omega (arith, ap next_plays (unjudged_stays NotGo nodes))
@@ -228,14 +193,10 @@ plays_more (board side) nodes node =
 
 -- none, once the verdict is known
 settled_stays : (j : Judgement) (node : Node) → IsSettled j → after j node ≡ j
-settled_stays (unjudged told) node h = refl
-settled_stays (judged states (Some told)) node h = refl
-settled_stays (judged states None) node h = absurd h
+settled_stays j node known = first_of (search rules, grind (arith, common_steps))
 
 pub settled_none : (j : Judgement) (node : Node) → IsSettled j → (state_after j node ≡ None) × (next_plays j ≡ 0)
-settled_none (unjudged told) node h = (refl, refl)
-settled_none (judged states (Some told)) node h = (refl, refl)
-settled_none (judged states None) node h = absurd h
+settled_none j node known = first_of (search rules, grind (arith, common_steps))
 
 pub settled_more : (kind : GameKind) (nodes : List Node) (node : Node) → IsSettled (judging kind nodes) → judging kind (nodes ++ node ∷ []) ≡ judging kind nodes
 settled_more kind nodes node h = judging_more kind nodes node ∙ settled_stays (judging kind nodes) node h
@@ -253,9 +214,7 @@ settled_all kind nodes (n ∷ ns) h =
 
 -- what a judge says of one node more
 pub one_at_most : (j : Judgement) → next_plays j ≤ 1
-one_at_most (unjudged told) = omega arith
-one_at_most (judged states None) = omega arith
-one_at_most (judged states (Some told)) = omega arith
+one_at_most j = first_of (search rules, grind (arith, common_steps))
 
 module _ (ended : Option Verdict) (referee : Option States) (r : States) (plays : ℕ) (now : Judging) (view : record { judgement = judgement_of ended referee; plays = plays } ≡ now) (is : referee ≡ Some r) where
   stood : now.judgement ≡ judged r ended
@@ -270,11 +229,7 @@ module _ (ended : Option Verdict) (referee : Option States) (r : States) (plays 
   -- a step that was refused settles the verdict
   pub refused : (node : Node) (reason : Reason) (turn place : ℕ) (new : States) → ended ≡ None → step r.present node ≡ Err reason → new ≡ r → turn ≡ new.present.turns → node.place ≡ place
       → judged new (Some (Illegal (turn + 1) place reason)) ≡ after now.judgement node
-  refused node reason turn place new none took same turn_is place_is =
-      ap (λ (s : States). judged s (Some (Illegal (turn + 1) place reason))) same
-      ∙ ap (λ t. judged r (Some (Illegal (t + 1) place reason))) (turn_is ∙ ap (λ (s : States). s.present.turns) same)
-      ∙ ap (λ p. judged r (Some (Illegal (r.present.turns + 1) p reason))) (sym place_is)
-      ∙ sym (ap (λ j. after j node) (stood ∙ ap (judged r) none) ∙ ap (stepped r node) took)
+  refused node reason turn place new none took same turn_is place_is = first_of (search rules, grind (arith, common_steps, stood))
 
   pub leads_nowhere : (node : Node) (reason : Reason) → ended ≡ None → step r.present node ≡ Err reason → state_after now.judgement node ≡ None
   leads_nowhere node reason none took = ap (λ j. state_after j node) (stood ∙ ap (judged r) none) ∙ ap state_of took

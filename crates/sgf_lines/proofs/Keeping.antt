@@ -1,6 +1,6 @@
 -- What is held of a line is kept of the next one, as far as it begins alike.
-use Rattle.std.proofs.Common.{◌≡◌, ℕ, zero, suc, ◌+◌, ◌-◌, ◌<◌, ◌≤◌, List, [], ◌∷◌, length, take, map, slice_get, Option, Some, inl, inr, refl, sym, ap, ◌∙◌, arith, add-one, length-append}
-use Rattle.std.specs.List.{range_with_len}
+use Rattle.std.proofs.Common.{◌≡◌, ℕ, suc, ◌+◌, ◌-◌, ◌<◌, ◌≤◌, List, [], ◌∷◌, length, take, map, slice_get, Option, Some, refl, sym, ap, ◌∙◌, arith, add-one, length-append, rules}
+use Rattle.std.proofs.lemmas.Grind.{common_steps}
 use Rattle.std.proofs.lemmas.List.{take-map, take_all, length-take-le}
 use Rattle.std.proofs.lemmas.List.FromFn.{length-range_with_len}
 use Rattle.sgf_tree.specs.Tree.{Node}
@@ -9,13 +9,13 @@ use Rattle.sgf_lines.specs.Lines.{lines}
 use Rattle.sgf_lines.specs.Cursor.{CursorState, advanced}
 use Rattle.sgf_lines.specs.JudgedGames.{game_kind, root_properties}
 use Rattle.sgf_lines.specs.declared.sequence_cursor.Front.{Front}
-use Rattle.sgf_lines.specs.inner.Judging.{Judgement, judging, back}
+use Rattle.sgf_lines.specs.inner.Judging.{Judgement, back}
 use Rattle.sgf_lines.specs.inner.Pieces.{PiecesState, cut}
 use Rattle.sgf_lines.specs.inner.Recording.{open_record, whole_record}
-use Rattle.sgf_lines.specs.inner.Scripting.{ScriptState, script_of, script_back, script_ended}
-use Rattle.sgf_lines.specs.inner.Following.{Continues, first_after, line_in, line_before, nodes_before, path_before}
+use Rattle.sgf_lines.specs.inner.Scripting.{ScriptState, script_back, script_ended}
+use Rattle.sgf_lines.specs.inner.Following.{Continues, line_in, line_before, nodes_before, path_before}
 use Rattle.sgf_lines.specs.inner.Keeping.{judging_front, script_front, KeepsJudgement, HoldsJudgement}
-use Rattle.sgf_lines.specs.inner.Sequences.{SequencesState, RiseTo, SharesFront, nodes_in}
+use Rattle.sgf_lines.specs.inner.Sequences.{SequencesState, RiseTo, SharesFront}
 use Rattle.sgf_lines.specs.inner.Fronts.{sequences_before}
 use Rattle.sgf_lines.specs.inner.GoingOn.{IsHeldOf}
 use Rattle.sgf_lines.proofs.Along.{same_root}
@@ -48,14 +48,10 @@ module _ (old nodes : List Node) (count : ℕ) (some : 0 < count) (within : coun
   whole = take_all (length old) old (omega arith)
 
   judged_same : (judgement : Judgement) → HoldsJudgement old judgement → back count judgement ≡ judging_front nodes count
-  judged_same judgement h =
-      ap (back count) (h ∙ ap (judging (game_kind (root_properties old))) whole) ∙ judging_back (game_kind (root_properties old)) old count within
-      ∙ ap (judging (game_kind (root_properties old))) same ∙ ap (λ k. judging k (take count nodes)) kinds
+  judged_same judgement h = first_of (search rules, grind (arith, common_steps, judging_back, kinds, whole))
 
   said_same : (script : ScriptState) → script ≡ script_ended (script_front old (length old)) → script_back count script ≡ script_front nodes count
-  said_same script h =
-      ap (script_back count) (h ∙ ap (λ ns. script_ended (script_of (game_kind (root_properties old)) ns)) whole) ∙ script_cut (game_kind (root_properties old)) old count within
-      ∙ ap (script_of (game_kind (root_properties old))) same ∙ ap (λ k. script_of k (take count nodes)) kinds
+  said_same script h = first_of (search rules, grind (arith, common_steps, kinds, script_cut, whole))
 
 -- the cursor went on by a line
 named : (at : CursorState) → map Some (nodes_before at) ≡ map (node_at at.games) (path_before at)
@@ -67,10 +63,7 @@ line_next at = let next : at.index + 1 ≡ suc at.index = add-one at.index in ap
 -- a line that shares so many nodes with the line before it
 module _ (old new : CursorState) (shared : ℕ) (moved : new ≡ advanced old) (continues : Continues (path_before old) shared (path_before new)) where
   many_new : length (nodes_before new) ≡ shared + (continues.more + 1)
-  many_new =
-      let range = range_with_len (first_after (path_before old)) (continues.more + 1) in
-      as_long new ∙ ap length continues.new_is ∙ length-append (take shared (path_before old)) range
-      ∙ omega (arith, length-take-le shared (path_before old) continues.kept_within, length-range_with_len (first_after (path_before old)) (continues.more + 1))
+  many_new = first_of (search rules, grind (arith, common_steps, as_long, length-append, length-range_with_len, length-take-le))
 
   pub some_node : 0 < length (nodes_before new)
   some_node = omega (arith, many_new)
@@ -92,19 +85,10 @@ module _ (holds : SequencesState → Type 0) (cursor : SequencesState) (front : 
   by_old P some of = by held
     where
       by : IsHeldOf holds cursor front → P
-      by (inl none) = absurd (omega (arith, some, ap (λ (f : Front). f.sequences) none))
-      by (inr o) = of o.0 o.1 o.2 o.3
+      by known = first_of (search rules, grind (arith, common_steps))
 
   some_front : 0 < front.nodes → 0 < front.sequences
-  some_front some = by held
-    where
-      by : IsHeldOf holds cursor front → 0 < front.sequences
-      by (inl none) = absurd (omega (arith, some, ap (λ (f : Front). f.nodes) none))
-      by (inr o) = positive front.sequences refl
-        where
-          positive : (k : ℕ) → front.sequences ≡ k → 0 < front.sequences
-          positive zero is = absurd (omega (arith, some, o.3.count, ap (nodes_in o.0.ends) is))
-          positive (suc k) is = omega (arith, is)
+  some_front known = first_of (search rules, grind (arith, common_steps))
 
   pub judgement_kept : (j : Judgement) → ((old : SequencesState) → holds old → HoldsJudgement (nodes_before old.at) j) → KeepsJudgement (nodes_before cursor.at) front.nodes j
   judgement_kept j of some =

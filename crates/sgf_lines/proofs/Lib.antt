@@ -15,15 +15,12 @@ pub mod Joins
 pub mod Steps
 pub mod Gathered
 pub mod Judgements
-pub mod Judged
 pub mod PieceTexts
 pub mod Fronts
 pub mod NodesToCome
 pub mod Recordings
 pub mod Scripts
 pub mod Along
-pub mod Cut
-pub mod Commanding
 pub mod Again
 pub mod Appended
 pub mod CutTexts

@@ -1,5 +1,5 @@
 -- How many lines a collection has at most, and the answer of a count.
-use Rattle.std.proofs.Common.{◌≡◌, ℕ, ◌+◌, ◌<◌, ◌≤◌, length, map, ap, ◌∙◌, arith, List, ◌++◌, take, Result, Ok, Err, refl, length-append}
+use Rattle.std.proofs.Common.{◌≡◌, ℕ, ◌+◌, ◌≤◌, length, map, ap, ◌∙◌, arith, List, ◌++◌, take, Result, Ok, Err, length-append}
 use Rattle.std.specs.Result.{IsErr}
 use Rattle.std.proofs.lemmas.List.{length-map, take-append-le}
 use Rattle.sgf_tree.specs.Tree.{Games, game_count, node_count}
@@ -10,18 +10,11 @@ use Rattle.sgf_lines.proofs.Named.{length-paths}
 use Rattle.std.specs.Io.KnownBytes.{Appends}
 use Rattle.std.proofs.KnownBytes.{Appends-trans}
 use Rattle.std.proofs.Math.Seq.{take-append-add}
-use Rattle.sgf_tree.specs.declared.fault.TheConstants.{MAX_LENGTH}
 use Rattle.sgf_tree.specs.Spelling.{Spells}
-use Rattle.sgf_tree.specs.Refusal.{IsFaultyWhereNotSgf}
-use Rattle.sgf_tree.specs.declared.fault.ReadFault.{ReadFault}
-use Rattle.sgf_tree.specs.declared.fault.ReadFault.TheVariants.{TooLong as TextTooLong, NotSgf as TextNotSgf, Memory as TextMemory}
 use Rattle.byte_streams.specs.Streams.{SourceState, SinkState, PutsAll}
-use Rattle.sgf_lines.specs.Answer.{read_failures, unread}
-use Rattle.sgf_lines.specs.Counts.{counts_of, AnswersCount, IsCount}
+use Rattle.sgf_lines.specs.Counts.{counts_of, IsCount}
 use Rattle.sgf_lines.specs.inner.Running.{HasReadAll}
 use Rattle.sgf_lines.specs.declared.counting.Counts.{Counts}
-use Rattle.sgf_lines.specs.declared.fault.RunFault.{RunFault}
-use Rattle.sgf_lines.specs.declared.fault.RunFault.TheVariants.{NotSgf, Memory}
 
 -- no more lines than nodes
 pub lines_within : (c : Games) → length (lines c) ≤ node_count c
@@ -34,20 +27,9 @@ same_counts c counts games nodes its_lines =
     ap (λ g. of g counts.nodes counts.lines) games ∙ ap (λ n. of (game_count c) n counts.lines) nodes ∙ ap (λ l. of (game_count c) (node_count c) l) its_lines
 
 module _ (source new_source : SourceState) (text : List ℕ) (h : HasReadAll source new_source text) where
-  of_text : (result : Result Counts RunFault) → read_failures result ≡ 0 → AnswersCount text new_source.to_come result → IsCount source new_source result
-  of_text result none answers = record { given = text; gives = h.read.gives; consumes = h.read.consumes; answers = answers; source_failures = omega (arith, h.read.failures, none) }
-
   pub count_of_games : (c : Games) (counts : Counts) → Spells c text → counts ≡ counts_of c → IsCount source new_source (Ok counts)
-  count_of_games c counts spelled is = of_text (Ok counts) refl (h.whole, (c, spelled, is))
-
-  unread_says : (fault : ReadFault) → (fault ≡ TextTooLong → MAX_LENGTH < length text) → IsFaultyWhereNotSgf text fault → IsCount source new_source (Err (unread fault (length text)))
-  unread_says TextTooLong long faulty = absurd (omega (arith, long refl, h.whole.within))
-  unread_says (TextNotSgf at) long faulty = of_text (Err (NotSgf at (length text))) refl (h.whole, faulty, refl)
-  unread_says TextMemory long faulty = of_text (Err (Memory 0)) refl (h.whole.within, refl)
-
-  pub count_of_unread : (fault : ReadFault) (met : RunFault) → met ≡ unread fault (length text) → (fault ≡ TextTooLong → MAX_LENGTH < length text) → IsFaultyWhereNotSgf text fault
-      → IsCount source new_source (Err met)
-  count_of_unread fault met is long faulty = rw is (unread_says fault long faulty)
+  count_of_games c counts spelled is =
+      record { given = text; gives = h.read.gives; consumes = h.read.consumes; answers = (h.whole, (c, spelled, is)); source_failures = omega (arith, h.read.failures) }
 
 -- two pieces are put as one
 pub both_put : {B F : Type 0} (old now new : SinkState) (first second : List ℕ) (result : Result B F) → Appends old.taken now.taken first → now.failures ≡ old.failures

@@ -18,9 +18,6 @@ comes nodes i left node rest is first =
 pub come_on : (nodes : List Node) (i : ℕ) (left : List Node) (node : Node) (rest : List Node) → left ≡ drop i nodes → left ≡ node ∷ rest → rest ≡ drop (i + 1) nodes
 come_on nodes i left node rest is first = ap (drop 1) (sym first ∙ is) ∙ drop-drop 1 i nodes
 
-pub some_come : (nodes : List Node) (i : ℕ) (left : List Node) → left ≡ drop i nodes → i < length nodes → 0 < length left
-some_come nodes i left is lt = omega (arith, ap length is, length-drop i nodes)
-
 module _ (cursor : SequencesState) (rise : RiseTo 0 cursor.ends (length (nodes_before cursor.at))) (sequence : ℕ) where
   -- a sequence comes, since a node does
   pub some_left : sequence ≤ length cursor.ends → 0 < length (nodes_to_come cursor sequence []) → sequence < length cursor.ends

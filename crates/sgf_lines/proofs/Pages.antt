@@ -6,7 +6,7 @@ use Rattle.std.proofs.lemmas.Option.{slice_get-map, slice_get_within, get_or_fro
 use Rattle.std.proofs.lemmas.List.Kept.{AllPairs-from_increasing}
 use Rattle.sgf_tree.specs.Tree.{Games}
 use Rattle.sgf_tree.specs.FileOrder.{PlacesRise}
-use Rattle.sgf_lines.specs.Lines.{Line, lines, place_of, HasNoLineAt}
+use Rattle.sgf_lines.specs.Lines.{Line, lines, place_of}
 use Rattle.sgf_lines.specs.Paths.{paths, leaf_of}
 use Rattle.sgf_lines.proofs.Lists.{element}
 use Rattle.sgf_lines.proofs.Named.{line_at, length-paths}
@@ -85,14 +85,6 @@ started c after place at new is at_is rise s =
     let line : option_map place_of (slice_get (lines c) s.index) ≡ Some place = rw at_is at s.line in
     let index : new.index ≡ s.index + 1 = ap (λ p. p.index) s.new_is in
     rw (is, index) (after_index (lines c) s.index place rise line)
-
-pub started_same : (c : Games) (place : ℕ) (at new : CursorState) → at ≡ record { games = c; index = 0 } → IsAfterPlace place at new → new.games ≡ c
-started_same c place at new at_is s = ap (λ p. p.games) s.new_is ∙ ap (λ p. p.games) at_is
-
--- there is no such line
-pub not_started : (c : Games) (after : Option ℕ) (place asked : ℕ) (at : CursorState) → after ≡ Some place → at ≡ record { games = c; index = 0 } → (asked ≡ place) × HasNoLineAt at.games place
-    → (after ≡ Some asked) × HasNoLineAt c asked
-not_started c after place asked at is at_is h = (is ∙ ap Some (sym h.0), rw h.0 (rw at_is at h.1))
 
 -- the lines after a place end the list
 ends_list : (ls : List Line) (place : ℕ) (tail : List Line) → lines_after ls place ≡ Some tail → (before : List Line) × (ls ≡ before ++ tail)

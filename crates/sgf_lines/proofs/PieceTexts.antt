@@ -1,5 +1,6 @@
 -- A text in pieces is appended to, closed and cut back.
-use Rattle.std.proofs.Common.{◌≡◌, ℕ, zero, suc, ◌+◌, ◌-◌, List, [], ◌∷◌, ◌++◌, length, take, drop, slice_get, refl, sym, ap, ◌∙◌, arith, append_assoc, append-nil}
+use Rattle.std.proofs.Common.{◌≡◌, ℕ, zero, suc, ◌+◌, ◌-◌, List, [], ◌∷◌, ◌++◌, length, take, drop, slice_get, refl, sym, ap, ◌∙◌, arith, append_assoc, append-nil, rules}
+use Rattle.std.proofs.lemmas.Grind.{common_steps}
 use Rattle.std.specs.Prelude.{unwrap_or}
 use Rattle.std.specs.List.{concat}
 use Rattle.std.proofs.Math.Seq.{take-append_seam, drop-append_seam}
@@ -12,9 +13,7 @@ use Rattle.sgf_lines.specs.inner.Pieces.{PiecesState, pushed, closed, cut, piece
 
 ends-append : (start : ℕ) (ps qs : List (List ℕ)) → ends_from start (ps ++ qs) ≡ ends_from start ps ++ ends_from (start + length (concat ps)) qs
 ends-append start [] qs = ap (λ k. ends_from k qs) (omega arith)
-ends-append start (p ∷ ps) qs =
-    let sum : start + length p + length (concat ps) ≡ start + length (p ++ concat ps) = omega (arith, length-append p (concat ps)) in
-    ap (λ es. (start + length p) ∷ es) (ends-append (start + length p) ps qs ∙ ap (λ k. ends_from (start + length p) ps ++ ends_from k qs) sum)
+ends-append start (p ∷ ps) qs = first_of (search rules, grind (arith, common_steps, length-append, ends-append (start + length p) ps qs))
 
 ends-take : (count start : ℕ) (ps : List (List ℕ)) → take count (ends_from start ps) ≡ ends_from start (take count ps)
 ends-take zero start ps = refl
@@ -50,16 +49,11 @@ whole start (end ∷ ends) text =
 
 pieces_again : (start : ℕ) (ps : List (List ℕ)) (begun : List ℕ) → pieces_from start (ends_from start ps) (concat ps ++ begun) ≡ ps
 pieces_again start [] begun = refl
-pieces_again start (p ∷ ps) begun =
-    let n : start + length p - start ≡ length p = omega arith in
-    rw (n, append_assoc p (concat ps) begun, take-append_seam p (concat ps ++ begun), drop-append_seam p (concat ps ++ begun)) (ap (λ qs. p ∷ qs) (pieces_again (start + length p) ps begun))
+pieces_again start (p ∷ ps) begun = first_of (search rules, grind (arith, common_steps, append_assoc, drop-append_seam, take-append_seam, pieces_again (start + length p) ps begun))
 
 rest_again : (start : ℕ) (ps : List (List ℕ)) (begun : List ℕ) → rest_from start (ends_from start ps) (concat ps ++ begun) ≡ begun
 rest_again start [] begun = refl
-rest_again start (p ∷ ps) begun =
-    let n : start + length p - start ≡ length p = omega arith in
-    let later : drop (start + length p - start) ((p ++ concat ps) ++ begun) ≡ concat ps ++ begun = rw (n, append_assoc p (concat ps) begun) (drop-append_seam p (concat ps ++ begun)) in
-    ap (rest_from (start + length p) (ends_from (start + length p) ps)) later ∙ rest_again (start + length p) ps begun
+rest_again start (p ∷ ps) begun = first_of (search rules, grind (arith, common_steps, append_assoc, drop-append_seam, rest_again (start + length p) ps begun))
 
 -- a text with its ends is seen so
 abbrev pub IsSeen : List ℕ → List ℕ → PiecesState → Type 0

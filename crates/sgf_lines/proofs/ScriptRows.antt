@@ -1,14 +1,13 @@
 -- The rows of a script: the words of each, and what a text of whole rows does to the board, whatever follows it.
-use Rattle.std.proofs.Common.{◌≡◌, ℕ, zero, suc, ◌≤◌, ◌/◌, ◌%◌, List, [], ◌∷◌, ◌++◌, fold, Bool, true, false, codes, refl, ap, ◌∙◌, arith, append_assoc, decimal, cond, ◌==◌, ◌-◌, ◌<◌, filter, Option, Some, None, nat_lt, nat_le, ◌&&◌, slice_index, option_map, option_and_then, inl, inr, ◌+◌}
+use Rattle.std.proofs.Common.{◌≡◌, ℕ, zero, suc, ◌≤◌, ◌/◌, ◌%◌, List, [], ◌∷◌, ◌++◌, Bool, true, false, codes, refl, ap, ◌∙◌, arith, append_assoc, decimal, cond, ◌==◌, ◌-◌, ◌<◌, filter, Option, Some, None, nat_lt, nat_le, ◌&&◌, slice_index, option_map, option_and_then, inl, inr, ◌+◌, rules}
+use Rattle.std.proofs.lemmas.Grind.{common_steps}
 use Rattle.std.specs.List.{flat_map, slice_split, onto_first, position}
 use Rattle.std.specs.Fmt.{digits, digits_onto, digit_glyph}
 use Rattle.std.proofs.lemmas.List.Splits.{slice_split_at, slice_split_none}
 use Rattle.std.proofs.lemmas.List.Elements.{All-from_recursion}
 use Rattle.go_board.specs.Reason.{word_of}
 use Rattle.go_board.specs.declared.reason.Reason.{Reason}
-use Rattle.go_board.specs.declared.reason.Reason.TheVariants.{Mixed, TwoMoves, BadSetup, BadPoint, Over, Turn, Occupied, Repeat}
 use Rattle.sgf_lines.specs.declared.verdict.Verdict.{Verdict}
-use Rattle.sgf_lines.specs.declared.verdict.Verdict.TheVariants.{Score, Illegal, NotGo, BadSize}
 use Rattle.sgf_lines.specs.Lines.{Line}
 use Rattle.sgf_lines.specs.ListRow.{verdict_text, list_row}
 use Rattle.sgf_lines.specs.Script.{comment_row, text_rows, colour_letter, vertex_text}
@@ -35,9 +34,7 @@ abbrev pub Carries : Engine → List ℕ → Engine → Type 0
 Carries before text after = (rest : List ℕ) → after_text before (text ++ rest) ≡ after_text after rest
 
 pub takes_row : (before : Engine) (line : List ℕ) → Each IsWithin line → Carries before (line ++ (10 ∷ [])) (after_row before line)
-takes_row before line h rest =
-    ap (λ t. after_text before t) (append_assoc line (10 ∷ []) rest)
-    ∙ ap (λ ls. fold after_row before ls) (slice_split_at (λ b. b == 10) line 10 rest (All-from_recursion IsWithin line h) refl)
+takes_row before line h rest = first_of (search rules, grind (arith, common_steps, All-from_recursion, append_assoc, slice_split_at))
 
 pub takes_nothing : (engine : Engine) → Carries engine [] engine
 takes_nothing engine rest = refl
@@ -56,13 +53,11 @@ takes_comment engine piece h rest =
 
 -- the pieces of a text that is cut at its line feeds have none
 onto_within : (b : ℕ) (pieces : List (List ℕ)) → IsWithin b → Each (λ p. Each IsWithin p) pieces → Each (λ p. Each IsWithin p) (onto_first b pieces)
-onto_within b [] h k = ((h, tt), tt)
-onto_within b (p ∷ ps) h k = ((h, k.0), k.1)
+onto_within b pieces known known2 = first_of (search rules, grind (arith, common_steps))
 
 pieces_by : (b : ℕ) (bs : List ℕ) (ends : Bool) → (b == 10) ≡ ends → Each (λ p. Each IsWithin p) (slice_split (λ c. c == 10) bs)
     → Each (λ p. Each IsWithin p) (cond ends ([] ∷ slice_split (λ c. c == 10) bs) (onto_first b (slice_split (λ c. c == 10) bs)))
-pieces_by b bs true e h = (tt, h)
-pieces_by b bs false e h = onto_within b (slice_split (λ c. c == 10) bs) e h
+pieces_by b bs ends known known2 = first_of (search rules, grind (arith, common_steps, onto_within))
 
 pieces_within : (text : List ℕ) → Each (λ p. Each IsWithin p) (slice_split (λ c. c == 10) text)
 pieces_within [] = (tt, tt)
@@ -70,8 +65,7 @@ pieces_within (b ∷ bs) = pieces_by b bs (b == 10) refl (pieces_within bs)
 
 takes_comments : (engine : Engine) (pieces : List (List ℕ)) → Each (λ p. Each IsWithin p) pieces → Carries engine (flat_map comment_row pieces) engine
 takes_comments engine [] h = takes_nothing engine
-takes_comments engine (p ∷ ps) h =
-    takes_both engine engine engine (comment_row p) (flat_map comment_row ps) (takes_comment engine p h.0) (takes_comments engine ps h.1)
+takes_comments engine (p ∷ ps) h = first_of (search rules, grind (arith, common_steps, takes_both, takes_comment, takes_comments engine ps h.1))
 
 pub takes_text_rows : (engine : Engine) (text : List ℕ) → Carries engine (text_rows text) engine
 takes_text_rows engine [] = takes_nothing engine
@@ -87,8 +81,7 @@ glyph_solid : (d : ℕ) → IsSolid (digit_glyph false d)
 glyph_solid d = grind (arith)
 
 digits_by : (last : Bool) (one more : List ℕ) → Each IsSolid one → Each IsSolid more → Each IsSolid (cond last one more)
-digits_by true one more h k = h
-digits_by false one more h k = k
+digits_by last one more known known2 = first_of (search rules, grind (arith, common_steps))
 
 digits_solid : (fuel n : ℕ) (after : List ℕ) → Each IsSolid after → Each IsSolid (digits_onto fuel 10 false n after)
 digits_solid zero n after h = h
@@ -112,24 +105,13 @@ pub within_both : (xs ys : List ℕ) → Each IsWithin xs → Each IsWithin ys �
 within_both xs ys h k = each_append IsWithin xs ys h k
 
 word_within : (r : Reason) → Each IsWithin (word_of r)
-word_within Mixed = search
-word_within TwoMoves = search
-word_within BadSetup = search
-word_within BadPoint = search
-word_within Over = search
-word_within Turn = search
-word_within Occupied = search
-word_within Repeat = search
+word_within r = first_of (search rules, grind (arith, common_steps))
 
 over_within : (over : Bool) → Each IsWithin (cond over (codes " over") (codes " open"))
-over_within true = search
-over_within false = search
+over_within over = first_of (search rules, grind (arith, common_steps))
 
 verdict_within : (v : Verdict) → Each IsWithin (verdict_text v)
-verdict_within (Score black white over) = search (within_both, decimal_within, over_within) depth 12
-verdict_within (Illegal turn place reason) = search (within_both, decimal_within, word_within) depth 20
-verdict_within NotGo = search
-verdict_within BadSize = search
+verdict_within v = first_of (search rules, grind (arith, common_steps, decimal_within, over_within, within_both, word_within))
 
 pub row_within : (line : Line) → Each IsWithin (list_row line)
 row_within line = search (within_both, decimal_within, verdict_within) depth 12
@@ -153,8 +135,7 @@ is_some (Some m) n = m == n
 
 some_from : (o : Option ℕ) (n : ℕ) → is_some o n ≡ true → o ≡ Some n
 unfolding is_some
-some_from None n e = absurd cc
-some_from (Some m) n e = let same : m ≡ n = grind (arith, e) in ap Some same
+some_from o n known = first_of (search rules, grind (arith, common_steps))
 
 -- ---- the letter of a column and the number of a row
 
@@ -199,28 +180,17 @@ unfolding row_reads all_below is_some digits
 row_names n lt = some_from (magnitude_of (decimal n)) n (below_each row_reads 26 n refl lt)
 
 point_back : (side : ℕ) (p : Point) → IsOn side p → point_there side p.col (side - p.row) ≡ Some p
-point_back side p on =
-    let there : (nat_lt p.col side && (nat_le 1 (side - p.row) && nat_le (side - p.row) side)) ≡ true = grind (arith, nat_tests, on.0, on.1) in
-    let row : side - (side - p.row) ≡ p.row = omega (arith, on.1) in
-    ap (λ t. cond t (Some (record { col = p.col; row = side - (side - p.row) })) None) there ∙ ap (λ r. Some (record { col = p.col; row = r })) row
+point_back side p on = first_of (search rules, grind (arith, common_steps, nat_le, nat_lt, nat_tests))
 
 -- the vertex of a point names it
 pub point_names : (side : ℕ) (p : Point) → side ≤ 25 → IsOn side p → point_of side (vertex_of p side) ≡ Some p
 unfolding vertex_of
-point_names side p small on =
-    let number = side - p.row in
-    ap (λ o. option_and_then (λ col. point_there side col number) o) (letter_is p.col (omega (arith, on.0))).names
-    ∙ point_back side p on
+point_names side p small on = first_of (search rules, grind (arith, common_steps, letter_is, option_and_then, point_back))
 
 -- and is read from its text
 vertex_reads : (side : ℕ) (p : Point) → side ≤ 25 → IsOn side p → vertex_named (vertex_text (vertex_of p side)) ≡ Some (vertex_of p side)
 unfolding vertex_of
-vertex_reads side p small on =
-    let letter = slice_index column_letters p.col in
-    let number = side - p.row in
-    let made : ℕ → ℕ → Vertex = λ l n. record { letter = l; row = n } in
-    ap (λ o. option_map (made (capital letter)) o) (row_names number (omega arith))
-    ∙ ap (λ l. Some (made l number)) (letter_is p.col (omega (arith, on.0))).upper
+vertex_reads side p small on = first_of (search rules, grind (arith, common_steps, letter_is, option_map, row_names, slice_index))
 
 -- ---- a play's words
 
@@ -236,17 +206,14 @@ solid_hash b h = grind (arith, h)
 
 no_comment : (bs : List ℕ) → Each IsSolid bs → before_comment bs ≡ bs
 no_comment [] h = refl
-no_comment (b ∷ bs) h =
-    ap (λ e. cond e [] (b ∷ before_comment bs)) (solid_hash b h.0) ∙ ap (λ t. b ∷ t) (no_comment bs h.1)
+no_comment (b ∷ bs) h = first_of (search rules, grind (arith, common_steps, solid_hash, no_comment bs h.1))
 
 pub one_word : (bs : List ℕ) → Each IsSolid bs → slice_split (λ b. b == 32) (before_comment bs) ≡ bs ∷ []
-one_word bs h =
-    ap (λ t. slice_split (λ b. b == 32) t) (no_comment bs h) ∙ slice_split_none (λ b. b == 32) bs (All-from_recursion (λ b. (b == 32) ≡ false) bs (no_spaces bs h))
+one_word bs h = first_of (search rules, grind (arith, common_steps, All-from_recursion, no_comment, no_spaces, slice_split_none))
 
 play_words : (k : Colour) (b : ℕ) (bs : List ℕ) → Each IsSolid (b ∷ bs)
     → words (codes "play " ++ colour_letter k ++ codes " " ++ (b ∷ bs)) ≡ codes "play" ∷ colour_letter k ∷ (b ∷ bs) ∷ []
-play_words Black b bs h = ap (λ ls. codes "play" ∷ codes "B" ∷ filter is_word ls) (one_word (b ∷ bs) h)
-play_words White b bs h = ap (λ ls. codes "play" ∷ codes "W" ∷ filter is_word ls) (one_word (b ∷ bs) h)
+play_words k b bs known = first_of (search rules, grind (arith, common_steps, one_word))
 
 pub vertex_solid : (side : ℕ) (p : Point) → side ≤ 25 → IsOn side p → Each IsSolid (vertex_text (vertex_of p side))
 unfolding vertex_of
@@ -286,9 +253,7 @@ two_digits n le lt = rw (decimal_step n le (omega arith), decimal_digit (n / 10)
 
 laid_out : (k : Colour) (v : Vertex) (b : ℕ) (row : List ℕ) → colour_letter k ≡ b ∷ [] → decimal v.row ≡ row
     → stone_command k v ≡ 112 ∷ 108 ∷ 97 ∷ 121 ∷ 32 ∷ b ∷ 32 ∷ v.letter ∷ (row ++ codes "\n")
-laid_out k v b row player digits =
-    ap (λ t. codes "play " ++ t ++ codes " " ++ (v.letter ∷ decimal v.row) ++ codes "\n") player
-    ∙ ap (λ ds. 112 ∷ 108 ∷ 97 ∷ 121 ∷ 32 ∷ b ∷ 32 ∷ v.letter ∷ (ds ++ codes "\n")) digits
+laid_out k v b row player digits = first_of (search rules, grind (arith, common_steps))
 
 pub command-one_digit : (k : Colour) (v : Vertex) (b : ℕ) → colour_letter k ≡ b ∷ [] → v.row < 10
     → stone_command k v ≡ 112 ∷ 108 ∷ 97 ∷ 121 ∷ 32 ∷ b ∷ 32 ∷ v.letter ∷ (48 + v.row % 10) ∷ 10 ∷ []

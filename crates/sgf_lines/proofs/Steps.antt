@@ -1,5 +1,6 @@
 -- A node's step by what is gathered of it.
-use Rattle.std.proofs.Common.{◌≡◌, ◌⊎◌, ◌<◌, ℕ, Option, Some, None, List, [], ◌∷◌, length, Ok, Err, refl, sym, ap, ◌∙◌, inl, inr, arith}
+use Rattle.std.proofs.Common.{◌≡◌, ◌⊎◌, ◌<◌, ℕ, Option, Some, None, List, [], ◌∷◌, length, Ok, Err, refl, sym, ap, ◌∙◌, inl, inr, arith, rules, Result}
+use Rattle.std.proofs.lemmas.Grind.{common_steps}
 use Rattle.std.specs.Prelude.{option_map, option_and_then, IsSome, IsErrOf, ◌↔◌}
 use Rattle.go_board.specs.declared.stones.Colour.{Colour}
 use Rattle.go_board.specs.declared.referee.plays.Play.{Play}
@@ -7,29 +8,28 @@ use Rattle.go_board.specs.declared.referee.plays.SetupOp.{SetupOp}
 use Rattle.go_board.specs.declared.reason.Reason.{Reason}
 use Rattle.go_board.specs.declared.fault.TurnFault.{TurnFault}
 use Rattle.go_board.specs.declared.fault.TurnFault.TheVariants.{Illegal, Memory}
-use Rattle.go_board.specs.State.{States, turned, followed_by}
+use Rattle.go_board.specs.State.{States, turned, followed_by, State}
 use Rattle.go_board.specs.Reason.{reason_of}
-use Rattle.sgf_lines.specs.NodeContents.{Move, Stones}
+use Rattle.sgf_lines.specs.NodeContents.{Move, Stones, moves, stones, players}
 use Rattle.sgf_lines.specs.NodeValues.{player_value, operation, operations, last_player}
-use Rattle.sgf_lines.specs.Step.{turn_step}
+use Rattle.sgf_lines.specs.Step.{turn_step, side_in, move_step, setup_step, step_by, step}
 use Rattle.sgf_lines.specs.declared.judging.contents.Moves.TheVariants.{Nothing}
 use Rattle.sgf_lines.specs.declared.judging.contents.Setup.TheVariants.{Meant}
 use Rattle.sgf_lines.specs.inner.Gathered.{AreMoves, IsSetup}
 use Rattle.sgf_lines.specs.inner.Judging.{IsStepped, IsEffectBy, setup_effect}
+use Rattle.sgf_tree.specs.Tree.{Node}
+use Rattle.go_board.proofs.TurnLemmas.{side-set_up, side-turned}
 
 -- stones are as many as their operations
 operations-cons : (side : ℕ) (o : Option SetupOp) (os : Option (List SetupOp)) (ops : List SetupOp) → option_and_then (λ op. option_map (λ ops. op ∷ ops) os) o ≡ Some ops → 0 < length ops
-operations-cons side None os ops e = absurd cc
-operations-cons side (Some op) None ops e = absurd cc
-operations-cons side (Some op) (Some more) ops e = let is : op ∷ more ≡ ops = cc in omega (arith, ap length (sym is))
+operations-cons side o os ops known = first_of (search rules, grind (arith, common_steps))
 
 pub stones_none : (side : ℕ) (ts : List Stones) → operations ts side ≡ Some [] → ts ≡ []
 stones_none side [] e = refl
 stones_none side (t ∷ ts) e = absurd (omega (arith, operations-cons side (operation t side) (operations ts side) [] e))
 
 pub some_stones : (side : ℕ) (ts : List Stones) (ops : List SetupOp) → operations ts side ≡ Some ops → 0 < length ops → 0 < length ts
-some_stones side [] ops e lt = let is : ops ≡ [] = cc in absurd (omega (arith, ap length is))
-some_stones side (t ∷ ts) ops e lt = omega arith
+some_stones side ts ops known known2 = first_of (search rules, grind (arith, common_steps))
 
 -- once a player was named, one is the last
 some_last : (k : Colour) (raws : List (List ℕ)) → last_player (Some k) raws ≡ Some None → ⊥
@@ -42,31 +42,22 @@ some_last k (raw ∷ raws) e = each (λ l. some_last l raws) (player_value raw) 
 
 pub players_none : (raws : List (List ℕ)) → last_player None raws ≡ Some None → raws ≡ []
 players_none [] e = refl
-players_none (raw ∷ raws) e = absurd (each (player_value raw) e)
-  where
-    each : (o : Option Colour) → option_and_then (λ l. last_player (Some l) raws) o ≡ Some None → ⊥
-    each None e = cc
-    each (Some l) e = some_last l raws e
+players_none (raw ∷ raws) e = first_of (search rules, grind (arith, common_steps, some_last))
 
 -- a turn that the referee took has no reason against it
 pub no_reason : (o : Option Reason) → ((r : Reason) → o ≡ Some r → ⊥) → o ≡ None
-no_reason None h = refl
-no_reason (Some r) h = absurd (h r refl)
+no_reason o known = first_of (search rules, grind (arith, common_steps))
 
 -- what there is to set up
 pub something : (side : ℕ) (ops : List SetupOp) (player : Option Colour) (ts : List Stones) (ps : List (List ℕ)) → IsSetup side (Meant player) ops ts ps → (0 < length ops) ⊎ IsSome player
-something side [] None ts ps h =
-    let no_stones : ts ≡ [] = stones_none side ts h.0 in
-    let no_players : ps ≡ [] = players_none ps h.1 in
-    absurd (omega (arith, h.2, ap length no_stones, ap length no_players))
+something side [] None ts ps h = first_of (search rules, grind (arith, common_steps, players_none, stones_none))
 something side [] (Some k) ts ps h = inr refl
 something side (op ∷ ops) player ts ps h = inl (omega arith)
 
 -- their effects
 pub meant_effect : (side : ℕ) (ms : List Move) (ops : List SetupOp) (player : Option Colour) (ts : List Stones) (ps : List (List ℕ)) → AreMoves Nothing ms → IsSetup side (Meant player) ops ts ps
     → IsEffectBy side ms ts (setup_effect ops)
-meant_effect side ms [] player ts ps are h = (are, stones_none side ts h.0)
-meant_effect side ms (op ∷ ops) player ts ps are h = (are, some_stones side ts (op ∷ ops) h.0 (omega arith))
+meant_effect side ms ops player ts ps known known2 = first_of (search rules, grind (arith, common_steps, some_stones, stones_none))
 
 -- a turn that was taken, or refused
 pub takes_turn : (old new : States) (k : Colour) (play : Play) (u : Unit {0}) → ((r : Reason) → IsErrOf (Ok u) (Illegal r) ↔ (reason_of old.present k play ≡ Some r))
@@ -81,3 +72,24 @@ pub refuses_turn : (A : Type 0) (old new : States) (k : Colour) (play : Play) (f
     → IsStepped {A = A} (turn_step old.present k play (reason_of old.present k play)) old new (Err fault)
 refuses_turn A old new k play (Illegal r) h e = (ap (turn_step old.present k play) ((h r).0 refl), e)
 refuses_turn A old new k play Memory h e = e
+
+-- ---- What stays along a walk: the side of the board, and what was played.
+
+-- a step leaves the side of the board
+side-same : (s t : State) (u : State) → side_in u ≡ side_in s → (let r : Result State Reason = Ok u in r ≡ Ok t) → side_in t ≡ side_in s
+side-same s t u side e = let same : u ≡ t = cc in ap side_in (sym same) ∙ side
+
+side-turn_step : (s t : State) (k : Colour) (x : Play) (r : Option Reason) → turn_step s k x r ≡ Ok t → side_in t ≡ side_in s
+side-turn_step s t k x r known = first_of (search rules, grind (arith, common_steps, side-same, side-turned))
+
+side-move : (s t : State) (k : Colour) (x : Option Play) → move_step s k x ≡ Ok t → side_in t ≡ side_in s
+side-move s t k x known = first_of (search rules, grind (arith, common_steps, side-turn_step))
+
+side-setup : (s t : State) (o : Option (List SetupOp)) (last : Option (Option Colour)) → setup_step s o last ≡ Ok t → side_in t ≡ side_in s
+side-setup s t o last known = first_of (search rules, grind (arith, common_steps, side-same, side-set_up))
+
+side-by : (s t : State) (ms : List Move) (ts : List Stones) (ps : List (List ℕ)) → step_by s ms ts ps ≡ Ok t → side_in t ≡ side_in s
+side-by s t ms ts ps known = first_of (search rules, grind (arith, common_steps, side-move, side-same, side-setup))
+
+pub side-step : (s t : State) (n : Node) → step s n ≡ Ok t → side_in t ≡ side_in s
+side-step s t n e = side-by s t (moves n) (stones n) (players n) e

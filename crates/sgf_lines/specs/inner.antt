@@ -4,7 +4,6 @@ pub mod Standing
 pub mod Following
 pub mod Sequences
 pub mod Fronts
-pub mod Back
 pub mod Gathered
 pub mod Judging
 pub mod Views

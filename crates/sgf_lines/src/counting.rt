@@ -1,8 +1,7 @@
 //! Counting what a collection holds. No collection is made for that.
 
-ghost use Rattle.std.specs.Prelude.{◌≡◌, ◌<◌, ◌≤◌, ◌+◌, ℕ, List};
-ghost use Rattle.sgf_tree.specs.Extent.{HasExtent};
-ghost use Rattle.sgf_lines.specs.Counts.{IsCount, IsWriting, counts_of, counts_row};
+ghost use Rattle.std.specs.Prelude.{◌<◌, ◌≤◌, ◌+◌};
+ghost use Rattle.sgf_lines.specs.Counts.{IsCount, IsWriting, counts_row};
 ghost use Rattle.byte_streams.specs.Streams.{SourceState};
 ghost use Rattle.sgf_lines.specs.inner.Running.{HasReadAll};
 
@@ -10,7 +9,7 @@ use crate::fault::RunFault;
 use crate::form::row::Row;
 use crate::run::read_all;
 use byte_streams::{Sink, SinkFault, Source, put_all};
-use sgf_tree::{Extent, MAX_LENGTH, measure};
+use sgf_tree::{MAX_LENGTH, measure};
 use std::alloc::Global;
 
 /// The counts of a collection.
@@ -47,24 +46,17 @@ pub fn count<S: Source>(alloc: Global, source: &mut S) -> Result<Counts, RunFaul
     count_text(alloc, &text)
 }
 
-/// Counts as `count` does, once a source has given all of a text.
+/// Counts as `count` does, once a source has given all of a text. Each line ends at a leaf of its own.
 fn count_text(alloc: Global, text: &[u8]) -> Result<Counts, RunFault>
     ensures { (source new_source : SourceState) → HasReadAll source new_source text.now → IsCount source new_source result }
 {
     match measure(alloc, text) {
-        Ok(extent) => Ok(counted(extent)),
+        Ok(extent) => Ok(Counts {
+            games: extent.games as u64,
+            nodes: extent.nodes as u64,
+            lines: extent.leaves as u64,
+        }),
         Err(fault) => Err(RunFault::unread(fault, text.len())),
-    }
-}
-
-/// The counts of a collection of this extent. Each line ends at a leaf of its own.
-fn counted(extent: Extent) -> Counts
-    ensures { (text : List ℕ) (extent_is : HasExtent text extent) → result ≡ counts_of extent_is.collection }
-{
-    Counts {
-        games: extent.games as u64,
-        nodes: extent.nodes as u64,
-        lines: extent.leaves as u64,
     }
 }
 

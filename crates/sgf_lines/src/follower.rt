@@ -34,7 +34,7 @@ impl LineKeeper for JudgedLine {
         let room = cursor.len().saturating_sub(self.path.len());
         self.path.reserve(room)?;
         write_path(cursor, held, &mut self.path);
-        judge_line(cursor, held, &mut self.judge)
+        judge_line(cursor, held, &mut self.judge, &mut ())
     }
 }
 

@@ -236,13 +236,13 @@ fn write_page<F: LineForm, T: Sink>(
         before: Before::Unheld,
         keeper: F::new(alloc),
     };
-    let result = write(&mut lines, limit, sink);
+    let result = write_lines(&mut lines, limit, sink);
     plays.add(lines.keeper.plays());
     result
 }
 
 /// Writes the records of the next lines, at most `limit`, and flushes the sink. Returns the number of lines written.
-fn write<F: LineForm, T: Sink>(
+fn write_lines<F: LineForm, T: Sink>(
     lines: &mut OverLines<'_, '_, F>,
     limit: u64,
     sink: &mut T,
@@ -255,31 +255,11 @@ fn write<F: LineForm, T: Sink>(
     ensures delivered { OnOk result (HasDelivered (T.state sink.new)) }
     ensures failures { (T.state sink.new).failures ≡ (T.state sink.old).failures + write_failures result }
 {
-    let written = write_lines(lines, limit, sink)?;
-    match sink.flush() {
-        Ok(()) => Ok(written),
-        Err(SinkFault) => Err(RunFault::Write { lines: written }),
-    }
-}
-
-/// Does the same as `write`, but doesn't flush the sink.
-fn write_lines<F: LineForm, T: Sink>(
-    lines: &mut OverLines<'_, '_, F>,
-    limit: u64,
-    sink: &mut T,
-) -> Result<u64, RunFault>
-    requires rise { PlacesRise lines.old.cursor.at.games }
-    requires few { node_count lines.old.cursor.at.games ≤ MAX_LENGTH }
-    requires fresh { (lines.old.before ≡ Unheld) × (F.played lines.old.keeper ≡ 0) }
-    requires countable { (T.state sink.old).failures < u64.MAX }
-    ensures answer { WritesLines F.form (page_after lines.old.cursor.at limit) (T.state sink.old) (T.state sink.new) (F.played lines.new.keeper) result }
-    ensures failures { (T.state sink.new).failures ≡ (T.state sink.old).failures + write_failures result }
-{
     let mut written = 0u64;
     'page: while written < limit {
         match lines.next() {
             Ok(true) => {}
-            Ok(false) => return Ok(written),
+            Ok(false) => break,
             Err(MemoryFault) => return Err(RunFault::Memory { lines: written }),
         }
         match lines.keeper.put(sink) {
@@ -287,5 +267,8 @@ fn write_lines<F: LineForm, T: Sink>(
             Err(SinkFault) => return Err(RunFault::Write { lines: written }),
         }
     }
-    Ok(written)
+    match sink.flush() {
+        Ok(()) => Ok(written),
+        Err(SinkFault) => Err(RunFault::Write { lines: written }),
+    }
 }

@@ -20,9 +20,6 @@ abbrev pub AreAppended : Grid → Colour → ℕ → List ℕ → List ℕ → T
 AreAppended grid colour count before text =
     text ≡ before ++ ([] ++ flat_map (commands_at grid colour) (take count (points grid.side)))
 
--- the command for a pass, and the command for a stone by its vertex
-abbrev pub pass_command : Colour → List ℕ
-pass_command colour = codes "play " ++ colour_letter colour ++ codes " " ++ codes "pass" ++ codes "\n"
-
+-- the command for a stone by its vertex
 abbrev pub stone_command : Colour → Vertex → List ℕ
 stone_command colour vertex = codes "play " ++ colour_letter colour ++ codes " " ++ vertex_text vertex ++ codes "\n"

@@ -18,7 +18,16 @@ use Rattle.sgf_lines.specs.declared.verdict.Verdict.TheVariants.{Illegal, NotGo,
 use Rattle.sgf_lines.specs.declared.judging.step.Effect.{Effect}
 use Rattle.sgf_lines.specs.declared.judging.step.Effect.TheVariants.{Nothing, Stones as stones_set, Play as one_play}
 use Rattle.sgf_lines.specs.declared.judging.step.TakenStep.{TakenStep}
-use Rattle.sgf_lines.specs.inner.Back.{back_to}
+
+-- a referee's states after undoing until at most `depth` states are left before the present one
+abbrev pub back_from : State → List State → ℕ → States
+back_from present [] depth = record { present = present; earlier = [] }
+back_from present (earlier ∷ others) depth =
+    if nat_le (length (earlier ∷ others)) depth then record { present = present; earlier = earlier ∷ others }
+    else back_from earlier others depth
+
+abbrev pub back_to : States → ℕ → States
+back_to states depth = back_from states.present states.earlier depth
 
 -- Either the game isn't judged, and the verdict is `told`. Or a referee has these states, one more
 -- than the nodes that were allowed; if a node wasn't allowed, `ended` is the verdict.

@@ -5,7 +5,7 @@ use Rattle.sgf_lines.specs.JudgedGames.{game_kind, root_properties}
 use Rattle.sgf_lines.specs.Record.{record_of}
 use Rattle.sgf_lines.specs.Verdict.{judged_on}
 use Rattle.sgf_lines.specs.declared.options.Form.{Form}
-use Rattle.sgf_lines.specs.inner.Scripting.{ScriptState, script_of}
+use Rattle.sgf_lines.specs.inner.Scripting.{ScriptState, script_of, script_back}
 use Rattle.sgf_lines.specs.inner.Judging.{Judgement, judging, back}
 use Rattle.sgf_lines.specs.inner.Following.{line_before}
 use Rattle.sgf_lines.specs.inner.Sequences.{SequencesState}
@@ -20,6 +20,10 @@ script_front nodes count = script_of (game_kind (root_properties nodes)) (take c
 -- a judgement can be cut back to the first `count` of a line's nodes; if `count` is 0, nothing is known
 abbrev pub KeepsJudgement : List Node → ℕ → Judgement → Type 0
 KeepsJudgement nodes count judgement = 0 < count → back count judgement ≡ judging_front nodes count
+
+-- the same of a script
+abbrev pub KeepsScript : List Node → ℕ → ScriptState → Type 0
+KeepsScript nodes count script = 0 < count → script_back count script ≡ script_front nodes count
 
 -- the judgement is that on a line with these nodes
 abbrev pub HoldsJudgement : List Node → Judgement → Type 0

@@ -1,5 +1,5 @@
 -- The commands of a line, in pieces: first those that begin a game on its board, then those of each node whose step was taken.
-use Rattle.std.specs.Prelude.{◌≡◌, ℕ, suc, ◌+◌, ◌==◌, min, Bool, false, nat_lt, if◌then◌else◌, Option, Some, None, List, [], ◌∷◌, ◌++◌, length, map, codes, option_copied}
+use Rattle.std.specs.Prelude.{ℕ, suc, ◌+◌, ◌==◌, min, Bool, false, nat_lt, if◌then◌else◌, Option, Some, None, List, [], ◌∷◌, ◌++◌, length, map, codes, option_copied}
 use Rattle.std.specs.List.{concat, position_or_len}
 use Rattle.sgf_tree.specs.Tree.{Node}
 use Rattle.go_board.specs.declared.vertices.TheConstants.{MAX_VERTEX_SIDE}
@@ -68,6 +68,10 @@ said_on old unreaching more =
 abbrev pub script_back : ℕ → ScriptState → ScriptState
 script_back count old = record { text = cut (count + 1) old.text; said = min (count + 1) old.said }
 
+-- the script before the next of a line's nodes, of which the first `held` are said already; if `held` is 0, the line may have another board
+abbrev pub script_resumed : ℕ → Option Grid → ScriptState → ScriptState
+script_resumed held grid old = if held == 0 then script_on grid else script_back held old
+
 -- the script with the empty row that ends it
 abbrev pub script_ended : ScriptState → ScriptState
 script_ended old = record { text = pushed old.text (codes "\n"); said = old.said }
@@ -96,8 +100,3 @@ said_by old (Some state) node =
 
 abbrev pub said_after : ScriptState → Judgement → Node → ScriptState
 said_after old judgement node = said_by old (state_after judgement node) node
-
--- if a script has commands, the columns of its board have letters
-abbrev pub IsLettered : ScriptState → Option Grid → Type 0
-IsLettered script None = Unit {0}
-IsLettered script (Some grid) = (length script.text.pieces == 0) ≡ false → nat_lt MAX_VERTEX_SIDE grid.side ≡ false

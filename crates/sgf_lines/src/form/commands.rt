@@ -6,7 +6,7 @@ ghost use Rattle.go_board.specs.declared.referee.plays.Play.TheVariants.{Stone};
 ghost use Rattle.go_board.specs.State.{IsPlayOn};
 ghost use Rattle.sgf_tree.specs.Text.{text_of};
 ghost use Rattle.sgf_lines.specs.Script.{text_rows, comment_row, comment_text, colour_letter, play_command, stone_commands, colouring_commands, board_commands};
-ghost use Rattle.sgf_lines.specs.inner.Cutting.{commands_at, AreAppended, pass_command, stone_command};
+ghost use Rattle.sgf_lines.specs.inner.Cutting.{commands_at, AreAppended, stone_command};
 ghost use Rattle.sgf_lines.specs.inner.Scripting.{IsPlayable, step_script};
 
 use crate::judging::step::{Effect, TakenStep};
@@ -181,22 +181,17 @@ fn push_play(
     ensures { OnOk result (output.new.items ≡ output.old.items ++ play_command size colour play) }
 {
     match play {
-        Play::Pass => push_pass(colour, output),
+        Play::Pass => {
+            let player = letter_of(colour);
+            push_bytes(
+                &[
+                    b'p', b'l', b'a', b'y', b' ', player, b' ', b'p', b'a', b's', b's', b'\n',
+                ],
+                output,
+            )
+        }
         Play::Stone(point) => push_stone(colour, vertex(point, size), output),
     }
-}
-
-/// Appends the play command of a pass.
-fn push_pass(colour: Colour, output: &mut Vec<u8>) -> Result<(), MemoryFault>
-    ensures { OnOk result (output.new.items ≡ output.old.items ++ pass_command colour) }
-{
-    let player = letter_of(colour);
-    push_bytes(
-        &[
-            b'p', b'l', b'a', b'y', b' ', player, b' ', b'p', b'a', b's', b's', b'\n',
-        ],
-        output,
-    )
 }
 
 /// Appends the play command of a stone.

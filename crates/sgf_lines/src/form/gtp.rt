@@ -11,8 +11,7 @@ use crate::form::LineForm;
 use crate::form::row::Row;
 use crate::form::script::Script;
 use crate::judging::judge::Judge;
-use crate::judging::judged::begin_or_go_back;
-use crate::line_nodes::LineNodes;
+use crate::judging::judged::judge_line;
 use crate::over_lines::LineKeeper;
 use crate::sequence_cursor::{Front, SequenceCursor};
 use byte_streams::{Sink, SinkFault, put_all};
@@ -37,17 +36,7 @@ impl LineKeeper for GtpForm {
     ghost counts = { λ count. count };
 
     fn follow(&mut self, cursor: &SequenceCursor<'_, '_>, held: Front) -> Result<(), MemoryFault> {
-        let end = cursor.len();
-        begin_or_go_back(&cursor.root(), held.nodes, &mut self.judge)?;
-        self.script.keep(held.nodes, &self.judge)?;
-        let mut nodes = LineNodes::after(cursor, held);
-        for index in held.nodes..end {
-            if self.judge.is_settled() {
-                break;
-            }
-            let next = nodes.next();
-            self.script.take(next, &mut nodes, &mut self.judge)?;
-        }
+        judge_line(cursor, held, &mut self.judge, &mut self.script)?;
         self.script.end()?;
         self.row.lay_out_comment(cursor, self.judge.verdict());
         Ok(())

@@ -31,7 +31,7 @@ impl LineKeeper for ListForm {
     ghost counts = { λ count. count };
 
     fn follow(&mut self, cursor: &SequenceCursor<'_, '_>, held: Front) -> Result<(), MemoryFault> {
-        judge_line(cursor, held, &mut self.judge)?;
+        judge_line(cursor, held, &mut self.judge, &mut ())?;
         self.row.lay_out(cursor, self.judge.verdict());
         Ok(())
     }

@@ -1,19 +1,14 @@
 //! The script of a line in gtp form.
 
-ghost use Rattle.std.specs.Prelude.{◌≡◌, ◌==◌, ◌+◌, ◌<◌, ◌≤◌, false, length, OnOk};
-ghost use Rattle.sgf_tree.specs.Tree.{Node};
-ghost use Rattle.sgf_lines.specs.inner.Gathered.{ComesAs};
-ghost use Rattle.sgf_lines.specs.inner.Judging.{after, next_plays, board_in};
-ghost use Rattle.sgf_lines.specs.inner.Keeping.{PlaysUpTo};
-ghost use Rattle.sgf_lines.specs.inner.Scripting.{IsLettered, IsPlayable, is_unreaching, no_script, said_after, said_on, script_back, script_begun, script_ended, script_on, script_text, step_script};
+ghost use Rattle.std.specs.Prelude.{◌≡◌, ◌≤◌, Some, OnOk};
+ghost use Rattle.sgf_lines.specs.inner.Scripting.{is_unreaching, no_script, script_begun, script_ended, script_text};
 
 use crate::form::pieces::Pieces;
-use crate::judging::judge::Judge;
+use crate::judging::judged::StepKeeper;
 use crate::judging::step::{Effect, TakenStep};
-use crate::line_nodes::LineNodes;
 use go_board::{Board, MAX_VERTEX_SIDE, Size};
 use itoa::Buffer;
-use sgf_tree::{MemoryFault, NextNode};
+use sgf_tree::MemoryFault;
 use std::alloc::Global;
 use std::marker::Model;
 
@@ -47,101 +42,21 @@ impl Script {
         }
     }
 
-    /// Becomes a script without commands.
-    fn silence(&mut self)
-        ensures { self.new ≡ no_script }
-    {
-        self.pieces.cut_back(0);
-        self.said = 0;
-    }
-
     /// Begins the commands of a game on a board of that size.
     fn begin(&mut self, size: Size) -> Result<(), MemoryFault>
+        requires empty { self.old ≡ no_script }
+        requires letters { size ≤ MAX_VERTEX_SIDE }
         ensures { OnOk result (self.new ≡ script_begun size) }
     {
-        self.silence();
-        if size.side() <= MAX_VERTEX_SIDE {
-            let mut side = Buffer::new();
-            self.pieces.make_room()?;
-            self.pieces.push(b"boardsize ")?;
-            self.pieces
-                .push(side.format(u64::from(size.side())).as_bytes())?;
-            self.pieces.push(b"\nclear_board\n")?;
-            self.pieces.close()?;
-            self.said = 1;
-        }
-        Ok(())
-    }
-
-    /// Adds the commands of a node whose step was taken; `board` is the board after the step.
-    fn say(&mut self, step: TakenStep<'_>, board: &Board) -> Result<(), MemoryFault>
-        requires letters { (length self.old.text.pieces == 0) ≡ false → board.now.side ≤ MAX_VERTEX_SIDE }
-        requires playable { IsPlayable board.now.side step.effect }
-        ensures { OnOk result (self.new ≡ said_on self.old (is_unreaching board.now step.entry.effect) (step_script board.now step.entry)) }
-    {
-        let count = self.pieces.count();
-        if count == 0 {
-            return Ok(());
-        }
-        self.pieces.push_step(step, board)?;
+        let mut side = Buffer::new();
+        self.pieces.make_room()?;
+        self.pieces.push(b"boardsize ")?;
+        self.pieces
+            .push(side.format(u64::from(size.side())).as_bytes())?;
+        self.pieces.push(b"\nclear_board\n")?;
         self.pieces.close()?;
-        if self.said == count && !leaves_unreaching(step.effect, board) {
-            self.said = self.pieces.count();
-        }
+        self.said = 1;
         Ok(())
-    }
-
-    /// Judges a node, and adds it if its step was taken. `next` and `nodes` are as for `take_step`.
-    pub(crate) fn take<'a>(
-        &mut self,
-        next: NextNode<'a>,
-        nodes: &mut LineNodes<'_, '_, 'a>,
-        judge: &mut Judge,
-    ) -> Result<(), MemoryFault>
-        requires countable { judge.old.plays < u64.MAX }
-        requires letters { IsLettered self.old (board_in judge.old.judgement) }
-        ensures judged { (node : Node) → ComesAs node nodes.old.properties next.entry
-            → OnOk result (judge.new.judgement ≡ after judge.old.judgement node) }
-        ensures said { (node : Node) → ComesAs node nodes.old.properties next.entry
-            → OnOk result (self.new ≡ said_after self.old judge.old.judgement node) }
-        ensures plays { PlaysUpTo judge.old.plays judge.new.plays (next_plays judge.old.judgement) result }
-        ensures left { nodes.new.nodes ≡ nodes.old.nodes }
-    {
-        let Some(step) = judge.take(next, nodes)? else {
-            return Ok(());
-        };
-        match judge.board() {
-            Some(board) => self.say(step, board),
-            None => Ok(()),
-        }
-    }
-
-    /// Keeps the commands of the first `held` nodes. If `held` is 0, begins the commands of the game that is judged.
-    pub(crate) fn keep(&mut self, held: usize, judge: &Judge) -> Result<(), MemoryFault>
-        requires { held < usize.MAX }
-        ensures none { held ≡ 0 → OnOk result (self.new ≡ script_on (board_in judge.now.judgement)) }
-        ensures some { 0 < held → OnOk result (self.new ≡ script_back held self.old) }
-    {
-        if held > 0 {
-            self.cut_back(held);
-            return Ok(());
-        }
-        match judge.board() {
-            Some(board) => self.begin(board.size()),
-            None => {
-                self.silence();
-                Ok(())
-            }
-        }
-    }
-
-    /// Goes back to the first `count` nodes.
-    fn cut_back(&mut self, count: usize)
-        requires { count < usize.MAX }
-        ensures { self.new ≡ script_back count self.old }
-    {
-        self.pieces.cut_back(count + 1);
-        self.said = self.said.min(count + 1);
     }
 
     /// Appends the empty row that ends the script. The script of the next line cuts this row off again.
@@ -161,6 +76,37 @@ impl Script {
         } else {
             self.pieces.text()
         }
+    }
+}
+
+impl StepKeeper for Script {
+    ghost script = { λ script. Some script };
+
+    fn keep(&mut self, held: usize, board: Option<&Board>) -> Result<(), MemoryFault> {
+        if held > 0 {
+            self.pieces.cut_back(held + 1);
+            self.said = self.said.min(held + 1);
+            return Ok(());
+        }
+        self.pieces.cut_back(0);
+        self.said = 0;
+        match board {
+            Some(board) if board.size().side() <= MAX_VERTEX_SIDE => self.begin(board.size()),
+            _ => Ok(()),
+        }
+    }
+
+    fn say(&mut self, step: TakenStep<'_>, board: &Board) -> Result<(), MemoryFault> {
+        let count = self.pieces.count();
+        if count == 0 {
+            return Ok(());
+        }
+        self.pieces.push_step(step, board)?;
+        self.pieces.close()?;
+        if self.said == count && !leaves_unreaching(step.effect, board) {
+            self.said = self.pieces.count();
+        }
+        Ok(())
     }
 }
 

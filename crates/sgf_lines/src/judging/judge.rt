@@ -4,7 +4,7 @@ ghost use Rattle.std.specs.Prelude.{◌≡◌, ◌+◌, ◌<◌, IsTrue, OnOk, O
 ghost use Rattle.sgf_tree.specs.Tree.{Node};
 ghost use Rattle.sgf_lines.specs.inner.Gathered.{ComesAs};
 ghost use Rattle.go_board.specs.State.{begun};
-ghost use Rattle.sgf_lines.specs.inner.Back.{back_to};
+ghost use Rattle.sgf_lines.specs.inner.Judging.{back_to};
 ghost use Rattle.sgf_lines.specs.Verdict.{score_in};
 ghost use Rattle.sgf_lines.specs.JudgedGames.{game_kind, board};
 

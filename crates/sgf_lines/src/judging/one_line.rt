@@ -44,7 +44,7 @@ fn judge_before(alloc: Global, cursor: &SequenceCursor<'_, '_>) -> Result<Verdic
     let _sequences = cursor.sequences();
     let _len = cursor.len();
     let mut judge = Judge::new(alloc);
-    judge_line(cursor, NO_FRONT, &mut judge)?;
+    judge_line(cursor, NO_FRONT, &mut judge, &mut ())?;
     Ok(judge.verdict())
 }
 

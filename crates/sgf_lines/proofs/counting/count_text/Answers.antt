@@ -1,14 +1,11 @@
--- What is said of the text is said of the count, whatever source gave it.
-use Rattle.std.proofs.Common.{Err, ap}
-use Rattle.sgf_lines.proofs.LineCounts.{count_of_games, count_of_unread}
+-- What is said of the text is said of the count, whatever source gave it. There are as many lines as leaves.
+use Rattle.std.proofs.Common.{sym, ◌∙◌}
+use Rattle.sgf_lines.proofs.LeafLines.{lines_leaves}
+use Rattle.sgf_lines.proofs.LineCounts.{count_of_games, same_counts}
 use Rattle.sgf_lines.proofs.counting.count_text.Goals as goal
 
 pub returns-in-Ok : goal.returns-in-Ok
 returns-in-Ok c source new_source read =
     let held = c.in-Ok.ensures.measured in
-    count_of_games source new_source c.args.text.now read held.collection _ held.spelled (c.counted.ensures c.args.text.now held)
-
-pub returns-in-Err : goal.returns-in-Err
-returns-in-Err c source new_source read =
-    count_of_unread source new_source c.args.text.now read c.in-Err.fault c.unread.result c.unread.ensures
-    (λ is. c.in-Err.ensures.too_long.0 (ap Err is)) c.in-Err.ensures.not_sgf
+    count_of_games source new_source c.args.text.now read held.collection _ held.spelled
+    (same_counts held.collection _ held.games_counted held.nodes_counted (held.leaves_counted ∙ sym (lines_leaves held.collection)))

@@ -1,20 +1,8 @@
 -- The lines that follow the line with the place are those after the cursor.
-use Rattle.std.proofs.Common.{ap}
-use Rattle.sgf_lines.specs.inner.Sequences.{SequencesState}
-use Rattle.sgf_lines.proofs.Pages.{started, started_same, not_started}
+use Rattle.std.proofs.Common.{arith}
+use Rattle.std.proofs.lemmas.Grind.{common_steps}
+use Rattle.sgf_lines.proofs.Pages.{started}
 use Rattle.sgf_lines.proofs.run.cursor_after.Goals as goal
 
 pub returns-in-Ok-clause-start : goal.returns-in-Ok-clause-start
-returns-in-Ok-clause-start c = λ text spelled.
-    started c.args.outline.now c.args.after c.in-Some.place c.new-cursor.result.at c.seek_after.new.self.at c.in-Some.is (ap (λ (s : SequencesState). s.at) c.new-cursor.ensures)
-    (c.rise.ensures c.args.outline.now text spelled) c.in-Ok.ensures.sought
-
-pub returns-in-Ok-clause-same : goal.returns-in-Ok-clause-same
-returns-in-Ok-clause-same c = started_same c.args.outline.now c.in-Some.place c.new-cursor.result.at c.seek_after.new.self.at (ap (λ (s : SequencesState). s.at) c.new-cursor.ensures) c.in-Ok.ensures.sought
-
-pub returns-in-Err-NoSuchLine-clause-start : goal.returns-in-Err-NoSuchLine-clause-start
-returns-in-Err-NoSuchLine-clause-start c = λ text spelled.
-    rw c.in-Err-NoSuchLine.place-is (
-    not_started c.args.outline.now c.args.after c.in-Some.place c.in-Err-NoSuchLine.place c.new-cursor.result.at c.in-Some.is (ap (λ (s : SequencesState). s.at) c.new-cursor.ensures)
-    (rw c.in-Err-NoSuchLine.field-0-is at c.in-Err-NoSuchLine.ensures.why)
-    )
+returns-in-Ok-clause-start c = grind (arith, common_steps, started)

@@ -1,29 +1,14 @@
 -- What is said of the text is said of the run, whatever source gave it.
-use Rattle.std.proofs.Common.{◌≡◌, Err, take, drop, ap, ◌∙◌, arith, rules}
+use Rattle.std.proofs.Common.{◌≡◌, take, drop, ap, ◌∙◌, arith}
 use Rattle.std.specs.Prelude.{unwrap_or}
 use Rattle.std.proofs.lemmas.Result.{err_from_is_err_and}
 use Rattle.sgf_tree.specs.Tree.{node_count}
 use Rattle.sgf_tree.specs.Spelling.{Spells}
-use Rattle.sgf_tree.specs.declared.fault.TheConstants.{MAX_LENGTH}
 use Rattle.sgf_lines.specs.Lines.{lines}
 use Rattle.sgf_lines.specs.inner.Running.{WritesLines}
 use Rattle.sgf_lines.proofs.PlayCounts.{for_options}
-use Rattle.sgf_lines.proofs.Running.{unread_run, no_start_run, lines_run}
-use Rattle.sgf_lines.proofs.Touched.{nodes_within}
+use Rattle.sgf_lines.proofs.Running.{no_start_run, lines_run}
 use Rattle.sgf_lines.proofs.run.split_text.Goals as goal
-
-pub write_in-requires-clause-rise : goal.write_in-requires-clause-rise
-write_in-requires-clause-rise g c = rw c.in_ok-cursor.ensures.same c.nodes.ensures.places_rise
-
-pub write_in-requires-clause-few : goal.write_in-requires-clause-few
-write_in-requires-clause-few g c =
-    let nodes = nodes_within c.in-Ok.outline c.nodes.ensures.places_rise MAX_LENGTH c.nodes.ensures.places_within in
-    omega (arith, nodes, ap node_count c.in_ok-cursor.ensures.same)
-
-pub returns-in-Err : goal.returns-in-Err
-returns-in-Err g c source new_source read =
-    unread_run c.args.options.now source new_source c.args.text.now read (g.T.Sink.state c.args.sink.now) c.args.plays.now
-    c.in-Err.fault c.unread.result c.unread.ensures (λ is. c.in-Err.ensures.too_long.0 (ap Err is)) c.in-Err.ensures.not_sgf (search rules) (search rules)
 
 pub returns-in_err-cursor : goal.returns-in_err-cursor
 returns-in_err-cursor g c source new_source read =

@@ -1,6 +1,6 @@
 -- One record more was written, or the sink failed within it.
 use Rattle.std.proofs.Common.{◌≡◌, true, None, Some, Ok, Err, slice_get, sym, ap, ◌∙◌, arith}
-use Rattle.sgf_tree.specs.Tree.{node_count}
+use Rattle.std.proofs.lemmas.Grind.{common_steps}
 use Rattle.sgf_tree.specs.declared.fault.MemoryFault.{MemoryFault}
 use Rattle.sgf_lines.specs.Cursor.{CursorState, advanced}
 use Rattle.sgf_lines.specs.Lines.{lines}
@@ -9,18 +9,17 @@ use Rattle.sgf_lines.specs.declared.over_lines.Before.TheVariants.{Held}
 use Rattle.byte_streams.specs.declared.sink.SinkFault.{SinkFault}
 use Rattle.sgf_lines.specs.inner.Following.{line_before, nodes_before}
 use Rattle.sgf_lines.specs.inner.GoingOn.{PlaysLine, StandsBy, next_by}
+use Rattle.std.proofs.KnownBytes.{Appends-kept}
 use Rattle.byte_streams.specs.Streams.{PutsAll}
+use Rattle.sgf_lines.specs.inner.Running.{WritesLines, page_after}
 use Rattle.sgf_lines.proofs.Keeping.{line_next}
-use Rattle.sgf_lines.proofs.PlayCounts.{one_written, cut_short, none_left, limit_met, few, goes_forth, one_played, played_then_cut, played_in_part}
+use Rattle.sgf_lines.proofs.PlayCounts.{one_written, cut_short, none_left, limit_met, few, goes_forth, not_flushed, one_played, played_then_cut, played_in_part}
 use Rattle.sgf_lines.proofs.run.write_lines.Given.{Over}
 use Rattle.sgf_lines.proofs.run.write_lines.Goals as goal
-use Rattle.sgf_lines.proofs.run.write_lines.Goals.{In-Ok-true}
+use Rattle.sgf_lines.proofs.run.write_lines.Goals.{After-flush, In-Ok-true, else-page-test, then-page-test+in-Ok-false}
 
 pub next-requires-clause-countable : goal.next-requires-clause-countable
-next-requires-clause-countable g c =
-    let at = c.args.lines.now.cursor.at in
-    let fewer = few at.games c.requires.rise at.index c.args.limit g.F.LineForm.form c.page.written in
-    omega (arith, fewer, c.requires.few, c.page.invariant.plays, ap node_count c.page.invariant.written.same)
+next-requires-clause-countable g c = grind (arith, common_steps, few)
 
 -- the next line was kept
 module _ (g : Over) (c : In-Ok-true g) where
@@ -95,16 +94,27 @@ returns-in-Err-clause-answer g c =
           c.in-Err.field-0 (g.F.LineKeeper.played c.next.new.self.keeper) c.in-Err.ensures.plays,
     )
 
-pub returns-in-Ok-false-clause-answer : goal.returns-in-Ok-false-clause-answer
-returns-in-Ok-false-clause-answer g c =
+-- all records of the page were put, and then the sink was flushed
+whole : (g : Over) (c : After-flush g) → WritesLines g.F.LineForm.form (page_after c.args.lines.now.cursor.at c.args.limit) (g.T.Sink.state c.args.sink.now) (g.T.Sink.state c.page.sink)
+    (g.F.LineKeeper.played c.page-test.lines.keeper) (Ok c.page.written)
+whole g c =
+    let start = c.args.lines.now.cursor.at in
     let old = c.page.lines in
-    let same : g.F.LineKeeper.played c.next.new.self.keeper ≡ g.F.LineKeeper.played old.keeper = rw c.in-Ok-false.field-0-test at c.in-Ok-false.ensures.plays in
-    let none : (c.next.new.self ≡ old) × (slice_get (lines old.cursor.at.games) (next_by old.before old.cursor.at).index ≡ None) = rw c.in-Ok-false.field-0-test at c.in-Ok-false.ensures.moved in
-    none_left g.F.LineForm.form c.args.lines.now.cursor.at.games c.args.lines.now.cursor.at.index c.args.limit (g.T.Sink.state c.args.sink.now) c.page.written old.cursor.at (g.T.Sink.state c.page.sink)
-    c.page.invariant.written (g.F.LineKeeper.played c.next.new.self.keeper) (same ∙ c.page.invariant.plays)
-    (ap (λ (p : CursorState). slice_get (lines old.cursor.at.games) p.index) (sym (goes_forth c.page.written old.before old.cursor.at c.page.invariant.first c.page.invariant.later)) ∙ none.1)
+    elim c.page-test.branch [
+      | else-page-test w ↦ rw w.lines-is (limit_met g.F.LineForm.form start.games start.index c.args.limit (g.T.Sink.state c.args.sink.now) c.page.written old.cursor.at (g.T.Sink.state c.page.sink)
+        c.page.invariant.written (g.F.LineKeeper.played old.keeper) c.page.invariant.plays (omega (arith, w.page-test.false)))
+      | then-page-test+in-Ok-false w ↦
+          let same : g.F.LineKeeper.played w.next.new.self.keeper ≡ g.F.LineKeeper.played old.keeper = rw w.in-Ok-false.field-0-test at w.in-Ok-false.ensures.plays in
+          let none : (w.next.new.self ≡ old) × (slice_get (lines old.cursor.at.games) (next_by old.before old.cursor.at).index ≡ None) = rw w.in-Ok-false.field-0-test at w.in-Ok-false.ensures.moved in
+          rw w.lines-is (none_left g.F.LineForm.form start.games start.index c.args.limit (g.T.Sink.state c.args.sink.now) c.page.written old.cursor.at (g.T.Sink.state c.page.sink)
+          c.page.invariant.written (g.F.LineKeeper.played w.next.new.self.keeper) (same ∙ c.page.invariant.plays)
+          (ap (λ (p : CursorState). slice_get (lines old.cursor.at.games) p.index) (sym (goes_forth c.page.written old.before old.cursor.at c.page.invariant.first c.page.invariant.later)) ∙ none.1))
+    ]
 
-pub returns-clause-answer : goal.returns-clause-answer
-returns-clause-answer g c =
-    limit_met g.F.LineForm.form c.args.lines.now.cursor.at.games c.args.lines.now.cursor.at.index c.args.limit (g.T.Sink.state c.args.sink.now) c.page.written c.page.lines.cursor.at (g.T.Sink.state c.page.sink)
-    c.page.invariant.written (g.F.LineKeeper.played c.page.lines.keeper) c.page.invariant.plays (omega (arith, c.page-test.false))
+pub returns-in-Err-flush-clause-answer : goal.returns-in-Err-flush-clause-answer
+returns-in-Err-flush-clause-answer g c = not_flushed _ _ _ _ _ _ _ (whole g (goal.at.returns-in-Err-flush-clause-answer g c).After-flush) c.in-Err-flush.ensures
+
+pub returns-in-Ok-flush-clause-answer : goal.returns-in-Ok-flush-clause-answer
+returns-in-Ok-flush-clause-answer g c =
+    let h = whole g (goal.at.returns-in-Ok-flush-clause-answer g c).After-flush in
+    (Appends-kept _ _ _ _ h.0 c.in-Ok-flush.ensures.taken, h.1, h.2)

@@ -1,19 +1,11 @@
 -- The writer was handed all that was held back, or a front of it.
-use Rattle.std.proofs.Common.{take, refl, arith, ap, ◌+◌, sym}
-use Rattle.byte_streams.proofs.HeldBack.{handed_on, all_handed_on}
+use Rattle.std.proofs.Common.{take, refl, arith}
+use Rattle.std.proofs.lemmas.Grind.{common_steps}
+use Rattle.byte_streams.proofs.SliceEnds.{handed_on, all_handed_on}
 use Rattle.byte_streams.proofs.buffered_sink.BufferedSink.write_out.Goals as goal
 
 pub returns-then-handed-len-clause-out : goal.returns-then-handed-len-clause-out
-returns-then-handed-len-clause-out g c =
-    let s = c.args.self.now in
-    let wrote = rw c.deref.ensures.value at c.write_whole-handed.ensures.bytes in
-    record {
-      failures = sym (ap (λ n. n + 1) c.requires.never_failed);
-      taken = handed_on (g.W.Write.contents s.writer) (g.W.Write.contents c.write_whole-handed.new.writer) s.buffer.items s.handed c.write_whole-handed.result
-          (s.whole c.requires.never_failed) wrote;
-      grows = (take c.write_whole-handed.result s.buffer.items, wrote);
-      final = λ failed. absurd (omega (arith, failed, c.requires.never_failed));
-    }
+returns-then-handed-len-clause-out g c = grind (arith, common_steps, handed_on)
 
 pub returns-clause-out : goal.returns-clause-out
 returns-clause-out g c =

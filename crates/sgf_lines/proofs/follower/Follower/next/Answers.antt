@@ -1,5 +1,6 @@
 -- The next line was judged from where it leaves the line before it.
 use Rattle.std.proofs.Common.{◌≡◌, ◌≤◌, true, Ok, ap, arith}
+use Rattle.std.proofs.lemmas.Grind.{common_steps}
 use Rattle.sgf_tree.specs.Tree.{node_count}
 use Rattle.sgf_tree.specs.FileOrder.{PlacesRise}
 use Rattle.sgf_tree.specs.declared.fault.TheConstants.{MAX_LENGTH}
@@ -32,10 +33,7 @@ module _ (c : In-Ok-true) where
   stands = rw came.0 at c.in-Ok-true.ensures.stands
 
 pub next-requires-clause-countable : goal.next-requires-clause-countable
-next-requires-clause-countable c =
-    let at = (goal.at.next-requires-clause-countable c).After-nodes-nodes in
-    let old = c.self.inside.lines in
-    omega (arith, few_played old.before old.cursor.at old.keeper.judge old.keeper.path.items c.self.inside.row c.self.invariant (rise at), nodes at)
+next-requires-clause-countable c = grind (arith, common_steps, few_played)
 
 pub overflow_add-self : goal.overflow_add-self
 overflow_add-self c =

@@ -1,7 +1,7 @@
 use Rattle.std.specs.Prelude.{codes}
 use Rattle.go_board.specs.declared.stones.Colour.TheVariants.{Black, White}
 use Rattle.sgf_lines.specs.Script.{stone_commands}
-use Rattle.sgf_lines.proofs.Cut.{joins_three}
+use Rattle.sgf_lines.proofs.CutTexts.{joins_three}
 use Rattle.sgf_lines.proofs.form.commands.push_board.Goals as goal
 
 pub returns : goal.returns

@@ -1,15 +1,10 @@
-use Rattle.std.proofs.Common.{◌≡◌, Some, slice_get, ◌*◌, ◌+◌, [], subst, sym, arith}
+use Rattle.std.proofs.Common.{◌≡◌, Some, slice_get, ◌*◌, ◌+◌, [], subst, arith}
 use Rattle.go_board.specs.declared.points.Point.{Point}
 use Rattle.go_board.specs.Point.{points}
 use Rattle.go_board.proofs.PointLemmas.{slice_get-points}
 use Rattle.sgf_lines.specs.inner.Cutting.{commands_at, AreAppended}
 use Rattle.sgf_lines.proofs.Joins.{joins}
 use Rattle.sgf_lines.proofs.form.commands.push_row.Goals as goal
-
-pub columns-init : goal.columns-init
-columns-init c = λ before was.
-    let none : c.args.row * c.args.board.now.side + 0 ≡ c.args.row * c.args.board.now.side = omega arith in
-    subst (λ n. AreAppended c.args.board.now c.args.colour n before c.args.output.now.items) (sym none) was
 
 pub columns-preserved : goal.columns-preserved
 columns-preserved c = λ before was.
@@ -20,9 +15,3 @@ columns-preserved c = λ before was.
     let one : i + 1 ≡ c.args.row * g.side + (c.columns.col + 1) = omega arith in
     subst (λ n. AreAppended g c.args.colour n before c.push_point.new.output.items) one
     (joins (commands_at g c.args.colour) before [] (points g.side) i p c.columns.output.items c.push_point.new.output.items at (c.columns.invariant before was) c.in_ok-push_point.ensures)
-
-pub returns : goal.returns
-returns c = λ before was.
-    let g = c.args.board.now in
-    let all : c.args.row * g.side + c.columns.col ≡ (c.args.row + 1) * g.side = omega (arith, c.columns-test.false, c.size.ensures) in
-    subst (λ n. AreAppended g c.args.colour n before c.columns.output.items) all (c.columns.invariant before was)

@@ -1,24 +1,9 @@
-use Rattle.std.proofs.Common.{◌≡◌, ◌≤◌, ◌*◌, ◌++◌, length, sym, ap, ◌∙◌, arith, append-nil}
-use Rattle.std.specs.List.{flat_map}
+use Rattle.std.proofs.Common.{arith}
+use Rattle.std.proofs.lemmas.Grind.{common_steps}
 use Rattle.std.proofs.lemmas.List.{take_all}
-use Rattle.go_board.specs.Point.{points}
-use Rattle.sgf_lines.specs.inner.Cutting.{commands_at}
 use Rattle.go_board.proofs.PointLemmas.{length-points}
-use Rattle.sgf_lines.proofs.Cut.{stones-by_point}
+use Rattle.sgf_lines.proofs.CutTexts.{stones-by_point}
 use Rattle.sgf_lines.proofs.form.commands.push_stones.Goals as goal
 
-pub rows-init : goal.rows-init
-rows-init c =
-    let none : 0 * c.args.board.now.side ≡ 0 = omega arith in
-    rw none (sym (append-nil c.args.output.now.items))
-
-pub rows-preserved : goal.rows-preserved
-rows-preserved c = c.in_ok-push_row.ensures c.args.output.now.items c.rows.invariant
-
 pub returns : goal.returns
-returns c =
-    let g = c.args.board.now in
-    let old = c.args.output.now.items in
-    let row : c.rows.row ≡ g.side = omega (arith, c.rows-test.false, c.size.ensures) in
-    let le : length (points g.side) ≤ c.rows.row * g.side = omega (arith, ap (λ n. n * g.side) row, length-points g.side) in
-    c.rows.invariant ∙ ap (λ ps. old ++ flat_map (commands_at g c.args.colour) ps) (take_all (c.rows.row * g.side) (points g.side) le) ∙ ap (λ t. old ++ t) (stones-by_point g c.args.colour)
+returns c = grind (arith, common_steps, length-points, stones-by_point, take_all)

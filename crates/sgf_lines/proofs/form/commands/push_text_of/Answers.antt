@@ -3,8 +3,7 @@ use Rattle.std.proofs.Common.{◌≡◌, ◌++◌, OnOk, length, codes, ap, sym,
 use Rattle.std.specs.Prelude.{not}
 use Rattle.std.proofs.lemmas.Bool.{eqb-false}
 use Rattle.sgf_tree.specs.Text.{text_of}
-use Rattle.sgf_lines.proofs.Cut.{joins_three}
-use Rattle.sgf_lines.proofs.CutTexts.{appended_last, one_row}
+use Rattle.sgf_lines.proofs.CutTexts.{joins_three, appended_last, one_row}
 use Rattle.sgf_lines.proofs.form.commands.push_text_of.Goals as goal
 
 pub returns-then-is_none : goal.returns-then-is_none

@@ -1,6 +1,6 @@
 -- What was taken back would have been.
 use Rattle.std.proofs.Common.{◌≡◌, length}
-use Rattle.sgf_lines.specs.inner.Back.{back_to}
+use Rattle.sgf_lines.specs.inner.Judging.{back_to}
 use Rattle.sgf_lines.proofs.judging.judge.undo_to.Given as goal
 
 abbrev pub invariant-undo : goal.invariant-undo

@@ -1,65 +1,101 @@
--- One node more is judged, until all are.
-use Rattle.std.proofs.Common.{ap, ◌∙◌, arith}
+-- One node more is judged, and said if its step is taken, until all are, or the verdict is known.
+use Rattle.std.proofs.Common.{◌≡◌, Option, Some, length, slice_get, ap, subst, ◌∙◌, arith}
 use Rattle.sgf_tree.specs.NodesLeft.{NodesLeft}
 use Rattle.sgf_lines.specs.inner.Following.{nodes_before}
-use Rattle.sgf_lines.specs.inner.Judging.{Judging}
-use Rattle.sgf_lines.proofs.JudgedLines.{judges_begun, judges_on, all_whole, settled_whole, judged_all, stopped, fresh_all, fresh_of_err}
-use Rattle.sgf_lines.proofs.NodesToCome.{comes, come_on, some_come}
+use Rattle.sgf_lines.specs.inner.Judging.{IsTakenFrom, after, board_in}
+use Rattle.sgf_lines.specs.declared.judging.step.TakenStep.{TakenStep}
+use Rattle.sgf_tree.specs.Tree.{Node}
+use Rattle.sgf_lines.specs.inner.Keeping.{judging_front}
+use Rattle.sgf_lines.proofs.Fronts.{rises_through}
+use Rattle.sgf_lines.proofs.JudgedLines.{begun_front, judges_begun, judges_on, all_whole, settled_whole, finish, stopped}
+use Rattle.sgf_lines.proofs.NodesToCome.{comes, come_on}
+use Rattle.sgf_lines.proofs.Scripts.{told_front, told_on, untold, letters, playable, on_board}
+use Rattle.sgf_lines.proofs.judging.judged.judge_line.Given.{Over}
 use Rattle.sgf_lines.proofs.judging.judged.judge_line.Goals as goal
+use Rattle.sgf_lines.proofs.judging.judged.judge_line.Goals.{In_ok-step, then-held-eq0+in_ok-begin, else-held-eq0, in-Some+in-Some-board+in_ok-say-in-Some-board, in-Some+in-None-board, in-None}
+
+pub keep-requires : goal.keep-requires
+keep-requires g c =
+    let cursor = c.args.cursor.now in
+    let through = rises_through 0 cursor.ends (length (nodes_before cursor.at)) c.args.held.sequences c.sequences-sequences.ensures.divided (omega (arith, c.requires.front.more)) in
+    omega (arith, through.1, c.requires.front.count, c.len-end.ensures.nodes, c.len-end.ensures.small)
 
 pub loop-index-init : goal.loop-index-init
-loop-index-init c = record {
-  judges = judges_begun (nodes_before c.args.cursor.now.at) c.args.held.nodes c.args.judge.now.plays c.begin_or_go_back.new.judge
-      (c.in_ok-begin_or_go_back.ensures.judged (nodes_before c.args.cursor.now.at) c.root.ensures c.requires.judged) c.in_ok-begin_or_go_back.ensures.plays;
-  comes = ap (λ (n : NodesLeft). n.nodes) c.after-nodes.ensures;
-}
-
-pub next-next-requires : goal.next-next-requires
-next-next-requires c =
-    some_come (nodes_before c.args.cursor.now.at) c.loop-index.index c.loop-index.nodes.nodes c.loop-index.invariant.comes (omega (arith, c.loop-index-test.true, c.len-end.ensures.nodes))
-
-pub take-requires : goal.take-requires
-take-requires c = omega (arith, c.loop-index.invariant.judges.few, c.requires.countable, c.loop-index-test.true, c.len-end.ensures.nodes, c.loop-index.auto.index)
-
-pub loop-index-preserved : goal.loop-index-preserved
-loop-index-preserved c =
+loop-index-init g c =
     let nodes = nodes_before c.args.cursor.now.at in
-    let i = c.loop-index.index in
-    let node = c.next-next.ensures.0 in
-    let here = comes nodes i c.loop-index.nodes.nodes node c.next-next.new.self.nodes c.loop-index.invariant.comes c.next-next.ensures.1 in
+    let held = c.args.held.nodes in
+    let judge = c.if-held-eq0.judge in
+    let judged : (judge.judgement ≡ judging_front nodes held) × (judge.plays ≡ c.args.judge.now.plays) =
+    elim c.if-held-eq0.branch [
+      | then-held-eq0+in_ok-begin w ↦ rw w.judge-is (w.in_ok-begin.ensures.begun ∙ begun_front nodes w.root.result held w.root.ensures (omega (arith, w.if-held-eq0.true)), w.in_ok-begin.ensures.plays)
+      | else-held-eq0 w ↦ rw w.judge-is (w.cut_back.ensures.judged ∙ c.requires.judged (omega (arith, w.if-held-eq0.false)), w.cut_back.ensures.plays)
+    ] in
     record {
-      judges = judges_on nodes c.args.held.nodes c.args.judge.now.plays i c.loop-index.judge c.loop-index.invariant.judges c.loop-index.auto.index node here c.take.new.self
-          (c.in_ok-take.ensures.judged node c.next-next.ensures.2) c.in_ok-take.ensures.plays;
-      comes = c.take.ensures.left ∙ come_on nodes i c.loop-index.nodes.nodes node c.next-next.new.self.nodes c.loop-index.invariant.comes c.next-next.ensures.1;
+      judges = judges_begun nodes held c.args.judge.now.plays judge judged.0 judged.1;
+      told = told_front nodes held judge.judgement judged.0 _ _ (rw c.board.ensures at c.in_ok-keep.ensures) c.requires.told;
+      comes = ap (λ (n : NodesLeft). n.nodes) c.after-nodes.ensures;
     }
 
-pub returns-clause-judged : goal.returns-clause-judged
-returns-clause-judged c =
-    let h = c.loop-index.invariant.judges in
-    judged_all (nodes_before c.args.cursor.now.at) _ _ _ _ h (all_whole (nodes_before c.args.cursor.now.at) _ _ _ _ h (omega (arith, c.loop-index-test.false, c.len-end.ensures.nodes)))
+-- the next node, and what is known of its step
+module _ (g : Over) (c : In_ok-step g) where
+  abbrev node : Node
+  node = c.next-next.ensures.0
 
-pub returns-clause-plays : goal.returns-clause-plays
-returns-clause-plays c =
-    let h = c.loop-index.invariant.judges in
-    fresh_all (nodes_before c.args.cursor.now.at) _ _ _ _ h (all_whole (nodes_before c.args.cursor.now.at) _ _ _ _ h (omega (arith, c.loop-index-test.false, c.len-end.ensures.nodes))) _
+  here : slice_get (nodes_before c.args.cursor.now.at) c.loop-index.index ≡ Some node
+  here = comes (nodes_before c.args.cursor.now.at) c.loop-index.index c.loop-index.nodes.nodes node c.next-next.new.self.nodes c.loop-index.invariant.comes c.next-next.ensures.1
 
-pub returns-then-is_settled-clause-judged : goal.returns-then-is_settled-clause-judged
-returns-then-is_settled-clause-judged c =
-    let h = c.loop-index.invariant.judges in
-    judged_all (nodes_before c.args.cursor.now.at) _ _ _ _ h (settled_whole (nodes_before c.args.cursor.now.at) _ _ _ _ h (c.is_settled.ensures c.if-is_settled.true))
+  judged : c.take.new.self.judgement ≡ after c.loop-index.judge.judgement node
+  judged = c.in_ok-step.ensures.judged node c.next-next.ensures.2
 
-pub returns-then-is_settled-clause-plays : goal.returns-then-is_settled-clause-plays
-returns-then-is_settled-clause-plays c =
-    let h = c.loop-index.invariant.judges in
-    fresh_all (nodes_before c.args.cursor.now.at) _ _ _ _ h (settled_whole (nodes_before c.args.cursor.now.at) _ _ _ _ h (c.is_settled.ensures c.if-is_settled.true)) _
+  taken : (step : Option TakenStep) → c.in_ok-step.step ≡ step → IsTakenFrom c.loop-index.judge.judgement node step
+  taken step is = subst (IsTakenFrom c.loop-index.judge.judgement node) is (c.in_ok-step.ensures.step node c.next-next.ensures.2)
 
-pub returns-in_err-take-clause-plays : goal.returns-in_err-take-clause-plays
-returns-in_err-take-clause-plays c =
+pub say-requires-clause-letters : goal.say-requires-clause-letters
+say-requires-clause-letters g c =
+    let at = (goal.at.say-requires-clause-letters g c).In_ok-step in
+    letters _ c.loop-index.index (node g at) (here g at) _ c.loop-index.invariant.judges.judged c.in-Some.step c.in-Some-board.board.now (taken g at _ c.in-Some.is) (c.in-Some-board.ensures ∙ ap board_in (judged g at)) _
+    c.loop-index.invariant.told
+
+pub say-requires-clause-playable : goal.say-requires-clause-playable
+say-requires-clause-playable g c =
+    let at = (goal.at.say-requires-clause-playable g c).In_ok-step in
+    playable _ c.loop-index.index (node g at) (here g at) _ c.loop-index.invariant.judges.judged c.in-Some.step c.in-Some-board.board.now (taken g at _ c.in-Some.is) (c.in-Some-board.ensures ∙ ap board_in (judged g at))
+
+pub returns-in_err-say-in-Some-board-clause-plays : goal.returns-in_err-say-in-Some-board-clause-plays
+returns-in_err-say-in-Some-board-clause-plays g c =
+    let at = (goal.at.returns-in_err-say-in-Some-board-clause-plays g c).In_ok-step in
+    let plays = c.in_ok-step.ensures.plays in
+    stopped _ _ _ _ c.loop-index.judge c.loop-index.invariant.judges c.loop-index.auto.index (node g at) (here g at) _ c.from_residual-in_err-say-in-Some-board.ensures.0 c.take.new.self.plays
+    (omega (arith, plays)) (omega (arith, plays))
+
+pub loop-index-preserved : goal.loop-index-preserved
+loop-index-preserved g c =
+    let at = (goal.at.loop-index-preserved g c).In_ok-step in
     let nodes = nodes_before c.args.cursor.now.at in
     let i = c.loop-index.index in
-    let node = c.next-next.ensures.0 in
-    let here = comes nodes i c.loop-index.nodes.nodes node c.next-next.new.self.nodes c.loop-index.invariant.comes c.next-next.ensures.1 in
-    let same = ap (λ (j : Judging). j.plays) c.in_err-take.ensures.unchanged in
-    fresh_of_err (Unit {0}) c.in_err-take.field-0 c.from_residual-in_err-take.result c.from_residual-in_err-take.ensures.0
-    (stopped nodes c.args.held.nodes c.args.judge.now.plays i c.loop-index.judge c.loop-index.invariant.judges c.loop-index.auto.index node here
-    c.in_err-take.field-0 c.take.new.self.plays (omega (arith, same)) (omega (arith, same)))
+    let old = c.loop-index.judge in
+    let h = c.loop-index.invariant in
+    record {
+      judges = judges_on nodes _ _ i old h.judges c.loop-index.auto.index (node g at) (here g at) c.take.new.self (judged g at) c.in_ok-step.ensures.plays;
+      told =
+          elim c.match-step.branch [
+            | in-Some+in-Some-board+in_ok-say-in-Some-board w ↦
+                rw w.keeper-is (told_on nodes i (node g at) (here g at) old.judgement h.judges.judged w.in-Some.step w.in-Some-board.board.now (taken g at _ w.in-Some.is)
+                (w.in-Some-board.ensures ∙ ap board_in (judged g at)) _ _ h.told w.in_ok-say-in-Some-board.ensures)
+            | in-Some+in-None-board w ↦ absurd (on_board old.judgement (node g at) w.in-Some.step (taken g at _ w.in-Some.is) (w.in-None-board.ensures ∙ ap board_in (judged g at)))
+            | in-None w ↦ rw w.keeper-is (untold nodes i (node g at) (here g at) old.judgement h.judges.judged _ h.told (taken g at _ w.in-None.is))
+          ];
+      comes = c.take.ensures.left ∙ come_on nodes i c.loop-index.nodes.nodes (node g at) c.next-next.new.self.nodes h.comes c.next-next.ensures.1;
+    }
+
+pub returns : goal.returns
+returns g c =
+    let h = c.loop-index.invariant in
+    let nodes = nodes_before c.args.cursor.now.at in
+    finish nodes _ _ _ _ h.judges (all_whole nodes _ _ _ _ h.judges (omega (arith, c.loop-index-test.false, c.len-end.ensures.nodes))) _ h.told _
+
+pub returns-then-is_settled : goal.returns-then-is_settled
+returns-then-is_settled g c =
+    let h = c.loop-index.invariant in
+    let nodes = nodes_before c.args.cursor.now.at in
+    finish nodes _ _ _ _ h.judges (settled_whole nodes _ _ _ _ h.judges (c.is_settled.ensures c.if-is_settled.true)) _ h.told _

@@ -1,13 +1,9 @@
 -- The line is judged from its root.
-use Rattle.std.proofs.Common.{◌<◌, length, refl, arith}
+use Rattle.std.proofs.Common.{◌<◌, length, arith}
 use Rattle.sgf_lines.specs.inner.Following.{line_before, nodes_before}
-use Rattle.sgf_lines.proofs.Judged.{told_of}
-use Rattle.sgf_lines.proofs.RunRecords.{verdict_is}
+use Rattle.sgf_lines.proofs.RunRecords.{told_of, verdict_is}
 use Rattle.sgf_lines.proofs.SequenceCursors.{some_end}
 use Rattle.sgf_lines.proofs.judging.one_line.judge_before.Goals as goal
-
-pub judge_line-requires-clause-front : goal.judge_line-requires-clause-front
-judge_line-requires-clause-front c = record { more = omega (arith, c.sequences-sequences.ensures.some c.requires, c.sequences-sequences.ensures.count); count = refl }
 
 pub returns : goal.returns
 returns c =

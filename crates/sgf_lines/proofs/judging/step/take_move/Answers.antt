@@ -1,9 +1,8 @@
-use Rattle.std.proofs.Common.{◌≡◌, Some, Err, sym, ap, ◌∙◌, subst}
+use Rattle.std.proofs.Common.{◌≡◌, Some, sym, ap, ◌∙◌, arith}
+use Rattle.std.proofs.lemmas.Grind.{common_steps}
 use Rattle.go_board.specs.Grid.{Grid}
 use Rattle.sgf_lines.specs.NodeValues.{move_value}
 use Rattle.sgf_lines.specs.Step.{move_step}
-use Rattle.sgf_lines.specs.declared.judging.step.Effect.{Effect}
-use Rattle.sgf_lines.specs.inner.Judging.{IsStepped}
 use Rattle.sgf_lines.proofs.Steps.{takes_turn, refuses_turn}
 use Rattle.sgf_lines.proofs.judging.step.take_move.Goals as goal
 
@@ -16,9 +15,4 @@ returns-in-Ok-clause-stepped g c =
     (ap (move_step s c.args.colour) is ∙ h.0, h.1)
 
 pub returns-in-Err-clause-stepped : goal.returns-in-Err-clause-stepped
-returns-in-Err-clause-stepped g c =
-    let s = c.args.referee.now.present in
-    let side : c.size-size.result ≡ s.colouring.side = c.size-size.ensures ∙ ap (λ (b : Grid). b.side) c.board.ensures in
-    let is : move_value c.args.raw.now s.colouring.side ≡ Some c.in-Some.play = ap (move_value c.args.raw.now) (sym side) ∙ sym c.in-Some.ensures.value in
-    subst (λ o. IsStepped {A = Effect} (move_step s c.args.colour o) c.args.referee.now c.turn.new.self (Err c.in-Err.fault)) (sym is)
-    (refuses_turn Effect c.args.referee.now c.turn.new.self c.args.colour c.in-Some.play c.in-Err.fault c.in-Err.ensures.illegal c.in-Err.ensures.err)
+returns-in-Err-clause-stepped g c = grind (arith, common_steps, refuses_turn)

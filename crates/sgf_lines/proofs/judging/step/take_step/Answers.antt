@@ -1,6 +1,6 @@
-use Rattle.std.proofs.Common.{◌≡◌, ◌++◌, ◌∷◌, [], sym, subst}
+use Rattle.std.proofs.Common.{◌≡◌, ◌++◌, ◌∷◌, []}
 use Rattle.sgf_tree.specs.Tree.{lone_property, told_property}
-use Rattle.sgf_lines.specs.inner.Gathered.{HoldsAlone, IsGathered}
+use Rattle.sgf_lines.specs.inner.Gathered.{HoldsAlone}
 use Rattle.sgf_lines.proofs.Gathered.{gathered_alone}
 use Rattle.sgf_lines.proofs.judging.step.take_step.Goals as goal
 
@@ -21,18 +21,6 @@ returns-in-Led-clause-told g c node is =
     let alone : HoldsAlone (lone_property c.in-Led.letter c.in-Led.value.now) node.properties = (rw c.in-Led.is at is).1 in
     let side = c.args.referee.now.present.colouring.side in
     c.take_contents.ensures.told node (gathered_alone side (lone_property c.in-Led.letter c.in-Led.value.now) node.properties c.of_lone.result (c.of_lone.ensures side) alone)
-
-pub returns-in-Empty-clause-stepped : goal.returns-in-Empty-clause-stepped
-returns-in-Empty-clause-stepped g c node is =
-    let none : node.properties ≡ [] = (rw c.in-Empty.is at is).1 in
-    let side = c.args.referee.now.present.colouring.side in
-    c.take_contents-in-Empty.ensures.stepped node (subst (λ ps. IsGathered side ps [] c.nothing.result) (sym none) (c.nothing.ensures side))
-
-pub returns-in-Empty-clause-told : goal.returns-in-Empty-clause-told
-returns-in-Empty-clause-told g c node is =
-    let none : node.properties ≡ [] = (rw c.in-Empty.is at is).1 in
-    let side = c.args.referee.now.present.colouring.side in
-    c.take_contents-in-Empty.ensures.told node (subst (λ ps. IsGathered side ps [] c.nothing.result) (sym none) (c.nothing.ensures side))
 
 pub returns-in-Open-clause-stepped : goal.returns-in-Open-clause-stepped
 returns-in-Open-clause-stepped g c node is =

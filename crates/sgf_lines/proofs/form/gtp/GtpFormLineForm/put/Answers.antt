@@ -1,6 +1,6 @@
 -- The parts of the record were put one after the other.
-use Rattle.std.proofs.Common.{◌++◌, Err}
-use Rattle.std.specs.Io.KnownBytes.{Appends}
+use Rattle.std.proofs.Common.{◌++◌, Err, arith}
+use Rattle.std.proofs.lemmas.Grind.{common_steps}
 use Rattle.sgf_lines.specs.declared.options.Form.TheVariants.{Gtp as gtp_form}
 use Rattle.byte_streams.specs.Streams.{PutsAll}
 use Rattle.sgf_lines.specs.inner.Views.{built_text}
@@ -10,15 +10,7 @@ use Rattle.sgf_lines.proofs.RunRecords.{record_is}
 use Rattle.sgf_lines.proofs.form.gtp.GtpFormLineForm.put.Goals as goal
 
 pub returns : goal.returns
-returns g c cursor line holds before =
-    let form = c.args.self.now in
-    let old = g.T.Sink.state c.args.sink.now in
-    let now = g.T.Sink.state c.put_all.new.sink in
-    let new = g.T.Sink.state c.put_all-2.new.sink in
-    let head : Appends old.taken now.taken (built_text form.row) = rw c.text.ensures at c.in_ok-put_all.ensures.0 in
-    let others : PutsAll now new (script_text form.script) c.put_all-2.result = rw c.text-2.ensures at c.put_all-2.ensures in
-    rw (← record_is gtp_form cursor line (built_text form.row ++ script_text form.script) holds.2 before)
-    (both_put old now new (built_text form.row) (script_text form.script) c.put_all-2.result head c.in_ok-put_all.ensures.1 others)
+returns g c = grind (arith, common_steps, both_put, record_is)
 
 pub returns-in_err-put_all : goal.returns-in_err-put_all
 returns-in_err-put_all g c cursor line holds before =

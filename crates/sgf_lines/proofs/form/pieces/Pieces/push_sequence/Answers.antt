@@ -1,12 +1,11 @@
 -- The sequence was begun after what was begun already, and then it was finished.
-use Rattle.std.proofs.Common.{◌≡◌, ◌++◌, List, slice_get, Some, ap, ◌∙◌, arith}
+use Rattle.std.proofs.Common.{◌≡◌, ◌++◌, List, slice_get, Some, arith}
+use Rattle.std.proofs.lemmas.Grind.{common_steps}
 use Rattle.std.specs.List.{flat_map}
-use Rattle.std.proofs.lemmas.Result.{on_ok_weaker}
 use Rattle.sgf_tree.specs.Tree.{Node}
 use Rattle.sgf_lines.specs.Record.{node_text}
 use Rattle.sgf_lines.specs.inner.Following.{nodes_before}
 use Rattle.sgf_lines.specs.inner.Fronts.{sequences_before}
-use Rattle.sgf_lines.specs.inner.Pieces.{pushed, closed}
 use Rattle.sgf_lines.proofs.Fronts.{as_many_parts}
 use Rattle.sgf_lines.proofs.Lists.{element}
 use Rattle.sgf_lines.proofs.PieceTexts.{seen, seen_pushed}
@@ -27,9 +26,4 @@ invariant_of-self-2 c =
     rw (text_is at) (seen_pushed c.self.inside.ends.items c.self.inside.text.items c.self.invariant (flat_map node_text (nodes at).0)).1
 
 pub returns : goal.returns
-returns c =
-    let at = (goal.at.returns c).In_ok-push_sequence in
-    let text = flat_map node_text (nodes at).0 in
-    let begun : seen c.self.inside.ends.items c.push_sequence.new.out.items ≡ pushed c.args.self.now text =
-    ap (seen c.self.inside.ends.items) (text_is at) ∙ (seen_pushed c.self.inside.ends.items c.self.inside.text.items c.self.invariant text).0 ∙ ap (λ s. pushed s text) c.self.view_is in
-    on_ok_weaker c.close.result (λ is. rw (nodes at).1 (is ∙ ap closed begun)) c.close.ensures.closed
+returns c = grind (arith, common_steps, seen, seen_pushed)

@@ -1,15 +1,14 @@
 -- One sequence more is a piece, until all are. Then the end is begun.
-use Rattle.std.proofs.Common.{◌≡◌, ◌<◌, length, take, inl, inr, sym, ap, ◌∙◌, arith}
-use Rattle.std.specs.Prelude.{codes}
+use Rattle.std.proofs.Common.{◌≡◌, take, inl, inr, sym, ap, ◌∙◌, arith}
+use Rattle.std.proofs.lemmas.Grind.{common_steps}
 use Rattle.std.specs.List.{flat_map}
 use Rattle.std.proofs.lemmas.Bool.{cases_lt}
 use Rattle.std.proofs.lemmas.List.{take_all}
-use Rattle.std.proofs.lemmas.Result.{on_ok_weaker}
 use Rattle.sgf_lines.specs.Record.{node_text}
 use Rattle.sgf_lines.specs.inner.Following.{nodes_before}
 use Rattle.sgf_lines.specs.inner.Fronts.{sequences_before}
 use Rattle.sgf_lines.specs.inner.Pieces.{pushed, closed}
-use Rattle.sgf_lines.specs.inner.Recording.{open_record, whole_record}
+use Rattle.sgf_lines.specs.inner.Recording.{open_record}
 use Rattle.sgf_lines.proofs.Fronts.{as_many_parts}
 use Rattle.sgf_lines.proofs.Keeping.{record_kept}
 use Rattle.sgf_lines.proofs.Lists.{element}
@@ -40,13 +39,4 @@ loop-index-preserved c =
     pushed_is ∙ ap (λ r. closed (pushed r (flat_map node_text f.0))) c.loop-index.invariant ∙ record_more sequences c.loop-index.index f.0 f.1
 
 pub returns-clause-holds : goal.returns-clause-holds
-returns-clause-holds c =
-    let cursor = c.args.cursor.now in
-    let sequences = sequences_before cursor in
-    let some : 0 < length (nodes_before cursor.at) = some_end cursor.ends (length (nodes_before cursor.at)) c.requires.divided (omega (arith, c.requires.front.more)) in
-    let own = some_line cursor.at some in
-    let count = as_many_parts 0 cursor.ends (nodes_before cursor.at) in
-    let all = take_all c.loop-index.index sequences (omega (arith, count, c.loop-index-test.false, c.sequences-end.ensures.count)) in
-    on_ok_weaker c.push.result (λ is.
-    let whole : c.push.new.self ≡ whole_record sequences = is ∙ ap (λ r. pushed r (codes ")\n")) (c.loop-index.invariant ∙ ap (λ ns. open_record ns) all) in
-    (whole, made_record cursor.at own.0 own.1 c.push.new.self cursor.ends c.requires.divided whole)) c.push.ensures.pushed
+returns-clause-holds c = grind (arith, common_steps, as_many_parts, made_record, some_end, some_line, take_all)
