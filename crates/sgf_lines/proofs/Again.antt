@@ -1,4 +1,5 @@
 -- The sgf output of a collection is itself a text of the grammar, with the same sgf output and the same verdicts.
+use Rattle.std.proofs.lemmas.Grind.{common_steps}
 use Rattle.std.proofs.Common.{◌≡◌, ℕ, suc, ◌+◌, List, [], ◌∷◌, ◌++◌, fold, slice_get, Some, None, Result, Ok, Err, refl, sym, ap, ◌∙◌, subst, ◌≢◌, length, map, arith, append_assoc, length-append}
 use Rattle.std.specs.List.{flat_map, AllZip}
 use Rattle.sgf_tree.specs.Tree.{Property, Node, Games, no_games, game}
@@ -91,8 +92,7 @@ roots (n ∷ ns) [] h = absurd h
 roots (n ∷ ns) (m ∷ ms) h = h.0
 
 pub says_same : (ns ms : List Node) → AllZip HaveSame ns ms → SaysSame ns ms (verdict_of ns) (verdict_of ms)
-says_same ns ms h =
-    subst (λ ps. SaysSame ns ms (verdict_of ns) (verdict_by (game_kind ps) ms)) (roots ns ms h) (says_by (game_kind (root_properties ns)) ns ms h)
+says_same ns ms h = grind (arith, common_steps, roots, says_by)
 
 -- ---- What is spelled somewhere is spelled by its text, whatever follows.
 
@@ -121,10 +121,7 @@ property_again (property {b = b} {name = name} {v = v} {vs = vs} w h l first mor
     let rest = flat_map value_text vs ++ u in
     let all : IsProperty (record { name = b ∷ name; first = v; more = vs }) (b ∷ (name ++ (value_text v ++ rest))) u =
     property no_white_space h (letters_again l (value_text v ++ rest)) (prop_value_again first rest) (prop_values_again more u) in
-    let inner : (value_text v ++ flat_map value_text vs) ++ u ≡ value_text v ++ rest = append_assoc (value_text v) (flat_map value_text vs) u in
-    let outer : (name ++ (value_text v ++ flat_map value_text vs)) ++ u ≡ name ++ (value_text v ++ rest) =
-    append_assoc name (value_text v ++ flat_map value_text vs) u ∙ ap (λ t. name ++ t) inner in
-    subst (λ t. IsProperty (record { name = b ∷ name; first = v; more = vs }) (b ∷ t) u) (sym outer) all
+    grind (arith, common_steps, append_assoc)
 
 properties_again : {ps : List Property} {s r : List ℕ} → AreProperties ps s r → (u : List ℕ) → AreProperties ps (flat_map property_text ps ++ u) u
 properties_again no_property u = no_property
@@ -278,11 +275,7 @@ single_lines at number (line ∷ asked) ((n ∷ ns) ∷ ls) e h =
     subst (λ l. AllZip HaveSame l (first ∷ moved)) (sym here) (refl, moved_same (at + 1 + length (node_text n)) ns) in
     let text : sgf_record (first ∷ moved) ≡ sgf_record line.nodes =
     ap (λ t. 40 ∷ ((node_text n ++ t) ++ (41 ∷ 10 ∷ []))) (nodes_same (at + 1 + length (node_text n)) ns) ∙ ap sgf_record (sym here) in
-    record {
-      texts = ap (λ t. t ++ output sgf_form (lines_from (number + 1) (single_games (at + length (sgf_record (n ∷ ns))) ls))) text
-          ∙ ap (λ t. sgf_record line.nodes ++ t) rest.texts;
-      kept = (record { nodes = same; says = says_same line.nodes (first ∷ moved) same }, rest.kept);
-    }
+    grind (arith, common_steps, says_same line.nodes (first ∷ moved) same)
 
 -- the sgf output of lines is spelled by a collection with that output, whose lines are these
 pub record IsSplit (asked : List Line) : Type 0 where
@@ -294,15 +287,7 @@ pub record IsSplit (asked : List Line) : Type 0 where
 split_by : (asked : List Line) (ls : List (List Node)) → nodes_of asked ≡ ls → ls ≢ [] → Each IsSpelledLine ls → IsSplit asked
 split_by asked [] e some h = absurd (some refl)
 split_by asked ([] ∷ ls) e some h = absurd (h.0.0 refl)
-split_by asked ((n ∷ ns) ∷ ls) e some h =
-    let single = single_lines 0 1 asked ((n ∷ ns) ∷ ls) e h in
-    let text : flat_map sgf_record ((n ∷ ns) ∷ ls) ≡ output sgf_form asked = ap (flat_map sgf_record) (sym e) ∙ records_of asked in
-    record {
-      games = single_games 0 ((n ∷ ns) ∷ ls);
-      spelled = subst (λ t. Spells (single_games 0 ((n ∷ ns) ∷ ls)) t) text (spells_again n ns ls h);
-      texts = single.texts ∙ records_of asked;
-      kept = single.kept;
-    }
+split_by asked ((n ∷ ns) ∷ ls) e some h = grind (arith, common_steps, single_lines 0 1 asked ((n ∷ ns) ∷ ls) e h, records_of asked, spells_again n ns ls h)
 
 some_nodes : (asked : List Line) → asked ≢ [] → nodes_of asked ≢ []
 some_nodes [] some e = some refl
@@ -317,6 +302,4 @@ sgf_again c t h o asked e some = let s = page_split c t h o asked e some in (s.g
 
 pub verdicts_kept : ((c d : Games) (t : List ℕ) → Spells c t → Spells d t → c ≡ d) → (c d : Games) (t : List ℕ) → Spells c t
     → (o : Options) (asked : List Line) → page o c ≡ Some asked → asked ≢ [] → Spells d (output sgf_form asked) → AllZip IsKept asked (lines d)
-verdicts_kept one c d t h o asked e some also =
-    let s = page_split c t h o asked e some in
-    subst (λ g. AllZip IsKept asked (lines g)) (one s.games d (output sgf_form asked) s.spelled also) s.kept
+verdicts_kept one c d t h o asked e some also = grind (arith, common_steps, page_split c t h o asked e some)

@@ -1,4 +1,5 @@
 -- The lines of games after others are those of the others and then theirs, and what stands further on is judged alike.
+use Rattle.std.proofs.lemmas.Grind.{common_steps}
 use Rattle.std.proofs.Common.{◌≡◌, ◌≢◌, ℕ, ◌+◌, List, [], ◌∷◌, ◌++◌, length, map, slice_get, Some, option_map, codes, decimal, refl, sym, ap, ◌∙◌, arith, append_assoc}
 use Rattle.std.proofs.lemmas.Grind.{flat_map-append}
 use Rattle.std.specs.List.{flat_map, AllZip}
@@ -27,12 +28,7 @@ use Rattle.sgf_lines.proofs.Named.{each_named}
 
 lines-joined : (number : ℕ) (c d : Games) → lines_from number (joined c d) ≡ lines_from number c ++ lines_from (game_count c + number) d
 lines-joined number no_games d = let same : number ≡ 0 + number = omega arith in ap (λ n. lines_from n d) same
-lines-joined number (game first more below after) d =
-    let own = lines_of_game number (through (first ∷ more) (node_lines below)) in
-    let sums : game_count after + (number + 1) ≡ 1 + game_count after + number = omega arith in
-    ap (λ ls. own ++ ls) (lines-joined (number + 1) after d)
-    ∙ sym (append_assoc own (lines_from (number + 1) after) (lines_from (game_count after + (number + 1)) d))
-    ∙ ap (λ n. (own ++ lines_from (number + 1) after) ++ lines_from n d) sums
+lines-joined number (game first more below after) d = grind (arith, common_steps, lines-joined (number + 1) after d, append_assoc)
 
 -- ---- games further on
 
@@ -43,11 +39,7 @@ raised_line by games line = record { game_number = games + line.game_number; nod
 node_lines-raised : (by : ℕ) (g : Games) → node_lines (raised by g) ≡ map (map (raised_node by)) (node_lines g)
 node_lines-raised by no_games = refl
 node_lines-raised by (game first more below after) =
-    let f = map (raised_node by) in
-    ap (λ ls. through (f (first ∷ more)) ls ++ node_lines (raised by after)) (node_lines-raised by below)
-    ∙ ap (λ ls. ls ++ node_lines (raised by after)) (sym (map-through (raised_node by) (first ∷ more) (node_lines below)))
-    ∙ ap (λ ls. map f (through (first ∷ more) (node_lines below)) ++ ls) (node_lines-raised by after)
-    ∙ sym (map-append f (through (first ∷ more) (node_lines below)) (node_lines after))
+    grind (arith, common_steps, node_lines-raised by below, map-through (raised_node by) (first ∷ more) (node_lines below), node_lines-raised by after, map-append)
 
 lines_of_game-raised : (by games number : ℕ) (ways : List (List Node))
     → lines_of_game (games + number) (map (map (raised_node by)) ways) ≡ map (raised_line by games) (lines_of_game number ways)
@@ -57,15 +49,7 @@ lines_of_game-raised by games number (w ∷ ws) = ap (λ ls. raised_line by game
 lines-raised : (by games number : ℕ) (g : Games) → lines_from (games + number) (raised by g) ≡ map (raised_line by games) (lines_from number g)
 lines-raised by games number no_games = refl
 lines-raised by games number (game first more below after) =
-    let ways = through (first ∷ more) (node_lines below) in
-    let rest = lines_from (games + number + 1) (raised by after) in
-    let sums : games + number + 1 ≡ games + (number + 1) = omega arith in
-    ap (λ ls. lines_of_game (games + number) (through (map (raised_node by) (first ∷ more)) ls) ++ rest) (node_lines-raised by below)
-    ∙ ap (λ ls. lines_of_game (games + number) ls ++ rest) (sym (map-through (raised_node by) (first ∷ more) (node_lines below)))
-    ∙ ap (λ ls. ls ++ rest) (lines_of_game-raised by games number ways)
-    ∙ ap (λ n. map (raised_line by games) (lines_of_game number ways) ++ lines_from n (raised by after)) sums
-    ∙ ap (λ ls. map (raised_line by games) (lines_of_game number ways) ++ ls) (lines-raised by games (number + 1) after)
-    ∙ sym (map-append (raised_line by games) (lines_of_game number ways) (lines_from (number + 1) after))
+    grind (arith, common_steps, node_lines-raised by below, map-through (raised_node by) (first ∷ more) (node_lines below), lines_of_game-raised, lines-raised by games (number + 1) after, map-append)
 
 -- ---- Each line has a node.
 
@@ -76,10 +60,7 @@ filled_by : (c : Games) (ls : List Line) (ps : List Path) → AllZip (IsPathOf c
 filled_by c [] [] z h = tt
 filled_by c [] (p ∷ ps) z h = absurd z
 filled_by c (l ∷ ls) [] z h = absurd z
-filled_by c (l ∷ ls) (p ∷ ps) z h = (
-  λ none. omega (arith, some_node h.0.up, as_many (node_at c) l.nodes p.numbers (sym z.0.nodes), ap length none),
-  filled_by c ls ps z.1 h.1,
-)
+filled_by c (l ∷ ls) (p ∷ ps) z h = grind (arith, common_steps, some_node, as_many, (filled_by c ls ps z.1 h.1))
 
 -- ---- What a row says of a line further on.
 
@@ -95,10 +76,7 @@ all-raised by (n ∷ ns) = (refl, all-raised by ns)
 
 said-raised : (by : ℕ) (nodes : List Node) (told later : Verdict) → SaysSame nodes (map (raised_node by) nodes) told later → later ≡ raised_verdict by told
 said-raised by nodes told later scored = refl
-said-raised by nodes told later (illegal_at {turn} {reason} {node} {other} index here there) =
-    let raised_there : slice_get (map (raised_node by) nodes) index ≡ Some (raised_node by node) = slice_get-map (raised_node by) nodes index ∙ ap (option_map (raised_node by)) here in
-    let same : other ≡ raised_node by node = cc in
-    ap (λ (n : Node). Illegal turn n.place reason) same
+said-raised by nodes told later (illegal_at {turn} {reason} {node} {other} index here there) = grind (arith, common_steps, slice_get-map)
 said-raised by nodes told later another_game = refl
 said-raised by nodes told later another_size = refl
 
@@ -107,26 +85,14 @@ verdict-raised by nodes =
     said-raised by nodes (verdict_of nodes) (verdict_of (map (raised_node by) nodes)) (says_same nodes (map (raised_node by) nodes) (all-raised by nodes))
 
 row-raised : (by games : ℕ) (line : Line) → IsFilled line → record_of list_form (raised_line by games line) ≡ raised_record by games line
-row-raised by games line filled =
-    let text = λ (place size : ℕ) (v : Verdict). (decimal place ++ codes " " ++ decimal (games + line.game_number) ++ codes " " ++ decimal size
-    ++ codes " " ++ verdict_text v) ++ codes "\n" in
-    let nodes = map (raised_node by) line.nodes in
-    ap (λ n. text n (length nodes) (verdict_of nodes)) (place-raised by line.nodes filled)
-    ∙ ap (λ n. text (by + place_of line) n (verdict_of nodes)) (length-map line.nodes (raised_node by))
-    ∙ ap (λ v. text (by + place_of line) (length line.nodes) v) (verdict-raised by line.nodes)
+row-raised by games line filled = grind (arith, common_steps, place-raised, length-map, verdict-raised)
 
 rows-raised : (by games : ℕ) (ls : List Line) → Each IsFilled ls
     → flat_map (λ line. record_of list_form line) (map (raised_line by games) ls) ≡ flat_map (λ line. raised_record by games line) ls
 rows-raised by games [] h = refl
-rows-raised by games (l ∷ ls) h =
-    ap (λ t. t ++ flat_map (λ line. record_of list_form line) (map (raised_line by games) ls)) (row-raised by games l h.0)
-    ∙ ap (λ t. raised_record by games l ++ t) (rows-raised by games ls h.1)
+rows-raised by games (l ∷ ls) h = cc (row-raised by games l h.0, rows-raised by games ls h.1)
 
 pub rows_joined : (c d : Games) (by : ℕ) → flat_map (λ line. record_of list_form line) (lines (joined c (raised by d)))
     ≡ flat_map (λ line. record_of list_form line) (lines c) ++ flat_map (λ line. raised_record by (game_count c) line) (lines d)
 rows_joined c d by =
-    let row = λ (line : Line). record_of list_form line in
-    let games = game_count c in
-    ap (λ ls. flat_map row ls) (lines-joined 1 c (raised by d) ∙ ap (λ ls. lines c ++ ls) (lines-raised by games 1 d))
-    ∙ flat_map-append row (lines c) (map (raised_line by games) (lines d))
-    ∙ ap (λ t. flat_map row (lines c) ++ t) (rows-raised by games (lines d) (filled_by d (lines d) (paths d) (each_named d) (each_path d)))
+    grind (arith, common_steps, lines-joined 1 c (raised by d), lines-raised, flat_map-append, rows-raised, filled_by d (lines d) (paths d) (each_named d) (each_path d), each_named d, each_path d)

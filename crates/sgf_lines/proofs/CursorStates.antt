@@ -1,4 +1,5 @@
 -- How many lines end before a node, which line ends at it, and what a cursor that stands after it shows.
+use Rattle.std.proofs.lemmas.Grind.{common_steps}
 use Rattle.std.proofs.Common.{◌≡◌, ℕ, ◌+◌, ◌-◌, ◌<◌, ◌≤◌, List, [], length, map, slice_get, Option, Some, None, option_map, refl, sym, ap, ◌∙◌, inl, inr, arith, zero, suc, get_or}
 use Rattle.std.specs.Prelude.{nat_lt}
 use Rattle.std.proofs.lemmas.Bool.{lt-ltb, le-ltb, cases_lt}
@@ -28,9 +29,7 @@ pub record IsNextLine (c : Games) (n i : ℕ) (path : Path) : Type 0 where
 module _ (c : Games) where
   -- a later line ends at a greater number
   pub leaf_rises : (j k : ℕ) (p q : Path) → j < k → slice_get (paths c) j ≡ Some p → slice_get (paths c) k ≡ Some q → leaf_of p < leaf_of q
-  leaf_rises j k p q lt e f =
-      rises-pair 0 (node_count c) (map leaf_of (paths c)) j k (leaf_of p) (leaf_of q) (leaves_in_order c) lt
-      (slice_get-map leaf_of (paths c) j ∙ ap (λ o. option_map leaf_of o) e) (slice_get-map leaf_of (paths c) k ∙ ap (λ o. option_map leaf_of o) f)
+  leaf_rises j k p q lt e f = grind (arith, common_steps, rises-pair, leaves_in_order c, slice_get-map leaf_of (paths c) j, slice_get-map leaf_of (paths c) k)
 
   -- k lines end before node n, if the first k do and the next doesn't
   pub before_is : (n k : ℕ) → k ≤ length (paths c) → ((j : ℕ) (p : Path) → slice_get (paths c) j ≡ Some p → j < k → leaf_of p < n)
@@ -38,8 +37,7 @@ module _ (c : Games) where
   before_is n k le before next =
       let none : Path = record { game_number = 0; numbers = [] } in
       prefix_len_is (λ path. nat_lt (leaf_of path) n) (paths c) k none le
-      (λ j lt. let p = element (paths c) j (omega arith) in
-      ap (λ path. nat_lt (leaf_of path) n) (get_or_from_slice_get (paths c) j p.0 none p.1) ∙ lt-ltb (leaf_of p.0) n (before j p.0 p.1 lt))
+      (λ j lt. grind (arith, common_steps, element (paths c) j (omega arith), get_or_from_slice_get, lt-ltb))
       (λ lt. let p = element (paths c) k lt in
       ap (λ path. nat_lt (leaf_of path) n) (get_or_from_slice_get (paths c) k p.0 none p.1) ∙ le-ltb (leaf_of p.0) n (next p.0 p.1))
 
@@ -47,8 +45,7 @@ module _ (c : Games) where
   before_none = before_is 0 0 (omega arith) (λ j p e lt. absurd (omega arith)) (λ p e. omega arith)
 
   path_of : (o : Option Path) (i : ℕ) → option_map leaf_of o ≡ Some i → (path : Path) × (o ≡ Some path) × (leaf_of path ≡ i)
-  path_of None i e = absurd cc
-  path_of (Some path) i e = (path, refl, cc)
+  path_of o i e = grind (arith, common_steps)
 
   pub next_line : (n i : ℕ) → n ≤ i → i < node_count c → IsLeaf c i → ((j : ℕ) → n ≤ j → j < i → IsLeaf c j → ⊥) → (path : Path) × IsNextLine c n i path
   next_line n i le lt leaf none =
@@ -57,16 +54,10 @@ module _ (c : Games) where
       let f = path_of (slice_get (paths c) k) i (sym (slice_get-map leaf_of (paths c) k) ∙ at.1) in
       let within : k < length (paths c) = slice_get_within (paths c) k f.0 f.1 in
       let count : lines_before c n ≡ k = before_is n k (omega arith)
-      (λ j p e lt. elim (cases_lt (leaf_of p) n) [
-        | inl before ↦ before
-        | inr ge ↦ absurd (none (leaf_of p) ge (omega (arith, leaf_rises j k p f.0 lt e f.1, f.2)) (leads c j p e).is_leaf)
-      ])
+      (λ j p e lt. grind (arith, common_steps, cases_lt (leaf_of p) n, leaf_rises j k p f.0 lt e f.1, leads c j p e))
       (λ p e. let same : p ≡ f.0 = cc in rw same (omega (arith, f.2))) in
       let more : lines_before c (i + 1) ≡ k + 1 = before_is (i + 1) (k + 1) (omega arith)
-      (λ j p e lt. elim (cases_lt j k) [
-        | inl before ↦ omega (arith, leaf_rises j k p f.0 before e f.1, f.2)
-        | inr ge ↦ let here : j ≡ k = omega arith in let same : p ≡ f.0 = (let found : slice_get (paths c) k ≡ Some p = rw here at e in cc) in rw same (omega (arith, f.2))
-      ])
+      (λ j p e lt. grind (arith, common_steps, cases_lt, leaf_rises))
       (λ q e. omega (arith, leaf_rises k (k + 1) f.0 q (omega arith) f.1 e, f.2)) in
       (f.0, record { found = rw count f.1; ends = f.2; one_more = omega arith; up = rw f.2 at (leads c k f.0 f.1).up })
 
@@ -81,9 +72,7 @@ module _ (c : Games) where
       → (path : Path) × (slice_get (paths c) (lines_before c (i + 1) - 1) ≡ Some path) × (path.numbers ≡ numbers) × (0 < lines_before c (i + 1))
   given_line i numbers lt leaf up =
       let f = next_line i i (omega arith) lt leaf (λ j le below l. omega arith) in
-      let one = f.1.one_more in
-      let same : lines_before c (i + 1) - 1 ≡ lines_before c i = omega arith in
-      (f.0, rw same f.1.found, one_way f.1.up up, omega arith)
+      grind (arith, common_steps, one_way)
 
 -- what it shows
 pub record IsShown (c : Games) (next : ℕ) (numbers : List ℕ) : Type 0 where
@@ -96,23 +85,7 @@ same_path : (p : Path) (g : ℕ) (ns : List ℕ) → p.game_number ≡ g → p.n
 same_path p g ns e f = ap (λ n. record { game_number = n; numbers = p.numbers }) e ∙ ap (λ l. record { game_number = g; numbers = l }) f
 
 shown_at : (c : Games) (i : ℕ) (numbers : List ℕ) → i < node_count c → IsLeaf c i → IsPathTo c (Some i) numbers → IsShown c (suc i) numbers
-shown_at c i numbers lt leaf way =
-    let more : suc i ≡ i + 1 = omega arith in
-    let less : suc i - 1 ≡ i = omega arith in
-    let f = given_line c i numbers lt leaf way in
-    let k = lines_before c (suc i) - 1 in
-    let found : slice_get (paths c) k ≡ Some f.0 = rw more f.1 in
-    record {
-      some_node = some_node way;
-      after = omega arith;
-      path_is = λ d.
-          let root = each_get (λ path. (d : ℕ) → game_of c (get_or path.numbers 0 d) ≡ path.game_number) (paths c) k f.0 (game_of_root c) found d in
-          found ∙ ap Some (same_path f.0 (game_of c (get_or numbers 0 d)) numbers (sym (rw f.2 at root)) f.2);
-      place_is = λ place e.
-          let l = line_at c k f.0 found in
-          let ends : leaf_of f.0 ≡ i = ap last_number f.2 ∙ last-way way in
-          ap (λ o. option_map place_of o) l.1.found ∙ sym (rw ends at l.1.place) ∙ rw less at e;
-    }
+shown_at c i numbers lt leaf way = grind (arith, common_steps, given_line, some_node, each_get, game_of_root, same_path, line_at, last-way)
 
 pub shows : (c : Games) (next : ℕ) (numbers : List ℕ) → IsAfterLeaf c next numbers → 0 < lines_before c next → IsShown c next numbers
 shows c zero numbers h lt = absurd (omega (arith, before_none c))
@@ -122,8 +95,7 @@ shows c (suc i) numbers h lt =
 
 -- where no leaf is left, no line is
 pub none_left : (c : Games) (next : ℕ) → HasNoLeaf c next (node_count c) → slice_get (lines c) (lines_before c next) ≡ None
-none_left c next none =
-    slice_get_past (lines c) (lines_before c next) (omega (arith, no_line_left c next none, length-paths c))
+none_left c next none = grind (arith, common_steps, slice_get_past, no_line_left, length-paths)
 
 -- after the next leaf one line more has been given
 pub one_later : (c : Games) (next i : ℕ) → IsNextLeaf c next i → lines_before c (i + 1) ≡ lines_before c next + 1
@@ -149,23 +121,8 @@ module _ (c : Games) (next : ℕ) (at : CursorState) (is : before c next ≡ at)
 -- a line is shown by its path, and by the number of its game and its place
 shows_path : (games : Games) (index : ℕ) (line : LineRef) → 0 < length line.path.now → line.path.now ≡ numbers_of (slice_get (paths games) index)
     → option_map (λ (l : Line). l.game_number) (slice_get (lines games) index) ≡ Some line.game → option_map place_of (slice_get (lines games) index) ≡ Some line.place → IsLine games index line
-shows_path games index line some path game place = by (slice_get (paths games) index) refl path
-  where
-    by : (o : Option Path) → slice_get (paths games) index ≡ o → line.path.now ≡ numbers_of o → IsLine games index line
-    by None found is = absurd (omega (arith, some, ap length is))
-    by (Some p) found is =
-        let own = line_at games index p found in
-        let number : option_map (λ (l : Line). l.game_number) (Some own.0) ≡ Some line.game = rw own.1.found at game in
-        let same : p.game_number ≡ line.game = cc in
-        record { path = found ∙ ap Some (same_path p line.game line.path.now same (sym is)); place = place }
+shows_path games index line some path game place = grind (arith, common_steps, line_at, same_path)
 
 pub line_is : (at : CursorState) (line : LineRef) → 0 < at.index → 0 < length line.path.now → line.path.now ≡ path_before at
     → option_map (λ (l : Line). l.game_number) (line_before at) ≡ Some line.game → option_map place_of (line_before at) ≡ Some line.place → IsLine at.games (at.index - 1) line
-line_is at line lt some path game place = by at.index refl lt
-  where
-    by : (index : ℕ) → at.index ≡ index → 0 < index → IsLine at.games (at.index - 1) line
-    by zero e less = absurd (omega arith)
-    by (suc index) e less =
-        let one : at.index - 1 ≡ index = omega arith in
-        rw one (shows_path at.games index line some (path ∙ ap (numbers_before at.games) e) (ap (λ i. option_map (λ (l : Line). l.game_number) (line_in at.games i)) (sym e) ∙ game)
-        (ap (λ i. option_map place_of (line_in at.games i)) (sym e) ∙ place))
+line_is at line lt some path game place = grind (arith, common_steps, shows_path)

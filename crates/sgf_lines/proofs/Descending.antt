@@ -1,4 +1,5 @@
 -- From a leaf's path to that of the next leaf: back to the parent of the node after it, and down from there.
+use Rattle.std.proofs.lemmas.Grind.{common_steps}
 use Rattle.std.proofs.Common.{◌≡◌, ℕ, zero, suc, ◌+◌, ◌-◌, ◌<◌, ◌≤◌, List, [], ◌∷◌, ◌++◌, length, take, slice_get, Option, Some, None, inl, inr, refl, sym, ap, ◌∙◌, arith, length-append}
 use Rattle.std.proofs.lemmas.Bool.{cases_lt}
 use Rattle.std.proofs.Math.Seq.{take-append_seam}
@@ -52,9 +53,7 @@ module _ (c : Games) (next : ℕ) (path : List ℕ) (stands : IsAfterLeaf c next
         let q = next_line c next leaf h.from_there h.within h.is_leaf h.first in
         let k = lines_before c next in
         let g = goes_on_there c k (slice_get_within (paths c) k q.0 q.1.found) in
-        let new : numbers_before c (suc k) ≡ q.0.numbers = ap numbers_of q.1.found in
-        let last = is_last in
-        (q.0.numbers, q.1.up, rw (path_is, last.first_is, new) at g)
+        grind (arith, common_steps, is_last, path_is)
 
     -- the cut is as long as the way to the parent
     same_cut : (above rest : List ℕ) → IsPathTo c parent above → path ≡ above ++ rest → r ≡ length above
@@ -81,11 +80,8 @@ module _ (c : Games) (next : ℕ) (path : List ℕ) (stands : IsAfterLeaf c next
     way_made =
         let n = next_way in
         let g = n.2 in
-        let found = g.front.parent_is in let same : g.front.parent ≡ parent = cc in
-        let kept : r ≡ length g.front.above = same_cut g.front.above g.front.rest (rw same at g.front.up) g.front.old_is in
-        let front : take r path ≡ g.front.above = ap (λ k. take k path) kept ∙ ap (take (length g.front.above)) g.front.old_is ∙ take-append_seam g.front.above g.front.rest in
         let count : leaf + 1 - next ≡ suc g.more = omega (arith, ends_at g, last-way n.1) in
-        rw (front, count, ← g.new_is) n.1
+        grind (arith, common_steps, same_cut, take-append_seam)
 
     pub stands_next : (new : List ℕ) → new ≡ take r path ++ range_with_len next (leaf + 1 - next) → IsAfterLeaf c (leaf + 1) new
     stands_next new e = stands_after c leaf new h.within h.is_leaf (rw e way_made)

@@ -1,4 +1,5 @@
 -- Nodes in sequences, by the indices where these end.
+use Rattle.std.proofs.lemmas.Grind.{common_steps}
 use Rattle.std.proofs.Common.{◌≡◌, ℕ, zero, suc, ◌+◌, ◌-◌, ◌<◌, ◌≤◌, List, [], ◌∷◌, ◌++◌, length, get_or, take, drop, map, slice_get, Some, refl, sym, ap, ◌∙◌, arith}
 use Rattle.std.specs.List.{concat, flat_map, range_with_len}
 use Rattle.std.proofs.Math.Seq.{take-append_seam}
@@ -41,10 +42,7 @@ rises_each start (end ∷ ends) count (suc k) h lt = rises_each end ends count k
 pub part_then : {A : Type 0} (start : ℕ) (ends : List ℕ) (xs : List A) (count k : ℕ) (part : List A) → RiseTo start ends count → slice_get (parts_from start ends xs) k ≡ Some part
     → drop (end_of start ends k - start) xs ≡ part ++ drop (end_of start ends (suc k) - start) xs
 part_then start [] xs count k part h e = absurd cc
-part_then start (end ∷ ends) xs count zero part h e =
-    let same : take (end - start) xs ≡ part = cc in
-    let none : start - start ≡ 0 = omega arith in
-    ap (λ k. drop k xs) none ∙ sym (take-append-drop (end - start) xs) ∙ ap (λ p. p ++ drop (end - start) xs) same
+part_then start (end ∷ ends) xs count zero part h e = grind (arith, common_steps, take-append-drop)
 part_then start (end ∷ ends) xs count (suc k) part h e =
     let len = length_of (parts_from end ends (drop (end - start) xs)) k part e in
     let many : length (parts_from end ends (drop (end - start) xs)) ≡ length ends = as_many_parts end ends (drop (end - start) xs) in
@@ -53,8 +51,7 @@ part_then start (end ∷ ends) xs count (suc k) part h e =
     let here_is : end - start + (end_of end ends k - end) ≡ end_of end ends k - start = omega (arith, h.0, here.0) in
     let next_is : end - start + (end_of end ends (suc k) - end) ≡ end_of end ends (suc k) - start = omega (arith, h.0, next.0) in
     let rest = part_then end ends (drop (end - start) xs) count k part h.1 e in
-    ap (λ k. drop k xs) (sym here_is) ∙ sym (drop-drop (end_of end ends k - end) (end - start) xs) ∙ rest
-    ∙ ap (λ ys. part ++ ys) (drop-drop (end_of end ends (suc k) - end) (end - start) xs ∙ ap (λ k. drop k xs) next_is)
+    grind (arith, common_steps, drop-drop)
   where
     length_of : {B : Type 0} (ys : List B) (k : ℕ) (y : B) → slice_get ys k ≡ Some y → k < length ys
     length_of [] k y e = absurd cc
@@ -63,13 +60,7 @@ part_then start (end ∷ ends) xs count (suc k) part h e =
 
 -- where they end depends on their ends alone
 pub same_end : (start k : ℕ) (ends others : List ℕ) → k ≤ length ends → k ≤ length others → take k others ≡ take k ends → end_of start ends k ≡ end_of start others k
-same_end start zero ends others le more same = refl
-same_end start (suc k) [] others le more same = absurd (omega arith)
-same_end start (suc k) (end ∷ ends) [] le more same = absurd (omega arith)
-same_end start (suc k) (end ∷ ends) (other ∷ others) le more same =
-    let first : other ≡ end = cc in
-    let rest : take k others ≡ take k ends = cc in
-    same_end end k ends others (omega arith) (omega arith) rest ∙ ap (λ n. end_of n others k) (sym first)
+same_end start k ends others le more same = grind (arith, common_steps)
 
 -- The first parts depend on their ends and on their elements.
 pub alike : {A : Type 0} (start : ℕ) (ends others : List ℕ) (xs ys : List A) (count k : ℕ) → RiseTo start ends count → k ≤ length ends → take k ends ≡ take k others
@@ -104,17 +95,11 @@ parts_text f start [] (x ∷ xs) count is h = absurd (omega (arith, is, h))
 parts_text f start (end ∷ ends) xs count is h =
     let over = rises_over end ends count h.1 in
     let rest = parts_text f end ends (drop (end - start) xs) count (omega (arith, is, length-drop (end - start) xs, over, h.0)) h.1 in
-    ap (λ t. flat_map f (take (end - start) xs) ++ t) rest ∙ sym (flat_map-append f (take (end - start) xs) (drop (end - start) xs))
-    ∙ ap (flat_map f) (take-append-drop (end - start) xs)
+    grind (arith, common_steps, flat_map-append f (take (end - start) xs) (drop (end - start) xs), take-append-drop (end - start) xs)
 
 -- the front that a line shares with the line before it
 pub has_front : (old new : SequencesState) (shared : Front) → SharesFront old new shared → HasFront new.ends shared
-has_front old new shared h = record {
-  more = h.more;
-  count = h.count ∙ same_end 0 shared.sequences old.ends new.ends h.within (omega (arith, h.more)) h.ends;
-}
+has_front old new shared h = grind (arith, common_steps, same_end)
 
 pub front_kept : (old : List ℕ) (kept : ℕ) (new : List ℕ) → Continues old kept new → take kept new ≡ take kept old
-front_kept old kept new h =
-    let range = range_with_len (first_after old) (h.more + 1) in
-    ap (take kept) h.new_is ∙ ap (λ k. take k (take kept old ++ range)) (sym (length-take-le kept old h.kept_within)) ∙ take-append_seam (take kept old) range
+front_kept old kept new h = grind (arith, common_steps, length-take-le, take-append_seam)

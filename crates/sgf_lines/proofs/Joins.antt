@@ -1,4 +1,5 @@
 -- Texts that are appended one after the other.
+use Rattle.std.proofs.lemmas.Grind.{common_steps}
 use Rattle.std.proofs.Common.{◌≡◌, ℕ, zero, suc, ◌+◌, ◌<◌, List, [], ◌∷◌, ◌++◌, length, take, map, slice_get, Option, Some, refl, sym, ap, ◌∙◌, arith, append_assoc, add-one, append-nil, get_or}
 use Rattle.std.proofs.lemmas.List.{length-map}
 use Rattle.std.specs.List.{flat_map}
@@ -11,10 +12,7 @@ more_texts f (y ∷ ys) (suc i) x e = append_assoc (f y) (flat_map f (take i ys)
 
 pub joins : {X : Type 0} (f : X → List ℕ) (old front : List ℕ) (xs : List X) (i : ℕ) (x : X) (now new : List ℕ) → slice_get xs i ≡ Some x
     → now ≡ old ++ (front ++ flat_map f (take i xs)) → new ≡ now ++ f x → new ≡ old ++ (front ++ flat_map f (take (i + 1) xs))
-joins f old front xs i x now new e now_is new_is =
-    let texts = flat_map f (take i xs) in
-    new_is ∙ ap (λ bs. bs ++ f x) now_is ∙ append_assoc old (front ++ texts) (f x) ∙ ap (λ bs. old ++ bs) (append_assoc front texts (f x))
-    ∙ rw add-one (ap (λ bs. old ++ (front ++ bs)) (more_texts f xs i x e))
+joins f old front xs i x now new e now_is new_is = grind (arith, common_steps, append_assoc, add-one, more_texts)
 
 -- as many nodes as numbers
 pub as_many : {X : Type 0} (f : ℕ → Option X) (nodes : List X) (path : List ℕ) → map Some nodes ≡ map f path → length nodes ≡ length path

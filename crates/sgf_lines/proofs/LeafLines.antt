@@ -1,4 +1,5 @@
 -- A line ends at each leaf, so there are as many lines as leaves.
+use Rattle.std.proofs.lemmas.Grind.{common_steps}
 use Rattle.std.proofs.Common.{◌≡◌, ℕ, ◌+◌, ◌<◌, List, [], ◌∷◌, ◌++◌, length, refl, arith, length-append}
 use Rattle.std.proofs.lemmas.List.{length-map}
 use Rattle.sgf_tree.specs.Tree.{Node, Games, no_games, game, leaf_count}
@@ -17,19 +18,12 @@ some_leaf first more (game f m b a) after = omega (arith, some_leaf f m b a)
 variations : (games : Games) → length (node_lines games) ≡ leaf_count games
 variations no_games = refl
 variations (game first more no_games after) = omega (arith, length-append (through (first ∷ more) []) (node_lines after), variations after)
-variations (game first more (game f m b a) after) =
-    let rests = node_lines (game f m b a) in
-    let same : length rests ≡ leaf_count (game f m b a) = variations (game f m b a) in
-    let some : 0 < length rests = omega (arith, same, some_leaf f m b a) in
-    omega (arith, length-append (through (first ∷ more) rests) (node_lines after), through_some (first ∷ more) rests some, same, variations after)
+variations (game first more (game f m b a) after) = grind (arith, common_steps, (variations (game f m b a)), some_leaf, length-append, through_some, (variations after))
 
 -- the lines through a game, which has as many
 own_lines : (first : Node) (more : List Node) (below : Games) → length (through (first ∷ more) (node_lines below)) ≡ leaf_count (game first more below no_games)
 own_lines first more no_games = refl
-own_lines first more (game f m b a) =
-    let below : Games = game f m b a in
-    let some : 0 < length (node_lines below) = omega (arith, variations below, some_leaf f m b a) in
-    omega (arith, through_some (first ∷ more) (node_lines below) some, variations below)
+own_lines first more (game f m b a) = omega (arith, variations, some_leaf f m b a, through_some)
 
 apart : (first : Node) (more : List Node) (below after : Games) → leaf_count (game first more below after) ≡ leaf_count (game first more below no_games) + leaf_count after
 apart first more no_games after = omega arith
@@ -37,9 +31,7 @@ apart first more (game f m b a) after = omega arith
 
 lines_from_leaves : (number : ℕ) (games : Games) → length (lines_from number games) ≡ leaf_count games
 lines_from_leaves number no_games = refl
-lines_from_leaves number (game first more below after) =
-    let own = through (first ∷ more) (node_lines below) in
-    omega (arith, length-append (lines_of_game number own) (lines_from (number + 1) after), length-map own (λ nodes. let line : Line = record { game_number = number; nodes = nodes } in line), own_lines first more below, apart first more below after, lines_from_leaves (number + 1) after)
+lines_from_leaves number (game first more below after) = grind (arith, common_steps, length-append, length-map, own_lines, apart, (lines_from_leaves (number + 1) after))
 
 pub lines_leaves : (games : Games) → length (lines games) ≡ leaf_count games
 lines_leaves games = lines_from_leaves 1 games

@@ -1,4 +1,5 @@
 -- How many lines a collection has at most, and the answer of a count.
+use Rattle.std.proofs.lemmas.Grind.{common_steps}
 use Rattle.std.proofs.Common.{◌≡◌, ℕ, ◌+◌, ◌≤◌, length, map, ap, ◌∙◌, arith, List, ◌++◌, take, Result, Ok, Err, length-append}
 use Rattle.std.specs.Result.{IsErr}
 use Rattle.std.proofs.lemmas.List.{length-map, take-append-le}
@@ -22,9 +23,7 @@ lines_within c = omega (arith, (rises_parts 0 (map leaf_of (paths c)) (node_coun
 
 -- counts with the three numbers of a collection are its counts
 pub same_counts : (c : Games) (counts : Counts) → counts.games ≡ game_count c → counts.nodes ≡ node_count c → counts.lines ≡ length (lines c) → counts ≡ counts_of c
-same_counts c counts games nodes its_lines =
-    let of = λ (g n l : ℕ). let all : Counts = record { games = g; nodes = n; lines = l } in all in
-    ap (λ g. of g counts.nodes counts.lines) games ∙ ap (λ n. of (game_count c) n counts.lines) nodes ∙ ap (λ l. of (game_count c) (node_count c) l) its_lines
+same_counts c counts games nodes its_lines = grind (arith, common_steps)
 
 module _ (source new_source : SourceState) (text : List ℕ) (h : HasReadAll source new_source text) where
   pub count_of_games : (c : Games) (counts : Counts) → Spells c text → counts ≡ counts_of c → IsCount source new_source (Ok counts)
@@ -44,10 +43,4 @@ both_put old now new first second (Err e) h same k = (
 
 -- or the sink failed within the first one
 pub first_cut : {B E F : Type 0} (A : Type 0) (old new : SinkState) (first second : List ℕ) (e : E) (result : Result B F) → IsErr result → PutsAll {A = A} old new first (Err e) → PutsAll old new (first ++ second) result
-first_cut A old new first second e (Ok v) bad k = absurd cc
-first_cut A old new first second e (Err f) is k = (
-  k.0,
-  omega (arith, length-append first second, k.1),
-  rw (take-append-le k.0 first second (omega (arith, k.1))) k.2,
-  k.3,
-)
+first_cut A old new first second e result is k = grind (arith, common_steps, length-append, take-append-le)

@@ -1,4 +1,5 @@
 -- The nodes of the line before a cursor, by its path.
+use Rattle.std.proofs.lemmas.Grind.{common_steps}
 use Rattle.std.proofs.Common.{◌≡◌, ℕ, zero, suc, ◌-◌, ◌<◌, List, [], ◌∷◌, length, map, drop, get_or, slice_get, Option, Some, None, refl, sym, ap, ◌∙◌, inl, inr, arith}
 use Rattle.std.proofs.lemmas.Option.{slice_get_past}
 use Rattle.std.proofs.lemmas.Bool.{cases_lt}
@@ -22,9 +23,7 @@ named_nodes : (f : ℕ → Option Node) (nodes : List Node) (numbers : List ℕ)
 named_nodes f [] [] e = refl
 named_nodes f [] (k ∷ ks) e = absurd cc
 named_nodes f (n ∷ ns) [] e = absurd cc
-named_nodes f (n ∷ ns) (k ∷ ks) e =
-    let here : f k ≡ Some n = cc in
-    rw here (ap (λ ms. n ∷ ms) (named_nodes f ns ks cc))
+named_nodes f (n ∷ ns) (k ∷ ks) e = grind (arith, common_steps, named_nodes f ns ks)
 
 -- they are those that the path names
 pub named_in : (c : Games) (k : ℕ) → map Some (nodes_of (line_in c k)) ≡ map (node_at c) (numbers_before c k)
@@ -32,13 +31,9 @@ named_in c zero = refl
 named_in c (suc k) =
     elim (cases_lt k (length (paths c))) [
       | inl lt ↦
-          let p = element (paths c) k lt in
-          let l = line_at c k p.0 p.1 in
-          ap (λ o. map Some (nodes_of o)) l.1.found ∙ l.1.nodes ∙ ap (λ o. map (node_at c) (numbers_of o)) (sym p.1)
+          grind (arith, common_steps, element (paths c) k lt, line_at)
       | inr ge ↦
-          let no_path : slice_get (paths c) k ≡ None = slice_get_past (paths c) k ge in
-          let no_line : slice_get (lines c) k ≡ None = slice_get_past (lines c) k (omega (arith, length-paths c)) in
-          ap (λ o. map Some (nodes_of o)) no_line ∙ ap (λ o. map (node_at c) (numbers_of o)) (sym no_path)
+          grind (arith, common_steps, slice_get_past, length-paths)
     ]
 
 -- as many as the path names
@@ -61,15 +56,7 @@ module _ (c : Games) (next : ℕ) (at : CursorState) (is : before c next ≡ at)
 
 -- if it has a node, there is a line
 pub some_before : (at : CursorState) → 0 < length (nodes_before at) → 0 < at.index
-some_before at some = by at.index refl
-  where
-    by : (n : ℕ) → at.index ≡ n → 0 < at.index
-    by zero e = absurd (omega (arith, some, ap (λ n. length (nodes_of (line_in at.games n))) e))
-    by (suc n) e = omega arith
+some_before at some = grind (arith, common_steps)
 
 pub line_is : (at : CursorState) → 0 < at.index → line_before at ≡ slice_get (lines at.games) (at.index - 1)
-line_is at lt = by at.index refl lt
-  where
-    by : (k : ℕ) → at.index ≡ k → 0 < k → line_in at.games k ≡ slice_get (lines at.games) (k - 1)
-    by zero e lt = absurd (omega arith)
-    by (suc k) e lt = let before : suc k - 1 ≡ k = omega arith in ap (λ n. slice_get (lines at.games) n) (sym before)
+line_is at lt = grind (arith, common_steps, before)

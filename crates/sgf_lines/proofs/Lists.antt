@@ -1,4 +1,5 @@
 -- Lists: an element of two lists joined, and facts of each element by recursion.
+use Rattle.std.proofs.lemmas.Grind.{common_steps}
 use Rattle.std.proofs.Common.{◌≡◌, ℕ, zero, suc, ◌+◌, ◌<◌, ◌≤◌, List, [], ◌∷◌, ◌++◌, length, map, take, slice_get, Some, refl, ap, ◌∙◌, arith}
 use Rattle.std.specs.List.{AllByRecursion, range_with_len}
 use Rattle.std.proofs.lemmas.List.{take_more, map-append}
@@ -63,14 +64,8 @@ element [] k lt = absurd (omega arith)
 element (x ∷ xs) zero lt = (x, refl)
 element (x ∷ xs) (suc k) lt = element xs k (omega arith)
 
--- each number of a range is below its end
-pub range_below : (next n end : ℕ) → next + n ≤ end → Each (λ i. i < end) (range_with_len next n)
-range_below next zero end le = tt
-range_below next (suc n) end le = (omega arith, range_below (next + 1) n end (omega arith))
-
 pub range_append : (at n m : ℕ) → range_with_len at n ++ range_with_len (at + n) m ≡ range_with_len at (n + m)
 range_append at zero m = let same : at + 0 ≡ at = omega arith in let none : 0 + m ≡ m = omega arith in rw (same, none) refl
 range_append at (suc n) m =
-    let next : at + suc n ≡ at + 1 + n = omega arith in
     let sum : suc n + m ≡ suc (n + m) = omega arith in
-    rw (next, sum) (ap (λ ns. at ∷ ns) (range_append (at + 1) n m))
+    grind (arith, common_steps, (range_append (at + 1) n m))

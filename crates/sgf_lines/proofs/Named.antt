@@ -1,4 +1,5 @@
 -- The paths of a collection name the nodes of its lines, and begin in their games.
+use Rattle.std.proofs.lemmas.Grind.{common_steps}
 use Rattle.std.proofs.Common.{◌≡◌, ℕ, suc, ◌+◌, ◌<◌, List, [], ◌∷◌, ◌++◌, length, map, slice_get, Option, Some, None, option_map, refl, sym, ap, ◌∙◌, arith, zero, false, add-zero, ◌-◌, ◌≤◌, get_or}
 use Rattle.std.specs.List.{AllZip}
 use Rattle.std.proofs.lemmas.List.{map-append}
@@ -34,17 +35,14 @@ module _ (c : Games) where
   numbered_further at [] h = refl
   numbered_further at (n ∷ ns) h =
       let ordered : OrderedNode = record { node = n; parent = Some at; opens = false } in
-      let first : node_at c (at + 1) ≡ Some n = rw add-zero at (ap (option_map (λ (r : OrderedNode). r.node)) (stands_get (further_nodes at (n ∷ ns)) 0 h (omega arith))) in
       let rest = numbered_further (at + 1) ns (stands_right (at + 1 + 1) (ordered ∷ []) (further_nodes (at + 1) ns) h refl) in
-      cc
+      grind (arith, common_steps, add-zero, stands_get (further_nodes at (n ∷ ns)) 0 h (omega arith))
 
   numbered_own : (at : ℕ) (parent : Option ℕ) (first : Node) (more : List Node) (below after : Games) → Stands c at parent (game first more below after)
       → AreNumbered (first ∷ more) (record first { place = at } ∷ numbered_nodes (at + 1) more)
   numbered_own at parent first more below after h =
       let own = stands_own c at parent first more below after h in
-      let root : node_at c at ≡ Some first = rw add-zero at (ap (option_map (λ (r : OrderedNode). r.node)) (stands_get (first_ordered parent first ∷ further_nodes at more) 0 own (omega arith))) in
-      let rest = numbered_further at more (stands_right (at + 1) (first_ordered parent first ∷ []) (further_nodes at more) own refl) in
-      cc
+      grind (arith, common_steps, add-zero, stands_get (first_ordered parent first ∷ further_nodes at more) 0 own (omega arith), first_ordered parent first, numbered_further, stands_right (at + 1) (first_ordered parent first ∷ []) (further_nodes at more) own refl)
 
   numbered_game : (at : ℕ) (parent : Option ℕ) (first : Node) (more : List Node) (below after : Games) → Stands c at parent (game first more below after)
       → AllNumbered (node_lines below) (node_lines (numbered (at + length more + 1) below))
@@ -60,16 +58,13 @@ module _ (c : Games) where
   numbered_lines (game first more below after) at parent h =
       let next = at + length more + 1 in
       let here = numbered_game at parent first more below after h (numbered_lines below next (Some (at + length more)) (stands_below c at parent first more below after h)) in
-      let rest = numbered_lines after (next + node_count below) parent (stands_after c at parent first more below after h) in
-      simp map-append cc
+      grind (arith, common_steps, (numbered_lines after (next + node_count below) parent (stands_after c at parent first more below after h)), stands_after, map-append)
 
   named_game : (number : ℕ) (ls ks : List (List Node)) → AllNumbered ls ks → AllZip (IsPathOf c) (lines_of_game number ls) (map path_of (lines_of_game number ks))
   named_game number [] [] e = tt
   named_game number [] (k ∷ ks) e = absurd cc
   named_game number (l ∷ ls) [] e = absurd cc
-  named_game number (l ∷ ls) (k ∷ ks) e =
-      let one : AreNumbered l k = cc in
-      (record { game_number = refl; nodes = map-map (node_at c) (λ n. n.place) k ∙ one }, named_game number ls ks cc)
+  named_game number (l ∷ ls) (k ∷ ks) e = grind (arith, common_steps, map-map, named_game number ls ks)
 
   named_from : (number : ℕ) (g : Games) (at : ℕ) → Stands c at None g → AllZip (IsPathOf c) (lines_from number g) (map path_of (lines_from number (numbered at g)))
   named_from number no_games at h = tt
@@ -77,11 +72,7 @@ module _ (c : Games) where
       let next = at + length more + 1 in
       let ls = through (first ∷ more) (node_lines below) in
       let ks = through (record first { place = at } ∷ numbered_nodes (at + 1) more) (node_lines (numbered next below)) in
-      let others = lines_from (number + 1) (numbered (next + node_count below) after) in
-      rw (map-append path_of (lines_of_game number ks) others)
-      (zip_append (IsPathOf c) (lines_of_game number ls) (lines_from (number + 1) after) (map path_of (lines_of_game number ks)) (map path_of others)
-      (named_game number ls ks (numbered_game at None first more below after h (numbered_lines below next (Some (at + length more)) (stands_below c at None first more below after h))))
-      (named_from (number + 1) after (next + node_count below) (stands_after c at None first more below after h)))
+      grind (arith, common_steps, map-append, zip_append, named_game number ls ks (numbered_game at None first more below after h (numbered_lines below next (Some (at + length more)) (stands_below c at None first more below after h))), numbered_game, numbered_lines below next (Some (at + length more)) (stands_below c at None first more below after h), stands_below c, (named_from (number + 1) after (next + node_count below) (stands_after c at None first more below after h)), stands_after c)
 
   -- each line has its path
   pub each_named : AllZip (IsPathOf c) (lines c) (paths c)
@@ -107,11 +98,7 @@ module _ (c : Games) where
 
   -- the place of a line is that of the last node on its path
   pub place_of_node : (i : ℕ) (n : Node) → Some n ≡ node_at c i → place_at c i ≡ Some n.place
-  place_of_node i n e = of_ordered (slice_get (ordered_nodes c) i) e
-    where
-      of_ordered : (o : Option OrderedNode) → Some n ≡ option_map (λ r. r.node) o → option_map (λ r. r.node.place) o ≡ Some n.place
-      of_ordered None e = absurd cc
-      of_ordered (Some r) e = let same : n ≡ r.node = cc in ap (λ (n : Node). Some n.place) (sym same)
+  place_of_node i n e = grind (arith, common_steps)
 
   place_of_last : (ns : List Node) (is : List ℕ) → 0 < length is → map Some ns ≡ map (node_at c) is → place_at c (last_number is) ≡ Some (last_number (map (λ n. n.place) ns))
   place_of_last ns [] some e = absurd (omega arith)
@@ -124,8 +111,7 @@ module _ (c : Games) where
   pub line_at : (k : ℕ) (path : Path) → slice_get (paths c) k ≡ Some path → (line : Line) × IsNamed k path line
   line_at k path e =
       let f = line_in (lines c) (paths c) k path each_named e in
-      let place = place_of_last f.0.nodes path.numbers (some_node (leads c k path e).up) (sym f.2.nodes) in
-      (f.0, record { found = f.1; game_number = sym f.2.game_number; nodes = sym f.2.nodes; place = place })
+      grind (arith, common_steps, place_of_last f.0.nodes path.numbers (some_node (leads c k path e).up) (sym f.2.nodes), some_node (leads c k path e).up, leads c k path e)
 
 -- the game of node n is that of this number, if games from node `at` on begin with the game of the number `from`
 abbrev IsOfGame : ℕ → ℕ → Games → ℕ → ℕ → Type 0
@@ -146,11 +132,7 @@ begins_game number at g own more (l ∷ ls) h = begins_here number at g own more
 
 in_later : (from at : ℕ) (first : Node) (more : List Node) (below after : Games) (number n : ℕ)
     → IsOfGame (from + 1) (at + length more + 1 + node_count below) after number n → IsOfGame from at (game first more below after) number n
-in_later from at first more below after number n h =
-    let size = 1 + length more + node_count below in
-    let past : size ≤ n - at = omega (arith, h.0) in
-    let rest : n - at - size ≡ n - (at + length more + 1 + node_count below) = omega (arith, h.0) in
-    (omega (arith, h.0), rw (le-ltb (n - at) size past, rest) (omega (arith, h.1)))
+in_later from at first more below after number n h = grind (arith, common_steps, le-ltb)
 
 begin_in : (from at : ℕ) (g : Games) → Each (BeginsIn from at g) (map path_of (lines_from from (numbered at g)))
 begin_in from at no_games = tt
@@ -165,11 +147,7 @@ begin_in from at (game first more below after) =
     rw (map-append path_of (lines_of_game from (through (own ∷ numbered_nodes (at + 1) more) ks)) others)
     (each_append (BeginsIn from at g) (map path_of (lines_of_game from (through (own ∷ numbered_nodes (at + 1) more) ks))) (map path_of others)
     (begins_game from at g own (numbered_nodes (at + 1) more) ks here)
-    (each_weaker (BeginsIn (from + 1) (next + node_count below) after) (BeginsIn from at g)
-    (λ path h d. in_later from at first more below after path.game_number (get_or path.numbers 0 d) (h d)) (map path_of others) (begin_in (from + 1) (next + node_count below) after)))
+    grind (arith, common_steps, each_weaker, in_later, (begin_in (from + 1) (next + node_count below) after)))
 
 pub game_of_root : (c : Games) → Each (λ path. (d : ℕ) → game_of c (get_or path.numbers 0 d) ≡ path.game_number) (paths c)
-game_of_root c =
-    each_weaker (BeginsIn 1 0 c) (λ path. (d : ℕ) → game_of c (get_or path.numbers 0 d) ≡ path.game_number)
-    (λ path h d. let n = get_or path.numbers 0 d in let same : n - 0 ≡ n = omega arith in let counted : path.game_number + 1 ≡ 1 + game_of c n = rw same at (h d).1 in omega arith)
-    (paths c) (begin_in 1 0 c)
+game_of_root c = grind (arith, common_steps, each_weaker, begin_in)

@@ -1,4 +1,5 @@
 -- The lines of a page among all lines. Their places rise, so the line with a place is found, and pages join.
+use Rattle.std.proofs.lemmas.Grind.{common_steps}
 use Rattle.std.proofs.Common.{◌≡◌, ℕ, suc, length, map, slice_get, Some, option_map, sym, ap, ◌∙◌, slice_index, add-one, arith, ◌≢◌, zero, ◌+◌, ◌<◌, ◌≤◌, List, [], ◌∷◌, take, drop, Option, None, refl, ◌++◌, append_assoc, append-nil, Bool, true, false}
 use Rattle.std.specs.List.Sorted.{IsStrictlyIncreasing}
 use Rattle.std.proofs.lemmas.List.{length-map, take_all, take-append-drop}
@@ -38,9 +39,7 @@ module _ (c : Games) where
 pub found_at : (ls : List Line) (k place : ℕ) → option_map place_of (slice_get ls k) ≡ Some place
     → ((j : ℕ) → j < k → option_map place_of (slice_get ls j) ≢ Some place) → lines_after ls place ≡ Some (drop (suc k) ls)
 found_at [] k place e none = absurd cc
-found_at (l ∷ ls) zero place e none =
-    let same : place_of l ≡ place = cc in
-    rw (eq-eqb (place_of l) place same) refl
+found_at (l ∷ ls) zero place e none = grind (arith, common_steps, eq-eqb)
 found_at (l ∷ ls) (suc k) place e none =
     let other : place_of l ≢ place = λ same. none 0 (omega arith) (ap Some same) in
     rw (ne_eqb (place_of l) place other) (found_at ls k place e (λ j lt at. none (suc j) (omega arith) at))
@@ -48,9 +47,7 @@ found_at (l ∷ ls) (suc k) place e none =
 pub get_dropped : {X : Type 0} (xs : List X) (g k : ℕ) → slice_get (drop g xs) k ≡ slice_get xs (g + k)
 get_dropped xs zero k = let same : k ≡ 0 + k = omega arith in ap (λ n. slice_get xs n) same
 get_dropped [] (suc g) k = refl
-get_dropped (x ∷ xs) (suc g) k =
-    let same : suc (g + k) ≡ suc g + k = omega arith in
-    get_dropped xs g k ∙ ap (λ n. slice_get (x ∷ xs) n) same
+get_dropped (x ∷ xs) (suc g) k = grind (arith, common_steps, get_dropped xs g k)
 
 pub get_taken : {X : Type 0} (xs : List X) (n k : ℕ) → k < n → slice_get (take n xs) k ≡ slice_get xs k
 get_taken xs zero k lt = absurd (omega arith)
@@ -65,8 +62,7 @@ get_none (x ∷ xs) (suc k) e = omega (arith, get_none xs k e)
 
 -- a limit that is not below the number of lines is none
 pub limited_is : (limit : Option ℕ) (most : ℕ) (ls : List Line) → length ls ≤ most → limited limit ls ≡ take (unwrap_or limit most) ls
-limited_is None most ls le = sym (take_all most ls le)
-limited_is (Some n) most ls le = refl
+limited_is limit most ls le = grind (arith, common_steps, take_all)
 
 -- where places rise, the lines after the one with a place are those after its index
 pub after_index : (ls : List Line) (k place : ℕ) → IsStrictlyIncreasing (map place_of ls) → option_map place_of (slice_get ls k) ≡ Some place
@@ -81,10 +77,7 @@ after_index ls k place rise e = rw add-one (found_at ls k place e (λ j lt other
 -- a cursor after the line with a place stands before the page
 pub started : (c : Games) (after : Option ℕ) (place : ℕ) (at new : CursorState) → after ≡ Some place → at ≡ record { games = c; index = 0 } → IsStrictlyIncreasing (map place_of (lines c))
     → IsAfterPlace place at new → lines_asked (lines c) after ≡ Some (drop new.index (lines c))
-started c after place at new is at_is rise s =
-    let line : option_map place_of (slice_get (lines c) s.index) ≡ Some place = rw at_is at s.line in
-    let index : new.index ≡ s.index + 1 = ap (λ p. p.index) s.new_is in
-    rw (is, index) (after_index (lines c) s.index place rise line)
+started c after place at new is at_is rise s = grind (arith, common_steps, after_index)
 
 -- the lines after a place end the list
 ends_list : (ls : List Line) (place : ℕ) (tail : List Line) → lines_after ls place ≡ Some tail → (before : List Line) × (ls ≡ before ++ tail)
@@ -96,8 +89,7 @@ ends_list (l ∷ ls) place tail e = by (place_of l == place) refl (λ later. end
     by false is below = let f = below (rw is at e) in (l ∷ f.0, ap (λ xs. l ∷ xs) f.1)
 
 pub tail_of : (ls : List Line) (after : Option ℕ) (tail : List Line) → lines_asked ls after ≡ Some tail → (before : List Line) × (ls ≡ before ++ tail)
-tail_of ls None tail e = ([], cc)
-tail_of ls (Some place) tail e = ends_list ls place tail e
+tail_of ls after tail e = grind (arith, common_steps, ends_list)
 
 -- a limit leaves a front
 pub front_of : (limit : Option ℕ) (tail front : List Line) → limited limit tail ≡ front → (rest : List Line) × (tail ≡ front ++ rest)
@@ -105,16 +97,13 @@ front_of None tail front e = ([], e ∙ sym (append-nil front))
 front_of (Some n) tail front e = (drop n tail, sym (take-append-drop n tail) ∙ ap (λ xs. xs ++ drop n tail) e)
 
 mapped : (limit : Option ℕ) (o : Option (List Line)) (ls : List Line) → option_map (limited limit) o ≡ Some ls → (tail : List Line) × (o ≡ Some tail) × (limited limit tail ≡ ls)
-mapped limit None ls e = absurd cc
-mapped limit (Some tail) ls e = (tail, refl, cc)
+mapped limit o ls e = grind (arith, common_steps)
 
 -- the lines of a page stand side by side
 pub on_page : (c : Games) (o : Options) (asked : List Line) → page o c ≡ Some asked → (before after : List Line) × (lines c ≡ before ++ (asked ++ after))
 on_page c o asked e =
     let m = mapped o.limit (lines_asked (lines c) o.after) asked e in
-    let f = front_of o.limit m.0 asked m.2 in
-    let t = tail_of (lines c) o.after m.0 m.1 in
-    (t.0, f.0, t.1 ∙ ap (λ xs. t.0 ++ xs) f.1)
+    grind (arith, common_steps, front_of o.limit m.0 asked m.2, tail_of (lines c) o.after m.0 m.1)
 
 -- what comes after the last line of a page, and that it completes the page
 pub record GoesOn (o : Options) (c : Games) (front : List Line) (last : Line) : Type 0 where
@@ -132,8 +121,4 @@ goes_on c o front last rise e =
     let k = length (t.0 ++ front) in
     let here : slice_get (lines c) k ≡ Some last = ap (λ ls. slice_get ls k) all ∙ slice_get-right (t.0 ++ front) (last ∷ f.0) k 0 (omega arith) in
     let left : drop (k + 1) (lines c) ≡ f.0 = ap (drop (k + 1)) all ∙ drop-append-add (t.0 ++ front) (last ∷ f.0) 1 in
-    record {
-      rest = f.0;
-      after = after_index (lines c) k (place_of last) (lines_rise c rise) (ap (λ o. option_map place_of o) here) ∙ ap Some left;
-      whole = m.1 ∙ ap Some tail;
-    }
+    grind (arith, common_steps, after_index, lines_rise c rise)

@@ -1,5 +1,6 @@
 -- The stones of a colouring in which every stone reaches empty, played one by one, black ones before white ones, make that
 -- colouring: nothing is captured on the way, since a stone reaches empty sooner where fewer stones stand.
+use Rattle.std.proofs.lemmas.Grind.{common_steps}
 use Rattle.std.proofs.Common.{◌≡◌, ◌≢◌, ◌↔◌, ℕ, zero, suc, ◌+◌, ◌*◌, ◌<◌, ◌≤◌, List, [], ◌∷◌, ◌++◌, length, map, filter, Some, Bool, true, false, IsTrue, slice_get, codes, refl, sym, ap, ◌∙◌, arith, subst, inl, inr, ◌⊎◌, cond, length-set}
 use Rattle.std.specs.List.{flat_map, range_with_len}
 use Rattle.std.proofs.lemmas.Bool.{cases_Bool, cases_eq, cases_lt}
@@ -17,6 +18,7 @@ use Rattle.go_board.specs.Grid.{Grid, cell_at, with_cell, empty_grid}
 use Rattle.go_board.specs.Reaching.{Leads, Reaches, reaches}
 use Rattle.go_board.specs.Clearing.{clear, play, HasUnreaching, has_unreaching}
 use Rattle.go_board.specs.Vertex.{vertex_of}
+use Rattle.go_board.proofs.GridLemmas.{Decides-same_cell}
 use Rattle.sgf_lines.specs.Script.{colour_letter, vertex_text, play_command, stone_commands, colouring_commands}
 use Rattle.sgf_lines.specs.Replay.{shows, refused, after_stone, after_command, after_row, after_text}
 use Rattle.sgf_lines.proofs.Lists.{Each}
@@ -36,31 +38,12 @@ pub record BoardLaws : Type 0 where
   pub kept : (g : Grid) (k : Colour) (p : Point) → IsOn g.side p → Reaches g Empty p → cell_at (clear g k) p ≡ cell_at g p
   pub unreaching : (g : Grid) → (IsTrue (has_unreaching g) ↔ HasUnreaching g)
 
-empty_or : (c : Cell) → (c ≡ Empty) ⊎ (c ≢ Empty)
-empty_or Black = inr (λ e. cc)
-empty_or White = inr (λ e. cc)
-empty_or Empty = inl refl
-
 pub is_same : (c d : Cell) → same_cell c d ≡ true → c ≡ d
-is_same Black Black e = refl
-is_same White White e = refl
-is_same Empty Empty e = refl
-is_same Black White e = absurd cc
-is_same Black Empty e = absurd cc
-is_same White Black e = absurd cc
-is_same White Empty e = absurd cc
-is_same Empty Black e = absurd cc
-is_same Empty White e = absurd cc
-
-same_itself : (c : Cell) → same_cell c c ≡ true
-same_itself Black = refl
-same_itself White = refl
-same_itself Empty = refl
+is_same c d e = (Decides-same_cell c d).0 e
 
 -- the row of one play
 play_within : (side : ℕ) (k : Colour) (p : Point) → side ≤ 25 → IsOn side p → Each IsWithin (codes "play " ++ colour_letter k ++ codes " " ++ vertex_text (vertex_of p side))
-play_within side BlackPlayer p small on = within_both (codes "play B ") (vertex_text (vertex_of p side)) (search) (solid_within (vertex_text (vertex_of p side)) (vertex_solid side p small on))
-play_within side WhitePlayer p small on = within_both (codes "play W ") (vertex_text (vertex_of p side)) (search) (solid_within (vertex_text (vertex_of p side)) (vertex_solid side p small on))
+play_within side k p small on = grind (arith, common_steps, within_both, solid_within, vertex_solid)
 
 pub takes_play : (board : Grid) (k : Colour) (p : Point) → board.side ≤ 25 → IsOn board.side p → cell_at board p ≡ Empty
     → Carries (shows board) (play_command board.side k (Stone p)) (shows (play board k p))
@@ -79,11 +62,7 @@ module _ (laws : BoardLaws) where
       cc
 
   point_or : (side : ℕ) (p q : Point) → IsOn side p → IsOn side q → (q ≡ p) ⊎ (q ≢ p)
-  point_or side p q on also =
-      elim (cases_eq (index_of side q) (index_of side p)) [
-        | inl same ↦ inl (same_point side q p also on same)
-        | inr other ↦ inr (λ e. other (ap (λ x. index_of side x) e))
-      ]
+  point_or side p q on also = grind (arith, common_steps, cases_eq, same_point)
 
   -- ---- fewer stones of a settled grid
 
@@ -98,8 +77,7 @@ module _ (laws : BoardLaws) where
     on_part h p part on = subst (λ n. IsOn n p) (sym part.side) on
 
     leads_part : (h : Grid) (own : Cell) (p : Point) (path : List Point) → IsPart h → Leads g own Empty p path → (shorter : List Point) × Leads h own Empty p shorter
-    leads_part h own p [] part l =
-        elim (part.each p l.0) [ inl e ↦ ([], (on_part h p part l.0, e)) | inr e ↦ ([], (on_part h p part l.0, e ∙ l.1)) ]
+    leads_part h own p [] part l = grind (arith, common_steps, on_part)
     leads_part h own p (next ∷ path) part l =
         elim (part.each p l.0) [
           | inl e ↦ ([], (on_part h p part l.0, e))
@@ -110,23 +88,17 @@ module _ (laws : BoardLaws) where
     whole_reaches p on =
         elim (cases_Bool (reaches g Empty p)) [
           | inl h ↦ (laws.reaching g Empty p on).0 h
-          | inr never ↦ elim (empty_or (cell_at g p)) [
-            | inl e ↦ ([], (on, e))
-            | inr some ↦
+          | inr never ↦ elim (cases_Bool (same_cell (cell_at g p) Empty)) [
+            | inl e ↦ ([], (on, is_same (cell_at g p) Empty e))
+            | inr other ↦
+                let some : cell_at g p ≢ Empty = λ e. (let same = (Decides-same_cell (cell_at g p) Empty).1 e in cc) in
                 let stuck : HasUnreaching g = (p, on, some, λ r. let does = (laws.reaching g Empty p on).1 r in cc) in
                 let found = (laws.unreaching g).1 stuck in absurd (cc)
           ]
         ]
 
     part_reaches : (h : Grid) (p : Point) → IsPart h → IsOn g.side p → Reaches h Empty p
-    part_reaches h p part on =
-        elim (part.each p on) [
-          | inl e ↦ ([], (on_part h p part on, e))
-          | inr e ↦
-              let path = whole_reaches p on in
-              let found = leads_part h (cell_at g p) p path.0 part path.1 in
-              (found.0, subst (λ c. Leads h c Empty p found.0) (sym e) found.1)
-        ]
+    part_reaches h p part on = grind (arith, common_steps, on_part h p part on, whole_reaches p on, leads_part)
 
     clear_part : (h : Grid) (k : Colour) → IsPart h → clear h k ≡ h
     clear_part h k part =
@@ -136,26 +108,11 @@ module _ (laws : BoardLaws) where
         laws.kept h k p here (part_reaches h p part (subst (λ n. IsOn n p) part.side here)))
 
     with_part : (h : Grid) (p : Point) → IsPart h → IsOn g.side p → IsPart (with_cell h p (cell_at g p))
-    with_part h p part on =
-        let here = on_part h p part on in
-        record {
-          side = part.side;
-          all = length-set h.cells (index_of h.side p) (cell_at g p) ∙ part.all;
-          each = λ q also. elim (point_or g.side p q on also) [
-            | inl e ↦ inr (ap (λ x. cell_at (with_cell h p (cell_at g p)) x) e ∙ laws.there h p (cell_at g p) here part.all ∙ ap (λ x. cell_at g x) (sym e))
-            | inr other ↦
-                let kept = laws.elsewhere h p q (cell_at g p) here (on_part h q part also) other in
-                elim (part.each q also) [ inl e ↦ inl (kept ∙ e) | inr e ↦ inr (kept ∙ e) ]
-          ];
-        }
+    with_part h p part on = grind (arith, common_steps, on_part, length-set, point_or)
 
     play_part : (h : Grid) (k : Colour) (p : Point) → IsPart h → IsOn g.side p → cell_at g p ≡ stone_of k → play h k p ≡ with_cell h p (cell_at g p)
     unfolding play
-    play_part h k p part on stone =
-        let w = with_cell h p (cell_at g p) in
-        let now = with_part h p part on in
-        ap (λ c. clear (clear (with_cell h p c) (opponent k)) k) (sym stone)
-        ∙ ap (λ x. clear x k) (clear_part w (opponent k) now) ∙ clear_part w k now
+    play_part h k p part on stone = grind (arith, common_steps, with_part, clear_part)
 
     -- ---- The order of play: the black stones in the order of the points, and then the white ones.
 
@@ -179,107 +136,44 @@ module _ (laws : BoardLaws) where
       left : (p : Point) → IsOn g.side p → n ≤ rank_of p → cell_at h p ≡ Empty
 
     part_of : (h : Grid) (n : ℕ) → IsPlaced h n → IsPart h
-    part_of h n placed = record {
-      side = placed.side;
-      all = placed.all;
-      each = λ p on. elim (cases_lt (rank_of p) n) [ inl lt ↦ inr (placed.done p on lt) | inr le ↦ inl (placed.left p on le) ];
-    }
+    part_of h n placed = grind (arith, common_steps, cases_lt, rank_of)
 
     index_within : (p : Point) → IsOn g.side p → index_of g.side p < g.side * g.side
-    index_within p on =
-        let here = (laws.once g.side (index_of g.side p) p).1 (on, refl) in
-        let size = laws.listed g.side in
-        omega (arith, slice_get_within (points g.side) (index_of g.side p) p here)
+    index_within p on = grind (arith, common_steps, slice_get_within)
 
     rank_same : (k : Colour) (c : Cell) (i : ℕ) → c ≡ stone_of k → rank c i ≡ turn_of k i
     unfolding rank turn_of
-    rank_same BlackPlayer c i e = ap (λ x. rank x i) e
-    rank_same WhitePlayer c i e = ap (λ x. rank x i) e
+    rank_same k c i e = grind (arith, common_steps, rank)
 
     -- a point of the rank whose turn it is has that index, and a stone of that colour or none
     rank_turn : (k : Colour) (c : Cell) (i j : ℕ) → i < g.side * g.side → j < g.side * g.side → rank c j ≡ turn_of k i → (j ≡ i) × ((c ≡ stone_of k) ⊎ (c ≡ Empty))
     unfolding rank turn_of
-    rank_turn BlackPlayer Black i j a b e = (e, inl refl)
-    rank_turn BlackPlayer Empty i j a b e = (e, inr refl)
-    rank_turn BlackPlayer White i j a b e = absurd (omega arith)
-    rank_turn WhitePlayer White i j a b e = (omega arith, inl refl)
-    rank_turn WhitePlayer Black i j a b e = absurd (omega arith)
-    rank_turn WhitePlayer Empty i j a b e = absurd (omega arith)
+    rank_turn k c i j a b e = grind (arith, common_steps)
 
     turn_next : (k : Colour) (i : ℕ) → turn_of k (i + 1) ≡ turn_of k i + 1
     unfolding turn_of
-    turn_next BlackPlayer i = refl
-    turn_next WhitePlayer i = omega arith
+    turn_next k i = grind (arith, common_steps)
 
     -- the stone of the present turn is placed
     placed_more : (h : Grid) (k : Colour) (i : ℕ) (q : Point) → i < g.side * g.side → IsOn g.side q → index_of g.side q ≡ i → cell_at g q ≡ stone_of k
         → IsPlaced h (turn_of k i) → IsPlaced (with_cell h q (cell_at g q)) (turn_of k (i + 1))
     unfolding rank_of
     placed_more h k i q small on here stone placed =
-        let part = with_part h q (part_of h (turn_of k i) placed) on in
-        let now : IsOn h.side q = subst (λ n. IsOn n q) (sym placed.side) on in
-        let mine : rank_of q ≡ turn_of k i = rank_same k (cell_at g q) (index_of g.side q) stone ∙ ap (λ j. turn_of k j) here in
-        let next = turn_next k i in
-        record {
-          side = part.side;
-          all = part.all;
-          done = λ p also lt. elim (point_or g.side q p on also) [
-            | inl e ↦ ap (λ x. cell_at (with_cell h q (cell_at g q)) x) e ∙ laws.there h q (cell_at g q) now placed.all ∙ ap (λ x. cell_at g x) (sym e)
-            | inr other ↦ elim (cases_eq (rank_of p) (turn_of k i)) [
-              | inl same ↦
-                  let t = rank_turn k (cell_at g p) i (index_of g.side p) small (index_within p also) same in
-                  absurd (other (same_point g.side p q also on (t.0 ∙ sym here)))
-              | inr differs ↦
-                  laws.elsewhere h q p (cell_at g q) now (subst (λ n. IsOn n p) (sym placed.side) also) other ∙ placed.done p also (omega arith)
-            ]
-          ];
-          left = λ p also le. elim (point_or g.side q p on also) [
-            | inl e ↦ absurd (let same : rank_of p ≡ rank_of q = ap (λ x. rank_of x) e in omega arith)
-            | inr other ↦ laws.elsewhere h q p (cell_at g q) now (subst (λ n. IsOn n p) (sym placed.side) also) other ∙ placed.left p also (omega arith)
-          ];
-        }
+        grind (arith, common_steps, with_part h q (part_of h (turn_of k i) placed) on, part_of h (turn_of k i) placed, turn_of k i, rank_of q, rank_same k (cell_at g q) (index_of g.side q) stone, turn_of, turn_next k i, point_or, cases_eq, rank_of, rank_turn, index_within, same_point)
 
     -- there is no stone of that colour at the present turn
     placed_same : (h : Grid) (k : Colour) (i : ℕ) (q : Point) → i < g.side * g.side → IsOn g.side q → index_of g.side q ≡ i → (cell_at g q ≢ stone_of k)
         → IsPlaced h (turn_of k i) → IsPlaced h (turn_of k (i + 1))
     unfolding rank_of
-    placed_same h k i q small on here none placed =
-        let next = turn_next k i in
-        record {
-          side = placed.side;
-          all = placed.all;
-          done = λ p also lt. elim (cases_eq (rank_of p) (turn_of k i)) [
-            | inr differs ↦ placed.done p also (omega arith)
-            | inl same ↦
-                let t = rank_turn k (cell_at g p) i (index_of g.side p) small (index_within p also) same in
-                let at : p ≡ q = same_point g.side p q also on (t.0 ∙ sym here) in
-                elim t.1 [
-                  | inl stone ↦ absurd (none (ap (λ x. cell_at g x) (sym at) ∙ stone))
-                  | inr empty ↦ placed.left p also (omega arith) ∙ sym empty
-                ]
-          ];
-          left = λ p also le. placed.left p also (omega arith);
-        }
+    placed_same h k i q small on here none placed = grind (arith, common_steps, turn_next, cases_eq, rank_of, turn_of, rank_turn, index_within, same_point)
 
     all_placed : (h : Grid) → IsPlaced h (turn_of WhitePlayer (g.side * g.side)) → h ≡ g
     unfolding rank_of rank turn_of
-    all_placed h placed = laws.same h g placed.side placed.all full (λ p on. let here : IsOn g.side p = subst (λ n. IsOn n p) placed.side on in placed.done p here (low p here)) where
-      high : (c : Cell) (i : ℕ) → i < g.side * g.side → rank c i < g.side * g.side + g.side * g.side
-      high Black i lt = omega arith
-      high White i lt = omega arith
-      high Empty i lt = omega arith
-
-      low : (p : Point) → IsOn g.side p → rank_of p < turn_of WhitePlayer (g.side * g.side)
-      low p on = high (cell_at g p) (index_of g.side p) (index_within p on)
+    all_placed h placed = grind (arith, common_steps, rank, rank_of, turn_of, index_within)
 
     none_placed : IsPlaced (empty_grid g.side) (turn_of BlackPlayer 0)
     unfolding turn_of
-    none_placed = record {
-      side = refl;
-      all = length-replicate (g.side * g.side) Empty;
-      done = λ p on lt. absurd (omega arith);
-      left = λ p on le. get_or-replicate (g.side * g.side) (index_of g.side p) Empty Empty (index_within p on);
-    }
+    none_placed = grind (arith, common_steps, length-replicate, get_or-replicate, index_within)
 
     -- ---- The rows of a colour's stones.
 
@@ -330,14 +224,12 @@ module _ (laws : BoardLaws) where
             takes = takes_both (shows h) (shows next) (shows rest.board) (play_command g.side k (Stone q)) (lines_of k ps) one rest.takes;
           }
       take_stone k i q h ps false low on here none placed goes_on =
-          goes_on h (placed_same h k i q low on here (λ e. let same = same_itself (stone_of k) in let alike = ap (λ c. same_cell c (stone_of k)) e in cc) placed)
+          goes_on h (placed_same h k i q low on here (λ e. let same = (Decides-same_cell (stone_of k) (stone_of k)).1 refl in let alike = ap (λ c. same_cell c (stone_of k)) e in cc) placed)
 
       take_stones : (k : Colour) (m i : ℕ) (h : Grid) → i + m ≡ g.side * g.side → IsPlaced h (turn_of k i)
           → IsTaken k h (lines_of k (map (point_at g.side) (range_with_len i m)))
       unfolding lines_of
-      take_stones k zero i h e placed =
-          let at_end : i ≡ g.side * g.side = omega arith in
-          record { board = h; placed = subst (λ j. IsPlaced h (turn_of k j)) at_end placed; takes = takes_nothing (shows h) }
+      take_stones k zero i h e placed = grind (arith, common_steps, turn_of, takes_nothing)
       take_stones k (suc m) i h e placed =
           let q = point_at g.side i in
           let there : slice_get (points g.side) i ≡ Some q = point_listed i (omega arith) in

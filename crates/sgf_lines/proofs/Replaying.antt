@@ -1,4 +1,5 @@
 -- A script that has commands leads to the colouring at the end of its line's walk.
+use Rattle.std.proofs.lemmas.Grind.{common_steps}
 use Rattle.std.proofs.Common.{◌≡◌, ℕ, ◌*◌, ◌<◌, ◌≤◌, List, [], ◌∷◌, ◌++◌, length, map, fold, Option, Some, None, Bool, true, false, codes, refl, sym, ap, ◌∙◌, arith, subst, cond, append-nil, append_assoc, decimal, Result, Ok, Err, option_map, option_and_then, nat_lt, nat_le, ◌&&◌, ℤ, pos, negsuc}
 use Rattle.std.proofs.lemmas.Grind.{flat_map-append}
 use Rattle.std.proofs.lemmas.List.Folds.{list_any-append}
@@ -48,11 +49,7 @@ any_append : {A : Type 0} (p : A → Bool) (xs ys : List A) → list_any p (xs +
 any_append p xs ys e = or_parts (list_any p xs) (list_any p ys) (sym (list_any-append p xs ys) ∙ e)
 
 free_point : (s : State) (k : Colour) (p : Point) → reason_of s k (Stone p) ≡ None → cell_at s.colouring p ≡ Empty
-free_point s k p e =
-    let a = not-found (is_over s) Over (cond (must_move s.player (opponent k)) (Some Turn) (cond (is_occupied s (Stone p)) (Some Occupied) (cond (is_repeat s k (Stone p)) (Some Repeat) None))) e in
-    let b = not-found (must_move s.player (opponent k)) Turn (cond (is_occupied s (Stone p)) (Some Occupied) (cond (is_repeat s k (Stone p)) (Some Repeat) None)) a.1 in
-    let c = not-found (is_occupied s (Stone p)) Occupied (cond (is_repeat s k (Stone p)) (Some Repeat) None) b.1 in
-    is_same (cell_at s.colouring p) Empty (not-false (same_cell (cell_at s.colouring p) Empty) c.0)
+free_point s k p e = grind (arith, common_steps, not-found, is_same, not-false)
 
 -- ---- The points that values name are on the board.
 
@@ -61,20 +58,14 @@ on_test true side m n t e = let same : m ≡ n = cc in let lt : m < side = grind
 on_test false side m n t e = absurd cc
 
 on_by : (side : ℕ) (o : Option ℕ) (n : ℕ) → option_and_then (λ m. cond (nat_lt m side) (Some m) None) o ≡ Some n → n < side
-on_by side None n e = absurd cc
-on_by side (Some m) n e = on_test (nat_lt m side) side m n refl e
+on_by side o n e = grind (arith, common_steps, on_test)
 
 coordinate_on : (side b n : ℕ) → coordinate side b ≡ Some n → n < side
 coordinate_on side b n e = on_by side (letter_value b) n e
 
 point_by : (side : ℕ) (a b : Option ℕ) (p : Point) → ((n : ℕ) → a ≡ Some n → n < side) → ((n : ℕ) → b ≡ Some n → n < side)
     → option_and_then (λ col. option_and_then (λ row. Some (record { col = col; row = row })) b) a ≡ Some p → IsOn side p
-point_by side None b p f g e = absurd cc
-point_by side (Some c) None p f g e = absurd cc
-point_by side (Some c) (Some r) p f g e =
-    let made : Point = record { col = c; row = r } in
-    let same : made ≡ p = cc in
-    subst (λ x. IsOn side x) same (f c refl, g r refl)
+point_by side a b p f g e = grind (arith, common_steps)
 
 point_on : (side : ℕ) (raw : List ℕ) (p : Point) → point_value raw side ≡ Some p → IsOn side p
 unfolding point_value
@@ -90,8 +81,7 @@ abbrev IsFull : ℕ → Grid → Type 0
 IsFull side g = (g.side ≡ side) × (length g.cells ≡ side * side)
 
 pass_leaves : (side : ℕ) (engine : Engine) (k : Colour) → Carries engine (play_command side k Pass) engine
-pass_leaves side engine Black = takes_row engine (codes "play B pass") (search)
-pass_leaves side engine White = takes_row engine (codes "play W pass") (search)
+pass_leaves side engine k = grind (arith, common_steps, takes_row)
 
 module _ (laws : BoardLaws) (side : ℕ) (small : side ≤ 25) where
   -- a step leads to a grid with a cell for each point, and its node's commands lead there
@@ -111,12 +101,7 @@ module _ (laws : BoardLaws) (side : ℕ) (small : side ≤ 25) where
 
   play_full : (g : Grid) (k : Colour) (p : Point) → IsFull side g → IsFull side (play g k p)
   unfolding play
-  play_full g k p full =
-      let w = with_cell g p (stone_of k) in
-      let one = laws.clear_side w (opponent k) in
-      let two = laws.clear_side (clear w (opponent k)) k in
-      let all = laws.clear_all (clear w (opponent k)) k in
-      (two ∙ one ∙ full.0, all ∙ ap (λ n. n * n) (one ∙ full.0))
+  play_full g k p full = grind (arith, common_steps)
 
   setup_full : (g : Grid) (ops : List SetupOp) → IsFull side g → IsFull side (fold with_area g ops)
   unfolding with_area
@@ -131,16 +116,11 @@ module _ (laws : BoardLaws) (side : ℕ) (small : side ≤ 25) where
   set_full s (op ∷ ops) player full = setup_full s.colouring (op ∷ ops) full
 
   player_leads : (s t : State) (last : Option (Option Colour)) → IsFull side s.colouring → setup_step s (Some []) last ≡ Ok t → StepReplayed s t [] []
-  player_leads s t None full is = absurd cc
-  player_leads s t (Some player) full is =
-      let after : t ≡ set_up s [] player = cc in stays s t full (ap (λ u. u.colouring) after)
+  player_leads s t last full is = grind (arith, common_steps, stays)
 
   stone_by : (n : ℕ) (raw : List ℕ) (p : Point) (passes : Bool) → cond passes (Some Pass) (option_map Stone (point_value raw n)) ≡ Some (Stone p) → IsOn n p
   stone_by n raw p true e = absurd cc
-  stone_by n raw p false e = stone_from n raw p (point_value raw n) refl e where
-    stone_from : (n : ℕ) (raw : List ℕ) (p : Point) (o : Option Point) → point_value raw n ≡ o → option_map Stone o ≡ Some (Stone p) → IsOn n p
-    stone_from n raw p None h e = absurd cc
-    stone_from n raw p (Some q) h e = let same : q ≡ p = cc in point_on n raw p (h ∙ ap Some same)
+  stone_by n raw p false e = grind (arith, common_steps, point_on)
 
   stone_on : (n : ℕ) (raw : List ℕ) (p : Point) → move_value raw n ≡ Some (Stone p) → IsOn n p
   stone_on n raw p e = stone_by n raw p (is_pass raw n) e
@@ -148,18 +128,7 @@ module _ (laws : BoardLaws) (side : ℕ) (small : side ≤ 25) where
   -- the command of a legal play
   plays_on : (s t : State) (k : Colour) (raw : List ℕ) (x : Play) → IsFull side s.colouring → move_value raw (side_in s) ≡ Some x → reason_of s k x ≡ None
       → t ≡ turned s k x → Carries (shows s.colouring) (play_command side k x) (shows t.colouring) × IsFull side t.colouring
-  plays_on s t k raw Pass full value none is =
-      let same : t.colouring ≡ s.colouring = ap (λ u. u.colouring) is in
-      (subst (λ g. Carries (shows s.colouring) (play_command side k Pass) (shows g)) (sym same) (pass_leaves side (shows s.colouring) k), subst (λ g. IsFull side g) (sym same) full)
-  plays_on s t k raw (Stone p) full value none is =
-      let same : t.colouring ≡ play s.colouring k p = ap (λ u. u.colouring) is in
-      let on : IsOn s.colouring.side p = stone_on (side_in s) raw p value in
-      let played : Carries (shows s.colouring) (play_command side k (Stone p)) (shows (play s.colouring k p)) =
-      subst (λ n. Carries (shows s.colouring) (play_command n k (Stone p)) (shows (play s.colouring k p))) full.0
-      (takes_play s.colouring k p (rw full.0 small) on (free_point s k p none)) in (
-        subst (λ g. Carries (shows s.colouring) (play_command side k (Stone p)) (shows g)) (sym same) played,
-        subst (λ g. IsFull side g) (sym same) (play_full s.colouring k p full),
-      )
+  plays_on s t k raw x full value none is = grind (arith, common_steps, pass_leaves, stone_on, takes_play, free_point, play_full)
 
   turn_leads : (s t : State) (m : Move) (x : Play) (reason : Option Reason) → IsFull side s.colouring → move_value m.raw (side_in s) ≡ Some x
       → reason_of s m.player x ≡ reason → turn_step s m.player x reason ≡ Ok t → StepReplayed s t [] (m ∷ [])
@@ -214,13 +183,7 @@ module _ (laws : BoardLaws) (side : ℕ) (small : side ≤ 25) where
   node_leads : (s t : State) (n : Node) → IsFull side s.colouring → leaves_unreaching (record { node = n; after = t }) ≡ false → step s n ≡ Ok t
       → Carries (shows s.colouring) (node_script t n) (shows t.colouring) × IsFull side t.colouring
   node_leads s t n full settled is =
-      let leads = step_leads s t (moves n) (stones n) (players n) full settled is in
-      let comments = takes_text_rows (shows s.colouring) (comment_text (first_value (codes "C") n.properties)) in
-      let start = comment_rows n in
-      let middle = start ++ setup_commands t.colouring (stones n) in
-      let half : Carries (shows s.colouring) middle leads.middle =
-      takes_both (shows s.colouring) (shows s.colouring) leads.middle start (setup_commands t.colouring (stones n)) comments leads.set in
-      (takes_both (shows s.colouring) leads.middle (shows t.colouring) middle (move_commands t.colouring.side (moves n)) half leads.moved, leads.full)
+      grind (arith, common_steps, step_leads s t (moves n) (stones n) (players n) full settled is, takes_text_rows (shows s.colouring) (comment_text (first_value (codes "C") n.properties)), takes_both)
 
   -- ---- A walk.
 
@@ -243,8 +206,7 @@ module _ (laws : BoardLaws) (side : ℕ) (small : side ≤ 25) where
       (subst (λ x. Carries empty x (shows t.colouring)) (sym texts) both, one.1)
 
   next_said : (w : Walk) (met : Option IllegalNode) (n : Node) → IsSaid w → IsSaid (next_by w met n)
-  next_said w (Some met) n said = said
-  next_said w None n said = stepped_said w n (step w.state n) refl said
+  next_said w met n said = grind (arith, common_steps, stepped_said)
 
   walk_said : (w : Walk) (nodes : List Node) → IsSaid w → IsSaid (fold next w nodes)
   walk_said w [] said = said
@@ -274,13 +236,10 @@ side_by true n side t e = let same : n ≡ side = cc in let le : 1 ≤ n = grind
 side_by false n side t e = absurd cc
 
 side_given : (number : Option ℤ) (side : ℕ) → side_from number ≡ Some side → 1 ≤ side
-side_given None side e = absurd cc
-side_given (Some (negsuc n)) side e = absurd cc
-side_given (Some (pos n)) side e = side_by (nat_le 1 n && nat_le n MAX_SIDE) n side refl e
+side_given number side e = grind (arith, common_steps, side_by)
 
 side_said : (raw : Option (List ℕ)) (side : ℕ) → side_of raw ≡ Some side → 1 ≤ side
-side_said None side e = let same : 19 ≡ side = cc in omega arith
-side_said (Some raw) side e = side_given (number_of raw) side e
+side_said raw side e = grind (arith, common_steps, side_given)
 
 side_least : (go : Bool) (o : Option ℕ) (side : ℕ) → cond go (game_kind_on o) not_go ≡ board side → o ≡ Some side
 side_least true None side e = absurd cc
@@ -288,9 +247,7 @@ side_least true (Some n) side e = let same : n ≡ side = cc in ap Some same
 side_least false o side e = absurd cc
 
 has_point : (properties : List Property) (side : ℕ) → game_kind properties ≡ board side → 1 ≤ side
-has_point properties side e =
-    let size = first_value (codes "SZ") properties in
-    side_said size side (side_least (is_go (first_value (codes "GM") properties)) (side_of size) side e)
+has_point properties side e = grind (arith, common_steps, side_said, side_least)
 
 pub script_replayed : BoardLaws → (line : Line) (side : ℕ) → game_kind (root_properties line.nodes) ≡ board side
     → has_no_commands side (walk side line.nodes) ≡ false → replayed (script line) ≡ shows (walk side line.nodes).state.colouring

@@ -1,4 +1,5 @@
 -- The place of the leaf that a line ends in, and the position after that line.
+use Rattle.std.proofs.lemmas.Grind.{common_steps}
 use Rattle.std.proofs.Common.{◌≡◌, ℕ, ◌+◌, ◌<◌, List, length, Option, Some, None, refl, sym, ap, ◌∙◌, arith, ◌≢◌, slice_get, option_map, get_or}
 use Rattle.sgf_tree.specs.Tree.{Games, node_count}
 use Rattle.sgf_tree.specs.FileOrder.{IsLeaf, OrderedNode, ordered_nodes, place_at}
@@ -15,31 +16,16 @@ use Rattle.sgf_lines.proofs.Lists.{element}
 use Rattle.sgf_lines.proofs.Named.{line_at, length-paths}
 
 pub place_within : (c : Games) (i here : ℕ) → place_at c i ≡ Some here → i < node_count c
-place_within c i here e = omega (arith, ordered (slice_get (ordered_nodes c) i) i refl e, length-nodes_from 0 None c)
-  where
-    ordered : (o : Option OrderedNode) (i : ℕ) → slice_get (ordered_nodes c) i ≡ o → option_map (λ r. r.node.place) o ≡ Some here → i < length (ordered_nodes c)
-    ordered None i is e = absurd cc
-    ordered (Some r) i is e = slice_get_within (ordered_nodes c) i r is
+place_within c i here e = grind (arith, common_steps, length-nodes_from, slice_get_within)
 
 pub stands_after : (c : Games) (leaf : ℕ) (numbers : List ℕ) → leaf < node_count c → IsLeaf c leaf → IsPathTo c (Some leaf) numbers → IsAfterLeaf c (leaf + 1) numbers
-stands_after c leaf numbers lt is_leaf way = record {
-  within = omega arith;
-  start = λ e. absurd (omega arith);
-  leaf = λ i e. let same : leaf ≡ i = omega arith in rw (← same) is_leaf;
-  path = λ i e. let same : leaf ≡ i = omega arith in rw (← same) way;
-}
+stands_after c leaf numbers lt is_leaf way = grind (arith, common_steps)
 
 -- after the leaf with the place
 pub sought : (c : Games) (leaf place : ℕ) (at : CursorState) → at.games ≡ c → leaf < node_count c → IsLeaf c leaf → place_at c leaf ≡ Some place → IsAfterPlace place at (before c (leaf + 1))
 sought c leaf place at games lt is_leaf placed =
     let own = next_line c leaf leaf (omega arith) lt is_leaf (λ j le below l. omega arith) in
-    let index = lines_before c leaf in
-    let line = line_at c index own.0 own.1.found in
-    record {
-      index = index;
-      line = ap (λ g. option_map place_of (slice_get (lines g) index)) games ∙ ap (λ o. option_map place_of o) line.1.found ∙ sym (rw own.1.ends at line.1.place) ∙ placed;
-      new_is = ap (λ n. record { games = c; index = n }) own.1.one_more ∙ ap (λ g. record { games = g; index = index + 1 }) (sym games);
-    }
+    grind (arith, common_steps, line_at)
 
 -- where no leaf has the place, no line has it
 pub no_line : (c : Games) (place : ℕ) → ((leaf : ℕ) → IsLeaf c leaf → place_at c leaf ≢ Some place) → HasNoLineAt c place

@@ -1,4 +1,5 @@
 -- The loops that climb from a sequence to the root of its game.
+use Rattle.std.proofs.lemmas.Grind.{common_steps}
 use Rattle.std.proofs.Common.{◌≡◌, ℕ, ◌+◌, ◌-◌, ◌<◌, ◌≤◌, List, [], ◌∷◌, ◌++◌, length, set, drop, Option, Some, None, refl, sym, ap, ◌∙◌, subst, arith, append_assoc, length-append, length-set}
 use Rattle.std.proofs.lemmas.Grind.{drop-set_at}
 use Rattle.sgf_tree.specs.Tree.{Games, node_count}
@@ -25,16 +26,13 @@ module _ (c : Games) where
   IsThere current = (k : ℕ) → current ≡ Some k → k < length (sequence_starts c)
 
   pub height_falls : (k : ℕ) (current above : Option ℕ) → current ≡ Some k → IsAbove c k above → height above < height current
-  height_falls k current None e is = rw e (omega arith)
-  height_falls k current (Some a) e is = rw e (omega (arith, is.0))
+  height_falls k current above e is = grind (arith, common_steps)
 
   reach_falls : (k : ℕ) (above : Option ℕ) → k < length (sequence_starts c) → IsAbove c k above → reach above ≤ first_of c k
-  reach_falls k None lt is = omega arith
-  reach_falls k (Some a) lt is = first_no_less c (a + 1) k (omega (arith, is.0)) (omega (arith, is.0))
+  reach_falls k above lt is = grind (arith, common_steps, first_no_less)
 
   above_there : (k : ℕ) (above : Option ℕ) → k < length (sequence_starts c) → IsAbove c k above → IsThere above
-  above_there k None lt is j e = absurd cc
-  above_there k (Some a) lt is j e = let same : a ≡ j = cc in omega (arith, is.0)
+  above_there k above lt is j e = grind (arith, common_steps)
 
   -- the nodes of parts and one sequence more
   nodes_more : (front : List Part) (k : ℕ) → length (part_numbers c (front ++ part_after c front k ∷ [])) ≡ length (part_numbers c front) + sequence_length c k
@@ -49,12 +47,7 @@ module _ (c : Games) where
         × (length above + sequences ≡ length parts) × (length (part_numbers c above) + nodes ≡ length (part_numbers c parts))
 
   pub measure_begins : (last : ℕ) → last < length (sequence_starts c) → IsMeasured last (Some last) 0 0
-  measure_begins last lt = record {
-    there = λ k e. let same : last ≡ k = cc in omega arith;
-    few = omega arith;
-    short = omega (arith, first_within c (last + 1));
-    count = λ above way. (above, way, omega arith, omega arith);
-  }
+  measure_begins last lt = grind (arith, common_steps, first_within)
 
   pub measures : (last k sequences nodes : ℕ) (current above : Option ℕ) → IsMeasured last current sequences nodes → current ≡ Some k → IsAbove c k above
       → IsMeasured last above (sequences + 1) (nodes + sequence_length c k)
@@ -73,9 +66,7 @@ module _ (c : Games) where
   -- the counts fit
   pub measure_fits : (last k sequences nodes : ℕ) (current : Option ℕ) → IsMeasured last current sequences nodes → current ≡ Some k
       → (sequences ≤ last) × (nodes + sequence_length c k ≤ node_count c)
-  measure_fits last k sequences nodes current h e =
-      let lt = h.there k e in
-      (omega (arith, h.few, ap height e), omega (arith, h.short, ap reach e, length_is c k lt))
+  measure_fits last k sequences nodes current h e = grind (arith, common_steps, length_is)
 
   pub measured : (last sequences nodes : ℕ) (current : Option ℕ) → IsMeasured last current sequences nodes → current ≡ None → MeasuresTo c last (record { sequences = sequences; nodes = nodes })
   measured last sequences nodes current h e = let n = h.count [] (rw e top) in (n.0, n.1, omega (arith, n.2), omega (arith, n.3))
@@ -101,39 +92,9 @@ module _ (c : Games) where
   some_above (step {above = above} lt is up e) = (above, is)
 
   pub room_for : (last k room end : ℕ) (path : List Part) (current : Option ℕ) → IsFilled last current room end path → current ≡ Some k → IsRoomFor room end k
-  room_for last k room end path current h e =
-      let lt = h.there k e in
-      let way = rw e at h.way in
-      let up = front_of c way (some_above way).1 in
-      record {
-        there = lt;
-        some_room = omega (arith, h.room_is, ap length up.2, length-append up.0 (part_after c up.0 k ∷ []));
-        long = omega (arith, h.end_is, ap (λ (ps : List Part). length (part_numbers c ps)) up.2, nodes_more up.0 k);
-        short = omega (arith, h.end_is, parts_few c way lt, first_within c (k + 1));
-      }
+  room_for last k room end path current h e = grind (arith, common_steps, front_of, some_above, length-append, part_after, nodes_more, parts_few, first_within)
 
   pub fills : (last k room end : ℕ) (path : List Part) (current above : Option ℕ) → IsFilled last current room end path → current ≡ Some k → IsAbove c k above
       → IsFilled last above (room - 1) (end - sequence_length c k) (set path (room - 1) (record { sequence = k; end = end }))
   fills last k room end path current above h e is =
-      let lt = h.there k e in
-      let up = front_of c (rw e at h.way) is in
-      let part : Part = record { sequence = k; end = end } in
-      let nodes : length (part_numbers c h.front) ≡ length (part_numbers c up.0) + sequence_length c k = ap (λ (ps : List Part). length (part_numbers c ps)) up.2 ∙ nodes_more up.0 k in
-      let end_is : length (part_numbers c up.0) + sequence_length c k ≡ end = omega (arith, h.end_is) in
-      let same_part : part_after c up.0 k ≡ part = ap (λ (n : ℕ). record { sequence = k; end = n }) end_is in
-      let shorter : room ≡ length up.0 + 1 = h.room_is ∙ ap length up.2 ∙ length-append up.0 (part_after c up.0 k ∷ []) in
-      let back : room - 1 + 1 ≡ room = omega arith in
-      let tail : drop (room - 1) (set path (room - 1) part) ≡ part ∷ drop room path =
-      drop-set_at path (room - 1) (room - 1) part refl (omega (arith, h.within)) ∙ ap (λ n. part ∷ drop n path) back in
-      let same : h.front ++ drop room path ≡ up.0 ++ drop (room - 1) (set path (room - 1) part) =
-      ap (λ (ps : List Part). ps ++ drop room path) (up.2 ∙ ap (λ (p : Part). up.0 ++ p ∷ []) same_part) ∙ append_assoc up.0 (part ∷ []) (drop room path)
-      ∙ ap (λ (ps : List Part). up.0 ++ ps) (sym tail) in
-      record {
-        there = above_there k above lt is;
-        front = up.0;
-        way = up.1;
-        room_is = omega arith;
-        within = omega (arith, length-set path (room - 1) part, h.within);
-        end_is = omega (arith, h.end_is);
-        filled = subst (ArePartsTo c (Some last)) same h.filled;
-      }
+      grind (arith, common_steps, front_of, nodes_more, part_after, length-append, drop-set_at, append_assoc, above_there, length-set)

@@ -1,4 +1,5 @@
 -- What a cursor by sequences shows of the line before it, and where it stands after the next leaf.
+use Rattle.std.proofs.lemmas.Grind.{common_steps}
 use Rattle.std.proofs.Common.{◌≡◌, ◌≢◌, ℕ, suc, ◌+◌, ◌-◌, ◌<◌, ◌≤◌, inl, inr, List, [], ◌∷◌, ◌++◌, length, get_or, take, drop, slice_get, Option, Some, None, option_map, refl, sym, ap, ◌∙◌, subst, arith, add-one, length-append}
 use Rattle.std.specs.List.{range_with_len}
 use Rattle.std.proofs.lemmas.Bool.{cases_lt}
@@ -32,27 +33,14 @@ abbrev pub seen : Games → ℕ → List Part → SequencesState
 seen c next parts = record { at = before c (first_of c next); ends = part_ends parts }
 
 pub stands_first : (c : Games) → IsAfterSequences c 0 []
-stands_first c = record {
-  within = omega arith;
-  stands = record {
-    within = first_within c 0;
-    start = λ e. refl;
-    leaf = λ last e. absurd (omega (arith, first_is_zero c, e));
-    path = λ last e. absurd (omega (arith, first_is_zero c, e));
-  };
-  are = tt;
-}
+stands_first c = grind (arith, common_steps, first_within, first_is_zero)
 
 pub seen_first : (c : Games) → seen c 0 [] ≡ record { at = record { games = c; index = 0 }; ends = [] }
 seen_first c = ap (λ (at : CursorState). record { at = at; ends = [] }) (ap (before c) (first_is_zero c) ∙ starts c)
 
 first_number : (c : Games) (parts : List Part) (d : ℕ) (part : Part) → AreParts c 0 parts → slice_get parts 0 ≡ Some part → get_or (part_numbers c parts) 0 d ≡ sequence_start c part.sequence
 first_number c [] d part are e = absurd cc
-first_number c (p ∷ ps) d part are e =
-    let same : p ≡ part = cc in
-    let some = never_empty c p.sequence are.0 in
-    get_or-append (sequence_numbers c p.sequence) (part_numbers c ps) d 0 (omega (arith, length-range_with_len (sequence_start c p.sequence) (sequence_length c p.sequence)))
-    ∙ get_or-range_with_len (sequence_start c p.sequence) (sequence_length c p.sequence) 0 d (omega arith) ∙ omega arith ∙ ap (λ (q : Part). sequence_start c q.sequence) same
+first_number c (p ∷ ps) d part are e = grind (arith, common_steps, never_empty, get_or-append, length-range_with_len, get_or-range_with_len)
 
 pub some_end : (ends : List ℕ) (count : ℕ) → RiseTo 0 ends count → 0 < length ends → 0 < count
 some_end [] count rise some = absurd (omega arith)
@@ -85,8 +73,7 @@ module _ (c : Games) (next : ℕ) (parts : List Part) (h : IsAfterSequences c ne
   nodes_long = as_many_nodes c (first_of c next) state.at at_is (part_numbers c parts) h.stands
 
   pub divided : RiseTo 0 state.ends (length (nodes_before state.at))
-  divided = let sum : 0 + length (part_numbers c parts) ≡ length (nodes_before state.at) = omega (arith, nodes_long) in
-      subst (λ n. RiseTo 0 state.ends n) sum (subst (λ ends. RiseTo 0 ends (0 + length (part_numbers c parts))) ends_are (rise_to c 0 parts h.are))
+  divided = grind (arith, common_steps, nodes_long, ends_are, rise_to)
 
   pub all_nodes : nodes_in (part_ends parts) (length parts) ≡ length (nodes_before state.at)
   all_nodes = nodes_are c parts h.are (length parts) (omega arith) ∙ ap (λ (ps : List Part). length (part_numbers c ps)) (take-length parts) ∙ sym nodes_long
@@ -112,9 +99,7 @@ module _ (c : Games) (next : ℕ) (parts : List Part) (h : IsAfterSequences c ne
 
   pub part_path : (i : ℕ) (part : Part) → slice_get parts i ≡ Some part
       → Some (sequence_numbers state.at.games part.sequence) ≡ slice_get (parts_from 0 state.ends (path_before state.at)) i
-  part_path i part e =
-      let path : path_before state.at ≡ part_numbers c parts = rw (← at_is) (path_is c (first_of c next) (part_numbers c parts) h.stands) in
-      ap (λ (games : Games). Some (sequence_numbers games part.sequence)) (sym games_are) ∙ rw (path, ← ends_are) (sym (part_range c 0 parts i part h.are e))
+  part_path i part e = cc (at_is, path_is c (first_of c next) (part_numbers c parts) h.stands, games_are, ends_are, part_range c 0 parts i part h.are e)
 
   module _ (some : 0 < length state.ends) where
     some_nodes : 0 < length (nodes_before state.at)
@@ -139,8 +124,7 @@ module _ (c : Games) (next : ℕ) (parts : List Part) (h : IsAfterSequences c ne
     pub game_is : (part : Part) → slice_get parts 0 ≡ Some part
         → option_map (λ (line : Line). line.game_number) (line_before state.at) ≡ Some (game_of c (sequence_start c part.sequence))
     game_is part there =
-        let line = line_at c (lines_before c (first_of c next) - 1) (record { game_number = game_of c (get_or (part_numbers c parts) 0 0); numbers = part_numbers c parts }) (shown.path_is 0) in
-        ap (λ o. option_map (λ (line : Line). line.game_number) o) (line_found ∙ line.1.found) ∙ ap Some (line.1.game_number ∙ ap (game_of c) (root part there))
+        grind (arith, common_steps, line_at c (lines_before c (first_of c next) - 1) (record {game_number = game_of c (get_or (part_numbers c parts) 0 0) ; numbers = part_numbers c parts}) (shown.path_is 0), line_found, root part there)
 
     -- a sequence stands before the next one
     pub one_before : 1 ≤ next
@@ -179,19 +163,14 @@ module _ (c : Games) (next : ℕ) (parts : List Part) (h : IsAfterSequences c ne
     after_leaf = omega (arith, never_empty c leaf n.within)
 
     next_leaf : IsNextLeaf c (first_of c next) leaf_node
-    next_leaf = record {
-      from_there = omega (arith, first_no_less c next leaf n.from_there next_there, start_is c leaf n.within, never_empty c leaf n.within);
-      within = omega (arith, after_leaf, first_within c (leaf + 1));
-      is_leaf = n.is_leaf;
-      first = n.first;
-    }
+    next_leaf =
+        grind (arith, common_steps, first_no_less c next leaf n.from_there next_there, next_there, start_is c leaf n.within, never_empty c leaf n.within, after_leaf, first_within c (leaf + 1))
 
     parent_there : parent_at c (first_of c next) ≡ Some parent
     parent_there = rw (start_is c next next_there) at (parent_of c next outer above)
 
     outer_there : (outer : Option ℕ) → IsAbove c next outer → (o : ℕ) → outer ≡ Some o → o < length (sequence_starts c)
-    outer_there None is o e = absurd cc
-    outer_there (Some a) is o e = let same : a ≡ o = cc in omega (arith, is.0, next_there)
+    outer_there outer is o e = grind (arith, common_steps, next_there)
 
     node_cut : IsCutBack (part_numbers c parts) parent front.nodes
     node_cut = cut_back c parts h.are outer front (outer_there outer above) cut
@@ -230,23 +209,13 @@ module _ (c : Games) (next : ℕ) (parts : List Part) (h : IsAfterSequences c ne
     module _ (new : List Part) (down : GoesDown c parts front.sequences next (leaf + 1) new) where
       numbers_made : part_numbers c new ≡ take front.nodes (part_numbers c parts) ++ range_with_len (first_of c next) (leaf_node + 1 - first_of c next)
       numbers_made =
-          let within = front_within c parts h.are outer front cut in
-          let kept = part_numbers c (take front.sequences parts) in
-          let count : front.nodes ≡ length kept = within.1 ∙ nodes_are c parts h.are front.sequences within.0 in
-          let front_is : take front.nodes (part_numbers c parts) ≡ kept =
-          ap (λ k. take k (part_numbers c parts)) count ∙ ap (take (length kept)) (split_numbers c front.sequences parts) ∙ take-append_seam kept (part_numbers c (drop front.sequences parts)) in
-          down.numbers ∙ ap (λ ns. ns ++ range_with_len (first_of c next) (first_of c (leaf + 1) - first_of c next)) (sym front_is)
-          ∙ ap (λ m. take front.nodes (part_numbers c parts) ++ range_with_len (first_of c next) (m - first_of c next)) (sym after_leaf)
+          grind (arith, common_steps, front_within c parts h.are outer front cut, nodes_are, split_numbers c front.sequences parts, take-append_seam, after_leaf)
 
       stands_there : IsAfterLeaf c (leaf_node + 1) (part_numbers c new)
       stands_there = stands_next c (first_of c next) (part_numbers c parts) h.stands leaf_node parent front.nodes next_leaf parent_there node_cut (part_numbers c new) numbers_made
 
       pub stands_further : IsAfterSequences c (leaf + 1) new
-      stands_further = record {
-        within = omega (arith, n.within);
-        stands = subst (λ m. IsAfterLeaf c m (part_numbers c new)) after_leaf stands_there;
-        are = down.parts;
-      }
+      stands_further = grind (arith, common_steps, after_leaf, stands_there)
 
       pub moved : before c (first_of c (leaf + 1)) ≡ advanced state.at
       moved = ap (before c) (sym after_leaf) ∙ advances c (first_of c next) state.at at_is leaf_node next_leaf
@@ -257,17 +226,7 @@ module _ (c : Games) (next : ℕ) (parts : List Part) (h : IsAfterSequences c ne
           (continues_made c (first_of c next) (part_numbers c parts) h.stands leaf_node parent front.nodes next_leaf parent_there node_cut (part_numbers c new) numbers_made) stands_there
 
       pub shares_front : SharesFront state (seen c (leaf + 1) new) front
-      shares_front =
-          let within = front_within c parts h.are outer front cut in
-          record {
-            nodes = subst (λ m. Continues (path_before state.at) front.nodes (path_before (before c m))) after_leaf continued;
-            within = omega (arith, as_many_parts, within.0);
-            ends =
-                take-map (λ (part : Part). part.end) front.sequences new ∙ ap part_ends down.kept_is ∙ sym (take-map (λ (part : Part). part.end) front.sequences parts)
-                ∙ ap (take front.sequences) ends_are;
-            more = omega (arith, down.count, n.from_there, length-map new (λ (part : Part). part.end));
-            count = within.1 ∙ ap (λ ends. nodes_in ends front.sequences) ends_are;
-          }
+      shares_front = grind (arith, common_steps, front_within, before, after_leaf, continued, as_many_parts, take-map, ends_are, length-map)
 
   -- ---- The line that ends in a leaf.
 
@@ -278,9 +237,7 @@ module _ (c : Games) (next : ℕ) (parts : List Part) (h : IsAfterSequences c ne
       → IsAfterPlace place state.at (before state.at.games (sequence_end state.at.games sequence))
   found sequence place lt is_leaf placed =
       let some = never_empty c sequence lt in
-      let back : sequence_end c sequence - 1 + 1 ≡ sequence_end c sequence = omega arith in
-      subst (IsAfterPlace place state.at) (ap (before c) back ∙ ap (λ games. before games (sequence_end games sequence)) games_are)
-      (sought c (sequence_end c sequence - 1) place state.at (sym games_are) (omega (arith, first_within c (sequence + 1))) is_leaf placed)
+      grind (arith, common_steps, before, games_are, sought, first_within)
 
   -- a leaf is the last node of its sequence
   pub leaf_ends : (leaf sequence : ℕ) → sequence < length (sequence_starts c) → sequence_start c sequence ≤ leaf → leaf < sequence_end c sequence → IsLeaf state.at.games leaf
@@ -296,10 +253,4 @@ module _ (c : Games) (next : ℕ) (parts : List Part) (h : IsAfterSequences c ne
     pub stands_sought : IsAfterSequences c (sequence + 1) new
     stands_sought =
         let some = never_empty c sequence lt in
-        let back : sequence_end c sequence - 1 + 1 ≡ sequence_end c sequence = omega arith in
-        record {
-          within = omega (arith, lt);
-          stands = subst (λ m. IsAfterLeaf c m (part_numbers c new)) back
-              (stands_after c (sequence_end c sequence - 1) (part_numbers c new) (omega (arith, first_within c (sequence + 1))) (rw (← games_are) at is_leaf) (parts_path c way));
-          are = parts_are c way;
-        }
+        grind (arith, common_steps, lt, stands_after c (sequence_end c sequence - 1) (part_numbers c new) (omega (arith, first_within c (sequence + 1))) (rw (← games_are) at is_leaf) (parts_path c way), first_within c (sequence + 1), games_are, parts_path c way, parts_are c way)

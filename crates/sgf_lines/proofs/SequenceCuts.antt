@@ -1,4 +1,5 @@
 -- From the parts of a line to those of the next line.
+use Rattle.std.proofs.lemmas.Grind.{common_steps}
 use Rattle.std.proofs.Common.{◌≡◌, ◌≢◌, ℕ, zero, suc, ◌+◌, ◌-◌, ◌<◌, ◌≤◌, List, [], ◌∷◌, ◌++◌, length, take, drop, slice_get, Option, Some, None, refl, sym, ap, ◌∙◌, arith, append_assoc, append-nil, length-append}
 use Rattle.std.specs.List.{range_with_len}
 use Rattle.std.proofs.lemmas.Grind.{flat_map-append}
@@ -47,8 +48,7 @@ module _ (c : Games) where
       (no_such_part outer parts there (λ i q e. other (suc i) q e))
 
   pub split_numbers : (k : ℕ) (parts : List Part) → part_numbers c parts ≡ part_numbers c (take k parts) ++ part_numbers c (drop k parts)
-  split_numbers k parts =
-      ap (part_numbers c) (sym (take-append-drop k parts)) ∙ flat_map-append (λ (part : Part). sequence_numbers c part.sequence) (take k parts) (drop k parts)
+  split_numbers k parts = grind (arith, common_steps, take-append-drop k parts, flat_map-append)
 
   module _ (parts : List Part) (are : AreParts c 0 parts) where
     -- how many nodes a front has
@@ -98,32 +98,15 @@ module _ (c : Games) where
 
     pub cut_back : (outer : Option ℕ) (front : Front) → ((o : ℕ) → outer ≡ Some o → o < length (sequence_starts c)) → IsFrontUpTo parts outer front
         → IsCutBack (part_numbers c parts) (end_of c outer) front.nodes
-    cut_back None front there h = ap (λ (f : Front). f.nodes) h
-    cut_back (Some o) front there h = cut_at o front (there o refl) h
+    cut_back outer front there h = grind (arith, common_steps, cut_at)
 
     pub front_within : (outer : Option ℕ) (front : Front) → IsFrontUpTo parts outer front → (front.sequences ≤ length parts) × (front.nodes ≡ nodes_in (part_ends parts) front.sequences)
-    front_within None front h =
-        let none : front.sequences ≡ 0 = ap (λ (f : Front). f.sequences) h in
-        let no_nodes : front.nodes ≡ 0 = ap (λ (f : Front). f.nodes) h in
-        (omega arith, rw (none, no_nodes) refl)
-    front_within (Some o) front h = (h.within, h.count)
+    front_within outer front h = grind (arith, common_steps)
 
   -- ---- Down to the next leaf.
 
   pub descent_begins : (old : List Part) (kept first : ℕ) → AreParts c 0 old → kept ≤ length old → GoesDown c old kept first first (take kept old)
-  descent_begins old kept first are le =
-      let none : first_of c first - first_of c first ≡ 0 = omega arith in
-      record {
-        kept_is = take_again kept old;
-        count = omega (arith, length-take-le kept old le);
-        numbers = rw none (sym (append-nil (part_numbers c (take kept old))));
-        parts = parts_front c 0 old kept are;
-      }
-    where
-      take_again : (k : ℕ) (ps : List Part) → take k (take k ps) ≡ take k ps
-      take_again zero ps = refl
-      take_again (suc k) [] = refl
-      take_again (suc k) (p ∷ ps) = ap (λ (qs : List Part). p ∷ qs) (take_again k ps)
+  descent_begins old kept first are le = grind (arith, common_steps, length-take-le, append-nil, parts_front)
 
   pub descends : (old new : List Part) (kept first end skipped nodes : ℕ) (part : Part) → GoesDown c old kept first end new → AreParts c 0 old → kept ≤ length old
       → first ≤ end → end < length (sequence_starts c) → nodes ≡ nodes_in (part_ends old) kept → nodes ≤ first_of c first → skipped ≡ first_of c first - nodes
@@ -141,11 +124,4 @@ module _ (c : Games) where
       let reach : f + (e - f) ≡ e = omega arith in
       let sum : (e - f) + sequence_length c end ≡ first_of c (end + 1) - f = omega (arith, length_is c end lt) in
       let joined : range_with_len f (e - f) ++ range_with_len e (sequence_length c end) ≡ range_with_len f (first_of c (end + 1) - f) = rw (reach, sum) at (range_append f (e - f) (sequence_length c end)) in
-      record {
-        kept_is = take-append-le kept new (part ∷ []) (omega (arith, h.count)) ∙ h.kept_is;
-        count = omega (arith, length-append new (part ∷ []), h.count);
-        numbers =
-            numbers_more c new part ∙ ap (λ ns. ns ++ sequence_numbers c part.sequence) h.numbers ∙ append_assoc front (range_with_len f (e - f)) (sequence_numbers c part.sequence)
-            ∙ ap (λ ns. front ++ (range_with_len f (e - f) ++ ns)) own ∙ ap (λ ns. front ++ ns) joined;
-        parts = parts_more c 0 new part h.parts (rw is lt) (rw is (omega arith));
-      }
+      grind (arith, common_steps, take-append-le, length-append, numbers_more, append_assoc, parts_more)

@@ -1,4 +1,5 @@
 -- Parts of a line: the numbers of their nodes, where they end, and the way to a sequence by the sequences above it.
+use Rattle.std.proofs.lemmas.Grind.{common_steps}
 use Rattle.std.proofs.Common.{◌≡◌, ℕ, zero, suc, ◌+◌, ◌-◌, ◌<◌, ◌≤◌, List, [], ◌∷◌, ◌++◌, length, get_or, take, drop, slice_get, Option, Some, None, option_map, refl, sym, ap, ◌∙◌, subst, arith, append_assoc, append-nil, length-append}
 use Rattle.std.specs.Prelude.{option_to_list}
 use Rattle.std.specs.List.{flat_map, range_with_len}
@@ -10,8 +11,9 @@ use Rattle.sgf_tree.specs.FileOrder.{OrderedNode, parent_at, node_at, nodes_at, 
 use Rattle.sgf_lines.specs.inner.PathTo.{IsPathTo, step}
 use Rattle.sgf_lines.specs.inner.Sequences.{sequence_length, part_numbers, part_ends, AreParts, RiseTo, parts_from, IsAbove, step}
 use Rattle.sgf_lines.specs.declared.sequence_cursor.Part.{Part}
-use Rattle.sgf_lines.proofs.Lists.{range_append}
-use Rattle.sgf_lines.proofs.SequenceStarts.{ordered_there, never_empty, length_is, start_is, first_within, goes_on}
+use Rattle.sgf_lines.proofs.Visits.{way_along}
+use Rattle.sgf_lines.proofs.SequenceStarts.{ordered_there, never_empty, length_is, start_is, first_within}
+use Rattle.sgf_tree.proofs.Outlined.{sequence-further}
 
 module _ (c : Games) where
   -- ---- Where parts end.
@@ -40,15 +42,11 @@ module _ (c : Games) where
   pub front_end : (start : ℕ) (parts : List Part) (k : ℕ) → AreParts c start parts → k ≤ length parts → get_or (start ∷ part_ends parts) k 0 ≡ start + length (part_numbers c (take k parts))
   front_end start parts zero are le = omega arith
   front_end start [] (suc k) are le = absurd (omega arith)
-  front_end start (p ∷ ps) (suc k) are le =
-      omega (arith, front_end p.end ps k are.2 (omega arith), are.1, length-append (sequence_numbers c p.sequence) (part_numbers c (take k ps)), sequence_long p.sequence)
+  front_end start (p ∷ ps) (suc k) are le = grind (arith, common_steps, (front_end p.end ps k are.2 (omega arith)), length-append, sequence_long)
 
   pub rise_to : (start : ℕ) (parts : List Part) → AreParts c start parts → RiseTo start (part_ends parts) (start + length (part_numbers c parts))
   rise_to start [] are = omega arith
-  rise_to start (p ∷ ps) are =
-      let sum : p.end + length (part_numbers c ps) ≡ start + length (part_numbers c (p ∷ ps)) =
-      omega (arith, are.1, length-append (sequence_numbers c p.sequence) (part_numbers c ps), sequence_long p.sequence) in
-      (omega (arith, are.1, never_empty c p.sequence are.0), subst (RiseTo p.end (part_ends ps)) sum (rise_to p.end ps are.2))
+  rise_to start (p ∷ ps) are = grind (arith, common_steps, length-append, sequence_long, never_empty, (rise_to p.end ps are.2))
 
   -- ---- The nodes of parts.
 
@@ -59,8 +57,7 @@ module _ (c : Games) where
   nodes_long at zero le = refl
   nodes_long at (suc n) le =
       let f = node_there at (omega arith) in
-      let one : length (option_to_list (node_at c at)) ≡ 1 = rw f.1 refl in
-      omega (arith, one, length-append (option_to_list (node_at c at)) (nodes_at c (range_with_len (at + 1) n)), nodes_long (at + 1) n (omega arith))
+      grind (arith, common_steps, length-append, (nodes_long (at + 1) n (omega arith)))
 
   -- as many elements for each part as it has nodes
   abbrev pub AreOfParts : {A : Type 0} → (Part → List A) → Type 0
@@ -70,14 +67,8 @@ module _ (c : Games) where
   pub part_elements : {A : Type 0} (f : Part → List A) (start : ℕ) (parts : List Part) (i : ℕ) (part : Part) → AreOfParts f → AreParts c start parts → slice_get parts i ≡ Some part
       → slice_get (parts_from start (part_ends parts) (flat_map f parts)) i ≡ Some (f part)
   part_elements f start [] i part long are e = absurd cc
-  part_elements f start (p ∷ ps) zero part long are e =
-      let same : p ≡ part = cc in
-      let count : p.end - start ≡ length (f p) = omega (arith, are.1, long p are.0) in
-      ap Some (ap (λ n. take n (f p ++ flat_map f ps)) count ∙ take-append_seam (f p) (flat_map f ps)) ∙ ap (λ (q : Part). Some (f q)) same
-  part_elements f start (p ∷ ps) (suc i) part long are e =
-      let count : p.end - start ≡ length (f p) = omega (arith, are.1, long p are.0) in
-      let rest : drop (p.end - start) (f p ++ flat_map f ps) ≡ flat_map f ps = ap (λ n. drop n (f p ++ flat_map f ps)) count ∙ drop-append_seam (f p) (flat_map f ps) in
-      ap (λ xs. slice_get (parts_from p.end (part_ends ps) xs) i) rest ∙ part_elements f p.end ps i part long are.2 e
+  part_elements f start (p ∷ ps) zero part long are e = grind (arith, common_steps, take-append_seam)
+  part_elements f start (p ∷ ps) (suc i) part long are e = grind (arith, common_steps, drop-append_seam, (part_elements f p.end ps i part long are.2 e))
 
   pub part_range : (start : ℕ) (parts : List Part) (i : ℕ) (part : Part) → AreParts c start parts → slice_get parts i ≡ Some part
       → slice_get (parts_from start (part_ends parts) (part_numbers c parts)) i ≡ Some (sequence_numbers c part.sequence)
@@ -85,9 +76,7 @@ module _ (c : Games) where
 
   all_nodes : (parts : List Part) → nodes_at c (part_numbers c parts) ≡ flat_map (λ (p : Part). nodes_at c (sequence_numbers c p.sequence)) parts
   all_nodes [] = refl
-  all_nodes (p ∷ ps) =
-      flat_map-append (λ number. option_to_list (node_at c number)) (sequence_numbers c p.sequence) (part_numbers c ps)
-      ∙ ap (λ ns. nodes_at c (sequence_numbers c p.sequence) ++ ns) (all_nodes ps)
+  all_nodes (p ∷ ps) = grind (arith, common_steps, flat_map-append, all_nodes ps)
 
   pub part_nodes : (start : ℕ) (parts : List Part) (i : ℕ) (part : Part) → AreParts c start parts → slice_get parts i ≡ Some part
       → slice_get (parts_from start (part_ends parts) (nodes_at c (part_numbers c parts))) i ≡ Some (nodes_at c (sequence_numbers c part.sequence))
@@ -98,25 +87,14 @@ module _ (c : Games) where
 
   -- ---- The way through a sequence.
 
-  down : (k m : ℕ) (parent : Option ℕ) (above : List ℕ) → k < length (sequence_starts c) → parent_at c (sequence_start c k) ≡ Some parent → IsPathTo c parent above → m < sequence_length c k
-      → IsPathTo c (Some (sequence_start c k + m)) (above ++ range_with_len (sequence_start c k) (suc m))
-  down k zero parent above lt e way small = let first : sequence_start c k ≡ sequence_start c k + 0 = omega arith in step (rw first at e) way (rw (← first) refl)
-  down k (suc m) parent above lt e way small =
-      let start = sequence_start c k in
-      let less : start + suc m - 1 ≡ start + m = omega arith in
-      let parent_is : parent_at c (start + suc m) ≡ Some (Some (start + m)) = rw less at (goes_on c k (start + suc m) lt (omega arith) (omega arith)) in
-      let one : suc m + 1 ≡ suc (suc m) = omega arith in
-      let joined : range_with_len start (suc m) ++ (start + suc m) ∷ [] ≡ range_with_len start (suc (suc m)) = rw one at (range_append start (suc m) 1) in
-      step parent_is (down k m parent above lt e way (omega arith)) (ap (λ ns. above ++ ns) (sym joined) ∙ sym (append_assoc above (range_with_len start (suc m)) ((start + suc m) ∷ [])))
-
   pub way_down : (k : ℕ) (parent : Option ℕ) (above : List ℕ) → k < length (sequence_starts c) → parent_at c (sequence_start c k) ≡ Some parent → IsPathTo c parent above
       → IsPathTo c (Some (sequence_end c k - 1)) (above ++ sequence_numbers c k)
   way_down k parent above lt e way =
       let some = never_empty c k lt in
       let last : sequence_start c k + (sequence_length c k - 1) ≡ sequence_end c k - 1 = omega arith in
       let count : suc (sequence_length c k - 1) ≡ sequence_length c k = omega arith in
-      subst (λ n. IsPathTo c (Some n) (above ++ sequence_numbers c k)) last
-      (subst (λ n. IsPathTo c (Some (sequence_start c k + (sequence_length c k - 1))) (above ++ range_with_len (sequence_start c k) n)) count (down k (sequence_length c k - 1) parent above lt e way (omega arith)))
+      let way_is = way_along c (sequence_length c k - 1) (sequence_start c k) parent above e way (λ n from to. sequence-further c k lt n from (omega arith)) in
+      grind (arith, common_steps)
 
   -- ---- The sequences above a sequence.
 
@@ -129,5 +107,4 @@ module _ (c : Games) where
   parent_of k (Some a) is = is.1
 
   pub numbers_more : (front : List Part) (part : Part) → part_numbers c (front ++ part ∷ []) ≡ part_numbers c front ++ sequence_numbers c part.sequence
-  numbers_more front part =
-      flat_map-append (λ (p : Part). sequence_numbers c p.sequence) front (part ∷ []) ∙ ap (λ ns. part_numbers c front ++ ns) (append-nil (sequence_numbers c part.sequence))
+  numbers_more front part = grind (arith, common_steps, flat_map-append, append-nil)

@@ -1,112 +1,24 @@
--- Where the sequences of a collection begin and end among its nodes, and which nodes are parents and leaves.
+-- Where the sequences of a collection begin and end among its nodes, and which nodes are leaves.
+use Rattle.std.proofs.lemmas.Grind.{common_steps}
 use Rattle.std.proofs.Common.{◌≡◌, ℕ, zero, suc, ◌+◌, ◌-◌, ◌<◌, ◌≤◌, ◌⊎◌, inl, inr, Bool, true, false, cond, List, [], ◌∷◌, length, get_or, slice_get, Option, Some, None, option_map, refl, sym, ap, ◌∙◌, subst, arith, add-zero}
 use Rattle.std.proofs.lemmas.Bool.{cases_lt, cases_eq}
 use Rattle.std.proofs.lemmas.List.{get_or_past}
 use Rattle.std.proofs.lemmas.Option.{slice_get-get_or, slice_get_within, get_or_from_slice_get}
 use Rattle.sgf_tree.specs.Tree.{Node, Games, no_games, game, node_count}
 use Rattle.sgf_tree.specs.FileOrder.{OrderedNode, further_nodes, ordered_nodes, parent_at, IsLeaf, opening_numbers, sequence_starts, sequence_start, sequence_end}
-use Rattle.sgf_tree.proofs.OrderedNodes.{length-ordered_nodes, length-further_nodes}
+use Rattle.sgf_tree.proofs.OrderedNodes.{length-ordered_nodes}
+use Rattle.sgf_tree.proofs.Starts.{starts-are, first-start}
+use Rattle.sgf_tree.proofs.ListedNodes.{starts-rise}
+use Rattle.sgf_tree.proofs.Outlined.{sequence-further}
 use Rattle.sgf_tree.proofs.Rises.{Rises, rises-low, rises-get, rises-pair}
 use Rattle.sgf_lines.specs.inner.PathTo.{HasNoLeaf}
 use Rattle.sgf_lines.specs.inner.Sequences.{first_of, sequence_length}
 use Rattle.sgf_lines.proofs.Lists.{element}
-use Rattle.sgf_lines.proofs.Visits.{Stands, stands_whole, stands_get, stands_own, stands_below, stands_after, first_ordered, further_parent, rises_parts}
-
--- ---- The numbers of opening nodes.
-
-abbrev opens_in : List OrderedNode → ℕ → Option Bool
-opens_in rs i = option_map (λ (r : OrderedNode). r.opens) (slice_get rs i)
-
--- they rise
-numbers_rise : (at : ℕ) (rs : List OrderedNode) → Rises at (opening_numbers at rs) (at + length rs)
-numbers_rise at [] = omega arith
-numbers_rise at (r ∷ rs) = by r.opens (numbers_rise (at + 1) rs)
-  where
-    by : (b : Bool) → Rises (at + 1) (opening_numbers (at + 1) rs) (at + 1 + length rs)
-        → Rises at (cond b (at ∷ opening_numbers (at + 1) rs) (opening_numbers (at + 1) rs)) (at + suc (length rs))
-    by true h = let sum : at + 1 + length rs ≡ at + suc (length rs) = omega arith in (omega arith, subst (λ n. Rises (at + 1) (opening_numbers (at + 1) rs) n) sum h)
-    by false h =
-        let sum : at + 1 + length rs ≡ at + suc (length rs) = omega arith in
-        rises-low at (at + 1) (opening_numbers (at + 1) rs) (at + suc (length rs)) (omega arith) (subst (λ n. Rises (at + 1) (opening_numbers (at + 1) rs) n) sum h)
-
--- each opening node has its number there
-opening_number : (at : ℕ) (rs : List OrderedNode) (i : ℕ) → opens_in rs i ≡ Some true → (k : ℕ) × (slice_get (opening_numbers at rs) k ≡ Some (at + i))
-opening_number at [] i e = absurd cc
-opening_number at (r ∷ rs) zero e = by r.opens cc
-  where
-    by : (b : Bool) → b ≡ true → (k : ℕ) × (slice_get (cond b (at ∷ opening_numbers (at + 1) rs) (opening_numbers (at + 1) rs)) k ≡ Some (at + 0))
-    by true o = (0, ap Some (sym (add-zero at)))
-    by false o = absurd cc
-opening_number at (r ∷ rs) (suc i) e = by r.opens (opening_number (at + 1) rs i e)
-  where
-    by : (b : Bool) → (k : ℕ) × (slice_get (opening_numbers (at + 1) rs) k ≡ Some (at + 1 + i))
-        → (k : ℕ) × (slice_get (cond b (at ∷ opening_numbers (at + 1) rs) (opening_numbers (at + 1) rs)) k ≡ Some (at + suc i))
-    by true f = let sum : at + 1 + i ≡ at + suc i = omega arith in (suc f.0, f.1 ∙ ap Some sum)
-    by false f = let sum : at + 1 + i ≡ at + suc i = omega arith in (f.0, f.1 ∙ ap Some sum)
-
--- a list that begins with an opening node
-first_number : (at d : ℕ) (rs : List OrderedNode) → opens_in rs 0 ≡ Some true → get_or (opening_numbers at rs) 0 d ≡ at
-first_number at d [] e = absurd cc
-first_number at d (r ∷ rs) e = by r.opens cc
-  where
-    by : (b : Bool) → b ≡ true → get_or (cond b (at ∷ opening_numbers (at + 1) rs) (opening_numbers (at + 1) rs)) 0 d ≡ at
-    by true o = refl
-    by false o = absurd cc
-
--- ---- Opening nodes and their parents.
+use Rattle.sgf_lines.proofs.Visits.{rises_parts}
 
 module _ (c : Games) where
   pub ordered_there : (n : ℕ) → n < node_count c → (r : OrderedNode) × (slice_get (ordered_nodes c) n ≡ Some r)
   ordered_there n lt = element (ordered_nodes c) n (omega (arith, length-ordered_nodes c))
-
-  -- whether the node opens a sequence; None if there is no such node
-  abbrev opens_at : ℕ → Option Bool
-  opens_at n = opens_in (ordered_nodes c) n
-
-  -- a further node of a sequence
-  record IsFurther (n : ℕ) : Type 0 where
-    no_opening : opens_at n ≡ Some false
-    before : ℕ
-    next : n ≡ before + 1
-    parent_is : parent_at c n ≡ Some (Some before)
-
-  first_opens : (g : Games) (at : ℕ) (outer : Option ℕ) → Stands c at outer g → 0 < node_count g → opens_at at ≡ Some true
-  first_opens no_games at outer h some = absurd (omega arith)
-  first_opens (game first more below after) at outer h some =
-      rw add-zero at (ap (option_map (λ (r : OrderedNode). r.opens)) (stands_get (first_ordered outer first ∷ further_nodes at more) 0 (stands_own c at outer first more below after h) (omega arith)))
-
-  further_closed : (last : ℕ) (ns : List Node) (k : ℕ) → k < length ns → opens_in (further_nodes last ns) k ≡ Some false
-  further_closed last [] k lt = absurd (omega arith)
-  further_closed last (n ∷ ns) zero lt = refl
-  further_closed last (n ∷ ns) (suc k) lt = further_closed (last + 1) ns k (omega arith)
-
-  kinds : (g : Games) (at : ℕ) (outer : Option ℕ) → Stands c at outer g → (n : ℕ) → at ≤ n → n < at + node_count g → (opens_at n ≡ Some true) ⊎ IsFurther n
-  kinds no_games at outer h n from to = absurd (omega arith)
-  kinds (game first more below after) at outer h n from to =
-      let last = at + length more in
-      let next = last + 1 + node_count below in
-      elim (cases_lt n (last + 1)) [
-        | inl before ↦
-            elim (cases_eq n at) [
-              | inl same ↦ inl (rw same (first_opens (game first more below after) at outer h (omega arith)))
-              | inr other ↦
-                  let k = n - (at + 1) in
-                  let here : n ≡ at + suc k = omega arith in
-                  let no : opens_at (at + suc k) ≡ Some false =
-                  ap (option_map (λ (r : OrderedNode). r.opens)) (stands_get (first_ordered outer first ∷ further_nodes at more) (suc k) (stands_own c at outer first more below after h) (omega (arith, length-further_nodes at more)))
-                  ∙ further_closed at more k (omega arith) in
-                  let parent : parent_at c (at + suc k) ≡ Some (Some (at + k)) = further_parent c at outer first more below after h k (omega arith) in
-                  inr (rw here (record { no_opening = no; before = at + k; next = omega arith; parent_is = parent }))
-            ]
-        | inr past ↦
-            elim (cases_lt n next) [
-              | inl inside ↦ kinds below (last + 1) (Some last) (stands_below c at outer first more below after h) n past inside
-              | inr behind ↦ kinds after next outer (stands_after c at outer first more below after h) n behind (omega arith)
-            ]
-      ]
-
-  kind_of : (n : ℕ) → n < node_count c → (opens_at n ≡ Some true) ⊎ IsFurther n
-  kind_of n lt = kinds c 0 None (stands_whole c) n (omega arith) (omega arith)
 
   -- ---- The first nodes of sequences.
 
@@ -114,7 +26,7 @@ module _ (c : Games) where
   starts = sequence_starts c
 
   starts_rise : Rises 0 starts (node_count c)
-  starts_rise = let sum : 0 + length (ordered_nodes c) ≡ node_count c = omega (arith, length-ordered_nodes c) in subst (λ n. Rises 0 starts n) sum (numbers_rise 0 (ordered_nodes c))
+  starts_rise = let sum : 0 + node_count c ≡ node_count c = omega arith in rw (starts-are c, ← sum) (starts-rise 0 c)
 
   -- there are no more sequences than nodes
   pub fewer : length starts ≤ node_count c
@@ -148,17 +60,7 @@ module _ (c : Games) where
   ]
 
   pub first_is_zero : first_of c 0 ≡ 0
-  first_is_zero = elim (cases_lt 0 (node_count c)) [
-    | inl some ↦ first_number 0 (node_count c) (ordered_nodes c) (first_opens c 0 None (stands_whole c) some)
-    | inr none ↦ omega (arith, first_within 0)
-  ]
-
-  -- the sequence that a node opens
-  opened : (n : ℕ) → opens_at n ≡ Some true → (k : ℕ) × (k < length starts) × (first_of c k ≡ n)
-  opened n o =
-      let f = opening_number 0 (ordered_nodes c) n o in
-      let same : 0 + n ≡ n = omega arith in
-      (f.0, slice_get_within starts f.0 (0 + n) f.1, get_or_from_slice_get starts f.0 (0 + n) (node_count c) f.1 ∙ same)
+  first_is_zero = ap (λ ns. get_or ns 0 (node_count c)) (starts-are c) ∙ first-start 0 (node_count c) c (omega arith)
 
   -- the sequence that has a node
   pub record IsSequenceOf (n k : ℕ) : Type 0 where
@@ -189,37 +91,16 @@ module _ (c : Games) where
 
   -- a node stands in but one sequence
   pub same_sequence : (n j k : ℕ) → IsSequenceOf n j → IsSequenceOf n k → j ≡ k
-  same_sequence n j k a b = elim (cases_lt j k) [
-    | inl lt ↦ absurd (omega (arith, a.end, b.start, start_is k b.within, first_no_less (j + 1) k (omega arith) (omega (arith, b.within))))
-    | inr ge ↦ elim (cases_lt k j) [
-      | inl lt ↦ absurd (omega (arith, b.end, a.start, start_is j a.within, first_no_less (k + 1) j (omega arith) (omega (arith, a.within))))
-      | inr le ↦ omega arith
-    ]
-  ]
+  same_sequence n j k a b = grind (arith, common_steps, cases_lt, start_is, first_no_less)
 
   -- its last node stands in it
   pub last_in : (k : ℕ) → k < length starts → IsSequenceOf (sequence_end c k - 1) k
   last_in k lt = record { within = lt; start = omega (arith, never_empty k lt); end = omega (arith, never_empty k lt) }
 
-  -- no sequence opens inside another
-  not_opening : (k n : ℕ) → k < length starts → sequence_start c k < n → n < sequence_end c k → opens_at n ≡ Some true → ⊥
-  not_opening k n lt from to o =
-      let f = opened n o in
-      let own : IsSequenceOf n f.0 = record { within = f.1; start = omega (arith, start_is f.0 f.1, f.2); end = omega (arith, first_rises f.0 (f.0 + 1) (omega arith) f.1, f.2) } in
-      let same = same_sequence n f.0 k own (record { within = lt; start = omega arith; end = to }) in
-      absurd (omega (arith, f.2, ap (first_of c) same, start_is k lt))
-
-  -- each node inside a sequence goes on from the one before it
-  pub goes_on : (k n : ℕ) → k < length starts → sequence_start c k < n → n < sequence_end c k → parent_at c n ≡ Some (Some (n - 1))
-  goes_on k n lt from to = elim (kind_of n (omega (arith, first_within (k + 1)))) [
-    | inl opens ↦ absurd (not_opening k n lt from to opens)
-    | inr f ↦ let less : f.before ≡ n - 1 = omega (arith, f.next) in rw less at f.parent_is
-  ]
-
   -- a leaf is the last of its sequence
   pub leaf_last : (n k : ℕ) → IsSequenceOf n k → IsLeaf c n → n + 1 ≡ sequence_end c k
   leaf_last n k is leaf = elim (cases_lt (n + 1) (sequence_end c k)) [
-    | inl lt ↦ let less : n + 1 - 1 ≡ n = omega arith in absurd (leaf (n + 1) (rw less at (goes_on k (n + 1) is.within (omega (arith, is.start)) lt)))
+    | inl lt ↦ let less : n + 1 - 1 ≡ n = omega arith in absurd (leaf (n + 1) (rw less at (sequence-further c k is.within (n + 1) (omega (arith, is.start)) lt)))
     | inr ge ↦ omega (arith, is.end)
   ]
 

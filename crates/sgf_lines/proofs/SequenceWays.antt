@@ -1,4 +1,5 @@
 -- The way to a sequence by the sequences above it.
+use Rattle.std.proofs.lemmas.Grind.{common_steps}
 use Rattle.std.proofs.Common.{◌≡◌, ℕ, ◌+◌, ◌-◌, ◌<◌, ◌≤◌, List, [], ◌∷◌, ◌++◌, length, Option, Some, None, refl, sym, ap, ◌∙◌, subst, arith}
 use Rattle.sgf_tree.specs.Tree.{Games}
 use Rattle.sgf_tree.specs.FileOrder.{sequence_starts, sequence_end}
@@ -19,13 +20,11 @@ module _ (c : Games) where
   same_above k None (Some y) lt h g = let f = g.1 in absurd cc
   same_above k (Some x) None lt h g = let f = h.1 in absurd cc
   same_above k (Some x) (Some y) lt h g =
-      let f = h.1 in
-      let e = g.1 in
       let x_there : x < length starts = omega (arith, h.0) in
       let y_there : y < length starts = omega (arith, g.0) in
       let ends : sequence_end c x - 1 ≡ sequence_end c y - 1 = cc in
       let same = same_sequence c (sequence_end c x - 1) x y (last_in c x x_there) (rw (← ends) at (last_in c y y_there)) in
-      ap Some same
+      grind (arith, common_steps)
 
   -- a sequence as a part after others
   abbrev pub part_after : List Part → ℕ → Part
@@ -37,9 +36,7 @@ module _ (c : Games) where
 
   pub parts_path : {at : Option ℕ} {parts : List Part} → ArePartsTo c at parts → IsPathTo c (end_of c at) (part_numbers c parts)
   parts_path top = IsPathTo.top
-  parts_path (step {sequence = k} {above = above} {front = front} lt is up e) =
-      subst (IsPathTo c (Some (sequence_end c k - 1))) (sym (ap (part_numbers c) e ∙ numbers_more c front (part_after front k)))
-      (way_down c k (end_of c above) (part_numbers c front) lt (parent_of c k above is) (parts_path up))
+  parts_path (step {sequence = k} {above = above} {front = front} lt is up e) = grind (arith, common_steps, numbers_more, way_down, end_of, parent_of, (parts_path up))
 
   pub parts_are : {at : Option ℕ} {parts : List Part} → ArePartsTo c at parts → AreParts c 0 parts
   parts_are top = tt
@@ -47,5 +44,4 @@ module _ (c : Games) where
 
   -- they have no more nodes than stand up to there
   pub parts_few : {k : ℕ} {parts : List Part} → ArePartsTo c (Some k) parts → k < length starts → length (part_numbers c parts) ≤ sequence_end c k
-  parts_few {k = k} {parts = parts} way lt =
-      omega (arith, never_empty c k lt, (rises_parts 0 (part_numbers c parts) (sequence_end c k - 1 + 1) (way_rises (parts_path way))).1)
+  parts_few {k = k} {parts = parts} way lt = grind (arith, common_steps, never_empty, rises_parts, way_rises, parts_path)

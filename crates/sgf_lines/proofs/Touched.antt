@@ -1,156 +1,176 @@
--- Each line touches what it shares with the line before it, and then new nodes, up to its leaf. So there are no more different places than nodes.
-use Rattle.std.proofs.Common.{◌≡◌, ℕ, ◌+◌, ◌<◌, ◌≤◌, Bool, true, false, cond, List, [], ◌∷◌, ◌++◌, inl, inr, refl, sym, ap, ◌∙◌, arith, zero, suc, length, map, slice_get, Some, None, option_map, unwrap_or, subst, append_assoc, append-nil, length-append, take}
+-- The places of nodes on lines, each once. A line adds the places that it doesn't share with the line before it, since these rise from that of the first node
+-- after that line. So the places on all lines are those of all nodes, and no more nodes are judged than there are.
+use Rattle.std.proofs.Common.{◌≡◌, ℕ, ◌+◌, ◌-◌, ◌<◌, ◌≤◌, Bool, true, false, List, [], ◌∷◌, ◌++◌, inl, inr, refl, sym, ap, ◌∙◌, arith, zero, suc, length, map, slice_get, Some, None, option_map, unwrap_or, subst, append_assoc, append-nil, length-append, take, drop}
 use Rattle.std.specs.Prelude.{filter, ◌==◌, ◌||◌, if◌then◌else◌}
-use Rattle.std.specs.List.{list_any, flat_map, range_with_len, AllZip}
+use Rattle.std.specs.List.{flat_map, range_with_len, IsDistinct, drop-map}
+use Rattle.std.specs.Set.{is_member}
+use Rattle.std.proofs.Math.Dec.{eqb}
 use Rattle.std.proofs.Math.Bool.{or-true}
+use Rattle.std.proofs.lemmas.Cmp.{nat_eq_equiv}
 use Rattle.std.proofs.lemmas.Bool.{ne_eqb, eqb-true, eq-eqb, cases_Bool, cases_lt, cases_eq}
+use Rattle.std.proofs.lemmas.Bool.Decides.{nat_tests}
 use Rattle.std.proofs.lemmas.List.Folds.{list_any-append}
-use Rattle.std.proofs.lemmas.List.Sums.{length-filter, count_by-le-length}
-use Rattle.std.proofs.lemmas.Map.Views.{any-filter_same}
-use Rattle.std.proofs.lemmas.List.Elements.{filter-append}
-use Rattle.sgf_lines.specs.Plays.{differ, different, places_of, node_places, touched_places, judged_places, all_judged_places}
-use Rattle.sgf_lines.proofs.Lists.{Each, each_weaker, each_append, each_parts, element, range_below, range_append, each_take}
-use Rattle.std.proofs.lemmas.List.{map-append, take-map, length-map}
+use Rattle.std.proofs.lemmas.List.Elements.{filter-append, filter_passes, All-filter, All-weaker, All-from_recursion, recursion_from_All}
+use Rattle.std.proofs.lemmas.Map.Made.{All-is_member, is_member-filter, length-le_from_is_member}
+use Rattle.std.proofs.lemmas.Map.Keys.{IsDistinct-cons, IsDistinct-head, IsDistinct-tail}
+use Rattle.std.proofs.lemmas.Grind.{flat_map-append, common_steps}
+use Rattle.std.proofs.lemmas.List.{map-append, take-map, length-map, take-append-drop, length-take-le, take_all}
+use Rattle.std.proofs.lemmas.Option.{slice_get_within}
+use Rattle.std.proofs.Math.Seq.{drop-append_seam}
 use Rattle.sgf_tree.specs.Tree.{Node, Games, node_count}
 use Rattle.sgf_tree.specs.FileOrder.{OrderedNode, ordered_nodes, node_at, place_at, PlacesRise}
-use Rattle.sgf_lines.specs.Lines.{Line, lines, last_number}
-use Rattle.sgf_lines.specs.Paths.{Path, paths, IsPathOf}
 use Rattle.sgf_tree.proofs.Lists.{slice_get-right}
 use Rattle.sgf_tree.proofs.OrderedNodes.{length-nodes_from, length-ordered_nodes}
-use Rattle.sgf_lines.proofs.Named.{place_of_node, each_named}
-use Rattle.sgf_lines.proofs.Visits.{Follow, paths_follow, ends_at}
-use Rattle.std.proofs.lemmas.Grind.{flat_map-append}
+use Rattle.sgf_tree.proofs.Rises.{Rises, rises-ends}
+use Rattle.sgf_lines.specs.Lines.{Line, lines, last_number}
+use Rattle.sgf_lines.specs.Paths.{paths}
+use Rattle.sgf_lines.specs.Plays.{differ, different, places_of, node_places, touched_places, judged_places, all_judged_places}
 use Rattle.sgf_lines.specs.JudgedGames.{game_kind, root_properties}
-use Rattle.sgf_lines.proofs.Walking.{judged_front}
+use Rattle.sgf_lines.specs.inner.Following.{first_after, Continues, numbers_before, nodes_of}
+use Rattle.sgf_lines.proofs.Lists.{Each, each_weaker, each_append, each_take, element, range_append}
+use Rattle.sgf_lines.proofs.Named.{place_of_node, length-paths}
+use Rattle.sgf_lines.proofs.Visits.{way_within, way_rises, rises_parts, leads, after_way, last_number-append, continues, goes_on_there, last_end}
+use Rattle.sgf_lines.proofs.LineNodes.{named_in}
+use Rattle.sgf_lines.proofs.Keeping.{same_front}
+use Rattle.sgf_lines.proofs.Joins.{more_texts, as_many}
+use Rattle.sgf_lines.proofs.Walking.{judged_front, judged_alike}
 
 -- whether a number stands in a list
 abbrev pub has : List ℕ → ℕ → Bool
-has xs n = list_any (λ x. x == n) xs
+has xs n = is_member eqb xs n
 
--- whether it doesn't
-abbrev pub is_new : List ℕ → ℕ → Bool
-is_new xs n = if has xs n then false else true
+has_left : (xs ys : List ℕ) (n : ℕ) → has xs n ≡ true → has (xs ++ ys) n ≡ true
+has_left xs ys n h = list_any-append (eqb n) xs ys ∙ ap (λ b. b || has ys n) h
 
-filter_both : (p q r : ℕ → Bool) → ((n : ℕ) → r n ≡ cond (q n) (p n) false) → (l : List ℕ) → filter p (filter q l) ≡ filter r l
-filter_both p q r h [] = refl
-filter_both p q r h (n ∷ l) =
-    let rest = filter_both p q r h l in
-    elim (cases_Bool (q n)) [
-      | inl holds ↦
-          let same : r n ≡ p n = h n ∙ ap (λ b. cond b (p n) false) holds in
-          rw (holds, same) (ap (λ ns. cond (p n) (n ∷ ns) ns) rest)
-      | inr fails ↦
-          let none : r n ≡ false = h n ∙ ap (λ b. cond b (p n) false) fails in
-          rw (fails, none) rest
-    ]
+has_right : (xs ys : List ℕ) (n : ℕ) → has ys n ≡ true → has (xs ++ ys) n ≡ true
+has_right xs ys n h = list_any-append (eqb n) xs ys ∙ ap (λ b. has xs n || b) h ∙ or-true (has xs n)
 
-filter_all : (p : ℕ → Bool) (l : List ℕ) → Each (λ n. p n ≡ true) l → filter p l ≡ l
-filter_all p [] h = refl
-filter_all p (n ∷ l) h = rw h.0 (ap (λ ns. n ∷ ns) (filter_all p l h.1))
+each_has : (xs : List ℕ) → Each (λ n. has xs n ≡ true) xs
+each_has xs = recursion_from_All (λ n. has xs n ≡ true) xs (All-is_member nat_eq_equiv xs)
 
-filter_none : (p : ℕ → Bool) (l : List ℕ) → Each (λ n. p n ≡ false) l → filter p l ≡ []
-filter_none p [] h = refl
-filter_none p (n ∷ l) h = rw h.0 (filter_none p l h.1)
+-- what holds of each number of a list holds of one that stands in it
+holds_of : (P : ℕ → Type 0) (xs : List ℕ) (n : ℕ) → Each P xs → has xs n ≡ true → P n
+holds_of P [] n h e = absurd cc
+holds_of P (x ∷ xs) n h e = elim (cases_eq n x) [ inl same ↦ rw same h.0 | inr other ↦ holds_of P xs n h.1 (rw (ne_eqb n x other) at e) ]
 
-pub each_filter : (P : ℕ → Type 0) (p : ℕ → Bool) (l : List ℕ) → Each P l → Each P (filter p l)
-each_filter P p [] h = tt
-each_filter P p (n ∷ l) h =
-    let rest = each_filter P p l h.1 in
-    elim (cases_Bool (p n)) [ inl holds ↦ rw holds (h.0, rest) | inr fails ↦ rw fails rest ]
+-- greater numbers don't stand in it
+not_there : (xs : List ℕ) (n : ℕ) → Each (λ x. x < n) xs → has xs n ≡ false
+not_there [] n h = refl
+not_there (x ∷ xs) n h = rw (ne_eqb n x (λ e. omega (arith, h.0))) (not_there xs n h.1)
 
-pub each_different : (P : ℕ → Type 0) (l : List ℕ) → Each P l → Each P (different l)
-each_different P [] h = tt
-each_different P (n ∷ l) h = (h.0, each_filter P (differ n) (different l) (each_different P l h.1))
-
--- of two lists joined: what the first has, and then what the second has besides
-pub different-append : (xs ys : List ℕ) → different (xs ++ ys) ≡ different xs ++ filter (is_new xs) (different ys)
-different-append [] ys = sym (filter_all (is_new []) (different ys) (all (different ys)))
+-- one number more
+different_more : (xs : List ℕ) (n : ℕ) → different (xs ++ n ∷ []) ≡ different xs ++ (if has xs n then [] else n ∷ [])
+different_more [] n = refl
+different_more (x ∷ xs) n =
+    ap (λ l. x ∷ filter (differ x) l) (different_more xs n) ∙ ap (λ l. x ∷ l) (filter-append (differ x) (different xs) (if has xs n then [] else n ∷ []))
+    ∙ ap (λ l. x ∷ (filter (differ x) (different xs) ++ l)) (by (has xs n))
   where
-    all : (l : List ℕ) → Each (λ n. is_new [] n ≡ true) l
-    all [] = tt
-    all (n ∷ l) = (refl, all l)
-different-append (x ∷ xs) ys =
-    let rest = different-append xs ys in
-    ap (λ l. x ∷ filter (differ x) l) rest ∙ ap (λ l. x ∷ l) (filter-append (differ x) (different xs) (filter (is_new xs) (different ys)))
-    ∙ ap (λ l. x ∷ (filter (differ x) (different xs) ++ l)) (filter_both (differ x) (is_new xs) (is_new (x ∷ xs)) both (different ys))
-  where
-    both : (n : ℕ) → is_new (x ∷ xs) n ≡ cond (is_new xs n) (differ x n) false
-    both n = by (x == n) (has xs n)
-      where
-        by : (a b : Bool) → cond (a || b) false true ≡ cond (cond b false true) (cond a false true) false
-        by true true = refl
-        by true false = refl
-        by false true = refl
-        by false false = refl
+    by : (b : Bool) → filter (differ x) (if b then [] else n ∷ []) ≡ (if eqb n x || b then [] else n ∷ [])
+    by true = rw (or-true (eqb n x)) refl
+    by false = elim (cases_eq n x) [ inl same ↦ rw (eq-eqb n x same, eq-eqb x n (sym same)) refl | inr other ↦ rw (ne_eqb n x other, ne_eqb x n (λ e. other (sym e))) refl ]
+
+-- numbers that stand there already add nothing
+nothing_more : (xs ys : List ℕ) → Each (λ n. has xs n ≡ true) ys → different (xs ++ ys) ≡ different xs
+nothing_more xs [] h = ap different (append-nil xs)
+nothing_more xs (y ∷ ys) h =
+    ap different (sym (append_assoc xs (y ∷ []) ys))
+    ∙ nothing_more (xs ++ y ∷ []) ys (each_weaker (λ n. has xs n ≡ true) (λ n. has (xs ++ y ∷ []) n ≡ true) (λ n. has_left xs (y ∷ []) n) ys h.1)
+    ∙ different_more xs y ∙ rw h.0 (append-nil (different xs))
 
 -- numbers that rise strictly from `low` on
 abbrev pub RisesFrom : ℕ → List ℕ → Type 0
 RisesFrom low [] = Unit {0}
 RisesFrom low (n ∷ ns) = (low ≤ n) × RisesFrom (n + 1) ns
 
-each_above : (low : ℕ) (ns : List ℕ) → RisesFrom low ns → Each (λ n. low ≤ n) ns
-each_above low [] h = tt
-each_above low (n ∷ ns) h = (h.0, each_weaker (λ m. n + 1 ≤ m) (λ m. low ≤ m) (λ m le. omega (arith, h.0)) ns (each_above (n + 1) ns h.1))
+rises_take : (low k : ℕ) (ns : List ℕ) → RisesFrom low ns → RisesFrom low (take k ns)
+rises_take low zero ns h = tt
+rises_take low (suc k) [] h = tt
+rises_take low (suc k) (n ∷ ns) h = (h.0, rises_take (n + 1) k ns h.1)
 
-differ_above : (n m : ℕ) → n + 1 ≤ m → differ n m ≡ true
-differ_above n m le = let fails : (n == m) ≡ false = ne_eqb n m (λ e. omega arith) in rw fails refl
-
-different_rising : (low : ℕ) (ns : List ℕ) → RisesFrom low ns → different ns ≡ ns
-different_rising low [] h = refl
-different_rising low (n ∷ ns) h =
-    ap (λ l. n ∷ filter (differ n) l) (different_rising (n + 1) ns h.1)
-    ∙ ap (λ l. n ∷ l) (filter_all (differ n) ns (each_weaker (λ m. n + 1 ≤ m) (λ m. differ n m ≡ true) (differ_above n) ns (each_above (n + 1) ns h.1)))
-
-new_above : (low : ℕ) (xs : List ℕ) → Each (λ x. x < low) xs → (n : ℕ) → low ≤ n → is_new xs n ≡ true
-new_above low [] h n le = refl
-new_above low (x ∷ xs) h n le =
-    let fails : (x == n) ≡ false = ne_eqb x n (λ e. omega (arith, h.0)) in
-    rw fails (new_above low xs h.1 n le)
-
-not_new : (xs : List ℕ) (n : ℕ) → has xs n ≡ true → is_new xs n ≡ false
-not_new xs n h = rw h refl
+-- greater ones that rise are all added
+all_more : (xs ys : List ℕ) (low : ℕ) → Each (λ x. x < low) xs → RisesFrom low ys → different (xs ++ ys) ≡ different xs ++ ys
+all_more xs [] low below rise = ap different (append-nil xs) ∙ sym (append-nil (different xs))
+all_more xs (y ∷ ys) low below rise =
+    let less : Each (λ x. x < y) xs = each_weaker (λ x. x < low) (λ x. x < y) (λ x lt. omega (arith, rise.0)) xs below in
+    ap different (sym (append_assoc xs (y ∷ []) ys))
+    ∙ all_more (xs ++ y ∷ []) ys (y + 1) (each_append (λ x. x < y + 1) xs (y ∷ []) (each_weaker (λ x. x < y) (λ x. x < y + 1) (λ x lt. omega arith) xs less) (omega arith, tt)) rise.1
+    ∙ ap (λ l. l ++ ys) (different_more xs y ∙ rw (not_there xs y less) refl) ∙ append_assoc (different xs) (y ∷ []) ys
 
 -- numbers that stand there already, and then greater ones: only these are more
-pub more_different : (xs old fresh : List ℕ) (low : ℕ) → Each (λ n. has xs n ≡ true) old → Each (λ x. x < low) xs → RisesFrom low fresh
+more_different : (xs old fresh : List ℕ) (low : ℕ) → Each (λ n. has xs n ≡ true) old → Each (λ x. x < low) xs → RisesFrom low fresh
     → different (xs ++ (old ++ fresh)) ≡ different xs ++ fresh
 more_different xs old fresh low there below rise =
-    let seen : filter (is_new xs) (different old) ≡ [] =
-    filter_none (is_new xs) (different old)
-    (each_different (λ n. is_new xs n ≡ false) old (each_weaker (λ n. has xs n ≡ true) (λ n. is_new xs n ≡ false) (not_new xs) old there)) in
-    let parts : filter (is_new xs) (different (old ++ fresh)) ≡ fresh =
-    ap (filter (is_new xs)) (different-append old fresh) ∙ filter-append (is_new xs) (different old) (filter (is_new old) (different fresh))
-    ∙ ap (λ l. l ++ filter (is_new xs) (filter (is_new old) (different fresh))) seen
-    ∙ ap (λ l. filter (is_new xs) (filter (is_new old) l)) (different_rising low fresh rise)
-    ∙ ap (filter (is_new xs)) (filter_all (is_new old) fresh (each_weaker (λ n. low ≤ n) (λ n. is_new old n ≡ true) (new_above low old (old_below old there)) fresh (each_above low fresh rise)))
-    ∙ filter_all (is_new xs) fresh (each_weaker (λ n. low ≤ n) (λ n. is_new xs n ≡ true) (new_above low xs below) fresh (each_above low fresh rise)) in
-    different-append xs (old ++ fresh) ∙ ap (λ l. different xs ++ l) parts
-  where
-    below_of : (ys : List ℕ) (n : ℕ) → Each (λ x. x < low) ys → has ys n ≡ true → n < low
-    below_of [] n h e = absurd cc
-    below_of (y ∷ ys) n h e = elim (cases_Bool (y == n)) [
-      | inl holds ↦ let same : y ≡ n = eqb-true y n holds in rw same at h.0
-      | inr fails ↦ below_of ys n h.1 (rw fails at e)
+    let old_below = each_weaker (λ n. has xs n ≡ true) (λ x. x < low) (λ n. holds_of (λ x. x < low) xs n below) old there in
+    ap different (sym (append_assoc xs old fresh)) ∙ all_more (xs ++ old) fresh low (each_append (λ x. x < low) xs old below old_below) rise ∙ ap (λ l. l ++ fresh) (nothing_more xs old there)
+
+-- ---- There are no more different numbers in a list than in one that has each of them.
+
+distinct_filter : (p : ℕ → Bool) (l : List ℕ) → IsDistinct eqb l → IsDistinct eqb (filter p l)
+distinct_filter p [] h = h
+distinct_filter p (n ∷ l) h =
+    let rest = distinct_filter p l (IsDistinct-tail eqb n l h) in
+    let apart = recursion_from_All (λ m. eqb n m ≡ false) (filter p l) (All-filter p (λ m. eqb n m ≡ false) l (All-from_recursion (λ m. eqb n m ≡ false) l (IsDistinct-head eqb n l h))) in
+    elim (cases_Bool (p n)) [ inl holds ↦ rw holds (IsDistinct-cons eqb n (filter p l) apart rest) | inr fails ↦ rw fails rest ]
+
+distinct_different : (l : List ℕ) → IsDistinct eqb (different l)
+unfolding IsDistinct
+distinct_different [] = tt
+distinct_different (n ∷ l) = (
+  recursion_from_All (λ m. eqb n m ≡ false) (filter (differ n) (different l))
+  (All-weaker (λ m. differ n m ≡ true) (λ m. eqb n m ≡ false) (λ m d. elim (cases_Bool (eqb n m)) [ inl e ↦ absurd (let no : differ n m ≡ false = rw e refl in cc) | inr e ↦ e ])
+  (filter (differ n) (different l)) (filter_passes (differ n) (different l))),
+  distinct_filter (differ n) (different l) (distinct_different l),
+)
+
+has-different : (l : List ℕ) (q : ℕ) → has (different l) q ≡ has l q
+has-different [] q = refl
+has-different (n ∷ l) q =
+    let left = is_member-filter nat_eq_equiv (differ n) q (λ x e. ap (differ n) (eqb-true q x e)) (different l) in
+    let rest = has-different l q in
+    elim (cases_eq q n) [
+      | inl same ↦ rw (eq-eqb q n same) refl
+      | inr other ↦ let passes : differ n q ≡ true = rw (ne_eqb n q (λ e. other (sym e))) refl in grind (arith, common_steps)
     ]
 
-    old_below : (l : List ℕ) → Each (λ n. has xs n ≡ true) l → Each (λ x. x < low) l
-    old_below l h = each_weaker (λ n. has xs n ≡ true) (λ x. x < low) (λ n e. below_of xs n below e) l h
+fewer_different : (xs ys : List ℕ) → Each (λ n. has ys n ≡ true) xs → length (different xs) ≤ length (different ys)
+fewer_different xs ys h =
+    length-le_from_is_member nat_eq_equiv (different xs) (different ys) (distinct_different xs)
+    (λ q e. has-different ys q ∙ holds_of (λ n. has ys n ≡ true) xs q h (sym (has-different xs q) ∙ e))
 
--- a number of a list joined stands in it
-pub has-append : (xs ys : List ℕ) (n : ℕ) → has (xs ++ ys) n ≡ (has xs n || has ys n)
-has-append xs ys n = list_any-append (λ x. x == n) xs ys
+-- no more in a front
+pub fewer_in_front : (xs ys : List ℕ) → length (different xs) ≤ length (different (xs ++ ys))
+fewer_in_front xs ys = fewer_different xs (xs ++ ys) (each_weaker (λ n. has xs n ≡ true) (λ n. has (xs ++ ys) n ≡ true) (λ n. has_left xs ys n) xs (each_has xs))
 
-pub has_left : (xs ys : List ℕ) (n : ℕ) → has xs n ≡ true → has (xs ++ ys) n ≡ true
-has_left xs ys n h = has-append xs ys n ∙ ap (λ b. b || has ys n) h
+-- ---- Numbers that rise.
 
-pub has_right : (xs ys : List ℕ) (n : ℕ) → has ys n ≡ true → has (xs ++ ys) n ≡ true
-has_right xs ys n h = has-append xs ys n ∙ ap (λ b. has xs n || b) h ∙ or-true (has xs n)
+range_rises : (at n : ℕ) → Rises at (range_with_len at n) (at + n)
+range_rises at zero = omega arith
+range_rises at (suc n) = let sum : at + 1 + n ≡ at + suc n = omega arith in (omega arith, rw sum at (range_rises (at + 1) n))
 
-pub each_has : (xs : List ℕ) → Each (λ n. has xs n ≡ true) xs
-each_has [] = tt
-each_has (x ∷ xs) = (head x xs, each_weaker (λ n. has xs n ≡ true) (λ n. has (x ∷ xs) n ≡ true) (λ n h. has_right (x ∷ []) xs n h) xs (each_has xs))
+drop-take_less : {A : Type 0} (k m : ℕ) (xs : List A) → drop k (take m xs) ≡ take (m - k) (drop k xs)
+drop-take_less zero m xs = let same : m - 0 ≡ m = omega arith in rw same refl
+drop-take_less (suc k) zero xs = let none : 0 - suc k ≡ 0 = omega arith in rw none refl
+drop-take_less (suc k) (suc m) [] = grind (arith, common_steps)
+drop-take_less (suc k) (suc m) (x ∷ xs) = let less : suc m - suc k ≡ m - k = omega arith in rw less (drop-take_less k m xs)
+
+-- the last number of a range after others
+last_number-range : (front : List ℕ) (start more : ℕ) → last_number (front ++ range_with_len start (suc more)) ≡ start + more
+last_number-range front start zero = last_number-append front start [] ∙ omega arith
+last_number-range front start (suc more) = last_number-append front start (range_with_len (start + 1) (suc more)) ∙ last_number-range [] (start + 1) more ∙ omega arith
+
+-- the first node after the new path
+pub after_is : (old new : List ℕ) (kept : ℕ) (h : Continues old kept new) → first_after new ≡ first_after old + (h.more + 1)
+after_is old new kept h = ap first_after h.new_is ∙ by (take kept old) (first_after old) h.more
   where
-    head : (x : ℕ) (xs : List ℕ) → has (x ∷ xs) x ≡ true
-    head x xs = let same : (x == x) ≡ true = eq-eqb x x refl in rw same refl
+    by : (front : List ℕ) (next more : ℕ) → first_after (front ++ range_with_len next (more + 1)) ≡ next + (more + 1)
+    by [] next more = let one : more + 1 ≡ suc more = omega arith in rw one (ap (λ n. n + 1) (last_number-range [] next more) ∙ omega arith)
+    by (n ∷ ns) next more = let one : more + 1 ≡ suc more = omega arith in rw one (ap (λ n. n + 1) (last_number-range (n ∷ ns) next more) ∙ omega arith)
+
+-- the nodes after the kept ones
+after_kept : (old new : List ℕ) (kept : ℕ) (h : Continues old kept new) → drop kept new ≡ range_with_len (first_after old) (h.more + 1)
+after_kept old new kept h =
+    let range = range_with_len (first_after old) (h.more + 1) in
+    ap (drop kept) h.new_is ∙ ap (λ k. drop k (take kept old ++ range)) (sym (length-take-le kept old h.kept_within)) ∙ drop-append_seam (take kept old) range
 
 -- the place of a node, by its number
 abbrev pub place_number : Games → ℕ → ℕ
@@ -173,15 +193,6 @@ module _ (c : Games) where
       let here : n.place ≡ place_number c i = sym (ap (λ o. unwrap_or o 0) (place_of_node c i n first)) in
       let others = places_named ns is rest in
       cc
-
-  places_of_lines : (ls : List Line) (ps : List Path) → AllZip (IsPathOf c) ls ps
-      → flat_map (λ line. places_of line.nodes) ls ≡ flat_map (λ numbers. map (place_number c) numbers) (map (λ p. p.numbers) ps)
-  places_of_lines [] [] h = refl
-  places_of_lines [] (p ∷ ps) h = absurd h
-  places_of_lines (l ∷ ls) [] h = absurd h
-  places_of_lines (l ∷ ls) (p ∷ ps) h =
-      ap (λ ns. ns ++ flat_map (λ line. places_of line.nodes) ls) (places_named l.nodes p.numbers (sym h.0.nodes))
-      ∙ ap (λ ns. map (place_number c) p.numbers ++ ns) (places_of_lines ls ps h.1)
 
   places_range : (before rest : List OrderedNode) → ordered_nodes c ≡ before ++ rest → map (place_number c) (range_with_len (length before) (length rest)) ≡ map (λ r. r.node.place) rest
   places_range before [] e = refl
@@ -211,165 +222,171 @@ module _ (c : Games) where
     pub places_below : (next : ℕ) (xs : List ℕ) → next < node_count c → Each (IsPlaceBefore next) xs → Each (λ x. x < place_number c next) xs
     places_below next xs lt h = each_weaker (IsPlaceBefore next) (λ x. x < place_number c next) (λ x w. omega (arith, w.2, places_rise w.0 next w.1 lt)) xs h
 
-    pub rises_range : (next n low : ℕ) → next + n ≤ node_count c → (next < node_count c → low ≤ place_number c next) → RisesFrom low (map (place_number c) (range_with_len next n))
-    rises_range next zero low within le = tt
-    rises_range next (suc n) low within le = (
-      le (omega arith),
-      rises_range (next + 1) n (place_number c next + 1) (omega arith) (λ lt. omega (arith, places_rise next (next + 1) (omega arith) lt)),
-    )
-
-    -- the numbers are the places of the nodes before `next`
-    pub record Covers (next : ℕ) (xs : List ℕ) : Type 0 where
-      pub once : different xs ≡ map (place_number c) (range_with_len 0 next)
-      pub all : (i : ℕ) → i < next → has xs (place_number c i) ≡ true
-      pub only : Each (IsPlaceBefore next) xs
-
-    pub within_below : (next : ℕ) (is : List ℕ) → Each (λ i. i < next) is → Each (IsPlaceBefore next) (map (place_number c) is)
-    within_below next [] h = tt
-    within_below next (i ∷ is) h = ((i, h.0, refl), within_below next is h.1)
-
-    there : (next : ℕ) (xs : List ℕ) → Covers next xs → (is : List ℕ) → Each (λ i. i < next) is → Each (λ n. has xs n ≡ true) (map (place_number c) is)
-    there next xs h [] w = tt
-    there next xs h (i ∷ is) w = (h.all i w.0, there next xs h is w.1)
-
-    has_range : (next n i : ℕ) → next ≤ i → i < next + n → has (map (place_number c) (range_with_len next n)) (place_number c i) ≡ true
-    has_range next zero i le lt = absurd (omega arith)
-    has_range next (suc n) i le lt = elim (cases_eq i next) [
-      | inl same ↦
-          let first = (each_has (map (place_number c) (range_with_len next (suc n)))).0 in
-          subst (λ k. has (map (place_number c) (range_with_len next (suc n))) (place_number c k) ≡ true) (sym same) first
-      | inr other ↦ has_right (place_number c next ∷ []) (map (place_number c) (range_with_len (next + 1) n)) (place_number c i) (has_range (next + 1) n i (omega arith) (omega arith))
-    ]
-
-    grows : (next n : ℕ) (xs old : List ℕ) → 0 < n → next + n ≤ node_count c → Each (λ i. i < next) old → Covers next xs
-        → Covers (next + n) (xs ++ (map (place_number c) old ++ map (place_number c) (range_with_len next n)))
-    grows next n xs old some within below h =
-        let fresh = map (place_number c) (range_with_len next n) in
-        let less = places_below next xs (omega arith) h.only in
-        record {
-          once =
-              more_different xs (map (place_number c) old) fresh (place_number c next) (there next xs h old below) less (rises_range next n (place_number c next) within (λ lt. omega arith))
-              ∙ ap (λ l. l ++ fresh) h.once ∙ sym (map-append (place_number c) (range_with_len 0 next) (range_with_len next n)) ∙ ap (map (place_number c)) (joined next n);
-          all = λ i lt. elim (cases_lt i next) [
-            | inl before ↦ has_left xs (map (place_number c) old ++ fresh) (place_number c i) (h.all i before)
-            | inr from ↦ has_right xs (map (place_number c) old ++ fresh) (place_number c i) (has_right (map (place_number c) old) fresh (place_number c i) (has_range next n i from lt))
-          ];
-          only = each_append (IsPlaceBefore (next + n)) xs (map (place_number c) old ++ fresh) (before_later next (next + n) (omega arith) xs h.only)
-              (each_append (IsPlaceBefore (next + n)) (map (place_number c) old) fresh
-              (within_below (next + n) old (each_weaker (λ i. i < next) (λ i. i < next + n) (λ i lt. omega arith) old below))
-              (within_below (next + n) (range_with_len next n) (range_below next n (next + n) (omega arith))));
-        }
+    -- no more nodes than places below the limit
+    pub nodes_within : (limit : ℕ) → ((i p : ℕ) → place_at c i ≡ Some p → p < limit) → node_count c ≤ limit
+    nodes_within limit below = by (node_count c) refl
       where
-        joined : (next n : ℕ) → range_with_len 0 next ++ range_with_len next n ≡ range_with_len 0 (next + n)
-        joined next n = let from : 0 + next ≡ next = omega arith in ap (λ k. range_with_len 0 next ++ range_with_len k n) (sym from) ∙ range_append 0 next n
+        numbered : (i : ℕ) → i < node_count c → i ≤ place_number c i
+        numbered zero lt = omega arith
+        numbered (suc i) lt = omega (arith, numbered i (omega arith), places_rise i (suc i) (omega arith) lt)
 
-    follow_end : (ls : List (List ℕ)) (next end : ℕ) (old : List ℕ) → Follow c next old ls end → next ≤ end
-    follow_end [] next end old f = omega (arith, f)
-    follow_end (new ∷ news) next end old (g, f) = omega (arith, ends_at g, follow_end news (last_number new + 1) end new f)
+        by : (n : ℕ) → node_count c ≡ n → node_count c ≤ limit
+        by zero e = omega (arith, e)
+        by (suc i) e = let lt : i < node_count c = omega (arith, e) in omega (arith, e, numbered i lt, below i (place_number c i) (place_is i lt))
 
-    -- what the paths from `next` on touch
-    covers_all : (ls : List (List ℕ)) (next end : ℕ) (old xs : List ℕ) → Follow c next old ls end → end ≤ node_count c → Each (λ i. i < next) old → Covers next xs
-        → Covers end (xs ++ flat_map (λ numbers. map (place_number c) numbers) ls)
-    covers_all [] next end old xs f within below h = rw (append-nil xs, ← f) h
-    covers_all (new ∷ news) next end old xs (g, f) within below h =
-        let to = next + suc g.more in
-        let range = range_with_len next (suc g.more) in
-        let front : Each (λ i. i < next) g.front.above = (each_parts (λ i. i < next) g.front.above g.front.rest (rw g.front.old_is at below)).0 in
-        let after : last_number new + 1 ≡ to = omega (arith, ends_at g) in
-        let places : map (place_number c) new ≡ map (place_number c) g.front.above ++ map (place_number c) range = ap (map (place_number c)) g.new_is ∙ map-append (place_number c) g.front.above range in
-        let grown : Covers to (xs ++ map (place_number c) new) =
-        rw places (grows next (suc g.more) xs g.front.above (omega arith) (omega (arith, follow_end news (last_number new + 1) end new f)) front h) in
-        let new_below : Each (λ i. i < to) new =
-        rw g.new_is (each_append (λ i. i < to) g.front.above range (each_weaker (λ i. i < next) (λ i. i < to) (λ i lt. omega arith) g.front.above front) (range_below next (suc g.more) to (omega arith))) in
-        rw (← append_assoc xs (map (place_number c) new) (flat_map (λ numbers. map (place_number c) numbers) news))
-        (covers_all news to end new (xs ++ map (place_number c) new) (rw after at f) within new_below grown)
+    -- those of nodes that rise
+    places_from : (from low to : ℕ) (ns : List ℕ) → Rises from ns to → to ≤ node_count c → (from < node_count c → low ≤ place_number c from) → RisesFrom low (map (place_number c) ns)
+    places_from from low to [] r le first = tt
+    places_from from low to (n ∷ ns) r le first =
+        let within : n < node_count c = omega (arith, rises-ends (n + 1) to ns r.1) in (
+          elim (cases_lt from n) [
+            | inl lt ↦ omega (arith, first (omega arith), places_rise from n lt within)
+            | inr ge ↦ let same : from ≡ n = omega (arith, r.0) in rw same at first within
+          ],
+          places_from (n + 1) (place_number c n + 1) to ns r.1 le (λ lt. omega (arith, places_rise n (n + 1) (omega arith) lt)),
+        )
+
+  pub within_below : (next : ℕ) (is : List ℕ) → Each (λ i. i < next) is → Each (IsPlaceBefore next) (map (place_number c) is)
+  within_below next [] h = tt
+  within_below next (i ∷ is) h = ((i, h.0, refl), within_below next is h.1)
+
+  -- ---- The paths, one after the other.
+
+  -- each continues the one before it
+  pub continues_there : (k : ℕ) → k < length (paths c) → (kept : ℕ) × Continues (numbers_before c k) kept (numbers_before c (suc k))
+  continues_there k lt = continues (goes_on_there c k lt) refl
+
+  -- their nodes rise, up to the first one after them
+  rising : (k : ℕ) → k ≤ length (paths c) → Rises 0 (numbers_before c k) (first_after (numbers_before c k)) × (first_after (numbers_before c k) ≤ node_count c)
+  rising zero le = (omega arith, omega arith)
+  rising (suc k) le =
+      let q = element (paths c) k (omega arith) in
+      let up = (leads c k q.0 q.1).up in
+      let after = after_way up in
+      rw q.1 (rw after (way_rises up), omega (arith, after, way_within up))
+
+  on_path : (k : ℕ) (line : Line) → slice_get (lines c) k ≡ Some line → suc k ≤ length (paths c)
+  on_path k line e = omega (arith, slice_get_within (lines c) k line e, length-paths c)
+
+  -- how many nodes a line of a page shares with the line before it; the page begins with the line at the index `first`
+  abbrev pub SharesAfter : ℕ → ℕ → ℕ → Type 0
+  SharesAfter first zero shared = shared ≡ 0
+  SharesAfter first (suc k) shared = Continues (numbers_before c (first + suc k)) shared (numbers_before c (suc (first + suc k)))
+
+  -- Some places of each line are chosen, those of its first nodes. What lines share is chosen alike.
+  module _ (rise : PlacesRise c) (chosen : Line → List ℕ) (front : (line : Line) → (m : ℕ) × (chosen line ≡ take m (places_of line.nodes)))
+      (alike : (last line : Line) (k : ℕ) → k ≤ length last.nodes → take k last.nodes ≡ take k line.nodes → take k (chosen line) ≡ take k (chosen last))
+      (first : ℕ) (page : List Line) (stands : (k : ℕ) (line : Line) → slice_get page k ≡ Some line → slice_get (lines c) (first + k) ≡ Some line) where
+    abbrev pub so_far : ℕ → List ℕ
+    so_far k = flat_map chosen (take k page)
+
+    named : (k : ℕ) (line : Line) → slice_get page k ≡ Some line → map Some line.nodes ≡ map (node_at c) (numbers_before c (suc (first + k)))
+    named k line e = ap (λ o. map Some (nodes_of o)) (sym (stands k line e)) ∙ named_in c (suc (first + k))
+
+    chosen_are : (k : ℕ) (line : Line) → slice_get page k ≡ Some line → (m : ℕ) × (chosen line ≡ take m (map (place_number c) (numbers_before c (suc (first + k)))))
+    chosen_are k line e = let f = front line in (f.0, f.1 ∙ ap (take f.0) (places_named line.nodes (numbers_before c (suc (first + k))) (named k line e)))
+
+    -- they all come before the node after the last of these lines
+    all_before : (k : ℕ) → k ≤ length page → Each (IsPlaceBefore (first_after (numbers_before c (first + k)))) (so_far k)
+    all_before zero le = tt
+    all_before (suc k) le =
+        let l = element page k (omega arith) in
+        let numbers = numbers_before c (suc (first + k)) in
+        let lt = on_path (first + k) l.0 (stands k l.0 l.1) in
+        let next : first + suc k ≡ suc (first + k) = omega arith in
+        let end = first_after numbers in
+        let go = continues_there (first + k) (omega (arith, lt)) in
+        let later : first_after (numbers_before c (first + k)) ≤ end = omega (arith, after_is (numbers_before c (first + k)) numbers go.0 go.1) in
+        let are = chosen_are k l.0 l.1 in
+        let own : Each (IsPlaceBefore end) (chosen l.0) = rw are.1 (each_take (IsPlaceBefore end) are.0 (map (place_number c) numbers) (within_below end numbers (rises_parts 0 numbers end (rising (suc (first + k)) lt).0).0)) in
+        rw (next, ← more_texts chosen page k l.0 l.1)
+        (each_append (IsPlaceBefore end) (so_far k) (chosen l.0) (before_later (first_after (numbers_before c (first + k))) end later (so_far k) (all_before k (omega arith))) own)
+
+    adds_by : (k shared from low to : ℕ) (line : Line) → slice_get page k ≡ Some line → Rises from (drop shared (numbers_before c (suc (first + k)))) to → to ≤ node_count c
+        → (from < node_count c → low ≤ place_number c from) → Each (λ x. x < low) (so_far k) → Each (λ n. has (so_far k) n ≡ true) (take shared (chosen line))
+        → different (so_far (suc k)) ≡ different (so_far k) ++ drop shared (chosen line)
+    adds_by k shared from low to line e rises within first_is below there =
+        let numbers = numbers_before c (suc (first + k)) in
+        let are = chosen_are k line e in
+        let fresh : drop shared (chosen line) ≡ take (are.0 - shared) (map (place_number c) (drop shared numbers)) =
+        ap (drop shared) are.1 ∙ drop-take_less shared are.0 (map (place_number c) numbers) ∙ ap (take (are.0 - shared)) (drop-map (place_number c) shared numbers) in
+        let rising_fresh : RisesFrom low (drop shared (chosen line)) =
+        rw fresh (rises_take low (are.0 - shared) (map (place_number c) (drop shared numbers)) (places_from rise from low to (drop shared numbers) rises within first_is)) in
+        ap different (sym (more_texts chosen page k line e)) ∙ ap (λ l. different (so_far k ++ l)) (sym (take-append-drop shared (chosen line)))
+        ∙ more_different (so_far k) (take shared (chosen line)) (drop shared (chosen line)) low there below rising_fresh
+
+    -- a line adds those that it doesn't share with the line before it
+    pub adds_fresh : (k shared : ℕ) (line : Line) → slice_get page k ≡ Some line → SharesAfter first k shared → different (so_far (suc k)) ≡ different (so_far k) ++ drop shared (chosen line)
+    adds_fresh zero shared line e none =
+        let r = rising (suc (first + 0)) (on_path (first + 0) line (stands 0 line e)) in
+        adds_by 0 shared 0 0 (first_after (numbers_before c (suc (first + 0)))) line e (rw none r.0) r.1 (λ lt. omega arith) tt (rw none tt)
+    adds_fresh (suc k) shared line e go =
+        let next : first + suc k ≡ suc (first + k) = omega arith in
+        let old = numbers_before c (first + suc k) in
+        let new = numbers_before c (suc (first + suc k)) in
+        let from = first_after old in
+        let within = (rising (suc (first + suc k)) (on_path (first + suc k) line (stands (suc k) line e))).1 in
+        let end = after_is old new shared go in
+        let l = element page k (omega (arith, slice_get_within page (suc k) line e)) in
+        let old_named : map Some l.0.nodes ≡ map (node_at c) old = rw next (named k l.0 l.1) in
+        let kept : take shared l.0.nodes ≡ take shared line.nodes = same_front (node_at c) old new l.0.nodes line.nodes shared old_named (named (suc k) line e) go in
+        let same = alike l.0 line shared (omega (arith, as_many (node_at c) l.0.nodes old old_named, go.kept_within)) kept in
+        let there = each_take (λ n. has (so_far (suc k)) n ≡ true) shared (chosen l.0)
+        (rw (← more_texts chosen page k l.0 l.1) (each_weaker (λ n. has (chosen l.0) n ≡ true) (λ n. has (so_far k ++ chosen l.0) n ≡ true) (λ n. has_right (so_far k) (chosen l.0) n) (chosen l.0) (each_has (chosen l.0)))) in
+        adds_by (suc k) shared from (place_number c from) (from + (go.more + 1)) line e (rw (after_kept old new shared go) (range_rises from (go.more + 1))) (omega arith) (λ lt. omega arith)
+        (places_below rise from (so_far (suc k)) (omega arith) (all_before (suc k) (omega (arith, slice_get_within page (suc k) line e)))) (rw same there)
+
+  -- ---- All nodes stand on lines.
+
+  module _ (rise : PlacesRise c) where
+    abbrev all_places_of : Line → List ℕ
+    all_places_of line = places_of line.nodes
+
+    alike_places : (last line : Line) (k : ℕ) → k ≤ length last.nodes → take k last.nodes ≡ take k line.nodes → take k (places_of line.nodes) ≡ take k (places_of last.nodes)
+    alike_places last line k le e = take-map (λ n. n.place) k line.nodes ∙ ap places_of (sym e) ∙ sym (take-map (λ n. n.place) k last.nodes)
+
+    first_places : (line : Line) → (m : ℕ) × (places_of line.nodes ≡ take m (places_of line.nodes))
+    first_places line = (length (places_of line.nodes), sym (take_all (length (places_of line.nodes)) (places_of line.nodes) (omega arith)))
+
+    touched_to : (k : ℕ) → k ≤ length (lines c) → different (flat_map all_places_of (take k (lines c))) ≡ map (place_number c) (range_with_len 0 (first_after (numbers_before c k)))
+    touched_to zero le = refl
+    touched_to (suc k) le =
+        let l = element (lines c) k (omega arith) in
+        let old = numbers_before c k in
+        let new = numbers_before c (suc k) in
+        let go = continues_there k (omega (arith, length-paths c)) in
+        let named : map Some l.0.nodes ≡ map (node_at c) new = ap (λ o. map Some (nodes_of o)) (sym l.1) ∙ named_in c (suc k) in
+        let fresh : drop go.0 (places_of l.0.nodes) ≡ map (place_number c) (range_with_len (first_after old) (go.1.more + 1)) =
+        ap (drop go.0) (places_named l.0.nodes new named) ∙ drop-map (place_number c) go.0 new ∙ ap (map (place_number c)) (after_kept old new go.0 go.1) in
+        let zero_first : 0 + first_after old ≡ first_after old = omega arith in
+        let joined = rw zero_first at (range_append 0 (first_after old) (go.1.more + 1)) in
+        adds_fresh rise all_places_of first_places alike_places 0 (lines c) (λ j line e. (let same : 0 + j ≡ j = omega arith in rw same e)) k go.0 l.0 l.1 (shares_all k go.0 go.1)
+        ∙ ap (λ ns. ns ++ drop go.0 (places_of l.0.nodes)) (touched_to k (omega arith)) ∙ ap (λ ns. map (place_number c) (range_with_len 0 (first_after old)) ++ ns) fresh
+        ∙ sym (map-append (place_number c) (range_with_len 0 (first_after old)) (range_with_len (first_after old) (go.1.more + 1))) ∙ ap (map (place_number c)) joined
+        ∙ ap (λ n. map (place_number c) (range_with_len 0 n)) (sym (after_is old new go.0 go.1))
+      where
+        shares_all : (k kept : ℕ) → Continues (numbers_before c k) kept (numbers_before c (suc k)) → SharesAfter 0 k kept
+        shares_all zero kept h = omega (arith, h.kept_within)
+        shares_all (suc k) kept h = let same : 0 + suc k ≡ suc k = omega arith in rw same h
 
     pub touched_all : touched_places (lines c) ≡ node_places c
     touched_all =
-        let none : Covers 0 [] = record { once = refl; all = λ i lt. absurd (omega arith); only = tt } in
-        let h = covers_all (map (λ p. p.numbers) (paths c)) 0 (node_count c) [] [] (paths_follow c) (omega arith) tt none in
-        ap different (places_of_lines (lines c) (paths c) (each_named c)) ∙ h.once ∙ all_places
-
--- no number stands twice
-abbrev Distinct : List ℕ → Type 0
-Distinct [] = Unit {0}
-Distinct (n ∷ ns) = Each (λ m. differ n m ≡ true) ns × Distinct ns
-
-filter_holds : (p : ℕ → Bool) (l : List ℕ) → Each (λ n. p n ≡ true) (filter p l)
-filter_holds p [] = tt
-filter_holds p (n ∷ l) =
-    let rest = filter_holds p l in
-    elim (cases_Bool (p n)) [ inl holds ↦ rw holds (holds, rest) | inr fails ↦ rw fails rest ]
-
-distinct_filter : (p : ℕ → Bool) (l : List ℕ) → Distinct l → Distinct (filter p l)
-distinct_filter p [] h = tt
-distinct_filter p (n ∷ l) h =
-    let rest = distinct_filter p l h.1 in
-    elim (cases_Bool (p n)) [
-      | inl holds ↦ rw holds (each_filter (λ m. differ n m ≡ true) p l h.0, rest)
-      | inr fails ↦ rw fails rest
-    ]
-
-distinct_different : (l : List ℕ) → Distinct (different l)
-distinct_different [] = tt
-distinct_different (n ∷ l) = (filter_holds (differ n) (different l), distinct_filter (differ n) (different l) (distinct_different l))
-
--- without a number that stands there they are fewer
-fewer : (n : ℕ) (l : List ℕ) → has l n ≡ true → length (filter (differ n) l) + 1 ≤ length l
-fewer n [] e = absurd cc
-fewer n (m ∷ l) e =
-    elim (cases_Bool (m == n)) [
-      | inl holds ↦
-          let same : n ≡ m = sym (eqb-true m n holds) in
-          let gone : differ n m ≡ false = rw same (differ_itself m) in
-          rw gone (omega (arith, length-filter (differ n) l, count_by-le-length (differ n) l))
-      | inr fails ↦
-          let rest = fewer n l (rw fails at e) in
-          elim (cases_Bool (differ n m)) [ inl stays ↦ rw stays (omega arith) | inr goes ↦ rw goes (omega arith) ]
-    ]
-  where
-    differ_itself : (m : ℕ) → differ m m ≡ false
-    differ_itself m = rw (eq-eqb m m refl) refl
-
--- another number stands there still
-left_in : (n m : ℕ) (l : List ℕ) → differ n m ≡ true → has l m ≡ true → has (filter (differ n) l) m ≡ true
-left_in n m l d e = any-filter_same (λ x. x == m) (differ n) true (λ k is. let same : k ≡ m = eqb-true k m is in rw same d) l ∙ e
-
-each_left : (n : ℕ) (ms l : List ℕ) → Each (λ m. differ n m ≡ true) ms → Each (λ m. has l m ≡ true) ms → Each (λ m. has (filter (differ n) l) m ≡ true) ms
-each_left n [] l d h = tt
-each_left n (m ∷ ms) l d h = (left_in n m l d.0 h.0, each_left n ms l d.1 h.1)
-
--- different numbers that stand in a list are no more than it has
-within : (ns l : List ℕ) → Distinct ns → Each (λ n. has l n ≡ true) ns → length ns ≤ length l
-within [] l d h = omega arith
-within (n ∷ ns) l d h =
-    let others = within ns (filter (differ n) l) d.1 (each_left n ns l d.0 h.1) in
-    omega (arith, others, fewer n l h.0)
-
-still_there : (l : List ℕ) (n : ℕ) → has l n ≡ true → has (different l) n ≡ true
-still_there [] n e = absurd cc
-still_there (m ∷ l) n e =
-    elim (cases_Bool (m == n)) [
-      | inl holds ↦ rw holds refl
-      | inr fails ↦
-          let rest = still_there l n (rw fails at e) in
-          let other : differ m n ≡ true = rw fails refl in
-          rw fails (left_in m n (different l) other rest)
-    ]
-
-fewer_different : (xs ys : List ℕ) → Each (λ n. has ys n ≡ true) xs → length (different xs) ≤ length (different ys)
-fewer_different xs ys h =
-    within (different xs) (different ys) (distinct_different xs)
-    (each_different (λ n. has (different ys) n ≡ true) xs (each_weaker (λ n. has ys n ≡ true) (λ n. has (different ys) n ≡ true) (still_there ys) xs h))
+        let count = length-paths c in
+        ap (λ ls. different (flat_map all_places_of ls)) (sym (take_all (length (lines c)) (lines c) (omega arith))) ∙ touched_to (length (lines c)) (omega arith)
+        ∙ ap (λ k. map (place_number c) (range_with_len 0 (first_after (numbers_before c k)))) (sym count) ∙ ap (λ n. map (place_number c) (range_with_len 0 n)) (last_end c) ∙ all_places
 
 -- ---- The nodes that are judged on lines stand on them.
 
+pub judged_first : (line : Line) → (m : ℕ) × (judged_places line ≡ take m (places_of line.nodes))
+judged_first line = let f = judged_front (game_kind (root_properties line.nodes)) line.nodes in (f.0, ap places_of f.1 ∙ sym (take-map (λ n. n.place) f.0 line.nodes))
+
+pub judged_shared : (last line : Line) (k : ℕ) → k ≤ length last.nodes → take k last.nodes ≡ take k line.nodes → take k (judged_places line) ≡ take k (judged_places last)
+judged_shared last line k le e = grind (arith, common_steps, take-map, judged_alike last.nodes line.nodes k le e)
+
 judged_there : (line : Line) → Each (λ n. has (places_of line.nodes) n ≡ true) (judged_places line)
 judged_there line =
-    let f = judged_front (game_kind (root_properties line.nodes)) line.nodes in
-    let is : judged_places line ≡ take f.0 (places_of line.nodes) = ap places_of f.1 ∙ sym (take-map (λ n. n.place) f.0 line.nodes) in
-    subst (Each (λ n. has (places_of line.nodes) n ≡ true)) (sym is)
-    (each_take (λ n. has (places_of line.nodes) n ≡ true) f.0 (places_of line.nodes) (each_has (places_of line.nodes)))
+    let f = judged_first line in
+    rw f.1 (each_take (λ n. has (places_of line.nodes) n ≡ true) f.0 (places_of line.nodes) (each_has (places_of line.nodes)))
 
 -- the places of the nodes of lines
 abbrev places_in : List Line → List ℕ

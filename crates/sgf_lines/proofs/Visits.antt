@@ -2,17 +2,18 @@
 use Rattle.std.proofs.Common.{◌≡◌, ℕ, ◌+◌, ◌<◌, ◌≤◌, List, [], ◌∷◌, ◌++◌, length, Option, Some, None, refl, sym, ap, ◌∙◌, subst, arith, length-append, suc, slice_get, option_map, true, add-zero, append_assoc, append-nil, ◌≢◌, zero, ◌-◌, map, inl, inr, take, All, add-one}
 use Rattle.sgf_tree.specs.Tree.{Games, node_count, Node, game, no_games}
 use Rattle.sgf_tree.specs.FileOrder.{parent_at, OrderedNode, further_nodes, nodes_from, ordered_nodes, IsLeaf}
-use Rattle.sgf_tree.proofs.OrderedNodes.{parent_at-lt, parent_at-within, length-ordered_nodes, length-further_nodes, length-nodes_from, parent_in-further, parent-within}
+use Rattle.sgf_tree.proofs.OrderedNodes.{parent_at-lt, parent_at-within, length-ordered_nodes, length-further_nodes, length-nodes_from, parent_in-further, next-child}
 use Rattle.sgf_tree.proofs.Rises.{Rises, rises-append}
 use Rattle.sgf_lines.specs.Lines.{last_number, through, node_lines, lines_of_game, lines_from}
-use Rattle.sgf_lines.specs.inner.PathTo.{IsPathTo, top, step}
-use Rattle.sgf_lines.proofs.Lists.{Each, each_append, each_weaker, each_get, element}
+use Rattle.sgf_lines.specs.inner.PathTo.{IsPathTo, top, step, HasNoLeaf}
+use Rattle.sgf_lines.proofs.Lists.{Each, range_append, map-through, each_append, each_weaker, each_get, element}
 use Rattle.sgf_tree.proofs.Lists.{slice_get-left, slice_get-right}
-use Rattle.std.proofs.lemmas.List.{map-append}
+use Rattle.std.proofs.lemmas.List.{map-append, length-map}
 use Rattle.std.specs.List.{range_with_len}
 use Rattle.sgf_lines.specs.Paths.{numbered_nodes, numbered, path_of, paths, Path, leaf_of, EndsInLeaf}
 use Rattle.std.proofs.Math.Seq.{take-append_seam}
-use Rattle.std.proofs.lemmas.Bool.{cases_eq}
+use Rattle.std.proofs.lemmas.Bool.{cases_eq, cases_lt}
+use mathlib.Core.List.{map-map}
 use Rattle.std.proofs.lemmas.Option.{slice_get-map}
 use Rattle.std.proofs.lemmas.List.Elements.{All-from_recursion}
 use Rattle.sgf_lines.specs.inner.Following.{first_after, Continues, numbers_of, numbers_before}
@@ -49,12 +50,6 @@ some_node {i = i} (step {above = above} e up is) = omega (arith, ap length is, l
 
 pub way_within : {c : Games} {i : ℕ} {way : List ℕ} → IsPathTo c (Some i) way → i < node_count c
 way_within {c = c} (step {number = i} {parent = p} e up is) = node_within c i p e
-
--- each node on a way is one of the collection
-pub within_way : {c : Games} {at : Option ℕ} {way : List ℕ} → IsPathTo c at way → Each (λ n. n < node_count c) way
-within_way top = tt
-within_way {c = c} (step {number = i} {parent = p} {above = above} e up is) =
-    subst (Each (λ n. n < node_count c)) (sym is) (each_append (λ n. n < node_count c) above (i ∷ []) (within_way up) (node_within c i p e, tt))
 
 rises_high : (low : ℕ) (ns : List ℕ) (high end : ℕ) → high ≤ end → Rises low ns high → Rises low ns end
 rises_high low [] high end le h = omega (arith, h)
@@ -147,27 +142,52 @@ pub record Front (c : Games) (next : ℕ) (old : List ℕ) : Type 0 where
   pub rest : List ℕ
   pub old_is : old ≡ above ++ rest
 
--- the path `new` to the node goes on from there
-pub record Way (c : Games) (next : ℕ) (old new : List ℕ) : Type 0 where
+-- the path `new` goes on from there, from the node `next` down to the next leaf
+pub record GoesOn (c : Games) (next : ℕ) (old new : List ℕ) : Type 0 where
   pub front : Front c next old
-  pub new_is : new ≡ front.above ++ next ∷ []
+  pub more : ℕ
+  pub new_is : new ≡ front.above ++ range_with_len next (suc more)
+  pub up : IsPathTo c (Some (next + more)) new
+  pub is_leaf : IsLeaf c (next + more)
+  pub none : HasNoLeaf c next (next + more)
 
-pub way_path : {c : Games} {next : ℕ} {old new : List ℕ} → Way c next old new → IsPathTo c (Some next) new
-way_path w = step w.front.parent_is w.front.up w.new_is
+-- each of these paths goes on from the one before it; `next` is the first node after the path `old`
+abbrev pub Follow : Games → ℕ → List ℕ → List (List ℕ) → ℕ → Type 0
+Follow c next old [] end = next ≡ end
+Follow c next old (new ∷ news) end = (g : GoesOn c next old new) × Follow c (next + g.more + 1) new news end
 
--- The nodes from `next` on and before `end`, where `old` is the path to the node before them, and `last` that to the last of them.
--- The paths are those to the leaves among them.
-pub data Visits (c : Games) : ℕ → List ℕ → List (List ℕ) → ℕ → List ℕ → Type 0 where
-  none : {next : ℕ} {old : List ℕ} → Visits c next old [] next old
-  inner : {next end : ℕ} {old last : List ℕ} {ls : List (List ℕ)} (new : List ℕ) → Way c next old new → parent_at c (next + 1) ≡ Some (Some next)
-      → Visits c (next + 1) new ls end last → Visits c next old ls end last
-  leaf : {next end : ℕ} {old last : List ℕ} {ls : List (List ℕ)} (new : List ℕ) → Way c next old new → IsLeaf c next
-      → Visits c (next + 1) new ls end last → Visits c next old (new ∷ ls) end last
+-- down along nodes of which each is the parent of the next one
+pub way_along : (c : Games) (m start : ℕ) (parent : Option ℕ) (above : List ℕ) → parent_at c start ≡ Some parent → IsPathTo c parent above
+    → ((n : ℕ) → start < n → n ≤ start + m → parent_at c n ≡ Some (Some (n - 1))) → IsPathTo c (Some (start + m)) (above ++ range_with_len start (suc m))
+way_along c zero start parent above e up chain = rw add-zero (step e up refl)
+way_along c (suc m) start parent above e up chain =
+    let sum : start + 1 + m ≡ start + suc m = omega arith in
+    let less : start + 1 - 1 ≡ start = omega arith in
+    rw (← sum, ← append_assoc above (start ∷ []) (range_with_len (start + 1) (suc m)))
+    (way_along c m (start + 1) (Some start) (above ++ start ∷ []) (rw less at (chain (start + 1) (omega arith) (omega arith))) (step e up refl) (λ n lt le. chain n (omega arith) (omega arith)))
 
-visits_append : {c : Games} {a b d : ℕ} {p q r : List ℕ} {ls ms : List (List ℕ)} → Visits c a p ls b q → Visits c b q ms d r → Visits c a p (ls ++ ms) d r
-visits_append none g = g
-visits_append (inner new w child f) g = inner new w child (visits_append f g)
-visits_append (leaf new w is_leaf f) g = leaf new w is_leaf (visits_append f g)
+-- The nodes from `from` on and before `at` go on from a front of the path `old`, each the parent of the next one, so that they end the path `above` to the parent
+-- of the node `at`.
+record Down (c : Games) (from at : ℕ) (parent : Option ℕ) (above old : List ℕ) : Type 0 where
+  front : Front c from old
+  within : from ≤ at
+  above_is : above ≡ front.above ++ range_with_len from (at - from)
+  chain : (n : ℕ) → from < n → n < at → parent_at c n ≡ Some (Some (n - 1))
+  parent_is : from < at → parent ≡ Some (at - 1)
+
+goes_on_to : (c : Games) (from leaf : ℕ) (new old : List ℕ) → Down c from (leaf + 1) (Some leaf) new old → from ≤ leaf → IsLeaf c leaf → GoesOn c from old new
+goes_on_to c from leaf new old d le is_leaf =
+    let there : from + (leaf - from) ≡ leaf = omega arith in
+    let count : leaf + 1 - from ≡ suc (leaf - from) = omega arith in
+    let new_is : new ≡ d.front.above ++ range_with_len from (suc (leaf - from)) = rw count at d.above_is in
+    record {
+      front = d.front;
+      more = leaf - from;
+      new_is = new_is;
+      up = rw new_is (way_along c (leaf - from) from d.front.parent d.front.above d.front.parent_is d.front.up (λ n lt most. d.chain n lt (omega arith)));
+      is_leaf = rw there is_leaf;
+      none = λ n ge lt none. none (n + 1) (let less : n + 1 - 1 ≡ n = omega arith in rw less at (d.chain (n + 1) (omega arith) (omega arith)));
+    }
 
 -- The games stand in the collection from the index `at` on, after their parent. The node after them has its parent before them.
 record Among (c : Games) (at : ℕ) (parent : Option ℕ) (g : Games) : Type 0 where
@@ -175,96 +195,138 @@ record Among (c : Games) (at : ℕ) (parent : Option ℕ) (g : Games) : Type 0 w
   parent_first : (i : ℕ) → parent ≡ Some i → i < at
   next_above : (i : ℕ) → parent_at c (at + node_count g) ≡ Some (Some i) → i < at
 
--- so has the node after the games below one
-after_above : (c : Games) (at : ℕ) (parent : Option ℕ) (first : Node) (more : List Node) (below after : Games) → Among c at parent (game first more below after)
-    → (i : ℕ) → parent_at c (at + length more + 1 + node_count below) ≡ Some (Some i) → i < at
-after_above c at parent first more below no_games h i e =
-    let same : at + length more + 1 + node_count below ≡ at + node_count (game first more below no_games) = omega arith in
-    h.next_above i (rw same at e)
-after_above c at parent first more below (game f m b a) h i e =
-    h.parent_first i (let one = first_parent c (at + length more + 1 + node_count below) parent f m b a (stands_after c at parent first more below (game f m b a) h.stands) in cc)
+-- the first node of games has their parent
+games_parent : (c : Games) (at : ℕ) (parent : Option ℕ) (g : Games) → Stands c at parent g → 0 < node_count g → parent_at c at ≡ Some parent
+games_parent c at parent no_games h some = absurd (omega arith)
+games_parent c at parent (game first more below after) h some = first_parent c at parent first more below after h
+
+-- if a node isn't the parent of the next one, it is a leaf
+pub leaf_by_next : (c : Games) (i : ℕ) → parent_at c (i + 1) ≢ Some (Some i) → IsLeaf c i
+leaf_by_next c i other j e = other (next-child c j i e)
 
 module _ (c : Games) (at : ℕ) (parent : Option ℕ) (first : Node) (more : List Node) (below after : Games) (h : Among c at parent (game first more below after)) where
-  among_below : Among c (at + length more + 1) (Some (at + length more)) below
+  abbrev last : ℕ
+  last = at + length more
+
+  -- the node after the games below has its parent before them
+  after_above : (i : ℕ) → parent_at c (last + 1 + node_count below) ≡ Some (Some i) → i < at
+  after_above i e = elim (cases_lt 0 (node_count after)) [
+    | inl some ↦ h.parent_first i (let one = games_parent c (last + 1 + node_count below) parent after (stands_after c at parent first more below after h.stands) some in cc)
+    | inr none ↦ h.next_above i (let same : last + 1 + node_count below ≡ at + node_count (game first more below after) = omega arith in rw same at e)
+  ]
+
+  among_below : Among c (last + 1) (Some last) below
   among_below = record {
     stands = stands_below c at parent first more below after h.stands;
-    parent_first = λ i e. let same : at + length more ≡ i = cc in omega arith;
-    next_above = λ i e. omega (arith, after_above c at parent first more below after h i e);
+    parent_first = λ i e. let same : last ≡ i = cc in omega arith;
+    next_above = λ i e. omega (arith, after_above i e);
   }
 
-  among_after : Among c (at + length more + 1 + node_count below) parent after
+  among_after : Among c (last + 1 + node_count below) parent after
   among_after =
-      let sum : at + length more + 1 + node_count below + node_count after ≡ at + node_count (game first more below after) = omega arith in
+      let sum : last + 1 + node_count below + node_count after ≡ at + node_count (game first more below after) = omega arith in
       record {
         stands = stands_after c at parent first more below after h.stands;
         parent_first = λ i e. omega (arith, h.parent_first i e);
         next_above = λ i e. omega (arith, h.next_above i (rw sum at e));
       }
 
--- if a node isn't the parent of the next one, it is a leaf
-pub leaf_by_next : (c : Games) (i : ℕ) → parent_at c (i + 1) ≢ Some (Some i) → IsLeaf c i
-leaf_by_next c i other j e = elim (parent-within 0 None c j i e) [
-  | inl root ↦ absurd (cc)
-  | inr w ↦ let next : suc i - 0 ≡ i + 1 = omega arith in other (rw next at w.next)
-]
+  own_chain : (n : ℕ) → at < n → n ≤ last → parent_at c n ≡ Some (Some (n - 1))
+  own_chain n lt le =
+      let here : at + suc (n - at - 1) ≡ n = omega arith in
+      let there : at + (n - at - 1) ≡ n - 1 = omega arith in
+      rw (here, there) at (further_parent c at parent first more below after h.stands (n - at - 1) (omega arith))
 
--- down a game's own nodes, from the first at `at` to the one at `last`
-record Arrives (c : Games) (at last : ℕ) (old own : List ℕ) : Type 0 where
-  before : List ℕ
-  way : Way c last before own
-  on : {ls : List (List ℕ)} {end : ℕ} {final : List ℕ} → Visits c last before ls end final → Visits c at old ls end final
+  -- down its own nodes too
+  own_down : (from : ℕ) (above old : List ℕ) → Down c from at parent above old → Down c from (last + 1) (Some last) (above ++ range_with_len at (suc (length more))) old
+  own_down from above old d = record {
+    front = d.front;
+    within = omega (arith, d.within);
+    above_is =
+        let there : from + (at - from) ≡ at = omega (arith, d.within) in
+        let sum : at - from + suc (length more) ≡ last + 1 - from = omega (arith, d.within) in
+        ap (λ ns. ns ++ range_with_len at (suc (length more))) d.above_is ∙ append_assoc d.front.above (range_with_len from (at - from)) (range_with_len at (suc (length more)))
+        ∙ ap (λ ns. d.front.above ++ ns) (rw (there, sum) at (range_append from (at - from) (suc (length more))));
+    chain = λ n lt le. elim (cases_lt n at) [
+      | inl before ↦ d.chain n lt before
+      | inr ge ↦ elim (cases_eq n at) [
+        | inl same ↦ rw (same, ← d.parent_is (omega arith)) (first_parent c at parent first more below after h.stands)
+        | inr other ↦ own_chain n (omega arith) (omega arith)
+      ]
+    ];
+    parent_is = λ lt. let less : last + 1 - 1 ≡ last = omega arith in rw less refl;
+  }
 
-down_own : (c : Games) (m at last : ℕ) (old : List ℕ) (front : Front c at old) → at + m ≡ last → ((k : ℕ) → k < m → parent_at c (at + suc k) ≡ Some (Some (at + k)))
-    → Arrives c at last old (front.above ++ range_with_len at (suc m))
-down_own c zero at last old front sum chain =
-    let same : at ≡ last = omega arith in
-    subst (λ n. Arrives c at n old (front.above ++ at ∷ [])) same (record { before = old; way = record { front = front; new_is = refl }; on = λ v. v })
-down_own c (suc m) at last old front sum chain =
-    let new = front.above ++ at ∷ [] in
-    let way : Way c at old new = record { front = front; new_is = refl } in
-    let one : at + 1 ≡ at + suc 0 = omega arith in
-    let none : at + 0 ≡ at = omega arith in
-    let child : parent_at c (at + 1) ≡ Some (Some at) = rw none at (chain 0 (omega arith)) in
-    let r = down_own c m (at + 1) last new (record { parent = Some at; parent_is = child; above = new; up = way_path way; rest = []; old_is = sym (append-nil new) }) (omega arith)
-    (λ k lt. let here : at + 1 + suc k ≡ at + suc (suc k) = omega arith in let there : at + 1 + k ≡ at + suc k = omega arith in rw (here, there) (chain (suc k) (omega arith))) in
-    record { before = r.before; way = rw (append_assoc front.above (at ∷ []) (range_with_len (at + 1) (suc m))) at r.way; on = λ v. inner new way child (r.on v) }
+-- the ways down games, by numbers
+abbrev ways : ℕ → Games → List (List ℕ)
+ways at no_games = []
+ways at (game first more below after) =
+    through (range_with_len at (suc (length more))) (ways (at + length more + 1) below) ++ ways (at + length more + 1 + node_count below) after
 
--- the paths through games, each after `above`
-abbrev rows : List ℕ → ℕ → Games → List (List ℕ)
-rows above at no_games = []
-rows above at (game first more no_games after) =
-    (above ++ range_with_len at (suc (length more))) ∷ rows above (at + length more + 1 + node_count no_games) after
-rows above at (game first more (game f m b a) after) =
-    rows (above ++ range_with_len at (suc (length more))) (at + length more + 1) (game f m b a) ++ rows above (at + length more + 1 + node_count (game f m b a)) after
+-- each after the path `above`
+abbrev rows : List ℕ → List (List ℕ) → List (List ℕ)
+rows above ls = map (λ l. above ++ l) ls
 
-visits : (c g : Games) (at : ℕ) (parent : Option ℕ) (above old rest : List ℕ) → Among c at parent g → IsPathTo c parent above → old ≡ above ++ rest
-    → (more : List ℕ) × Visits c at old (rows above at g) (at + node_count g) (above ++ more)
-visits c no_games at parent above old rest h up is = (rest, rw add-zero (subst (λ l. Visits c at old [] at l) is none))
-visits c (game first more no_games after) at parent above old rest h up is =
-    let last = at + length more in
-    let next = last + 1 + node_count no_games in
-    let fresh = range_with_len at (suc (length more)) in
-    let front : Front c at old = record { parent = parent; parent_is = first_parent c at parent first more no_games after h.stands; above = above; up = up; rest = rest; old_is = is } in
-    let here = down_own c (length more) at last old front refl (further_parent c at parent first more no_games after h.stands) in
-    let back = visits c after next parent above (above ++ fresh) fresh (among_after c at parent first more no_games after h) up refl in
-    let one : next ≡ last + 1 = omega arith in
-    let is_leaf : IsLeaf c last = leaf_by_next c last (λ e. absurd (omega (arith, after_above c at parent first more no_games after h last (rw one e)))) in
-    let sum : next + node_count after ≡ at + node_count (game first more no_games after) = omega arith in
-    let on : Visits c (last + 1) (above ++ fresh) (rows above next after) (next + node_count after) (above ++ back.0) =
-    subst (λ n. Visits c n (above ++ fresh) (rows above next after) (next + node_count after) (above ++ back.0)) one back.1 in
-    (back.0, rw (← sum) (here.on {final = above ++ back.0} (leaf {last = above ++ back.0} (above ++ fresh) here.way is_leaf on)))
-visits c (game first more (game f m b a) after) at parent above old rest h up is =
-    let last = at + length more in
-    let next = last + 1 + node_count (game f m b a) in
+some_ways : (own : List ℕ) (ls ms : List (List ℕ)) → through own ls ++ ms ≢ []
+some_ways own [] ms e = cc
+some_ways own (l ∷ ls) ms e = cc
+
+rows_joined : (above own : List ℕ) (ls others tail : List (List ℕ)) → ls ≢ [] → rows above (through own ls ++ others) ++ tail ≡ rows (above ++ own) ls ++ (rows above others ++ tail)
+rows_joined above own [] others tail some = absurd (some refl)
+rows_joined above own (l ∷ ls) others tail some = ap (λ ms. ms ++ tail) (map-append (λ m. above ++ m) (rows own (l ∷ ls)) others ∙ ap (λ ms. ms ++ rows above others) (by (l ∷ ls))) ∙ append_assoc (rows (above ++ own) (l ∷ ls)) (rows above others) tail
+  where
+    by : (ms : List (List ℕ)) → rows above (rows own ms) ≡ rows (above ++ own) ms
+    by [] = refl
+    by (m ∷ ms) = let one = append_assoc above own m in let rest = by ms in cc
+
+-- games that stand after a path begin with a node that goes on from a front of it
+begin_down : (c : Games) (at : ℕ) (parent : Option ℕ) (above old rest : List ℕ) (g : Games) → Stands c at parent g → 0 < node_count g → IsPathTo c parent above → old ≡ above ++ rest
+    → Down c at at parent above old
+begin_down c at parent above old rest g h some up is =
+    let none : at - at ≡ 0 = omega arith in
+    record {
+      front = record { parent = parent; parent_is = games_parent c at parent g h some; above = above; up = up; rest = rest; old_is = is };
+      within = omega arith;
+      above_is = rw none (sym (append-nil above));
+      chain = λ n lt le. absurd (omega arith);
+      parent_is = λ lt. absurd (omega arith);
+    }
+
+follows : (c g : Games) (at from : ℕ) (parent : Option ℕ) (above old : List ℕ) (tail : List (List ℕ)) (end : ℕ) → Among c at parent g → IsPathTo c parent above
+    → (0 < node_count g → Down c from at parent above old) → (node_count g ≡ 0 → Follow c from old tail end)
+    → ((last rest : List ℕ) → last ≡ above ++ rest → Follow c (at + node_count g) last tail end) → Follow c from old (rows above (ways at g) ++ tail) end
+unfolding goes_on_to
+follows c no_games at from parent above old tail end h up down none goes = none refl
+follows c (game first more no_games after) at from parent above old tail end h up down none goes =
+    let leaf = at + length more in
     let fresh = range_with_len at (suc (length more)) in
     let own = above ++ fresh in
-    let front : Front c at old = record { parent = parent; parent_is = first_parent c at parent first more (game f m b a) after h.stands; above = above; up = up; rest = rest; old_is = is } in
-    let here = down_own c (length more) at last old front refl (further_parent c at parent first more (game f m b a) after h.stands) in
-    let child = first_parent c (last + 1) (Some last) f m b a (stands_below c at parent first more (game f m b a) after h.stands) in
-    let down = visits c (game f m b a) (last + 1) (Some last) own own [] (among_below c at parent first more (game f m b a) after h) (way_path here.way) (sym (append-nil own)) in
-    let back = visits c after next parent above (own ++ down.0) (fresh ++ down.0) (among_after c at parent first more (game f m b a) after h) up (append_assoc above fresh down.0) in
+    let next = leaf + 1 + node_count no_games in
+    let sum : next + node_count after ≡ at + node_count (game first more no_games after) = omega arith in
+    let one : next ≡ leaf + 1 = omega arith in
+    let is_leaf : IsLeaf c leaf = leaf_by_next c leaf (λ e. absurd (omega (arith, after_above c at parent first more no_games after h leaf (rw one e)))) in
+    let d = down (omega arith) in
+    let there : from + (leaf - from) + 1 ≡ next = omega (arith, d.within) in
+    let all = among_after c at parent first more no_games after h in (
+      goes_on_to c from leaf own old (own_down c at parent first more no_games after h from above old d) (omega (arith, d.within)) is_leaf,
+      rw there (follows c after next next parent above own tail end all up (λ some. begin_down c next parent above own fresh after all.stands some up refl)
+      (λ e. let same : at + node_count (game first more no_games after) ≡ next = omega arith in rw same at (goes own fresh refl)) (λ last rest is. rw sum (goes last rest is))),
+    )
+follows c (game first more (game f m b a) after) at from parent above old tail end h up down none goes =
+    let leaf = at + length more in
+    let fresh = range_with_len at (suc (length more)) in
+    let next = leaf + 1 + node_count (game f m b a) in
+    let others = ways next after in
     let sum : next + node_count after ≡ at + node_count (game first more (game f m b a) after) = omega arith in
-    (back.0, rw (← sum) (here.on {final = above ++ back.0} (inner {last = above ++ back.0} own here.way child (visits_append {r = above ++ back.0} down.1 back.1))))
+    let all = among_after c at parent first more (game f m b a) after h in
+    let own_up = way_along c (length more) at parent above (first_parent c at parent first more (game f m b a) after h.stands) up (λ n lt le. own_chain c at parent first more (game f m b a) after h n lt le) in
+    rw (rows_joined above fresh (ways (leaf + 1) (game f m b a)) others tail (some_ways (range_with_len (leaf + 1) (suc (length m))) (ways (leaf + 1 + length m + 1) b) (ways (leaf + 1 + length m + 1 + node_count b) a)))
+    (follows c (game f m b a) (leaf + 1) from (Some leaf) (above ++ fresh) old (rows above others ++ tail) end (among_below c at parent first more (game f m b a) after h) own_up
+    (λ some. own_down c at parent first more (game f m b a) after h from above old (down (omega arith))) (λ e. absurd (omega arith))
+    (λ last rest is.
+    let at_last = is ∙ append_assoc above fresh rest in
+    follows c after next next parent above last tail end all up (λ some. begin_down c next parent above last (fresh ++ rest) after all.stands some up at_last)
+    (λ e. let same : at + node_count (game first more (game f m b a) after) ≡ next = omega arith in rw same at (goes last (fresh ++ rest) at_last)) (λ past more_rest e. rw sum (goes past more_rest e))))
 
 -- ---- These are the paths of the collection.
 
@@ -275,153 +337,62 @@ pub numbers_in_order : (at : ℕ) (ns : List Node) → numbers_of_nodes (numbere
 numbers_in_order at [] = refl
 numbers_in_order at (n ∷ ns) = ap (λ l. at ∷ l) (numbers_in_order (at + 1) ns)
 
-through_some : (own : List Node) (ls : List (List Node)) → ls ≢ [] → through own ls ≡ map (λ rest. own ++ rest) ls
-through_some ns [] some = absurd (some refl)
-through_some ns (l ∷ ls) some = refl
-
-some_lines : (at : ℕ) (first : Node) (more : List Node) (below after : Games) → node_lines (numbered at (game first more below after)) ≢ []
-some_lines at first more below after e =
+ways_are : (at : ℕ) (g : Games) → map numbers_of_nodes (node_lines (numbered at g)) ≡ ways at g
+ways_are at no_games = refl
+ways_are at (game first more below after) =
     let next = at + length more + 1 in
-    by (record first { place = at } ∷ numbered_nodes (at + 1) more) (node_lines (numbered next below)) (node_lines (numbered (next + node_count below) after)) e
-  where
-    by : (own : List Node) (ls ms : List (List Node)) → through own ls ++ ms ≡ [] → ⊥
-    by own [] ms e = cc
-    by own (l ∷ ls) ms e = cc
-
--- the numbers of lines, each after `above`
-abbrev numbers_after : List ℕ → List (List Node) → List (List ℕ)
-numbers_after above ls = map (λ l. above ++ numbers_of_nodes l) ls
-
-after_more : (above : List ℕ) (own : List Node) (ls : List (List Node)) → numbers_after above (map (λ rest. own ++ rest) ls) ≡ numbers_after (above ++ numbers_of_nodes own) ls
-after_more above own [] = refl
-after_more above own (l ∷ ls) =
-    let one : above ++ numbers_of_nodes (own ++ l) ≡ (above ++ numbers_of_nodes own) ++ numbers_of_nodes l =
-    ap (λ ns. above ++ ns) (map-append (λ n. n.place) own l) ∙ sym (append_assoc above (numbers_of_nodes own) (numbers_of_nodes l)) in
-    let rest = after_more above own ls in cc
-
-rows_are : (above : List ℕ) (at : ℕ) (g : Games) → numbers_after above (node_lines (numbered at g)) ≡ rows above at g
-rows_are above at no_games = refl
-rows_are above at (game first more no_games after) =
-    let own = ap (λ ns. above ++ at ∷ ns) (numbers_in_order (at + 1) more) in
-    let rest = rows_are above (at + length more + 1 + node_count no_games) after in cc
-rows_are above at (game first more (game f m b a) after) =
-    let next = at + length more + 1 in
-    let below = numbered next (game f m b a) in
     let own : List Node = record first { place = at } ∷ numbered_nodes (at + 1) more in
-    let others = numbered (next + node_count (game f m b a)) after in
-    ap (λ ls. numbers_after above (ls ++ node_lines others)) (through_some own (node_lines below) (some_lines next f m b a))
-    ∙ map-append (λ l. above ++ numbers_of_nodes l) (map (λ rest. own ++ rest) (node_lines below)) (node_lines others)
-    ∙ ap (λ ls. ls ++ numbers_after above (node_lines others))
-    (after_more above own (node_lines below) ∙ ap (λ ns. numbers_after (above ++ at ∷ ns) (node_lines below)) (numbers_in_order (at + 1) more)
-    ∙ rows_are (above ++ range_with_len at (suc (length more))) next (game f m b a))
-    ∙ ap (λ ls. rows (above ++ range_with_len at (suc (length more))) next (game f m b a) ++ ls) (rows_are above (next + node_count (game f m b a)) after)
+    let one : numbers_of_nodes own ≡ range_with_len at (suc (length more)) = ap (λ ns. at ∷ ns) (numbers_in_order (at + 1) more) in
+    map-append numbers_of_nodes (through own (node_lines (numbered next below))) (node_lines (numbered (next + node_count below) after))
+    ∙ cc (map-through (λ (n : Node). n.place) own (node_lines (numbered next below)), one, ways_are next below, ways_are (next + node_count below) after)
 
-game_numbers : (number : ℕ) (ls : List (List Node)) → map (λ p. p.numbers) (map path_of (lines_of_game number ls)) ≡ numbers_after [] ls
-game_numbers number [] = refl
-game_numbers number (l ∷ ls) = ap (λ ns. numbers_of_nodes l ∷ ns) (game_numbers number ls)
-
-all_numbers : (number : ℕ) (g : Games) → map (λ p. p.numbers) (map path_of (lines_from number g)) ≡ numbers_after [] (node_lines g)
+all_numbers : (number : ℕ) (g : Games) → map (λ p. p.numbers) (map path_of (lines_from number g)) ≡ map numbers_of_nodes (node_lines g)
 all_numbers number no_games = refl
 all_numbers number (game first more below after) =
     let own = through (first ∷ more) (node_lines below) in
-    let here = game_numbers number own in
+    let here : map (λ p. p.numbers) (map path_of (lines_of_game number own)) ≡ map numbers_of_nodes own = simp map-map in
     let rest = all_numbers (number + 1) after in
     simp map-append cc
 
--- all nodes of a collection are visited, and nothing follows them
-pub paths_visited : (c : Games) → (last : List ℕ) × Visits c 0 [] (map (λ p. p.numbers) (paths c)) (node_count c) last
-paths_visited c =
-    let all : Among c 0 None c = record {
-      stands = stands_whole c;
-      parent_first = λ i e. absurd cc;
-      next_above = λ i e. absurd (omega (arith, node_within c (0 + node_count c) (Some i) e));
-    } in
-    let v = visits c c 0 None [] [] [] all top refl in
-    let count : 0 + node_count c ≡ node_count c = omega arith in
-    let are : rows [] 0 c ≡ map (λ p. p.numbers) (paths c) = sym (all_numbers 1 (numbered 0 c) ∙ rows_are [] 0 c) in
-    ([] ++ v.0, subst (λ n. Visits c 0 [] (map (λ p. p.numbers) (paths c)) n ([] ++ v.0)) count (subst (λ ls. Visits c 0 [] ls (0 + node_count c) ([] ++ v.0)) are v.1))
+-- so the paths of a collection follow one another, and no node follows them
+pub paths_follow : (c : Games) → Follow c 0 [] (map (λ p. p.numbers) (paths c)) (node_count c)
+paths_follow c =
+    let past : (i : ℕ) → parent_at c (0 + node_count c) ≡ Some (Some i) → i < 0 = λ i e. absurd (omega (arith, node_within c (0 + node_count c) (Some i) e)) in
+    let all : Among c 0 None c = record { stands = stands_whole c; parent_first = λ i e. absurd cc; next_above = past } in
+    let are : rows [] (ways 0 c) ++ [] ≡ map (λ p. p.numbers) (paths c) =
+    append-nil (rows [] (ways 0 c)) ∙ map-id (ways 0 c) ∙ sym (all_numbers 1 (numbered 0 c) ∙ ways_are 0 c) in
+    rw are at (follows c c 0 0 None [] [] [] (node_count c) all top (λ some. begin_down c 0 None [] [] [] c (stands_whole c) some top refl) (λ e. sym e) (λ last rest is. omega arith))
+  where
+    map-id : (ls : List (List ℕ)) → map (λ l. [] ++ l) ls ≡ ls
+    map-id [] = refl
+    map-id (l ∷ ls) = ap (λ ms. l ∷ ms) (map-id ls)
 
 -- numbers down to a leaf
 pub record LeadsToLeaf (c : Games) (numbers : List ℕ) : Type 0 where
   pub up : IsPathTo c (Some (last_number numbers)) numbers
   pub is_leaf : IsLeaf c (last_number numbers)
 
-each_leads : {c : Games} {next end : ℕ} {old last : List ℕ} {ls : List (List ℕ)} → Visits c next old ls end last → Each (LeadsToLeaf c) ls
-each_leads none = tt
-each_leads (inner new w child v) = each_leads v
-each_leads {c = c} {next = next} (leaf new w is_leaf v) =
-    let up = way_path w in
-    let ends : last_number new ≡ next = last-way up in
-    (record { up = rw ends up; is_leaf = rw ends is_leaf }, each_leads v)
-
-leaves_rise : {c : Games} {next end : ℕ} {old last : List ℕ} {ls : List (List ℕ)} → Visits c next old ls end last → Rises next (map last_number ls) end
-leaves_rise none = omega arith
-leaves_rise {next = next} {end = end} {ls = ls} (inner new w child v) = rises_from next (map last_number ls) end (leaves_rise v)
-  where
-    rises_from : (low : ℕ) (ns : List ℕ) (high : ℕ) → Rises (low + 1) ns high → Rises low ns high
-    rises_from low [] high h = omega arith
-    rises_from low (n ∷ ns) high h = (omega (arith, h.0), h.1)
-leaves_rise (leaf new w is_leaf v) = let ends = last-way (way_path w) in rw ends (omega arith, leaves_rise v)
-
-visited_leaf : {c : Games} {next end : ℕ} {old last : List ℕ} {ls : List (List ℕ)} → Visits c next old ls end last → (i : ℕ) → next ≤ i → i < end → IsLeaf c i
-    → (k : ℕ) × (slice_get (map last_number ls) k ≡ Some i)
-visited_leaf none i le lt is_leaf = absurd (omega arith)
-visited_leaf {next = next} (inner new w child v) i le lt is_leaf = elim (cases_eq i next) [
-  | inl same ↦ absurd (is_leaf (i + 1) (rw same child))
-  | inr other ↦ visited_leaf v i (omega arith) lt is_leaf
-]
-visited_leaf {next = next} (leaf new w here v) i le lt is_leaf = elim (cases_eq i next) [
-  | inl same ↦ (0, ap Some (last-way (way_path w) ∙ sym same))
-  | inr other ↦ let rest = visited_leaf v i (omega arith) lt is_leaf in (suc rest.0, rest.1)
-]
-
--- the path of a line goes on from a front of the path before it
-pub record GoesOn (c : Games) (next : ℕ) (old new : List ℕ) : Type 0 where
-  pub front : Front c next old
-  pub more : ℕ
-  pub new_is : new ≡ front.above ++ range_with_len next (suc more)
-
--- each of these paths goes on from the one before it; `next` is the first node after the path `old`
-abbrev pub Follow : Games → ℕ → List ℕ → List (List ℕ) → ℕ → Type 0
-Follow c next old [] end = next ≡ end
-Follow c next old (new ∷ news) end = GoesOn c next old new × Follow c (last_number new + 1) new news end
-
-follow_inner : {c : Games} {next : ℕ} {old new : List ℕ} (end : ℕ) (ls : List (List ℕ)) → Way c next old new → parent_at c (next + 1) ≡ Some (Some next) → parent_at c end ≡ None
-    → Follow c (next + 1) new ls end → Follow c next old ls end
-follow_inner {next = next} end [] w child past f = absurd (let here : next + 1 ≡ end = f in cc)
-follow_inner {c = c} {next = next} {new = new} end (q ∷ qs) w child past f =
-    let g = f.0 in
-    let own = w.front.above in
-    let parent_is = g.front.parent_is in
-    let parent : g.front.parent ≡ Some next = cc in
-    let above : g.front.above ≡ new = one_way (rw parent at g.front.up) (way_path w) in
-    let new_is : q ≡ own ++ range_with_len next (suc (suc g.more)) =
-    g.new_is ∙ ap (λ l. l ++ range_with_len (next + 1) (suc g.more)) (above ∙ w.new_is) ∙ append_assoc own (next ∷ []) (range_with_len (next + 1) (suc g.more)) in
-    (record { front = w.front; more = suc g.more; new_is = new_is }, f.1)
-
-follow : {c : Games} {next end : ℕ} {old last : List ℕ} {ls : List (List ℕ)} → Visits c next old ls end last → parent_at c end ≡ None → Follow c next old ls end
-follow none past = refl
-follow {end = end} {ls = ls} (inner new w child v) past = follow_inner end ls w child past (follow v past)
-follow {c = c} {next = next} {end = end} {ls = l ∷ ls} (leaf new w is_leaf v) past =
-    let ends : last_number new ≡ next = last-way (way_path w) in (
-      record { front = w.front; more = 0; new_is = w.new_is },
-      rw ends (follow v past),
-    )
-
-pub paths_follow : (c : Games) → Follow c 0 [] (map (λ p. p.numbers) (paths c)) (node_count c)
-paths_follow c = follow (paths_visited c).1 (by (parent_at c (node_count c)) refl)
-  where
-    by : (o : Option (Option ℕ)) → parent_at c (node_count c) ≡ o → o ≡ None
-    by None e = refl
-    by (Some p) e = absurd (omega (arith, node_within c (node_count c) p e))
-
--- the last number of a range after others
-pub last_number-range : (front : List ℕ) (start more : ℕ) → last_number (front ++ range_with_len start (suc more)) ≡ start + more
-last_number-range front start zero = last_number-append front start [] ∙ sym (add-zero start)
-last_number-range front start (suc more) = last_number-append front start (range_with_len (start + 1) (suc more)) ∙ last_number-range [] (start + 1) more ∙ omega arith
-
 pub ends_at : {c : Games} {next : ℕ} {old new : List ℕ} (g : GoesOn c next old new) → last_number new ≡ next + g.more
-ends_at {next = next} g = ap last_number g.new_is ∙ last_number-range g.front.above next g.more
+ends_at g = last-way g.up
+
+each_leads : (c : Games) (next end : ℕ) (old : List ℕ) (ls : List (List ℕ)) → Follow c next old ls end → Each (LeadsToLeaf c) ls
+each_leads c next end old [] f = tt
+each_leads c next end old (l ∷ ls) (g, f) = let ends = ends_at g in (record { up = rw ends g.up; is_leaf = rw ends g.is_leaf }, each_leads c (next + g.more + 1) end l ls f)
+
+leaves_rise : (c : Games) (next end : ℕ) (old : List ℕ) (ls : List (List ℕ)) → Follow c next old ls end → Rises next (map last_number ls) end
+leaves_rise c next end old [] f = omega (arith, f)
+leaves_rise c next end old (l ∷ ls) (g, f) = let ends = ends_at g in rw ends (omega arith, leaves_rise c (next + g.more + 1) end l ls f)
+
+visited_leaf : (c : Games) (next end : ℕ) (old : List ℕ) (ls : List (List ℕ)) → Follow c next old ls end → (i : ℕ) → next ≤ i → i < end → IsLeaf c i
+    → (k : ℕ) × (slice_get (map last_number ls) k ≡ Some i)
+visited_leaf c next end old [] f i le lt is_leaf = absurd (omega (arith, f))
+visited_leaf c next end old (l ∷ ls) (g, f) i le lt is_leaf = elim (cases_lt (next + g.more) i) [
+  | inl past ↦ let rest = visited_leaf c (next + g.more + 1) end l ls f i (omega arith) lt is_leaf in (suc rest.0, rest.1)
+  | inr there ↦ elim (cases_eq i (next + g.more)) [
+    | inl same ↦ (0, ap Some (ends_at g ∙ sym same))
+    | inr other ↦ absurd (g.none i le (omega arith) is_leaf)
+  ]
+]
 
 -- the first node after a path is the one after its leaf
 pub after_way : {c : Games} {i : ℕ} {way : List ℕ} → IsPathTo c (Some i) way → first_after way ≡ i + 1
@@ -436,23 +407,22 @@ continues {old = old} g at =
     )
 
 leaves_of : (ps : List Path) → map last_number (map (λ p. p.numbers) ps) ≡ map leaf_of ps
-leaves_of [] = refl
-leaves_of (p ∷ ps) = ap (λ ns. leaf_of p ∷ ns) (leaves_of ps)
+leaves_of ps = map-map last_number (λ p. p.numbers) ps
 
 -- the paths' leaves rise
 pub leaves_in_order : (c : Games) → Rises 0 (map leaf_of (paths c)) (node_count c)
-leaves_in_order c = rw (← leaves_of (paths c)) (leaves_rise (paths_visited c).1)
+leaves_in_order c = rw (← leaves_of (paths c)) (leaves_rise c 0 (node_count c) [] (map (λ p. p.numbers) (paths c)) (paths_follow c))
 
 -- each leaf is that of a path
 pub covered : (c : Games) (i : ℕ) → i < node_count c → IsLeaf c i → (k : ℕ) × (slice_get (map leaf_of (paths c)) k ≡ Some i)
-covered c i lt is_leaf = let f = visited_leaf (paths_visited c).1 i (omega arith) lt is_leaf in (f.0, rw (leaves_of (paths c)) at f.1)
+covered c i lt is_leaf = let f = visited_leaf c 0 (node_count c) [] (map (λ p. p.numbers) (paths c)) (paths_follow c) i (omega arith) lt is_leaf in (f.0, rw (leaves_of (paths c)) at f.1)
 
 each_of : (c : Games) (ps : List Path) → Each (LeadsToLeaf c) (map (λ p. p.numbers) ps) → Each (λ p. LeadsToLeaf c p.numbers) ps
 each_of c [] h = tt
 each_of c (p ∷ ps) h = (h.0, each_of c ps h.1)
 
 pub each_path : (c : Games) → Each (λ p. LeadsToLeaf c p.numbers) (paths c)
-each_path c = each_of c (paths c) (each_leads (paths_visited c).1)
+each_path c = each_of c (paths c) (each_leads c 0 (node_count c) [] (map (λ p. p.numbers) (paths c)) (paths_follow c))
 
 pub leads : (c : Games) (k : ℕ) (p : Path) → slice_get (paths c) k ≡ Some p → LeadsToLeaf c p.numbers
 leads c k p e = each_get (λ path. LeadsToLeaf c path.numbers) (paths c) k p (each_path c) e
@@ -471,7 +441,7 @@ goes_on_in {c = c} next end old (l ∷ ls) zero p q h f at e g =
     let new_is : l ≡ q = cc in
     let start : next ≡ first_after p = sym at ∙ ap first_after old_is in
     rw (start, old_is, new_is) at f.0
-goes_on_in next end old (l ∷ ls) (suc k) p q h f at e g = goes_on_in (last_number l + 1) end l ls k p q h.1 f.1 (after_way h.0.up) e g
+goes_on_in next end old (l ∷ ls) (suc k) p q h f at e g = goes_on_in (next + f.0.more + 1) end l ls k p q h.1 f.1 (after_way f.0.up) e g
 
 numbers_at : (c : Games) (k : ℕ) → k ≤ length (paths c) → slice_get ([] ∷ map (λ p. p.numbers) (paths c)) k ≡ Some (numbers_before c k)
 numbers_at c zero le = refl
@@ -481,5 +451,15 @@ numbers_at c (suc k) le =
 
 pub goes_on_there : (c : Games) (k : ℕ) → k < length (paths c) → GoesOn c (first_after (numbers_before c k)) (numbers_before c k) (numbers_before c (suc k))
 goes_on_there c k lt =
-    goes_on_in 0 (node_count c) [] (map (λ p. p.numbers) (paths c)) k (numbers_before c k) (numbers_before c (suc k)) (each_leads (paths_visited c).1) (paths_follow c) refl
+    goes_on_in 0 (node_count c) [] (map (λ p. p.numbers) (paths c)) k (numbers_before c k) (numbers_before c (suc k)) (each_leads c 0 (node_count c) [] (map (λ p. p.numbers) (paths c)) (paths_follow c)) (paths_follow c) refl
     (numbers_at c k (omega arith)) (numbers_at c (suc k) (omega arith))
+
+-- the last path ends with the last node
+pub last_end : (c : Games) → first_after (numbers_before c (length (paths c))) ≡ node_count c
+last_end c =
+    let all : length (map (λ (p : Path). p.numbers) (paths c)) ≡ length (paths c) = length-map (paths c) (λ (p : Path). p.numbers) in
+    by 0 (node_count c) [] (map (λ p. p.numbers) (paths c)) (numbers_before c (length (paths c))) (paths_follow c) refl (rw all (numbers_at c (length (paths c)) (omega arith)))
+  where
+    by : (next end : ℕ) (old : List ℕ) (ls : List (List ℕ)) (p : List ℕ) → Follow c next old ls end → first_after old ≡ next → slice_get (old ∷ ls) (length ls) ≡ Some p → first_after p ≡ end
+    by next end old [] p f at e = let same : old ≡ p = cc in ap first_after (sym same) ∙ at ∙ f
+    by next end old (l ∷ ls) p f at e = by (next + f.0.more + 1) end l ls p f.1 (after_way f.0.up) e

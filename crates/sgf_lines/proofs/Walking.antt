@@ -1,4 +1,5 @@
 -- A walk along a line ends with the first node whose step is refused, or with the last node. The judged nodes are a front of the line.
+use Rattle.std.proofs.lemmas.Grind.{common_steps}
 use Rattle.std.proofs.Common.{◌≡◌, ℕ, ◌+◌, List, [], ◌∷◌, ◌++◌, Some, None, Result, Ok, Err, refl, ap, ◌∙◌, ◌⊎◌, inl, inr, zero, suc, ◌≤◌, length, take, map, Option, sym, arith, append_assoc, append-nil}
 use Rattle.std.specs.Prelude.{fold}
 use Rattle.std.proofs.lemmas.List.Sums.{fold-append}
@@ -29,9 +30,7 @@ module _ (w : Walk) (s : State) (h : StandsAfter w s) (n : Node) where
   goes_on t e = let is = next_is (Ok t) e in record { no_illegal = ap (λ (v : Walk). v.illegal) is; state = ap (λ (v : Walk). v.state) is }
 
   pub ends_at : (r : Reason) → step s n ≡ Err r → verdict_at (next w n) ≡ Illegal (s.turns + 1) n.place r
-  ends_at r e =
-      let is = next_is (Err r) e in
-      ap verdict_at is ∙ ap (λ (t : State). Illegal (t.turns + 1) n.place r) h.state
+  ends_at r e = cc (next_is (Err r) e)
 
 -- after an illegal node nothing changes
 pub after_illegal : (w : Walk) (f : IllegalNode) (ns : List Node) → w.illegal ≡ Some f → fold next w ns ≡ w
@@ -50,12 +49,7 @@ scores side nodes s h = scores_there (walk side nodes) s (goes_along h (before_r
 
 pub refuses : (side : ℕ) (before after : List Node) (n : Node) (s : State) (reason : Reason) → IsAfter (starting side) before s → step s n ≡ Err reason
     → verdict_at (walk side (before ++ n ∷ after)) ≡ Illegal (s.turns + 1) n.place reason
-refuses side before after n s reason h e =
-    let w = walk side before in
-    let g : StandsAfter w s = goes_along h (before_root side) (at_beginning side) in
-    let illegal : (next w n).illegal ≡ Some (record { node = n; reason = reason }) = ap (λ (v : Walk). v.illegal) (next_is w s g n (Err reason) e) in
-    let whole : walk side (before ++ n ∷ after) ≡ next w n = fold-append next (before_root side) before (n ∷ after) ∙ after_illegal (next w n) (record { node = n; reason = reason }) after illegal in
-    ap verdict_at whole ∙ ends_at w s g n reason e
+refuses side before after n s reason h e = grind (arith, common_steps, goes_along, at_beginning, next_is, fold-append, after_illegal, ends_at)
 
 -- each list of nodes is of one kind or the other
 later : (s t : State) (n : Node) (ns : List Node) → step s n ≡ Ok t → ((u : State) × IsAfter t ns u) ⊎ HasIllegal t ns → ((u : State) × IsAfter s (n ∷ ns) u) ⊎ HasIllegal s (n ∷ ns)
@@ -92,13 +86,7 @@ more_judged w [] = 0
 more_judged w (n ∷ ns) = one_if w.illegal (more_judged (next w n) ns)
 
 pub one_judged : (w : Walk) (n : Node) → w.illegal ≡ None → judged_by (next w n) ≡ judged_by w ++ n ∷ []
-one_judged w n none = rw none (by (step w.state n))
-  where
-    by : (r : Result State Reason) → judged_by (stepped w n r) ≡ (map (λ (p : TakenNode). p.node) w.taken ++ []) ++ n ∷ []
-    by (Ok s) = append-nil (map (λ (p : TakenNode). p.node) (w.taken ++ record { node = n; after = s } ∷ []))
-        ∙ map-append (λ (p : TakenNode). p.node) w.taken (record { node = n; after = s } ∷ [])
-        ∙ ap (λ ns. ns ++ n ∷ []) (sym (append-nil (map (λ (p : TakenNode). p.node) w.taken)))
-    by (Err reason) = ap (λ ns. ns ++ n ∷ []) (sym (append-nil (map (λ (p : TakenNode). p.node) w.taken)))
+one_judged w n none = grind (arith, common_steps, append-nil, map-append)
 
 judged_fold : (w : Walk) (ns : List Node) → judged_by (fold next w ns) ≡ judged_by w ++ take (more_judged w ns) ns
 judged_fold w [] = sym (append-nil (judged_by w))
@@ -117,12 +105,7 @@ judged_fold w (n ∷ ns) = by w.illegal refl (judged_fold (next w n) ns)
 judged_take : (w : Walk) (k : ℕ) (ns : List Node) → take (more_judged w (take k ns)) (take k ns) ≡ take k (take (more_judged w ns) ns)
 judged_take w zero ns = refl
 judged_take w (suc k) [] = refl
-judged_take w (suc k) (n ∷ ns) = by w.illegal (judged_take (next w n) k ns)
-  where
-    by : (o : Option IllegalNode) → take (more_judged (next w n) (take k ns)) (take k ns) ≡ take k (take (more_judged (next w n) ns) ns)
-        → take (one_if o (more_judged (next w n) (take k ns))) (n ∷ take k ns) ≡ take (suc k) (take (one_if o (more_judged (next w n) ns)) (n ∷ ns))
-    by (Some f) rest = refl
-    by None rest = ap (λ l. n ∷ l) rest
+judged_take w (suc k) (n ∷ ns) = grind (arith, common_steps, judged_take (next w n) k ns)
 
 -- the judged nodes are the first ones
 pub judged_front : (said : GameKind) (nodes : List Node) → (m : ℕ) × (judged_on said nodes ≡ take m nodes)
@@ -136,15 +119,12 @@ judged_of_front not_go nodes zero = refl
 judged_of_front not_go nodes (suc k) = refl
 judged_of_front bad_size nodes zero = refl
 judged_of_front bad_size nodes (suc k) = refl
-judged_of_front (board side) nodes k =
-    ap (take k) (judged_fold (before_root side) nodes) ∙ sym (judged_take (before_root side) k nodes) ∙ sym (judged_fold (before_root side) (take k nodes))
+judged_of_front (board side) nodes k = grind (arith, common_steps, judged_fold, judged_take)
 
 -- what lines share is judged alike
 pub judged_alike : (old nodes : List Node) (k : ℕ) → k ≤ length old → take k old ≡ take k nodes
     → take k (judged_on (game_kind (root_properties nodes)) nodes) ≡ take k (judged_on (game_kind (root_properties old)) old)
 judged_alike old nodes zero le same = refl
 judged_alike old nodes (suc k) le same =
-    let root : root_properties nodes ≡ root_properties old = sym (same_root (suc k) old nodes (omega arith) le same) in
     let said = game_kind (root_properties old) in
-    ap (λ ps. take (suc k) (judged_on (game_kind ps) nodes)) root ∙ judged_of_front said nodes (suc k) ∙ ap (judged_on said) (sym same)
-    ∙ sym (judged_of_front said old (suc k))
+    grind (arith, common_steps, same_root (suc k) old nodes (omega arith) le same, judged_of_front said nodes (suc k), judged_of_front said old (suc k))

@@ -85,6 +85,7 @@ impl<'c, 'a> SequenceCursor<'c, 'a> {
     }
 
     /// Moves the cursor to just after the line with this place. After a refusal the cursor is unchanged.
+    #[tactic(auto, using(crate::proofs::SequenceCursors::no_such_line, crate::proofs::SequenceCursors::found))]
     pub(crate) fn seek_after(&mut self, place: u64) -> Result<(), SeekFault>
         ensures sought { OnOk result (IsAfterPlace place self.old.at self.new.at) }
         ensures why { IfErr result (IsSeekFault self.old.at.games place) }
@@ -224,6 +225,7 @@ impl<'c, 'a> SequenceCursor<'c, 'a> {
     }
 
     /// The root of that line.
+    #[tactic(auto, using(crate::proofs::SequenceCursors::part_there, crate::proofs::SequenceCursors::root_is))]
     pub(crate) fn root(&self) -> NodeRef<'_, 'a>
         requires { 0 < length self.now.ends }
         ensures { slice_get (nodes_before self.now.at) 0 ≡ Some result }
@@ -240,6 +242,7 @@ impl<'c, 'a> SequenceCursor<'c, 'a> {
     }
 
     /// Its place: the offset in bytes, from 0, of the `;` of its last node.
+    #[tactic(auto, using(crate::proofs::SequenceCursors::one_before, crate::proofs::SequenceCursors::last_there, crate::proofs::SequenceCursors::place_is))]
     pub(crate) fn place(&self) -> u64
         requires { 0 < length self.now.ends }
         ensures { option_map place_of (line_before self.now.at) ≡ Some result }
@@ -304,6 +307,7 @@ fn front_up_to(path: &[Part], outer: Option<usize>) -> Front
 }
 
 /// A sequence as a part of a line. `skipped` nodes before the sequence's end aren't on the line.
+#[tactic(auto, using(crate::proofs::SequenceStarts::fewer))]
 fn part_of(outline: &Outline<'_>, sequence: usize, skipped: usize) -> Part
     requires within { sequence < length (sequence_starts outline.now) }
     requires skipped { skipped ≤ sequence_start outline.now sequence }
@@ -348,6 +352,7 @@ fn go_down(
 }
 
 /// The sequence that ends in the leaf with this place, if there is one.
+#[tactic(auto, using(crate::proofs::SequenceSeeking::no_leaf_at))]
 fn end_at(outline: &Outline<'_>, place: u64) -> Option<usize>
     ensures { IsEndAt outline.now place result }
 {

@@ -1,4 +1,5 @@
 -- There is room for each number, and it stands after those so far.
+use Rattle.std.proofs.lemmas.Grind.{common_steps}
 use Rattle.std.proofs.Common.{◌≡◌, ◌+◌, ◌-◌, ◌++◌, ◌∷◌, [], ap, ◌∙◌, length, length-append, append_assoc, arith}
 use Rattle.std.proofs.lemmas.List.FromFn.{length-range_with_len}
 use Rattle.std.specs.List.{range_with_len}
@@ -6,11 +7,7 @@ use Rattle.sgf_lines.proofs.Lists.{range_append}
 use Rattle.sgf_lines.proofs.cursor.push_range.Goals as goal
 
 pub unwrap-requires : goal.unwrap-requires
-unwrap-requires c =
-    let appended = ap length c.loop-number.invariant.appended in
-    let parts = length-append c.args.path.now.items (range_with_len c.args.first (c.loop-number.number - c.args.first)) in
-    let back = length-range_with_len c.args.first (c.loop-number.number - c.args.first) in
-    c.push.ensures.succeeds (omega (arith, appended, parts, back, c.loop-number.invariant.room, c.loop-number.path.ok.0, c.args.path.now.ok.0, c.loop-number-test.true))
+unwrap-requires c = grind (arith, common_steps, length-append, length-range_with_len)
 
 pub loop-number-preserved : goal.loop-number-preserved
 loop-number-preserved c =
@@ -19,11 +16,4 @@ loop-number-preserved c =
     let here : c.args.first + done ≡ c.loop-number.number = omega arith in
     let count : done + 1 ≡ c.loop-number.number + 1 - c.args.first = omega arith in
     let pushed : c.push.new.self.items ≡ c.loop-number.path.items ++ c.loop-number.number ∷ [] = rw c.unwrap.ensures at c.push.ensures.items in
-    record {
-      appended =
-          pushed ∙ ap (λ ns. ns ++ c.loop-number.number ∷ []) c.loop-number.invariant.appended
-          ∙ append_assoc c.args.path.now.items (range_with_len c.args.first done) (c.loop-number.number ∷ [])
-          ∙ ap (λ ns. c.args.path.now.items ++ ns) (rw (here, count) at (range_append c.args.first done 1));
-      room = omega (arith, c.loop-number.invariant.room, c.push.ensures.capacity);
-      grown = omega (arith, c.loop-number.invariant.grown, c.push.ensures.capacity);
-    }
+    grind (arith, common_steps, append_assoc c.args.path.now.items (range_with_len c.args.first done) (c.loop-number.number ∷ []), range_append c.args.first done 1)

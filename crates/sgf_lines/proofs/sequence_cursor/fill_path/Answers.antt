@@ -1,4 +1,5 @@
 -- One step up the way writes one part more.
+use Rattle.std.proofs.lemmas.Grind.{common_steps}
 use Rattle.std.proofs.Common.{arith}
 use Rattle.sgf_lines.proofs.SequenceStarts.{fewer}
 use Rattle.sgf_lines.proofs.SequenceClimbing.{fills, room_for}
@@ -9,18 +10,11 @@ overflow_cast-path c = omega (arith, c.loop-sequence.invariant.there c.in-Some.n
 
 pub overflow_cast-path-in-Some : goal.overflow_cast-path-in-Some
 overflow_cast-path-in-Some c =
-    let room =
-    room_for c.args.outline.now c.args.last c.in-Some.number c.loop-sequence.room c.loop-sequence.end c.loop-sequence.path c.loop-sequence.sequence c.loop-sequence.invariant c.in-Some.is in
-    omega (arith, room.short, c.requires.few)
+    grind (arith, common_steps, room_for c.args.outline.now c.args.last c.in-Some.number c.loop-sequence.room c.loop-sequence.end c.loop-sequence.path c.loop-sequence.sequence c.loop-sequence.invariant c.in-Some.is)
 
 pub overflow_sub-end : goal.overflow_sub-end
 overflow_sub-end c =
-    let room =
-    room_for c.args.outline.now c.args.last c.in-Some.number c.loop-sequence.room c.loop-sequence.end c.loop-sequence.path c.loop-sequence.sequence c.loop-sequence.invariant c.in-Some.is in
-    omega (arith, room.long, c.sequence_length-end.ensures)
+    grind (arith, common_steps, room_for c.args.outline.now c.args.last c.in-Some.number c.loop-sequence.room c.loop-sequence.end c.loop-sequence.path c.loop-sequence.sequence c.loop-sequence.invariant c.in-Some.is)
 
 pub loop-sequence-preserved : goal.loop-sequence-preserved
-loop-sequence-preserved c =
-    rw c.sequence_length-end.ensures
-    (fills c.args.outline.now c.args.last c.in-Some.number c.loop-sequence.room c.loop-sequence.end c.loop-sequence.path c.loop-sequence.sequence c.sequence_outer-sequence.result
-    c.loop-sequence.invariant c.in-Some.is c.sequence_outer-sequence.ensures)
+loop-sequence-preserved c = grind (arith, common_steps, fills)

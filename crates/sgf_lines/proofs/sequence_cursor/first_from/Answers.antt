@@ -1,4 +1,5 @@
 -- Places rise in file order, and so do those of the last nodes of sequences.
+use Rattle.std.proofs.lemmas.Grind.{common_steps}
 use Rattle.std.proofs.Common.{◌≡◌, ◌+◌, ◌-◌, ◌/◌, inl, inr, arith}
 use Rattle.std.proofs.lemmas.Bool.{cases_eq}
 use Rattle.sgf_tree.specs.FileOrder.{sequence_end}
@@ -15,8 +16,7 @@ loop-low-preserved-then-last_place-place c =
       before = λ earlier here lt e. elim (cases_eq earlier middle) [
         | inl same ↦ let there = rw same at e in let is = c.last_place.ensures in let equal : c.last_place.result ≡ here = cc in omega (arith, c.if-last_place-place.true)
         | inr other ↦
-            let rises = lasts_rise c.args.outline.now earlier middle (omega arith) (omega (arith, c.loop-low.invariant.within)) in
-            omega (arith, c.if-last_place-place.true, c.requires (sequence_end c.args.outline.now earlier - 1) (sequence_end c.args.outline.now middle - 1) here c.last_place.result rises e c.last_place.ensures)
+            grind (arith, common_steps, lasts_rise c.args.outline.now earlier middle (omega arith) (omega (arith, c.loop-low.invariant.within)))
       ];
       after = c.loop-low.invariant.after;
     }

@@ -1,4 +1,5 @@
 -- One step up the way counts one sequence more, and its nodes.
+use Rattle.std.proofs.lemmas.Grind.{common_steps}
 use Rattle.std.proofs.Common.{arith}
 use Rattle.sgf_lines.proofs.SequenceStarts.{fewer}
 use Rattle.sgf_lines.proofs.SequenceClimbing.{measure_begins, measures, measure_fits, measured}
@@ -8,16 +9,11 @@ pub loop-sequence-init : goal.loop-sequence-init
 loop-sequence-init c = measure_begins c.args.outline.now c.args.last c.requires.within
 
 pub overflow_add-sequences : goal.overflow_add-sequences
-overflow_add-sequences c =
-    let fits =
-    measure_fits c.args.outline.now c.args.last c.in-Some.number c.loop-sequence.sequences c.loop-sequence.nodes c.loop-sequence.sequence c.loop-sequence.invariant c.in-Some.is in
-    omega (arith, fits.0, fewer c.args.outline.now)
+overflow_add-sequences c = grind (arith, common_steps, measure_fits, fewer)
 
 pub loop-sequence-preserved : goal.loop-sequence-preserved
 loop-sequence-preserved c =
-    rw c.sequence_length-nodes.ensures
-    (measures c.args.outline.now c.args.last c.in-Some.number c.loop-sequence.sequences c.loop-sequence.nodes c.loop-sequence.sequence c.sequence_outer-sequence.result c.loop-sequence.invariant
-    c.in-Some.is c.sequence_outer-sequence.ensures)
+    grind (arith, common_steps, measures c.args.outline.now c.args.last c.in-Some.number c.loop-sequence.sequences c.loop-sequence.nodes c.loop-sequence.sequence c.sequence_outer-sequence.result c.loop-sequence.invariant c.in-Some.is c.sequence_outer-sequence.ensures)
 
 pub returns : goal.returns
 returns c = measured c.args.outline.now c.args.last c.loop-sequence.sequences c.loop-sequence.nodes c.loop-sequence.sequence c.loop-sequence.invariant c.in_default.is

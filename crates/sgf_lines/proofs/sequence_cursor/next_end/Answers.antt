@@ -1,4 +1,5 @@
 -- A sequence that ends in no leaf has none.
+use Rattle.std.proofs.lemmas.Grind.{common_steps}
 use Rattle.std.proofs.Common.{◌≤◌, length, arith, subst}
 use Rattle.std.proofs.lemmas.Bool.{both_ways}
 use Rattle.sgf_tree.specs.FileOrder.{sequence_starts}
@@ -8,12 +9,8 @@ use Rattle.sgf_lines.proofs.SequenceStarts.{no_leaf_inside, no_leaf_more, past_a
 use Rattle.sgf_lines.proofs.sequence_cursor.next_end.Goals as goal
 
 pub returns-then-ends_in_leaf-clause-first : goal.returns-then-ends_in_leaf-clause-first
-returns-then-ends_in_leaf-clause-first c = record {
-  from_there = c.loop-sequence.auto.sequence;
-  within = omega (arith, c.sequences-sequence-end.ensures.count, c.loop-sequence-test.true);
-  is_leaf = c.ends_in_leaf.ensures.0 c.if-ends_in_leaf.true;
-  first = no_leaf_inside c.args.outline.now c.args.from c.loop-sequence.sequence (omega (arith, c.sequences-sequence-end.ensures.count, c.loop-sequence-test.true)) c.loop-sequence.invariant;
-}
+returns-then-ends_in_leaf-clause-first c =
+    grind (arith, common_steps, no_leaf_inside c.args.outline.now c.args.from c.loop-sequence.sequence (omega (arith, c.sequences-sequence-end.ensures.count, c.loop-sequence-test.true)) c.loop-sequence.invariant)
 
 pub loop-sequence-preserved : goal.loop-sequence-preserved
 loop-sequence-preserved c =

@@ -1,4 +1,5 @@
 -- The last part ends after all nodes.
+use Rattle.std.proofs.lemmas.Grind.{common_steps}
 use Rattle.std.proofs.Common.{◌≡◌, length, ap, ◌∙◌, arith}
 use Rattle.sgf_lines.specs.inner.Following.{nodes_before}
 use Rattle.sgf_lines.specs.inner.Sequences.{nodes_in, part_ends}
@@ -7,10 +8,7 @@ use Rattle.sgf_lines.proofs.sequence_cursor.SequenceCursor.len.Goals as goal
 use Rattle.sgf_lines.proofs.sequence_cursor.SequenceCursor.len.Goals.{After-nodes_in}
 
 nodes_are : (c : After-nodes_in) → c.nodes_in.result ≡ length (nodes_before c.args.self.now.at)
-nodes_are c =
-    let count : c.len.result ≡ length c.self.inside.path.items = omega (arith, c.len.ensures, c.self.inside.path.ok.0) in
-    c.nodes_in.ensures.count ∙ ap (λ parts. nodes_in (part_ends parts) c.len.result) c.deref.ensures.value ∙ ap (nodes_in (part_ends c.self.inside.path.items)) count
-    ∙ all_nodes c.self.inside.outline.now c.self.inside.next c.self.inside.path.items c.self.invariant c.args.self.now c.self.view_is
+nodes_are c = grind (arith, common_steps, all_nodes)
 
 pub returns-clause-nodes : goal.returns-clause-nodes
 returns-clause-nodes c = nodes_are c

@@ -1,4 +1,5 @@
 -- The cursor stands after the leaf.
+use Rattle.std.proofs.lemmas.Grind.{common_steps}
 use Rattle.std.proofs.Common.{ap, arith}
 use Rattle.sgf_tree.specs.Tree.{node_count}
 use Rattle.sgf_lines.proofs.SequenceStarts.{fewer}
@@ -6,8 +7,7 @@ use Rattle.sgf_lines.proofs.SequenceCursors.{games_are, stands_sought}
 use Rattle.sgf_lines.proofs.sequence_cursor.SequenceCursor.seek_end.Goals as goal
 
 pub overflow_add-self : goal.overflow_add-self
-overflow_add-self c =
-    omega (arith, fewer c.args.self.now.at.games, c.requires.within, c.nodes-nodes.ensures.count, c.nodes-nodes.ensures.few, ap node_count (games_are c.self.inside.outline.now c.self.inside.next c.self.inside.path.items c.self.invariant c.args.self.now c.self.view_is))
+overflow_add-self c = grind (arith, common_steps, fewer, games_are)
 
 pub invariant_of-self-2 : goal.invariant_of-self-2
 invariant_of-self-2 c =

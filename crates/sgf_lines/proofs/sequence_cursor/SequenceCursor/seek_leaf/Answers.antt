@@ -1,4 +1,5 @@
 -- The leaf is the last node of its sequence.
+use Rattle.std.proofs.lemmas.Grind.{common_steps}
 use Rattle.std.proofs.Common.{◌≡◌, ◌+◌, ◌-◌, arith}
 use Rattle.sgf_tree.specs.FileOrder.{sequence_end}
 use Rattle.sgf_lines.proofs.SequenceCursors.{leaf_ends}
@@ -10,9 +11,7 @@ ends c =
     leaf_ends c.self.inside.outline.now c.self.inside.next c.self.inside.path.items c.self.invariant c.args.self.now c.self.view_is c.args.leaf c.sequence_of-sequence.result c.sequence_of-sequence.ensures.within c.sequence_of-sequence.ensures.start c.sequence_of-sequence.ensures.end c.requires.is_leaf
 
 pub seek_end-requires-clause-is_leaf : goal.seek_end-requires-clause-is_leaf
-seek_end-requires-clause-is_leaf c =
-    let last : c.args.leaf ≡ sequence_end c.args.self.now.at.games c.sequence_of-sequence.result - 1 = omega (arith, ends (goal.at.seek_end-requires-clause-is_leaf c).After-sequence_of-sequence) in
-    rw last at c.requires.is_leaf
+seek_end-requires-clause-is_leaf c = grind (arith, common_steps, ends)
 
 pub returns-clause-sought : goal.returns-clause-sought
 returns-clause-sought c = rw (ends (goal.at.returns-clause-sought c).After-sequence_of-sequence) c.seek_end.ensures.sought
