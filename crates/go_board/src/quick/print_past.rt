@@ -43,9 +43,7 @@ use crate::points::Point;
 use crate::quick::capture::add_points;
 use crate::quick::print_past::colourings::Colourings;
 use crate::quick::print_past::emptied::Emptied;
-use crate::quick::print_past::print::{
-    print_after_stone, print_after_taking, print_from, print_of,
-};
+use crate::quick::print_past::print::{print_after_stone, print_after_taking, print_of};
 use crate::quick::print_past::table::{Gap, Table};
 use crate::referee::SetupOp;
 use crate::size::MAX_ROWS;
@@ -378,7 +376,7 @@ impl PrintPast {
         let mut made = self.newest().copy();
         made.place(colour, point);
         made.restore(true);
-        let print = print_from(self.table.newest(), self.newest(), &made);
+        let print = print_of(&made);
         self.table.link(&self.colourings);
         if self.table.has(&self.colourings, &made, print) {
             return Ok(false);
