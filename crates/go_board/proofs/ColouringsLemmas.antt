@@ -10,9 +10,9 @@ use Rattle.go_board.specs.declared.quick.print_past.changes.Older.{Older}
 use Rattle.go_board.specs.Grid.{Grid}
 use Rattle.go_board.specs.Clearing.{has_unreaching}
 use Rattle.go_board.specs.Past.{Held, PastColourings, all_of, stretch_of, with_next}
-use Rattle.go_board.specs.inner.Changes.{first_grid, after_changes, is_full, IsEndOf, IsChangeOn, MakeOne, before, changes_before, held_before, AreKept, AreCounted, AreOn, IsPast}
+use Rattle.go_board.specs.inner.Changes.{first_grid, after_changes, is_full, IsEndOf, KeepRows, IsChangeOn, MakeOne, before, changes_before, held_before, AreKept, AreCounted, AreOn, IsPast}
 use Rattle.go_board.specs.inner.Key.{start_of, since}
-use Rattle.go_board.proofs.ChangesLemmas.{after-side, after-append}
+use Rattle.go_board.proofs.ChangesLemmas.{after-side, after-append, leads_back, makes_one, kept_on}
 
 -- a stretch has no more older colourings than there are
 pub counted-le : (older_in_stretch : ℕ) (os : List Older) → AreCounted older_in_stretch os → older_in_stretch ≤ length os
@@ -79,7 +79,7 @@ module _ (g h : Grid) (older_in_stretch next : ℕ) (older : List Older) (o : Ol
   turned : reverse (older ++ o ∷ []) ≡ o ∷ reverse older
   turned = reverse-append older (o ∷ [])
 
-  pub past-push : IsPast g older_in_stretch older changes → (IsTrue o.settled → has_unreaching g ≡ false) → (IsTrue (is_full (length older)) → MakeOne g more) → AreOn h.side changes → AreOn h.side more → IsPast h next (older ++ o ∷ []) all
+  past-push : IsPast g older_in_stretch older changes → (IsTrue o.settled → has_unreaching g ≡ false) → (IsTrue (is_full (length older)) → MakeOne g more) → AreOn h.side changes → AreOn h.side more → IsPast h next (older ++ o ∷ []) all
   past-push past settled full on on_more = record {
     kept = rw turned (
       omega (arith, start, ap (λ (xs : List Change). length xs) added, length-append changes more),
@@ -95,12 +95,25 @@ module _ (g h : Grid) (older_in_stretch next : ℕ) (older : List Older) (o : Ol
       counted_on true e some = absurd (omega (arith, e, some))
       counted_on false e some = omega (arith, e, same)
 
-  pub held-push : past_held h next (reverse (older ++ o ∷ [])) all ≡ with_next (past_held g older_in_stretch (reverse older) changes) h begins
+  held-push : past_held h next (reverse (older ++ o ∷ [])) all ≡ with_next (past_held g older_in_stretch (reverse older) changes) h begins
   held-push = rw (turned, begins_is begins follows, before_is, rest_is, same) refl
     where
       begins_is : (b : Bool) → next ≡ cond b 0 (older_in_stretch + 1) → (next == 0) ≡ b
       begins_is true e = rw e refl
       begins_is false e = rw e (grind (arith, nat_tests))
+
+-- the next colouring, with the rows kept that lead back from it
+pub grown : (g h : Grid) (older_in_stretch next : ℕ) (older older' : List Older) (o : Older) (changes all : List Change) (full begins : Bool) (past : PastColourings)
+    → past_held g older_in_stretch (reverse older) changes ≡ past → IsPast g older_in_stretch older changes → length g.cells ≡ g.side * g.side → h.side ≡ g.side → length h.cells ≡ h.side * h.side
+    → KeepRows g h full g.side changes all → older' ≡ older ++ o ∷ [] → next ≡ cond begins 0 (older_in_stretch + 1) → o.older_in_stretch ≡ older_in_stretch → o.start ≡ length changes → (IsTrue o.settled → has_unreaching g ≡ false) → full ≡ is_full (length older)
+    → IsPast h next older' all × (past_held h next (reverse older') all ≡ with_next past h begins)
+grown g h n next older older' o changes all full begins past view is cells side cells_h kept more follows same start settled is_full_so =
+    let back = leads_back cells kept side cells_h in
+    rw more (
+      past-push g h n next older o changes kept.more all begins follows same start kept.added back is settled (λ yes. makes_one cells kept (is_full_so ∙ yes))
+          (subst (λ m. AreOn m changes) (sym side) is.on_grid) (subst (λ m. AreOn m kept.more) (sym side) (kept_on cells kept)),
+      held-push g h n next older o changes kept.more all begins follows same start kept.added back ∙ ap (λ (p : PastColourings). with_next p h begins) view,
+    )
 
 -- going back by one colouring
 turned-take : (older : List Older) (i : ℕ) (d : Older) → i < length older → reverse (take (i + 1) older) ≡ get_or older i d ∷ reverse (take i older)

@@ -12,7 +12,7 @@ use crate::board::Board;
 use crate::fault::MemoryFault;
 use crate::points::Point;
 use crate::quick::print_past::changes::{
-    Change, FULL, Older, is_full, keep_played, keep_rows, rows_apart, take_back,
+    Change, FULL, Older, is_full, keep_rows, put_kept, take_back,
 };
 use crate::size::MAX_ROWS;
 use crate::stones::Colour;
@@ -134,15 +134,14 @@ impl Colourings {
     {
         self.newest.has_all_cells();
         board.has_all_cells();
-        make_room(&mut self.older)?;
+        make_room(&mut self.older, &mut self.changes)?;
         let kept = Older {
             start: self.changes.len(),
             older_in_stretch: self.older_in_stretch as u32,
             settled: self.newest.is_settled(),
         };
         let all = is_full(self.older.len());
-        let rows = rows_apart(&self.newest, board, all);
-        keep_rows(&self.newest, rows, &mut self.changes)?;
+        keep_rows(&self.newest, board, all, &mut self.changes);
         self.older.push_reserved(kept);
         self.newest = board.copy();
         self.older_in_stretch = next_older_in_stretch(self.older_in_stretch, begins);
@@ -185,15 +184,21 @@ impl Colourings {
         ensures err { OnErr result (self.new ≡ self.old) }
     {
         self.newest.has_all_cells();
-        make_room(&mut self.older)?;
+        make_room(&mut self.older, &mut self.changes)?;
         let kept = Older {
             start: self.changes.len(),
             older_in_stretch: self.older_in_stretch as u32,
             settled: self.newest.is_settled(),
         };
         let full = is_full(self.older.len());
-        keep_played(&self.newest, point, taken, full, &mut self.changes)?;
-        self.newest.put(colour, point, taken);
+        put_kept(
+            &mut self.newest,
+            colour,
+            point,
+            taken,
+            full,
+            &mut self.changes,
+        );
         self.older.push_reserved(kept);
         self.older_in_stretch += 1;
         Ok(())
@@ -222,17 +227,20 @@ impl Colourings {
     }
 }
 
-/// Makes room for one more older colouring. There are at most `MOST`.
+/// Makes room for one more older colouring, and for all rows of it. There are at most `MOST`.
 #[inline(always)]
-fn make_room(older: &mut Vec<Older>) -> Result<(), MemoryFault>
+fn make_room(older: &mut Vec<Older>, changes: &mut Vec<Change>) -> Result<(), MemoryFault>
     ensures items { older.new.items ≡ older.old.items }
     ensures ok { OnOk result (length older.new.items < vec_capacity older.new) }
     ensures few { OnOk result (length older.new.items < MOST) }
+    ensures changes { changes.new.items ≡ changes.old.items }
+    ensures rows { OnOk result (length changes.new.items + MAX_ROWS ≤ vec_capacity changes.new) }
 {
     if older.len() >= MOST {
         return Err(MemoryFault);
     }
     older.reserve(1)?;
+    changes.reserve(MAX_ROWS)?;
     Ok(())
 }
 
