@@ -97,7 +97,7 @@ changes_before kept changes = take kept.start changes
 abbrev pub held_before : Grid → List Older → List Change → List Held
 held_before grid [] changes = []
 held_before grid (kept ∷ others) changes =
-    record { colouring = before grid kept changes; begins = kept.older_in_stretch == 0 }
+    record { colouring = before grid kept changes; begins = kept.stretch_start == length others }
     ∷ held_before (before grid kept changes) others (changes_before kept changes)
 
 -- Each `start` is at most the number of changes. The changes of a full step make the colouring before it from any grid. A
@@ -110,12 +110,11 @@ AreKept grid (kept ∷ others) changes =
     × (IsTrue (is_full (length others)) → MakeOne (before grid kept changes) (drop kept.start changes))
     × AreKept (before grid kept changes) others (changes_before kept changes)
 
--- The count of a colouring, `older_in_stretch`, is 0 if it begins a stretch.
--- Otherwise it is 1 more than the count of the colouring before it.
-abbrev pub AreCounted : ℕ → List Older → Type 0
-AreCounted older_in_stretch [] = older_in_stretch ≡ 0
-AreCounted older_in_stretch (kept ∷ others) =
-    (0 < older_in_stretch → older_in_stretch ≡ suc kept.older_in_stretch) × AreCounted kept.older_in_stretch others
+-- The start of a colouring's stretch is its own number, or else that of the colouring before it. The list is that of the older ones.
+abbrev pub AreStarted : ℕ → List Older → Type 0
+AreStarted start [] = start ≡ 0
+AreStarted start (kept ∷ others) =
+    (start ≤ suc (length others)) × (start < suc (length others) → start ≡ kept.stretch_start) × AreStarted kept.stretch_start others
 
 -- `end` is the number of changes up to the colouring with this number: all, or those before the ones that lead back to it
 abbrev pub IsEndOf : List Older → ℕ → ℕ → ℕ → Type 0
@@ -124,7 +123,7 @@ IsEndOf older changes number end =
     × ((kept : Older) → number < length older → end ≡ (slice_index_or older number kept).start)
 
 -- what is kept of a past; the older colourings stand oldest first
-pub record IsPast (newest : Grid) (older_in_stretch : ℕ) (older : List Older) (changes : List Change) : Type 0 where
+pub record IsPast (newest : Grid) (stretch_start : ℕ) (older : List Older) (changes : List Change) : Type 0 where
   pub kept : AreKept newest (reverse older) changes
-  pub counted : AreCounted older_in_stretch (reverse older)
+  pub started : AreStarted stretch_start (reverse older)
   pub on_grid : AreOn newest.side changes

@@ -30,8 +30,8 @@ pub(crate) struct Change {
 pub(crate) struct Older {
     /// The index of the first of the changes that lead back to it from the colouring after it.
     pub start: usize,
-    /// The number of older colourings in its stretch: 0 if it begins the stretch.
-    pub older_in_stretch: u32,
+    /// The number of the first colouring of its stretch.
+    pub stretch_start: u32,
     /// Whether every stone of it is known to have a liberty.
     pub settled: bool,
 }

@@ -15,7 +15,7 @@ ghost use Rattle.go_board.specs.Grid.{cell_at, with_cell};
 ghost use Rattle.go_board.specs.Clearing.{play};
 ghost use Rattle.go_board.specs.inner.Groups.{IsMove};
 ghost use Rattle.go_board.specs.inner.Print.{number_within, print_of, word_number};
-ghost use Rattle.go_board.specs.inner.Rows.{has_bit};
+ghost use Rattle.go_board.specs.inner.Rows.{has_bit, is_set};
 
 use crate::board::Board;
 use crate::board::stone_rows::{has_column, without_column};
@@ -44,7 +44,7 @@ pub(crate) fn print_of(board: &Board) -> u64
 }
 
 /// The print after a stone is put on an empty point, from the print before.
-pub(crate) fn print_after_stone(print: u64, board: &Board, colour: Colour, point: Point) -> u64
+fn print_after_stone(print: u64, board: &Board, colour: Colour, point: Point) -> u64
     requires on_board { IsOn board.now.side point }
     requires empty { cell_at board.now point ≡ Empty }
     requires print { print ≡ print_of board.now }
@@ -58,8 +58,8 @@ pub(crate) fn print_after_stone(print: u64, board: &Board, colour: Colour, point
     })
 }
 
-/// The print after a stone is put on an empty point, from the print before; `taken` is what the stone takes off. Only stones that change
-/// are looked at.
+/// The same; `taken` is what the stone takes off. Only stones that change are looked at.
+#[inline(always)]
 pub(crate) fn print_after_taking(
     print: u64,
     board: &Board,
@@ -72,7 +72,10 @@ pub(crate) fn print_after_taking(
     ensures { result ≡ print_of (play board.now colour point) }
 {
     board.has_all_cells();
-    let is_taken = has_column(columns_in(taken, point.row), usize::from(point.col));
+    if taken.is_empty() {
+        return print_after_stone(print, board, colour, point);
+    }
+    let is_taken = has_point(taken, point);
     let put = if is_taken {
         print
     } else {
@@ -99,6 +102,14 @@ fn print_within(board: &Board, points: &[u64]) -> u64
         }
     }
     print
+}
+
+/// Whether a set has a point. The set may have fewer rows than the board.
+pub(crate) fn has_point(rows: &[u64], point: Point) -> bool
+    requires { point.col < 64 }
+    ensures { result ≡ is_set rows.now point }
+{
+    has_column(columns_in(rows, point.row), usize::from(point.col))
 }
 
 /// How many points come after a point, row by row from the top, from left to right.
