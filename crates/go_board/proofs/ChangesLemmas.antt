@@ -1,5 +1,5 @@
 -- Changes that lead back from a colouring to the one before it.
-use Rattle.std.proofs.Common.{◌≡◌, ◌≢◌, ◌⊎◌, ◌==◌, ℕ, ◌*◌, ◌<◌, inl, inr, Bool, true, false, cond, List, [], ◌∷◌, ◌++◌, length, take, drop, refl, sym, ap, subst, ◌∙◌, append_assoc, All, slice_index}
+use Rattle.std.proofs.Common.{◌≡◌, ◌≢◌, ◌⊎◌, ◌==◌, ℕ, ◌+◌, ◌*◌, ◌<◌, inl, inr, Bool, true, false, cond, List, [], ◌∷◌, ◌++◌, length, take, drop, refl, sym, ap, subst, ◌∙◌, append_assoc, All, arith}
 use Rattle.std.proofs.lemmas.Bool.{cases_Bool, cases_eq, false≢true}
 use Rattle.std.proofs.lemmas.Bool.Decides.{Decides-eqb}
 use Rattle.std.proofs.lemmas.List.{append-nil, take-append-drop, length-set}
@@ -13,10 +13,10 @@ use Rattle.go_board.specs.Colour.{same_cell, stone_of}
 use Rattle.go_board.specs.Point.{IsOn, index_of}
 use Rattle.go_board.specs.Grid.{Grid, cell_at, grid_of}
 use Rattle.go_board.specs.Clearing.{play}
-use Rattle.go_board.specs.inner.Groups.{TakesOff}
+use Rattle.go_board.specs.inner.Groups.{IsMove, TakesOff}
 use Rattle.go_board.specs.inner.Regions.{with_row}
 use Rattle.go_board.specs.inner.Rows.{has_bit}
-use Rattle.go_board.specs.inner.Changes.{with_change, after_changes, AreOn, IsChangeOn, IsRowOf, HasRow, KeepRows, CoverChange, MakeOne}
+use Rattle.go_board.specs.inner.Changes.{with_change, after_changes, AddsRow, AreOn, IsChangeOn, IsRowOf, IsSameRow, HasRow, KeepRows, MakeOne}
 use Rattle.go_board.proofs.RuleLemmas.{false_from_Decides}
 use Rattle.go_board.proofs.GridLemmas.{cell_at-grid_of, length-grid_of, cell_at-with_cell_elsewhere}
 use Rattle.go_board.proofs.GroupLemmas.{grid_of-cells}
@@ -185,10 +185,6 @@ one_more g (x ∷ xs) c none =
     ap (λ (h : Grid). with_change h x) (one_more g xs c (λ later. none (inr later)))
     ∙ either_first (after_changes g xs) c x (λ same. none (inl (sym same)))
 
--- no row is kept yet
-pub KeepRows-none : (g : Grid) (rows : ℕ → Bool) (a : List Change) → ((row : ℕ) → rows row ≡ true → ⊥) → KeepRows g rows a a
-KeepRows-none g rows a none = record { more = []; added = sym (append-nil a); are = All-nil (IsRowOf g); all = λ r is. absurd (none r is) }
-
 has_row-front : (row : ℕ) (xs : List Change) (c : Change) → HasRow row xs → HasRow row (xs ++ c ∷ [])
 has_row-front row [] c has = absurd has
 has_row-front row (x ∷ xs) c (inl at) = inl at
@@ -204,39 +200,70 @@ has_row-parts row [] c (inr none) = absurd none
 has_row-parts row (x ∷ xs) c (inl at) = inl (inl at)
 has_row-parts row (x ∷ xs) c (inr later) = elim (has_row-parts row xs c later) [ inl before ↦ inl (inr before) | inr at ↦ inr at ]
 
--- one row more
-pub KeepRows-more : (g : Grid) (rows more : ℕ → Bool) (a b next : List Change) (c : Change) → next ≡ b ++ c ∷ [] → IsRowOf g c → ((row : ℕ) → more row ≡ true → (c.row ≡ row) ⊎ (rows row ≡ true)) → KeepRows g rows a b → KeepRows g more a next
-KeepRows-more g rows more a b next c pushed is each h = record {
-  more = h.more ++ c ∷ [];
-  added = pushed ∙ ap (λ xs. xs ++ c ∷ []) h.added ∙ append_assoc a h.more (c ∷ []);
-  are = All-push (IsRowOf g) h.more c h.are is;
-  all = λ r there. elim (each r there) [ inl at ↦ has_row-last r h.more c at | inr before ↦ has_row-front r h.more c (h.all r before) ];
-}
+-- what is kept of the first rows
+pub kept_none : (old new : Grid) (all : Bool) (cs : List Change) → KeepRows old new all 0 cs cs
+kept_none old new all cs = record { more = []; added = sym (append-nil cs); are = All-nil (IsRowOf old); each = λ r low. absurd (omega (arith, low)) }
 
--- the rows of a stone and of what it takes off are all that it changes
-pub stone_covered : (g : Grid) (k : Colour) (p : Point) (taken : List ℕ) (rows : ℕ → Bool) → IsOn g.side p → TakesOff g k p taken → rows p.row ≡ true → ((row : ℕ) → row < length taken → slice_index taken row ≢ 0 → rows row ≡ true) → (q : Point) → IsOn g.side q → rows q.row ≡ false → cell_at (play g k p) q ≡ cell_at g q
-stone_covered g k p taken rows on takes there each q at none =
-    takes.played.kept q at (λ gone. false≢true (sym none ∙ each q.row (row_below taken q gone) (λ zero. false≢true (sym (ap (λ w. has_bit w q.col) zero ∙ has_bit-zero q.col) ∙ gone))))
-    ∙ cell_at-with_cell_elsewhere g p q (stone_of k) on at (λ same. false≢true (sym none ∙ ap (λ (x : Point). rows x.row) same ∙ there))
+module _ {old new : Grid} {all : Bool} {row : ℕ} {a b : List Change} (h : KeepRows old new all row a b) where
+  pub kept_more : {next : List Change} → AddsRow old row b next → KeepRows old new all (row + 1) a next
+  kept_more adds = record {
+    more = h.more ++ adds.change ∷ [];
+    added = adds.added ∙ ap (λ xs. xs ++ adds.change ∷ []) h.added ∙ append_assoc a h.more (adds.change ∷ []);
+    are = All-push (IsRowOf old) h.more adds.change h.are adds.is;
+    each = λ r low. elim (cases_eq r row) [
+      | inl at ↦ inl (has_row-last r h.more adds.change (adds.at ∙ sym at))
+      | inr other ↦ elim (h.each r (omega (arith, low, other))) [ inl there ↦ inl (has_row-front r h.more adds.change there) | inr same ↦ inr same ]
+    ];
+  }
+
+  pub kept_same : all ≡ false → IsSameRow old new row → KeepRows old new all (row + 1) a b
+  kept_same none same = record {
+    more = h.more;
+    added = h.added;
+    are = h.are;
+    each = λ r low. elim (cases_eq r row) [
+      | inl at ↦ inr (none, subst (IsSameRow old new) (sym at) same)
+      | inr other ↦ h.each r (omega (arith, low, other))
+    ];
+  }
+
+-- a stone that takes nothing off changes its own row alone
+pub kept_alone : (g : Grid) (k : Colour) (p : Point) (taken : List ℕ) (a b : List Change) → IsMove g k p taken → length taken ≡ 0 → AddsRow g p.row a b → KeepRows g (play g k p) false g.side a b
+kept_alone g k p taken a b move none adds = record {
+  more = adds.change ∷ [];
+  added = adds.added;
+  are = All-push (IsRowOf g) [] adds.change (All-nil (IsRowOf g)) adds.is;
+  each = λ r low. elim (cases_eq r p.row) [
+    | inl at ↦ inl (inl (adds.at ∙ sym at))
+    | inr other ↦
+        inr (
+          refl,
+          λ col left.
+              let q : Point = record { col = col; row = r } in
+              sym (move.taken.played.kept q (left, low) (λ gone. absurd (omega (arith, none, row_below taken q gone)))
+              ∙ cell_at-with_cell_elsewhere g p q (stone_of k) move.on_board (left, low) (λ same. other (ap (λ (x : Point). x.row) same))),
+        )
+  ];
+}
 
 pub play_cells : (g : Grid) (k : Colour) (p : Point) (taken : List ℕ) → length g.cells ≡ g.side * g.side → TakesOff g k p taken → length (play g k p).cells ≡ (play g k p).side * (play g k p).side
 play_cells g k p taken all takes =
     takes.played.all ∙ length-set g.cells (index_of g.side p) (stone_of k) ∙ all ∙ ap (λ n. n * n) (sym takes.played.same_side)
 
--- the rows kept lead back to the colouring, from each colouring that they cover, and if all are kept, from any
-module _ (old new : Grid) (all : Bool) (rows : ℕ → Bool) (a b : List Change) (cells : length old.cells ≡ old.side * old.side) (cover : CoverChange old new all rows) (h : KeepRows old rows a b) where
-  back : (g : Grid) → g.side ≡ old.side → length g.cells ≡ g.side * g.side → ((p : Point) → IsOn old.side p → rows p.row ≡ false → cell_at g p ≡ cell_at old p) → after_changes g h.more ≡ old
-  back g side all_cells same =
+-- the rows kept lead back to the colouring, from the one that they are kept for, and if all are kept, from any
+module _ {old new : Grid} {all : Bool} {a b : List Change} (cells : length old.cells ≡ old.side * old.side) (h : KeepRows old new all old.side a b) where
+  back : (g : Grid) → g.side ≡ old.side → length g.cells ≡ g.side * g.side → ((row : ℕ) → row < old.side → HasRow row h.more ⊎ IsSameRow old g row) → after_changes g h.more ≡ old
+  back g side all_cells each =
       one_colouring (after_changes g h.more) old (after-side g h.more ∙ side) (after-length g h.more all_cells ∙ ap (λ n. n * n) (sym (after-side g h.more))) cells
       (λ p at.
       let on : IsOn old.side p = subst (λ n. IsOn n p) (after-side g h.more ∙ side) at in
-      all_back old g h.more side h.are p on (elim (cases_Bool (rows p.row)) [ inl there ↦ inl (h.all p.row there) | inr none ↦ inr (same p on none) ]))
+      all_back old g h.more side h.are p on (elim (each p.row on.1) [ inl there ↦ inl there | inr same ↦ inr (sym (same p.col on.0)) ]))
 
   pub leads_back : new.side ≡ old.side → length new.cells ≡ new.side * new.side → after_changes new h.more ≡ old
-  leads_back side new_cells = back new side new_cells cover.same
+  leads_back side new_cells = back new side new_cells (λ row low. elim (h.each row low) [ inl there ↦ inl there | inr same ↦ inr same.1 ])
 
   pub makes_one : all ≡ true → MakeOne old h.more
-  makes_one is g side g_cells = back g side (g_cells) (λ p on none. absurd (false≢true (sym none ∙ cover.whole is p.row on.1)))
+  makes_one is g side g_cells = back g side g_cells (λ row low. elim (h.each row low) [ inl there ↦ inl there | inr same ↦ absurd (false≢true (sym same.0 ∙ is)) ])
 
   pub kept_on : AreOn old.side h.more
   kept_on = All-weaker (IsRowOf old) (IsChangeOn old.side) (λ c is. is.on) h.more h.are

@@ -1,30 +1,26 @@
 -- Past colourings, as what is kept of them tells them.
-use Rattle.std.proofs.Common.{◌≡◌, ◌==◌, ℕ, zero, suc, ◌+◌, ◌-◌, ◌*◌, ◌<◌, ◌≤◌, inl, inr, List, [], ◌∷◌, ◌++◌, Some, Bool, true, false, cond, length, get_or, map, take, drop, reverse, slice_range, refl, sym, ap, subst, ◌∙◌, arith, length-take, length-append, IsTrue}
+use Rattle.std.proofs.Common.{◌≡◌, ◌≢◌, ◌==◌, ℕ, zero, suc, ◌+◌, ◌-◌, ◌*◌, ◌<◌, ◌≤◌, inl, inr, List, [], ◌∷◌, ◌++◌, Some, Bool, true, false, cond, length, get_or, map, take, drop, reverse, slice_range, refl, sym, ap, subst, ◌∙◌, arith, length-take, length-append, IsTrue}
 use Rattle.std.proofs.lemmas.List.{take_more, take_all, take_at, drop_at, drop-drop, take-take, take-append-drop, reverse-append, length-reverse, get_or-reverse}
 use Rattle.std.proofs.lemmas.List.Elements.{All-take, All-append}
-use Rattle.std.proofs.lemmas.Bool.{cases_lt}
-use Rattle.std.proofs.lemmas.Bool.Decides.{nat_tests}
+use Rattle.std.proofs.lemmas.Bool.{cases_eq, cases_lt, eq-eqb, ne_eqb}
 use Rattle.std.proofs.lemmas.Slice.{between_is}
 use Rattle.go_board.specs.declared.quick.print_past.changes.Change.{Change}
 use Rattle.go_board.specs.declared.quick.print_past.changes.Older.{Older}
 use Rattle.go_board.specs.Grid.{Grid}
 use Rattle.go_board.specs.Clearing.{has_unreaching}
 use Rattle.go_board.specs.Past.{Held, PastColourings, all_of, stretch_of, with_next}
-use Rattle.go_board.specs.inner.Changes.{first_grid, after_changes, is_full, IsEndOf, IsChangeOn, MakeOne, before, changes_before, held_before, AreKept, AreCounted, AreOn, IsPast}
+use Rattle.go_board.specs.inner.Changes.{first_grid, after_changes, is_full, IsEndOf, KeepRows, IsChangeOn, MakeOne, before, changes_before, held_before, AreKept, AreStarted, AreOn, IsPast}
 use Rattle.go_board.specs.inner.Key.{start_of, since}
-use Rattle.go_board.proofs.ChangesLemmas.{after-side, after-append}
+use Rattle.go_board.proofs.ChangesLemmas.{after-side, after-append, leads_back, makes_one, kept_on}
 
--- a stretch has no more older colourings than there are
-pub counted-le : (older_in_stretch : ℕ) (os : List Older) → AreCounted older_in_stretch os → older_in_stretch ≤ length os
-counted-le older_in_stretch [] h = omega arith
-counted-le zero (o ∷ os) h = omega arith
-counted-le (suc n) (o ∷ os) h =
-    let one : suc n ≡ suc o.older_in_stretch = h.0 (omega arith) in
-    omega (arith, one, counted-le o.older_in_stretch os h.1)
+-- a stretch starts no later than at the newest colouring
+pub started-le : (start : ℕ) (os : List Older) → AreStarted start os → start ≤ length os
+started-le start [] h = omega (arith, h)
+started-le start (o ∷ os) h = h.0
 
--- so its count is below any number that they are below
-pub counted-below : (was older : List Older) (n most : ℕ) → older ≡ was → length older < most → AreCounted n (reverse was) → n < most
-counted-below was older n most same low counted = omega (arith, ap (λ (os : List Older). length os) same, low, counted-le n (reverse was) counted, length-reverse was)
+-- so its start is below any number that the count of the older ones is below
+pub started-below : (was older : List Older) (start most : ℕ) → older ≡ was → length older < most → AreStarted start (reverse was) → start < most
+started-below was older start most same low started = omega (arith, ap (λ (os : List Older). length os) same, low, started-le start (reverse was) started, length-reverse was)
 
 pub length-held : (g : Grid) (os : List Older) (changes : List Change) → length (held_before g os changes) ≡ length os
 length-held g [] changes = refl
@@ -32,41 +28,28 @@ length-held g (o ∷ os) changes = ap suc (length-held (before g o changes) os (
 
 -- the colourings
 abbrev pub past_held : Grid → ℕ → List Older → List Change → PastColourings
-past_held g older_in_stretch os changes =
-    record { newest = record { colouring = g; begins = older_in_stretch == 0 }; older = held_before g os changes }
+past_held g start os changes =
+    record { newest = record { colouring = g; begins = start == length os }; older = held_before g os changes }
 
 -- the same as a list, newest first
 abbrev pub all_held : Grid → ℕ → List Older → List Change → List Held
-all_held g older_in_stretch os changes = all_of (past_held g older_in_stretch os changes)
-
--- the present stretch is the newest colouring and as many older ones as are counted
-pub stretch-is : (g : Grid) (older_in_stretch : ℕ) (os : List Older) (changes : List Change) → AreCounted older_in_stretch os → stretch_of (all_held g older_in_stretch os changes) ≡ map (λ (h : Held). h.colouring) (take (suc older_in_stretch) (all_held g older_in_stretch os changes))
-stretch-is g zero os changes h = refl
-stretch-is g (suc n) [] changes h = absurd (omega arith)
-stretch-is g (suc n) (o ∷ os) changes h =
-    let one : suc n ≡ suc o.older_in_stretch = h.0 (omega arith) in
-    let less : n ≡ o.older_in_stretch = omega arith in
-    let goes_on : (suc n == 0) ≡ false = grind (arith, nat_tests) in
-    rw goes_on
-    (ap (λ (gs : List Grid). g ∷ gs)
-    (stretch-is (before g o changes) o.older_in_stretch os (changes_before o changes) h.1
-    ∙ ap (λ k. map (λ (x : Held). x.colouring) (take (suc k) (held_before g (o ∷ os) changes))) (sym less)))
+all_held g start os changes = all_of (past_held g start os changes)
 
 -- one colouring less
-pub past-pop : (g : Grid) (older_in_stretch : ℕ) (older older' : List Older) (o : Older) (changes : List Change) → older ≡ older' ++ o ∷ [] → IsPast g older_in_stretch older changes → IsPast (before g o changes) o.older_in_stretch older' (changes_before o changes)
-past-pop g older_in_stretch older older' o changes parts past =
+pub past-pop : (g : Grid) (start : ℕ) (older older' : List Older) (o : Older) (changes : List Change) → older ≡ older' ++ o ∷ [] → IsPast g start older changes → IsPast (before g o changes) o.stretch_start older' (changes_before o changes)
+past-pop g start older older' o changes parts past =
     let turned : reverse older ≡ o ∷ reverse older' = ap reverse parts ∙ reverse-append older' (o ∷ []) in
     let kept = subst (λ (os : List Older). AreKept g os changes) turned past.kept in
-    let counted = subst (λ (os : List Older). AreCounted older_in_stretch os) turned past.counted in
+    let started = subst (λ (os : List Older). AreStarted start os) turned past.started in
     let side : (before g o changes).side ≡ g.side = after-side g (drop o.start changes) in
     record {
       kept = kept.3;
-      counted = counted.1;
+      started = started.2;
       on_grid = rw side (All-take (IsChangeOn g.side) o.start changes past.on_grid);
     }
 
 -- one colouring more
-module _ (g h : Grid) (older_in_stretch next : ℕ) (older : List Older) (o : Older) (changes more all : List Change) (begins : Bool) (follows : next ≡ cond begins 0 (older_in_stretch + 1)) (same : o.older_in_stretch ≡ older_in_stretch) (start : o.start ≡ length changes) (added : all ≡ changes ++ more) (back : after_changes h more ≡ g) where
+module _ (g h : Grid) (stretch next : ℕ) (older : List Older) (o : Older) (changes more all : List Change) (begins : Bool) (follows : next ≡ cond begins (length older + 1) stretch) (same : o.stretch_start ≡ stretch) (start : o.start ≡ length changes) (added : all ≡ changes ++ more) (back : after_changes h more ≡ g) where
   newest_are : drop o.start all ≡ more
   newest_are = ap (λ xs. drop o.start xs) added ∙ drop_at changes more o.start (sym start)
 
@@ -79,7 +62,7 @@ module _ (g h : Grid) (older_in_stretch next : ℕ) (older : List Older) (o : Ol
   turned : reverse (older ++ o ∷ []) ≡ o ∷ reverse older
   turned = reverse-append older (o ∷ [])
 
-  pub past-push : IsPast g older_in_stretch older changes → (IsTrue o.settled → has_unreaching g ≡ false) → (IsTrue (is_full (length older)) → MakeOne g more) → AreOn h.side changes → AreOn h.side more → IsPast h next (older ++ o ∷ []) all
+  past-push : IsPast g stretch older changes → (IsTrue o.settled → has_unreaching g ≡ false) → (IsTrue (is_full (length older)) → MakeOne g more) → AreOn h.side changes → AreOn h.side more → IsPast h next (older ++ o ∷ []) all
   past-push past settled full on on_more = record {
     kept = rw turned (
       omega (arith, start, ap (λ (xs : List Change). length xs) added, length-append changes more),
@@ -87,20 +70,33 @@ module _ (g h : Grid) (older_in_stretch next : ℕ) (older : List Older) (o : Ol
       λ is. rw (before_is, newest_are) (full (rw (length-reverse older) at is)),
       rw (before_is, rest_is) past.kept,
     );
-    counted = rw turned ((λ some. counted_on begins follows some), rw same past.counted);
+    started = rw turned (omega (arith, length-reverse older, (next-is begins follows past.started).0), (next-is begins follows past.started).1, rw same past.started);
     on_grid = rw added (All-append (IsChangeOn h.side) changes more on on_more);
   }
     where
-      counted_on : (b : Bool) → next ≡ cond b 0 (older_in_stretch + 1) → 0 < next → next ≡ suc o.older_in_stretch
-      counted_on true e some = absurd (omega (arith, e, some))
-      counted_on false e some = omega (arith, e, same)
+      next-is : (b : Bool) → next ≡ cond b (length older + 1) stretch → AreStarted stretch (reverse older) → (next ≤ length older + 1) × (next < suc (length (reverse older)) → next ≡ o.stretch_start)
+      next-is true e started = (omega (arith, e), λ some. absurd (omega (arith, e, some, length-reverse older)))
+      next-is false e started = (omega (arith, e, started-le stretch (reverse older) started, length-reverse older), λ some. e ∙ sym same)
 
-  pub held-push : past_held h next (reverse (older ++ o ∷ [])) all ≡ with_next (past_held g older_in_stretch (reverse older) changes) h begins
-  held-push = rw (turned, begins_is begins follows, before_is, rest_is, same) refl
+  held-push : AreStarted stretch (reverse older) → past_held h next (reverse (older ++ o ∷ [])) all ≡ with_next (past_held g stretch (reverse older) changes) h begins
+  held-push started = rw (turned, begins_is begins follows, before_is, rest_is, same) refl
     where
-      begins_is : (b : Bool) → next ≡ cond b 0 (older_in_stretch + 1) → (next == 0) ≡ b
-      begins_is true e = rw e refl
-      begins_is false e = rw e (grind (arith, nat_tests))
+      begins_is : (b : Bool) → next ≡ cond b (length older + 1) stretch → (next == suc (length (reverse older))) ≡ b
+      begins_is true e = eq-eqb next (suc (length (reverse older))) (omega (arith, e, length-reverse older))
+      begins_is false e = ne_eqb next (suc (length (reverse older))) (λ at. omega (arith, at, e, started-le stretch (reverse older) started))
+
+-- the next colouring, with the rows kept that lead back from it
+pub grown : (g h : Grid) (stretch next : ℕ) (older older' : List Older) (o : Older) (changes all : List Change) (full begins : Bool) (past : PastColourings)
+    → past_held g stretch (reverse older) changes ≡ past → IsPast g stretch older changes → length g.cells ≡ g.side * g.side → h.side ≡ g.side → length h.cells ≡ h.side * h.side
+    → KeepRows g h full g.side changes all → older' ≡ older ++ o ∷ [] → next ≡ cond begins (length older + 1) stretch → o.stretch_start ≡ stretch → o.start ≡ length changes → (IsTrue o.settled → has_unreaching g ≡ false) → full ≡ is_full (length older)
+    → IsPast h next older' all × (past_held h next (reverse older') all ≡ with_next past h begins)
+grown g h n next older older' o changes all full begins past view is cells side cells_h kept more follows same start settled is_full_so =
+    let back = leads_back cells kept side cells_h in
+    rw more (
+      past-push g h n next older o changes kept.more all begins follows same start kept.added back is settled (λ yes. makes_one cells kept (is_full_so ∙ yes))
+          (subst (λ m. AreOn m changes) (sym side) is.on_grid) (subst (λ m. AreOn m kept.more) (sym side) (kept_on cells kept)),
+      held-push g h n next older o changes kept.more all begins follows same start kept.added back is.started ∙ ap (λ (p : PastColourings). with_next p h begins) view,
+    )
 
 -- going back by one colouring
 turned-take : (older : List Older) (i : ℕ) (d : Older) → i < length older → reverse (take (i + 1) older) ≡ get_or older i d ∷ reverse (take i older)
@@ -147,17 +143,17 @@ module _ (held : List Held) (older : List Older) (changes : List Change) (n end 
     within = omega (arith, start-within, at.within);
   }
     where
-      whole : drop (length older - n) held ≡ record { colouring = after_changes board newest_changes; begins = one.older_in_stretch == 0 } ∷ held_before (after_changes board newest_changes) (reverse (take n older)) (take one.start changes)
+      whole : drop (length older - n) held ≡ record { colouring = after_changes board newest_changes; begins = one.stretch_start == length (reverse (take n older)) } ∷ held_before (after_changes board newest_changes) (reverse (take n older)) (take one.start changes)
       whole =
           let count : length older - n ≡ length older - (n + 1) + 1 = omega arith in
           ap (λ k. drop k held) count ∙ at.earlier
           ∙ ap (λ os. held_before board os (take end changes)) (turned-take older n d is_one)
-          ∙ ap (λ (b : Grid). record { colouring = b; begins = one.older_in_stretch == 0 } ∷ held_before b (reverse (take n older)) (changes_before one (take end changes))) (ap (after_changes board) same_newest)
-          ∙ ap (λ cs. record { colouring = after_changes board newest_changes; begins = one.older_in_stretch == 0 } ∷ held_before (after_changes board newest_changes) (reverse (take n older)) cs) same_rest
+          ∙ ap (λ (b : Grid). record { colouring = b; begins = one.stretch_start == length (reverse (take n older)) } ∷ held_before b (reverse (take n older)) (changes_before one (take end changes))) (ap (after_changes board) same_newest)
+          ∙ ap (λ cs. record { colouring = after_changes board newest_changes; begins = one.stretch_start == length (reverse (take n older)) } ∷ held_before (after_changes board newest_changes) (reverse (take n older)) cs) same_rest
 
 -- the newest one is there
-pub there-newest : (g : Grid) (older_in_stretch : ℕ) (older : List Older) (changes : List Change) (number end : ℕ) → number ≡ length older → end ≡ length changes → AreKept g (reverse older) changes → IsThere (all_held g older_in_stretch (reverse older) changes) older changes number end g
-there-newest g older_in_stretch older changes number end is is_end kept =
+pub there-newest : (g : Grid) (start : ℕ) (older : List Older) (changes : List Change) (number end : ℕ) → number ≡ length older → end ≡ length changes → AreKept g (reverse older) changes → IsThere (all_held g start (reverse older) changes) older changes number end g
+there-newest g start older changes number end is is_end kept =
     let none : length older - number ≡ 0 = omega arith in
     let whole : take number older ≡ older = take_all number older (omega arith) in
     let all_changes : take end changes ≡ changes = take_all end changes (omega arith) in
@@ -181,14 +177,14 @@ there-all held older changes newest at (suc less) number d is =
     (_, after-side upper.0 (slice_range changes (get_or older number d).start (get_or older (number + 1) d).start) ∙ upper.1, there-back held older changes number (get_or older (number + 1) d).start upper.0 d below upper.2)
 
 -- so from the number at which a walk back begins, the colouring of that number is there
-pub there-from : (newest : Grid) (older_in_stretch : ℕ) (older : List Older) (changes : List Change) (held : List Held) → all_held newest older_in_stretch (reverse older) changes ≡ held → AreKept newest (reverse older) changes → (number end count : ℕ) → number ≤ length older → count ≡ length changes → IsEndOf older count number end
+pub there-from : (newest : Grid) (start : ℕ) (older : List Older) (changes : List Change) (held : List Held) → all_held newest start (reverse older) changes ≡ held → AreKept newest (reverse older) changes → (number end count : ℕ) → number ≤ length older → count ≡ length changes → IsEndOf older count number end
     → (g : Grid) × (g.side ≡ newest.side) × IsThere held older changes number end g × (number ≡ length older → g ≡ newest)
-there-from newest older_in_stretch older changes held same kept number end count le is_count ends =
-    let one : Older = record { start = 0; older_in_stretch = 0; settled = false } in
+there-from newest start older changes held same kept number end count le is_count ends =
+    let one : Older = record { start = 0; stretch_start = 0; settled = false } in
     elim (cases_lt number (length older)) [
       | inr ge ↦ (let is : number ≡ length older = omega arith in
-          (newest, refl, subst (λ (hs : List Held). IsThere hs older changes number end newest) same (there-newest newest older_in_stretch older changes number end is (ends.0 is ∙ is_count) kept), λ _. refl))
-      | inl lt ↦ (let at = subst (λ (hs : List Held). IsThere hs older changes (length older) (length changes) newest) same (there-newest newest older_in_stretch older changes (length older) (length changes) refl refl kept) in
+          (newest, refl, subst (λ (hs : List Held). IsThere hs older changes number end newest) same (there-newest newest start older changes number end is (ends.0 is ∙ is_count) kept), λ _. refl))
+      | inl lt ↦ (let at = subst (λ (hs : List Held). IsThere hs older changes (length older) (length changes) newest) same (there-newest newest start older changes (length older) (length changes) refl refl kept) in
           let up = there-all held older changes newest at (length older - number - 1) number one (omega arith) in
           (up.0, up.1, subst (λ e. IsThere held older changes number e up.0) (sym (ends.1 one lt)) up.2, λ is. absurd (omega (arith, lt, is))))
     ]
@@ -231,11 +227,11 @@ pub record IsWalk (held : List Held) (older : List Older) (changes : List Change
   pub high : end ≤ length changes
   pub there : IsThere held older changes number start made
 
-pub walk : (newest board : Grid) (older_in_stretch : ℕ) (older : List Older) (changes : List Change) (held : List Held) → all_held newest older_in_stretch (reverse older) changes ≡ held → AreKept newest (reverse older) changes → board ≡ newest → length board.cells ≡ board.side * board.side
+pub walk : (newest board : Grid) (start : ℕ) (older : List Older) (changes : List Change) (held : List Held) → all_held newest start (reverse older) changes ≡ held → AreKept newest (reverse older) changes → board ≡ newest → length board.cells ≡ board.side * board.side
     → (number from end count : ℕ) (d : Older) → number < from → from ≤ length older → (from < length older → (number < from) × IsTrue (is_full (from - 1))) → count ≡ length changes → IsEndOf older count from end
     → IsWalk held older changes number (get_or older number d).start end (after_changes board (slice_range changes (get_or older number d).start end))
-walk newest board older_in_stretch older changes held same kept is cells number from end count d low high full is_count ends =
-    let at = there-from newest older_in_stretch older changes held same kept from end count high is_count ends in
+walk newest board start older changes held same kept is cells number from end count d low high full is_count ends =
+    let at = there-from newest start older changes held same kept from end count high is_count ends in
     let top = from - 1 in
     let next : from ≡ top + 1 = omega arith in
     let below : top < length older = omega arith in
@@ -250,63 +246,49 @@ walk newest board older_in_stretch older changes held same kept is cells number 
     (top - number) number (omega arith) in
     record { low = walked.0; high = at.2.within; there = walked.1 }
 
--- The start of a stretch: as many numbers back as are counted.
+-- Starts of stretches.
 
-start-newest : (g : Grid) (older_in_stretch : ℕ) (os : List Older) (changes : List Change) → AreCounted older_in_stretch os → start_of (all_held g older_in_stretch os changes) ≡ length os - older_in_stretch
-start-newest g zero os changes h = length-held g os changes ∙ omega arith
-start-newest g (suc n) [] changes h = absurd (omega arith)
-start-newest g (suc n) (o ∷ os) changes h =
-    let one : suc n ≡ suc o.older_in_stretch = h.0 (omega arith) in
-    let goes_on : (suc n == 0) ≡ false = grind (arith, nat_tests) in
-    rw goes_on (start-newest (before g o changes) o.older_in_stretch os (changes_before o changes) h.1 ∙ omega (arith, one))
+pub start-newest : (g : Grid) (start : ℕ) (os : List Older) (changes : List Change) → AreStarted start os → start_of (all_held g start os changes) ≡ start
+start-newest g start [] changes h = rw h refl
+start-newest g start (o ∷ os) changes h = elim (cases_eq start (suc (length os))) [
+  | inl first ↦ rw (eq-eqb start (suc (length os)) first) (ap suc (length-held (before g o changes) os (changes_before o changes)) ∙ sym first)
+  | inr later ↦
+      rw (ne_eqb start (suc (length os)) later)
+      (start-newest (before g o changes) o.stretch_start os (changes_before o changes) h.2 ∙ sym (h.1 (omega (arith, h.0, later))))
+]
 
--- the count of the colouring so many numbers back
-abbrev pub count_back : ℕ → List Older → ℕ → ℕ
-count_back older_in_stretch os zero = older_in_stretch
-count_back older_in_stretch [] (suc j) = 0
-count_back older_in_stretch (o ∷ os) (suc j) = count_back o.older_in_stretch os j
+-- the start of the stretch of the colouring so many numbers back
+abbrev pub start_back : ℕ → List Older → ℕ → ℕ
+start_back start os zero = start
+start_back start [] (suc j) = 0
+start_back start (o ∷ os) (suc j) = start_back o.stretch_start os j
 
-count_back-le : (older_in_stretch : ℕ) (os : List Older) (j : ℕ) → AreCounted older_in_stretch os → j ≤ length os → count_back older_in_stretch os j ≤ length os - j
-count_back-le c os zero h le = omega (arith, counted-le c os h)
-count_back-le c [] (suc j) h le = omega arith
-count_back-le c (o ∷ os) (suc j) h le = omega (arith, count_back-le o.older_in_stretch os j h.1 (omega (arith, le)))
+start_back-get : (start : ℕ) (os : List Older) (j : ℕ) (d : Older) → j < length os → start_back start os (suc j) ≡ (get_or os j d).stretch_start
+start_back-get start [] j d h = absurd (omega (arith, h))
+start_back-get start (o ∷ os) zero d h = refl
+start_back-get start (o ∷ os) (suc j) d h = start_back-get o.stretch_start os j d (omega (arith, h))
 
-count_back-get : (older_in_stretch : ℕ) (os : List Older) (j : ℕ) (d : Older) → j < length os → count_back older_in_stretch os (suc j) ≡ (get_or os j d).older_in_stretch
-count_back-get c [] j d h = absurd (omega (arith, h))
-count_back-get c (o ∷ os) zero d h = refl
-count_back-get c (o ∷ os) (suc j) d h = count_back-get o.older_in_stretch os j d (omega (arith, h))
+start-back : (g : Grid) (start : ℕ) (os : List Older) (changes : List Change) (j : ℕ) → AreStarted start os → j ≤ length os → start_of (drop j (all_held g start os changes)) ≡ start_back start os j
+start-back g start os changes zero h le = start-newest g start os changes h
+start-back g start [] changes (suc j) h le = absurd (omega (arith, le))
+start-back g start (o ∷ os) changes (suc j) h le = start-back (before g o changes) o.stretch_start os (changes_before o changes) j h.2 (omega (arith, le))
 
-start-back : (g : Grid) (older_in_stretch : ℕ) (os : List Older) (changes : List Change) (j : ℕ) → AreCounted older_in_stretch os → j ≤ length os → start_of (drop j (all_held g older_in_stretch os changes)) ≡ length os - j - count_back older_in_stretch os j
-start-back g c os changes zero h le = let same : length os - c ≡ length os - 0 - c = omega arith in start-newest g c os changes h ∙ same
-start-back g c [] changes (suc j) h le = absurd (omega (arith, le))
-start-back g c (o ∷ os) changes (suc j) h le =
-    let same : length os - j - count_back o.older_in_stretch os j ≡ suc (length os) - suc j - count_back o.older_in_stretch os j = omega arith in
-    start-back (before g o changes) o.older_in_stretch os (changes_before o changes) j h.1 (omega (arith, le)) ∙ same
-
--- the start of the stretch of a number, and that the count is no more than the number
-module _ (g : Grid) (older_in_stretch : ℕ) (older : List Older) (changes : List Change) (held : List Held) (same : all_held g older_in_stretch (reverse older) changes ≡ held) (counted : AreCounted older_in_stretch (reverse older)) (number : ℕ) where
-  start_back : (j : ℕ) → number + j ≡ length older → (count_back older_in_stretch (reverse older) j ≤ number) × (start_of (since number held) ≡ number - count_back older_in_stretch (reverse older) j)
-  start_back j at =
-      let os = reverse older in
-      let turned : length os ≡ length older = length-reverse older in
-      let all : length held ≡ length older + 1 = sym (ap (λ (hs : List Held). length hs) same) ∙ omega (arith, length-held g os changes, turned) in
+-- the start of the stretch of a number
+module _ (g : Grid) (start : ℕ) (older : List Older) (changes : List Change) (held : List Held) (same : all_held g start (reverse older) changes ≡ held) (started : AreStarted start (reverse older)) (number : ℕ) where
+  start-at : (j : ℕ) → number + j ≡ length older → start_of (since number held) ≡ start_back start (reverse older) j
+  start-at j at =
+      let all : length held ≡ length older + 1 = sym (ap (λ (hs : List Held). length hs) same) ∙ omega (arith, length-held g (reverse older) changes, length-reverse older) in
       let back : length held - 1 - number ≡ j = omega (arith, all, at) in
-      let is : length os - j - count_back older_in_stretch os j ≡ number - count_back older_in_stretch os j = omega (arith, turned, at) in (
-        omega (arith, count_back-le older_in_stretch os j counted (omega (arith, turned, at)), turned, at),
-        ap (λ k. start_of (drop k held)) back ∙ ap (λ (hs : List Held). start_of (drop j hs)) (sym same) ∙ start-back g older_in_stretch os changes j counted (omega (arith, turned, at)) ∙ is,
-      )
+      ap (λ k. start_of (drop k held)) back ∙ ap (λ (hs : List Held). start_of (drop j hs)) (sym same) ∙ start-back g start (reverse older) changes j started (omega (arith, length-reverse older, at))
 
-  pub start-of_newest : number ≡ length older → (older_in_stretch ≤ number) × (start_of (since number held) ≡ number - older_in_stretch)
-  start-of_newest is = start_back 0 (omega (arith, is))
+  pub start-of_newest : number ≡ length older → start_of (since number held) ≡ start
+  start-of_newest is = start-at 0 (omega (arith, is))
 
-  pub start-of_older : (d : Older) → number < length older → ((get_or older number d).older_in_stretch ≤ number) × (start_of (since number held) ≡ number - (get_or older number d).older_in_stretch)
+  pub start-of_older : (d : Older) → number < length older → start_of (since number held) ≡ (get_or older number d).stretch_start
   start-of_older d low =
       let j = length older - 1 - number in
-      let turned : length (reverse older) ≡ length older = length-reverse older in
       let back : length older - 1 - j ≡ number = omega (arith, low) in
-      let count : count_back older_in_stretch (reverse older) (suc j) ≡ (get_or older number d).older_in_stretch =
-      count_back-get older_in_stretch (reverse older) j d (omega (arith, low, turned))
-      ∙ ap (λ (o : Older). o.older_in_stretch) (get_or-reverse older j d (omega (arith, low)))
-      ∙ ap (λ k. (get_or older k d).older_in_stretch) back in
-      let found = start_back (suc j) (omega (arith, low)) in
-      (subst (λ k. k ≤ number) count found.0, found.1 ∙ ap (λ k. number - k) count)
+      start-at (suc j) (omega (arith, low))
+      ∙ start_back-get start (reverse older) j d (omega (arith, low, length-reverse older))
+      ∙ ap (λ (o : Older). o.stretch_start) (get_or-reverse older j d (omega (arith, low)))
+      ∙ ap (λ k. (get_or older k d).stretch_start) back

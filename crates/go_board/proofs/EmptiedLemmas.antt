@@ -1,5 +1,5 @@
 -- The points that were emptied, and the rows that lead back to earlier sets of them.
-use Rattle.std.proofs.Common.{◌≡◌, ℕ, ◌+◌, ◌-◌, ◌<◌, ◌≤◌, Bool, List, [], ◌∷◌, ◌++◌, length, length-append, reverse, get_or, slice_index, slice_set, bit_or, inl, inr, sym, ap, subst, ◌∙◌, arith}
+use Rattle.std.proofs.Common.{◌≡◌, ℕ, suc, ◌+◌, ◌-◌, ◌<◌, ◌≤◌, Bool, List, [], ◌∷◌, ◌++◌, length, length-append, reverse, drop, get_or, slice_index, slice_set, bit_or, inl, inr, sym, ap, subst, ◌∙◌, arith}
 use Rattle.std.specs.Vec.{vec_capacity}
 use Rattle.std.proofs.lemmas.Bool.{cases_eq, or_left}
 use Rattle.std.proofs.lemmas.List.{get_or_append_left, get_or-set_same, get_or-set_other, length-set, set-get_or, reverse-append, set-set}
@@ -12,9 +12,14 @@ use Rattle.go_board.specs.inner.Emptied.{HasAllEmptied, HasHistory, HasRowsBelow
 use Rattle.go_board.specs.inner.Key.{oldest}
 use Rattle.go_board.specs.inner.Rows.{has_bit, is_set, IsAmong}
 use Rattle.go_board.proofs.RepeatLemmas.{HasAllEmptied-more}
-use Rattle.go_board.proofs.TableLemmas.{oldest-same, oldest-all}
 use Rattle.go_board.proofs.TakenLemmas.{AddedBelow}
 use Rattle.go_board.proofs.WordLemmas.{has_bit-or}
+
+oldest-same : (count : ℕ) (x : Held) (xs : List Held) → count ≤ length xs → oldest count (x ∷ xs) ≡ oldest count xs
+oldest-same count x xs le = let next : suc (length xs) - count ≡ suc (length xs - count) = omega (arith, le) in ap (λ n. drop n (x ∷ xs)) next
+
+oldest-all : (held : List Held) (count : ℕ) → count ≡ length held → oldest count held ≡ held
+oldest-all held count e = let none : length held - count ≡ 0 = omega (arith, e) in ap (λ n. drop n held) none
 
 pub history_all : (rows : List ℕ) (log : List OldRow) (held : List Held) → HasHistory rows log held → HasAllEmptied (is_set rows) held
 history_all rows [] held has = has

@@ -34,11 +34,6 @@ in_base-none : (n : ℕ) → in_base 31 n (λ i. 0) ≡ 0
 in_base-none zero = refl
 in_base-none (suc n) = omega (arith, in_base-none n)
 
--- numbers whose digits add up to the same
-in_base-sums : (n : ℕ) (a b c d : ℕ → ℕ) → ((i : ℕ) → i < n → a i + b i ≡ c i + d i) → in_base 31 n a + in_base 31 n b ≡ in_base 31 n c + in_base 31 n d
-in_base-sums zero a b c d same = refl
-in_base-sums (suc n) a b c d same = omega (arith, in_base-sums n a b c d (λ i low. same i (omega (arith, low))), same n (omega arith))
-
 -- one digit that is greater by a number
 in_base-greater : (n k x : ℕ) (d e : ℕ → ℕ) → k < n → ((i : ℕ) → i < n → i ≢ k → d i ≡ e i) → e k ≡ d k + x → in_base 31 n e ≡ in_base 31 n d + x * 31 ^ (n - 1 - k)
 in_base-greater zero k x d e low others is = absurd (omega (arith, low))
@@ -64,9 +59,6 @@ module _ (m : ℕ) where
       sym (mod-add-mod a m c) ∙ ap (λ n. (n + c) % m) e ∙ mod-add-mod b m c
       ∙ sym (add-mod-mod b c m) ∙ ap (λ n. (b + n) % m) f ∙ add-mod-mod b d m
 
-  same_product : (b x y : ℕ) → x % m ≡ y % m → (b * x) % m ≡ (b * y) % m
-  same_product b x y e = sym (mul-mod_second b x m) ∙ ap (λ n. (b * n) % m) e ∙ mul-mod_second b y m
-
   -- a number with one digit more
   pub digit_more : (base number digit : ℕ) → (number % m * (base % m) % m + digit % m) % m ≡ (base * number + digit) % m
   digit_more base number digit =
@@ -75,52 +67,11 @@ module _ (m : ℕ) where
       ∙ mod-add-mod (number * base) m digit
       ∙ ap (λ n. (n + digit) % m) (omega arith)
 
-  -- what is to be added to a number with one digit more
-  pub change_more : (base change more old new old_digit new_digit : ℕ) → (change + old) % m ≡ new % m → (more + old_digit) % m ≡ new_digit % m → ((change * (base % m) % m + more) % m + (base * old + old_digit)) % m ≡ (base * new + new_digit) % m
-  change_more base change more old new old_digit new_digit is is_digit =
-      mod-add-mod (change * (base % m) % m + more) m (base * old + old_digit)
-      ∙ ap (λ n. (n + more + (base * old + old_digit)) % m) (mul-mod_second change base m)
-      ∙ ap (λ n. n % m) (sym (turned (change * base % m)))
-      ∙ mod-add-mod (change * base) m (more + (base * old + old_digit))
-      ∙ ap (λ n. n % m) (turned-2)
-      ∙ same_sum (base * (change + old)) (base * new) (more + old_digit) new_digit (same_product base (change + old) new is) is_digit
-    where
-      turned : (x : ℕ) → x + (more + (base * old + old_digit)) ≡ x + more + (base * old + old_digit)
-      turned x = omega arith
-
-      turned-2 : change * base + (more + (base * old + old_digit)) ≡ base * (change + old) + (more + old_digit)
-      turned-2 = rw (mul-add base change old) (omega arith)
-
-  -- and at last to the whole number
-  pub change_added : (print change old new : ℕ) → print ≡ old % m → (change + old) % m ≡ new % m → (print + change) % m ≡ new % m
-  change_added print change old new is same =
-      ap (λ n. (n + change) % m) is ∙ mod-add-mod old m change ∙ ap (λ n. n % m) (omega arith) ∙ same
-
 -- what is left if some is taken away
 taken_away : (all rest less m : ℕ) → less % m < m → all ≡ rest + less → (all % m + (m - less % m)) % m ≡ rest % m
 taken_away all rest less m small same =
     same_mod m (all % m + (m - less % m)) (all / m) rest (less / m + 1)
     (omega (arith, same, small, mod-add-div all m, mod-add-div less m))
-
--- what is to be added to a number with one row more, which differs or not
-module _ (m base change next shift : ℕ) where
-  pub row_changed : (more row : ℕ) (old new : ℕ → ℕ) → shift ≡ base % m → (change + in_base base row old) % m ≡ in_base base row new % m → next ≡ (change * shift % m + more) % m → (more + old row) % m ≡ new row % m → (next + in_base base (row + 1) old) % m ≡ in_base base (row + 1) new % m
-  row_changed more row old new is_base is next_is row_is =
-      ap (λ n. (n + in_base base (row + 1) old) % m) (next_is ∙ ap (λ n. (change * n % m + more) % m) is_base)
-      ∙ ap (λ n. ((change * (base % m) % m + more) % m + n) % m) (in_base-more base row old)
-      ∙ change_more m base change more (in_base base row old) (in_base base row new) (old row) (new row) is row_is
-      ∙ ap (λ n. n % m) (sym (in_base-more base row new))
-
-  pub row_unchanged : (row : ℕ) (old new : ℕ → ℕ) → shift ≡ base % m → (change + in_base base row old) % m ≡ in_base base row new % m → next ≡ change * shift % m → old row ≡ new row → (next + in_base base (row + 1) old) % m ≡ in_base base (row + 1) new % m
-  row_unchanged row old new is_base is next_is same =
-      row_changed 0 row old new is_base is (next_is ∙ sym (mod-mod (change * shift) m) ∙ ap (λ n. n % m) (omega arith)) (ap (λ n. n % m) (omega (arith, same)))
-
--- what is to be added if some is added and some taken off
-pub change_left : (more less old new m : ℕ) → less % m < m → old + more ≡ new + less → ((more % m + (m - less % m)) % m + old) % m ≡ new % m
-change_left more less old new m small same =
-    mod-add-mod (more % m + (m - less % m)) m old
-    ∙ same_mod m (more % m + (m - less % m) + old) (more / m) new (less / m + 1)
-    (omega (arith, same, small, mod-add-div more m, mod-add-div less m))
 
 -- The number of a grid.
 
@@ -285,27 +236,6 @@ module _ (g full left : Grid) (taken : List ℕ) (full_side : full.side ≡ g.si
       ∙ ap (λ n. in_base (31 ^ n) n (row_number left) % m) (sym left_side)
       ∙ sym (print_by_rows left all_left)
 
--- a row that is the same on two grids
-pub same_row : (g h : Grid) (row : ℕ) → h.side ≡ g.side → ((col : ℕ) → col < g.side → cell_at g (record { col = col; row = row }) ≡ cell_at h (record { col = col; row = row })) → row_number g row ≡ row_number h row
-same_row g h row side same =
-    in_base-same 31 g.side (λ col. code (cell_at g (record { col = col; row = row }))) (λ col. code (cell_at h (record { col = col; row = row }))) (λ col low. ap code (same col low))
-    ∙ ap (λ n. in_base 31 n (λ col. code (cell_at h (record { col = col; row = row })))) (sym side)
-
--- what two words have each without the other
-pub words_apart : (side old new more less : ℕ) → ((col : ℕ) → col < side → has_bit more col ≡ (has_bit new col && not (has_bit old col))) → ((col : ℕ) → col < side → has_bit less col ≡ (has_bit old col && not (has_bit new col)))
-    → word_number side old + word_number side more ≡ word_number side new + word_number side less
-words_apart side old new more less more_is less_is =
-    in_base-sums side (bit_at old) (bit_at more) (bit_at new) (bit_at less) (λ col low. bits col (has_bit old col) (has_bit new col) refl refl (more_is col low) (less_is col low))
-  where
-    without : {a b x y : Bool} → a ≡ x → b ≡ y → (a && not b) ≡ (x && not y)
-    without {a} {b} {x} {y} e f = ap (λ c. c && not b) e ∙ ap (λ c. x && not c) f
-
-    bits : (col : ℕ) (o n : Bool) → has_bit old col ≡ o → has_bit new col ≡ n → has_bit more col ≡ (has_bit new col && not (has_bit old col)) → has_bit less col ≡ (has_bit old col && not (has_bit new col)) → bit_at old col + bit_at more col ≡ bit_at new col + bit_at less col
-    bits col true true o n m l = omega (arith, bit_at-there old col o, bit_at-there new col n, bit_at-gone more col (m ∙ without n o), bit_at-gone less col (l ∙ without o n))
-    bits col true false o n m l = omega (arith, bit_at-there old col o, bit_at-gone new col n, bit_at-gone more col (m ∙ without n o), bit_at-there less col (l ∙ without o n))
-    bits col false true o n m l = omega (arith, bit_at-gone old col o, bit_at-there new col n, bit_at-there more col (m ∙ without n o), bit_at-gone less col (l ∙ without o n))
-    bits col false false o n m l = omega (arith, bit_at-gone old col o, bit_at-gone new col n, bit_at-gone more col (m ∙ without n o), bit_at-gone less col (l ∙ without o n))
-
 -- a word without one of its columns
 word_without : (side word next col : ℕ) → col < side → has_bit word col ≡ true → has_bit next col ≡ false → ((k : ℕ) → k ≢ col → has_bit next k ≡ has_bit word k) → word_number side word ≡ word_number side next + 31 ^ (side - 1 - col)
 word_without side word next col low is gone others =
@@ -356,13 +286,6 @@ byte_less word left bytes rest i =
     ∙ ap (λ n. bit_at n (8 + i)) (shr_split left 8)
     ∙ rest (8 + i)
     ∙ ap (bit_at word) (omega arith)
-
--- what is to be added for both colours
-pub in_both_colours : (m black white old_black old_white new_black new_white : ℕ) → (black + old_black) % m ≡ new_black % m → (white + old_white) % m ≡ new_white % m → ((black + 2 * white) % m + (old_black + 2 * old_white)) % m ≡ (new_black + 2 * new_white) % m
-in_both_colours m black white old_black old_white new_black new_white b w =
-    mod-add-mod (black + 2 * white) m (old_black + 2 * old_white)
-    ∙ ap (λ n. n % m) (omega arith)
-    ∙ same_sum m (black + old_black) new_black (2 * (white + old_white)) (2 * new_white) b (same_product m 2 (white + old_white) new_white w)
 
 -- the numbers of both colours, of which some is left out
 pub sum_of_both : (black white m : ℕ) → (black % m + 2 * (white % m)) % m ≡ (black + 2 * white) % m

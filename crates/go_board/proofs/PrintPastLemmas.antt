@@ -17,23 +17,6 @@ print-at [] j g h at = absurd (omega (arith, h))
 print-at (x ∷ xs) zero g h at = ap print_of (same_Some x.colouring g at)
 print-at (x ∷ xs) (suc j) g h at = print-at xs j g (omega (arith, h)) at
 
--- a colouring among the newest n is at one of these indices, and the other way round
-pub index-of : (n : ℕ) (held : List Held) (g : Grid) → Contains (map (λ (h : Held). h.colouring) (take n held)) g → (j : ℕ) × (j < n) × (j < length held) × IsAt held j g
-index-of zero held g c = absurd (omega (arith, c.1))
-index-of (suc n) [] g c = absurd (omega (arith, c.1))
-index-of (suc n) (x ∷ xs) g (zero, h, e) = (zero, omega arith, omega arith, ap (λ (c : Grid). Some c) e)
-index-of (suc n) (x ∷ xs) g (suc k, h, e) =
-    let rest = index-of n xs g (k, omega (arith, h), e) in
-    (suc rest.0, omega (arith, rest.1), omega (arith, rest.2), rest.3)
-
-pub of-index : (n j : ℕ) (held : List Held) (g : Grid) → j < n → j < length held → IsAt held j g → Contains (map (λ (h : Held). h.colouring) (take n held)) g
-of-index zero j held g h l at = absurd (omega (arith, h))
-of-index (suc n) j [] g h l at = absurd (omega (arith, l))
-of-index (suc n) zero (x ∷ xs) g h l at = (zero, omega arith, same_Some x.colouring g at)
-of-index (suc n) (suc j) (x ∷ xs) g h l at =
-    let rest = of-index n j xs g (omega (arith, h)) (omega (arith, l)) at in
-    (suc rest.0, omega (arith, rest.1), rest.2)
-
 module _ (held : List Held) (prints : List ℕ) (kept : reverse prints ≡ prints_of held) where
   pub same_length : length prints ≡ length held
   same_length = sym (length-reverse prints) ∙ ap (λ (xs : List ℕ). length xs) kept ∙ length-map held (λ (h : Held). print_of h.colouring)

@@ -1,11 +1,11 @@
 -- The trie: walks, and one item more.
-use Rattle.std.proofs.Common.{◌≡◌, ◌≢◌, ◌⊎◌, ℕ, ◌+◌, ◌-◌, ◌<◌, ◌≤◌, ◌==◌, Bool, true, false, not, if◌then◌else◌, List, [], ◌∷◌, ◌++◌, length, take, slice_set, length-append, inl, inr, refl, sym, ap, subst, ◌∙◌, arith}
+use Rattle.std.proofs.Common.{◌≡◌, ◌≢◌, ◌⊎◌, ℕ, zero, suc, ◌+◌, ◌-◌, ◌<◌, ◌≤◌, ◌==◌, Bool, true, false, not, if◌then◌else◌, List, [], ◌∷◌, ◌++◌, length, take, slice_set, length-append, inl, inr, refl, sym, ap, subst, ◌∙◌, arith}
 use Rattle.std.proofs.lemmas.Bool.{cases_lt, cases_eq, cases_order, false≢true, true≢false, eq-eqb, ne_eqb}
 use Rattle.std.proofs.lemmas.List.{get_or-set_same, get_or-set_other, get_or_append_left, set-get_or, set-set, length-set}
 use Rattle.std.proofs.Math.Seq.{get_or-append_seam, take-append_seam}
 use Rattle.go_board.specs.declared.quick.print_past.trie.Node.{Node}
 use Rattle.go_board.specs.declared.quick.print_past.trie.Slot.{Slot}
-use Rattle.go_board.specs.inner.Trie.{Agree, IsUnder, IsSlot, IsReach, IsKid, IsTree, IsOnWay, IsParting, IsOpening, IsTrie, bits_at, no_node, node_at, depth_of, kid_of, named, with_kid, with_named, displaced, without_newest}
+use Rattle.go_board.specs.inner.Trie.{Agree, IsUnder, IsSlot, IsReach, IsKid, IsTree, IsOnWay, IsWayTo, IsNearest, IsParting, IsOpening, IsTrieOf, no_node, node_at, depth_of, kid_of, named, with_kid, with_named, displaced, without_newest}
 
 -- Keys.
 
@@ -449,19 +449,19 @@ first_tree w b d k depth named = record {
 -- The nodes as they are kept.
 
 -- nodes that are a trie of some items make a tree of them
-pub trie_tree : {w : ℕ} (keys : List (ℕ → Bool)) (nodes : List Node) → IsTrie w keys nodes → 0 < length nodes → IsTree w (length nodes) (bits_at keys) (depth_of nodes) (kid_of nodes)
-trie_tree {w} [] nodes none some = absurd (omega (arith, ap (λ (xs : List Node). length xs) none, some))
-trie_tree {w} (bits ∷ older) nodes trie some = subst (λ n. IsTree w n (bits_at (bits ∷ older)) (depth_of nodes) (kid_of nodes)) (sym trie.0) trie.1
+pub trie_tree : {w : ℕ} (n : ℕ) (keys : ℕ → ℕ → Bool) (nodes : List Node) → IsTrieOf w n keys nodes → 0 < n → IsTree w n keys (depth_of nodes) (kid_of nodes)
+trie_tree {w} zero keys nodes trie some = absurd (omega (arith, some))
+trie_tree {w} (suc n) keys nodes trie some = trie.1
 
-pub trie_length : (w : ℕ) (keys : List (ℕ → Bool)) (nodes : List Node) → IsTrie w keys nodes → length nodes ≡ length keys
-trie_length w [] nodes none = ap (λ (xs : List Node). length xs) none
-trie_length w (bits ∷ older) nodes trie = trie.0
+pub trie_length : (w n : ℕ) (keys : ℕ → ℕ → Bool) (nodes : List Node) → IsTrieOf w n keys nodes → length nodes ≡ n
+trie_length w zero keys nodes none = ap (λ (xs : List Node). length xs) none
+trie_length w (suc n) keys nodes trie = trie.0
 
-pub bits_first : (key : ℕ → Bool) (keys : List (ℕ → Bool)) (n : ℕ) → n ≡ length keys → bits_at (key ∷ keys) n ≡ key
-bits_first key keys n e = ap (λ (t : Bool). if t then key else bits_at keys n) (eq-eqb n (length keys) e)
-
-pub bits_before : (key : ℕ → Bool) (keys : List (ℕ → Bool)) (n : ℕ) → n < length keys → bits_at (key ∷ keys) n ≡ bits_at keys n
-bits_before key keys n h = ap (λ (t : Bool). if t then key else bits_at keys n) (ne_eqb n (length keys) (λ e. omega (arith, e, h)))
+-- other keys of which those items have the same
+pub trie_same : (w n : ℕ) (keys others : ℕ → ℕ → Bool) (nodes : List Node) → ((i : ℕ) → i < n → keys i ≡ others i) → IsTrieOf w n keys nodes → IsTrieOf w n others nodes
+trie_same w zero keys others nodes same trie = trie
+trie_same w (suc n) keys others nodes same trie =
+    (trie.0, same_tree trie.1 same (λ i h. refl), trie.2, trie_same w n keys others (without_newest nodes) (λ i h. same i (omega (arith, h))) trie.3)
 
 depth-with_kid : (node : Node) (s : Bool) (x : ℕ) → (with_kid node s x).depth ≡ node.depth
 depth-with_kid node true x = refl
@@ -519,22 +519,19 @@ displaced-parted node true n r own rest less =
 displaced-parted node false n r own rest less =
     ap (λ (t : Bool). if t then node.on else node.off) (eq-eqb node.off n own) ∙ rest
 
-module _ {w : ℕ} (keys : List (ℕ → Bool)) (nodes : List Node) (key : ℕ → Bool) (trie : IsTrie w keys nodes) (some : 0 < length nodes) where
-  pub trie_parted : {i l p : ℕ} {s : Bool} (node : Node) → IsSlot (length nodes) (depth_of nodes) i s → depth_of nodes i ≤ p → IsUnder (bits_at keys) (depth_of nodes) i s l
-      → (depth_of nodes i < depth_of nodes (kid_of nodes i s) → p < depth_of nodes (kid_of nodes i s)) → p < w
-      → IsParting (length nodes) (bits_at keys) key l p → IsParted nodes key p i s node
-      → IsTrie w (key ∷ keys) (with_named nodes i s (length nodes) ++ node ∷ [])
-  trie_parted {i} {l} {p} {s} node old low old_under stop within part parted =
+module _ {w : ℕ} (keys : ℕ → ℕ → Bool) (nodes : List Node) (trie : IsTrieOf w (length nodes) keys nodes) (some : 0 < length nodes) where
+  pub trie_parted : {p : ℕ} {slot : Slot} (node : Node) → IsOpening keys nodes (keys (length nodes)) slot p → p < w → IsParted nodes (keys (length nodes)) p slot.node slot.side node
+      → IsTrieOf w (length nodes + 1) keys (with_named nodes slot.node slot.side (length nodes) ++ node ∷ [])
+  trie_parted {p} {slot} node opening within parted =
       let n = length nodes in
-      let count : n ≡ length keys = trie_length w keys nodes trie in
-      let tree = trie_tree keys nodes trie some in
+      let i = slot.node in
+      let s = slot.side in
+      let tree = trie_tree n keys nodes trie some in
       let front = with_named nodes i s n in
       let new = front ++ node ∷ [] in
-      let b = bits_at (key ∷ keys) in
       let d = depth_of new in
+      let old = opening.there in
       let all : length front ≡ n = length-set nodes i (with_kid (node_at nodes i) s n) in
-      let first : b n ≡ key = bits_first key keys n count in
-      let before : (j : ℕ) → j < n → bits_at keys j ≡ b j = λ j h. sym (bits_before key keys j (omega (arith, h, count))) in
       let at : (o : ℕ) → o < n → node_at new o ≡ node_at front o = λ o h. get_or_append_left front (node ∷ []) no_node o (omega (arith, h, all)) in
       let changed : node_at front i ≡ with_kid (node_at nodes i) s n = get_or-set_same nodes i (with_kid (node_at nodes i) s n) no_node old.there in
       let other : (o : ℕ) → o ≢ i → node_at front o ≡ node_at nodes o = λ o apart. get_or-set_other nodes i o (with_kid (node_at nodes i) s n) no_node apart in
@@ -549,95 +546,109 @@ module _ {w : ℕ} (keys : List (ℕ → Bool)) (nodes : List Node) (key : ℕ �
         | inr elsewhere_too ↦ ap (λ (x : Node). named x t) (other o elsewhere_too)
       ] in
       let depth_new : d n ≡ p + 1 = ap (λ (x : Node). x.depth) last ∙ parted.depth in
-      let side : b n p ≡ key p = ap (λ (x : ℕ → Bool). x p) first in
-      let to_own : kid_of new n (b n p) ≡ n = ap (λ (t : Bool). kid_of new n t) side ∙ ap (λ (x : Node). named x (key p)) last ∙ parted.own in
-      let to_rest : kid_of new n (not (b n p)) ≡ kid_of nodes i s = ap (λ (t : Bool). kid_of new n (not t)) side ∙ ap (λ (x : Node). named x (not (key p))) last ∙ parted.rest in
-      let tree_new = same_tree {b' = b} {d' = d} tree before depths in
+      let to_own : kid_of new n (keys n p) ≡ n = ap (λ (x : Node). named x (keys n p)) last ∙ parted.own in
+      let to_rest : kid_of new n (not (keys n p)) ≡ kid_of nodes i s = ap (λ (x : Node). named x (not (keys n p))) last ∙ parted.rest in
+      let tree_new = same_tree {b' = keys} {d' = d} tree (λ j h. refl) depths in
       let here_depth = depths i old.there in
       let kid = tree.kids i s old in
       let kid_depth = depths (kid_of nodes i s) kid.there in
-      let slot : IsSlot n d i s = record { there = old.there; real = λ h. omega (arith, old.real h, here_depth); one = λ e. old.one (omega (arith, e, here_depth)) } in
-      let under : IsUnder b d i s l = under_same (before l part.there) (before i old.there) here_depth old_under in
-      let part_new : IsParting n b (b n) l p = subst (λ x. IsParting n b x l p) (sym first) (record {
-        there = part.there;
-        same = subst (λ x. Agree x key p) (before l part.there) part.same;
-        differ = subst (λ (x : ℕ → Bool). x p ≢ key p) (before l part.there) part.differ;
-        best = λ j h a. part.best j h (subst (λ x. Agree x key (p + 1)) (sym (before j h)) a);
-      }) in
-      let grown_tree : IsTree w (n + 1) b d (kid_of new) = parted_tree tree_new slot (omega (arith, low, here_depth)) (λ inner. omega (arith, stop (omega (arith, inner, here_depth, kid_depth)), kid_depth)) under part_new within depth_new
+      let at_slot : IsSlot n d i s = record { there = old.there; real = λ h. omega (arith, old.real h, here_depth); one = λ e. old.one (omega (arith, e, here_depth)) } in
+      let under : IsUnder keys d i s opening.item = under_same refl refl here_depth opening.under in
+      let grown_tree : IsTree w (n + 1) keys d (kid_of new) = parted_tree tree_new at_slot (omega (arith, opening.low, here_depth)) (λ inner. omega (arith, opening.stop (omega (arith, inner, here_depth, kid_depth)), kid_depth)) under opening.part within depth_new
       (kid_of new) to_new to_own to_rest others in
       let undo : without_newest new ≡ nodes =
       without_last front node n all
       ∙ ap (λ (t : Bool). if t then front else with_named front node.up node.up_side (displaced n node)) (ne_eqb node.up n (λ e. omega (arith, e, parted.up, old.there)))
       ∙ ap (λ m. with_named front m node.up_side (displaced n node)) parted.up
       ∙ ap (λ (t : Bool). with_named front i t (displaced n node)) parted.up_side
-      ∙ ap (λ m. with_named front i s m) (displaced-parted node (key p) n (kid_of nodes i s) parted.own parted.rest kid.there)
+      ∙ ap (λ m. with_named front i s m) (displaced-parted node (keys n p) n (kid_of nodes i s) parted.own parted.rest kid.there)
       ∙ named-back nodes i s n old.there in
-      let total : length new ≡ length keys + 1 = omega (arith, length-append front (node ∷ []), all, count) in (
-        omega (arith, total),
-        subst (λ m. IsTree w m b d (kid_of new)) (omega (arith, count)) grown_tree,
-        subst (λ m. (node_at new m).up ≤ m) count (subst (λ (x : Node). x.up ≤ n) (sym last) (omega (arith, parted.up, old.there))),
-        subst (λ (xs : List Node). IsTrie w keys xs) (sym undo) trie,
+      let next : n + 1 ≡ suc n = omega arith in
+      subst (λ m. IsTrieOf w m keys new) (sym next) (
+        omega (arith, length-append front (node ∷ []), all),
+        subst (λ m. IsTree w m keys d (kid_of new)) next grown_tree,
+        subst (λ (x : Node). x.up ≤ n) (sym last) (omega (arith, parted.up, old.there)),
+        subst (λ (xs : List Node). IsTrieOf w n keys xs) (sym undo) trie,
       )
 
   -- an item that equals an earlier one
-  pub trie_repeated : {l : ℕ} (node : Node) → l < length nodes → Agree (bits_at keys l) key w → node.depth ≡ 0 → node.up ≡ length nodes → IsTrie w (key ∷ keys) (nodes ++ node ∷ [])
+  pub trie_repeated : {l : ℕ} (node : Node) → l < length nodes → Agree (keys l) (keys (length nodes)) w → node.depth ≡ 0 → node.up ≡ length nodes → IsTrieOf w (length nodes + 1) keys (nodes ++ node ∷ [])
   trie_repeated {l} node there same depth up =
       let n = length nodes in
-      let count : n ≡ length keys = trie_length w keys nodes trie in
       let new = nodes ++ node ∷ [] in
-      let b = bits_at (key ∷ keys) in
       let d = depth_of new in
-      let first : b n ≡ key = bits_first key keys n count in
-      let before : (j : ℕ) → j < n → bits_at keys j ≡ b j = λ j h. sym (bits_before key keys j (omega (arith, h, count))) in
       let at : (o : ℕ) → o < n → node_at new o ≡ node_at nodes o = λ o h. get_or_append_left nodes (node ∷ []) no_node o h in
       let last : node_at new n ≡ node = get_or-append_seam nodes node [] no_node in
-      let tree_new = same_tree {b' = b} {d' = d} (trie_tree keys nodes trie some) before (λ o h. sym (ap (λ (x : Node). x.depth) (at o h))) in
-      let grown_tree = repeated_tree tree_new there (subst (λ x. Agree (b l) x w) (sym first) (subst (λ x. Agree x key w) (before l there) same)) (ap (λ (x : Node). x.depth) last ∙ depth)
-      (kid_of new) (λ o t h. ap (λ (x : Node). named x t) (at o h)) in
+      let tree_new = same_tree {b' = keys} {d' = d} (trie_tree n keys nodes trie some) (λ j h. refl) (λ o h. sym (ap (λ (x : Node). x.depth) (at o h))) in
+      let grown_tree = repeated_tree tree_new there same (ap (λ (x : Node). x.depth) last ∙ depth) (kid_of new) (λ o t h. ap (λ (x : Node). named x t) (at o h)) in
       let undo : without_newest new ≡ nodes =
       without_last nodes node n refl
       ∙ ap (λ (t : Bool). if t then nodes else with_named nodes node.up node.up_side (displaced n node)) (eq-eqb node.up n up) in
-      let total : length new ≡ length keys + 1 = omega (arith, length-append nodes (node ∷ []), count) in (
-        omega (arith, total),
-        subst (λ m. IsTree w m b d (kid_of new)) (omega (arith, count)) grown_tree,
-        subst (λ m. (node_at new m).up ≤ m) count (subst (λ (x : Node). x.up ≤ n) (sym last) (omega (arith, up))),
-        subst (λ (xs : List Node). IsTrie w keys xs) (sym undo) trie,
+      let next : n + 1 ≡ suc n = omega arith in
+      subst (λ m. IsTrieOf w m keys new) (sym next) (
+        omega (arith, length-append nodes (node ∷ [])),
+        subst (λ m. IsTree w m keys d (kid_of new)) next grown_tree,
+        subst (λ (x : Node). x.up ≤ n) (sym last) (omega (arith, up)),
+        subst (λ (xs : List Node). IsTrieOf w n keys xs) (sym undo) trie,
       )
 
-pub trie_first : (w : ℕ) (key : ℕ → Bool) (node : Node) → node.depth ≡ 0 → node.up ≡ 0 → node.off ≡ 0 → IsTrie w (key ∷ []) (node ∷ [])
-trie_first w key node depth up off =
-    (refl, first_tree w (bits_at (key ∷ [])) (depth_of (node ∷ [])) (kid_of (node ∷ [])) depth off, omega (arith, up), without_last [] node 0 refl ∙ ap (λ (t : Bool). if t then [] else with_named [] node.up node.up_side (displaced 0 node)) (eq-eqb node.up 0 up))
+pub trie_first : (w : ℕ) (keys : ℕ → ℕ → Bool) (node : Node) → node.depth ≡ 0 → node.up ≡ 0 → node.off ≡ 0 → IsTrieOf w 1 keys (node ∷ [])
+trie_first w keys node depth up off =
+    (refl, first_tree w keys (depth_of (node ∷ [])) (kid_of (node ∷ [])) depth off, omega (arith, up), without_last [] node 0 refl ∙ ap (λ (t : Bool). if t then [] else with_named [] node.up node.up_side (displaced 0 node)) (eq-eqb node.up 0 up))
 
 -- the slot that named the newest node is there
-pub trie_up : (w : ℕ) (keys : List (ℕ → Bool)) (nodes : List Node) (n : ℕ) → IsTrie w keys nodes → length nodes ≡ n + 1 → (node_at nodes n).up ≤ n
-trie_up w [] nodes n none count = absurd (omega (arith, ap (λ (xs : List Node). length xs) none, count))
-trie_up w (bits ∷ older) nodes n trie count =
-    let last : length older ≡ n = omega (arith, trie.0, count) in
-    subst (λ m. (node_at nodes m).up ≤ m) last trie.2
+pub trie_up : (w n : ℕ) (keys : ℕ → ℕ → Bool) (nodes : List Node) → IsTrieOf w (length nodes) keys nodes → length nodes ≡ n + 1 → (node_at nodes n).up ≤ n
+trie_up w n keys nodes trie count =
+    let next : length nodes ≡ suc n = omega (arith, count) in
+    let whole : IsTrieOf w (suc n) keys nodes = subst (λ m. IsTrieOf w m keys nodes) next trie in
+    whole.2
 
 -- where a walk by the bits of an item ends before the place where the item parts, it comes in
-pub way_opens : {keys : List (ℕ → Bool)} {nodes : List Node} {key bits : ℕ → Bool} {item : ℕ} (slot : Slot) (place : ℕ) → IsOnWay (length nodes) (bits_at keys) (depth_of nodes) key place slot.node slot.side
-    → (depth_of nodes slot.node < depth_of nodes (kid_of nodes slot.node slot.side) → place < depth_of nodes (kid_of nodes slot.node slot.side))
-    → Agree key bits (place + 1) → IsParting (length nodes) (bits_at keys) bits item place → IsOpening keys nodes bits slot place
-way_opens {keys} {nodes} {key} {bits} {item} slot place way stop same part = record {
+pub way_opens : {keys : ℕ → ℕ → Bool} {nodes : List Node} {key bits : ℕ → Bool} {item : ℕ} (slot : Slot) (place : ℕ) → IsWayTo keys nodes key place slot
+    → Agree key bits (place + 1) → IsParting (length nodes) keys bits item place → IsOpening keys nodes bits slot place
+way_opens {keys} {nodes} {key} {bits} {item} slot place walk same part = record {
   item = item;
-  there = way.slot;
-  low = way.low;
-  under = way.all item part.there (agree_on part.same (agree_back (agree_less place (omega arith) same)));
-  stop = stop;
+  there = walk.way.slot;
+  low = walk.way.low;
+  under = walk.way.all item part.there (agree_on part.same (agree_back (agree_less place (omega arith) same)));
+  stop = walk.stop;
   part = part;
 }
 
--- and so does an item that parts behind the last node of the walk
-pub end_opens : (w : ℕ) (keys : List (ℕ → Bool)) (nodes : List Node) {key bits : ℕ → Bool} {end : ℕ} (slot : Slot) (place : ℕ) → IsTrie w keys nodes → IsOnWay (length nodes) (bits_at keys) (depth_of nodes) key end slot.node slot.side
-    → (depth_of nodes slot.node < depth_of nodes (kid_of nodes slot.node slot.side) → end < depth_of nodes (kid_of nodes slot.node slot.side))
-    → place < end → depth_of nodes slot.node ≤ place → IsParting (length nodes) (bits_at keys) bits (kid_of nodes slot.node slot.side) place → IsOpening keys nodes bits slot place
-end_opens w keys nodes {key} {bits} {end} slot place trie way stop before low part = record {
-  item = kid_of nodes slot.node slot.side;
-  there = way.slot;
-  low = low;
-  under = ((trie_tree keys nodes trie (omega (arith, way.slot.there))).kids slot.node slot.side way.slot).under;
-  stop = λ inner. omega (arith, stop inner, before);
-  part = part;
-}
+module _ (w : ℕ) (keys : ℕ → ℕ → Bool) (nodes : List Node) (trie : IsTrieOf w (length nodes) keys nodes) {key : ℕ → Bool} {end : ℕ} (slot : Slot) (walk : IsWayTo keys nodes key end slot) where
+  tree : IsTree w (length nodes) keys (depth_of nodes) (kid_of nodes)
+  tree = trie_tree (length nodes) keys nodes trie (omega (arith, walk.way.slot.there))
+
+  -- and so does an item that parts behind the last node of the walk
+  pub end_opens : {bits : ℕ → Bool} (place : ℕ) → place < end → depth_of nodes slot.node ≤ place → IsParting (length nodes) keys bits (kid_of nodes slot.node slot.side) place → IsOpening keys nodes bits slot place
+  end_opens {bits} place before low part = record {
+    item = kid_of nodes slot.node slot.side;
+    there = walk.way.slot;
+    low = low;
+    under = (tree.kids slot.node slot.side walk.way.slot).under;
+    stop = λ inner. omega (arith, walk.stop inner, before);
+    part = part;
+  }
+
+  -- what the slot at its end names is as the key at least as far as any other item is
+  pub way_nearest : end ≤ w → IsNearest keys nodes key end (kid_of nodes slot.node slot.side)
+  way_nearest within = record {
+    there = way_names tree walk.way;
+    equal = λ j h a. way_equal tree walk.way walk.stop within j h a;
+    parts = λ place low same differ. way_parts tree place walk.way walk.stop within low same differ;
+  }
+
+-- Where an item parts, of whose bits and of the nearest item's only those before the end are known.
+pub parts_as : {keys : ℕ → ℕ → Bool} {nodes : List Node} {key : ℕ → Bool} {end near : ℕ} → IsNearest keys nodes key end near → (bits other : ℕ → Bool) (place : ℕ) → place < end → Agree key bits end → Agree other (keys near) end
+    → Agree key other place → key place ≢ other place → Agree key bits (place + 1) × IsParting (length nodes) keys bits near place
+parts_as {keys} {nodes} {key} {end} {near} n bits other place low as_bits as_near same differ =
+    let parting = n.parts place low (agree_back (agree_on same (agree_less place (omega (arith, low)) as_near))) (λ e. differ (sym (as_near.each place low ∙ e))) in
+    let so_far = agree_less (place + 1) (omega (arith, low)) as_bits in (
+      so_far,
+      record {
+        there = parting.there;
+        same = agree_on parting.same (agree_less place (omega (arith, low)) as_bits);
+        differ = λ e. parting.differ (e ∙ sym (as_bits.each place low));
+        best = λ j h a. parting.best j h (agree_on a (agree_back so_far));
+      },
+    )

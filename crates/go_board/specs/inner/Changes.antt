@@ -1,17 +1,13 @@
 -- Past colourings. The newest is kept whole; of each older one the rows are kept that lead back to it. A change is one such row.
 use Rattle.std.specs.Prelude.{◌≡◌, ◌⊎◌, ◌==◌, ℕ, suc, ◌-◌, ◌*◌, ◌%◌, ◌<◌, ◌≤◌, Bool, List, [], ◌∷◌, ◌++◌, IsTrue, IsFalse, All, false, Option, Some, None, length, take, drop, reverse, slice_index_or}
 use Rattle.go_board.specs.declared.stones.Cell.TheVariants.{Black, White}
-use Rattle.go_board.specs.declared.points.Point.{Point}
 use Rattle.go_board.specs.declared.quick.print_past.changes.Change.{Change}
 use Rattle.go_board.specs.declared.quick.print_past.changes.Older.{Older}
 use Rattle.go_board.specs.declared.quick.print_past.changes.TheConstants.{FULL}
 use Rattle.go_board.specs.Colour.{same_cell}
-use Rattle.go_board.specs.Point.{IsOn}
 use Rattle.go_board.specs.Grid.{Grid, cell_at}
-use Rattle.go_board.specs.Clearing.{has_unreaching, play}
+use Rattle.go_board.specs.Clearing.{has_unreaching}
 use Rattle.go_board.specs.Past.{Held}
-use Rattle.go_board.specs.declared.stones.Colour.{Colour}
-use Rattle.go_board.specs.inner.Groups.{TakesOff}
 use Rattle.go_board.specs.inner.Regions.{with_row}
 use Rattle.go_board.specs.inner.Rows.{has_bit}
 
@@ -60,23 +56,25 @@ abbrev pub HasRow : ℕ → List Change → Type 0
 HasRow row [] = ⊥
 HasRow row (change ∷ others) = (change.row ≡ row) ⊎ HasRow row others
 
--- the new changes are the old ones and some rows of the grid, all rows of a set among them
-pub record KeepRows (grid : Grid) (rows : ℕ → Bool) (old new : List Change) : Type 0 where
+-- the new changes are the old ones and a row of the grid
+pub record AddsRow (grid : Grid) (row : ℕ) (old new : List Change) : Type 0 where
+  pub change : Change
+  pub added : new ≡ old ++ change ∷ []
+  pub is : IsRowOf grid change
+  pub at : change.row ≡ row
+
+-- two grids have the same on each point of a row
+abbrev pub IsSameRow : Grid → Grid → ℕ → Type 0
+IsSameRow old new row =
+    (col : ℕ) → col < old.side → cell_at old (record { col = col; row = row }) ≡ cell_at new (record { col = col; row = row })
+
+-- The changes `after` are those before and some rows of a grid. Of its first `count` rows these are all that another grid has otherwise,
+-- and if `all`, all.
+pub record KeepRows (old new : Grid) (all : Bool) (count : ℕ) (before after : List Change) : Type 0 where
   pub more : List Change
-  pub added : new ≡ old ++ more
-  pub are : All (IsRowOf grid) more
-  pub all : (row : ℕ) → IsTrue (rows row) → HasRow row more
-
--- a set has all rows in which two grids differ, and if `all`, all rows
-pub record CoverChange (old new : Grid) (all : Bool) (rows : ℕ → Bool) : Type 0 where
-  pub same : (point : Point) → IsOn old.side point → IsFalse (rows point.row) → cell_at new point ≡ cell_at old point
-  pub whole : IsTrue all → (row : ℕ) → row < old.side → IsTrue (rows row)
-
--- the new changes are the old ones and some rows of the grid, among them all rows that a stone changes, and if `all`, all rows
-pub record KeepPlayed (grid : Grid) (point : Point) (taken : List ℕ) (all : Bool) (old new : List Change) : Type 0 where
-  pub rows : ℕ → Bool
-  pub kept : KeepRows grid rows old new
-  pub cover : (colour : Colour) → TakesOff grid colour point taken → CoverChange grid (play grid colour point) all rows
+  pub added : after ≡ before ++ more
+  pub are : All (IsRowOf old) more
+  pub each : (row : ℕ) → row < count → HasRow row more ⊎ (IsFalse all × IsSameRow old new row)
 
 -- the step after this many others keeps all rows of the colouring before it
 abbrev pub is_full : ℕ → Bool
@@ -99,7 +97,7 @@ changes_before kept changes = take kept.start changes
 abbrev pub held_before : Grid → List Older → List Change → List Held
 held_before grid [] changes = []
 held_before grid (kept ∷ others) changes =
-    record { colouring = before grid kept changes; begins = kept.older_in_stretch == 0 }
+    record { colouring = before grid kept changes; begins = kept.stretch_start == length others }
     ∷ held_before (before grid kept changes) others (changes_before kept changes)
 
 -- Each `start` is at most the number of changes. The changes of a full step make the colouring before it from any grid. A
@@ -112,12 +110,11 @@ AreKept grid (kept ∷ others) changes =
     × (IsTrue (is_full (length others)) → MakeOne (before grid kept changes) (drop kept.start changes))
     × AreKept (before grid kept changes) others (changes_before kept changes)
 
--- The count of a colouring, `older_in_stretch`, is 0 if it begins a stretch.
--- Otherwise it is 1 more than the count of the colouring before it.
-abbrev pub AreCounted : ℕ → List Older → Type 0
-AreCounted older_in_stretch [] = older_in_stretch ≡ 0
-AreCounted older_in_stretch (kept ∷ others) =
-    (0 < older_in_stretch → older_in_stretch ≡ suc kept.older_in_stretch) × AreCounted kept.older_in_stretch others
+-- The start of a colouring's stretch is its own number, or else that of the colouring before it. The list is that of the older ones.
+abbrev pub AreStarted : ℕ → List Older → Type 0
+AreStarted start [] = start ≡ 0
+AreStarted start (kept ∷ others) =
+    (start ≤ suc (length others)) × (start < suc (length others) → start ≡ kept.stretch_start) × AreStarted kept.stretch_start others
 
 -- `end` is the number of changes up to the colouring with this number: all, or those before the ones that lead back to it
 abbrev pub IsEndOf : List Older → ℕ → ℕ → ℕ → Type 0
@@ -126,7 +123,7 @@ IsEndOf older changes number end =
     × ((kept : Older) → number < length older → end ≡ (slice_index_or older number kept).start)
 
 -- what is kept of a past; the older colourings stand oldest first
-pub record IsPast (newest : Grid) (older_in_stretch : ℕ) (older : List Older) (changes : List Change) : Type 0 where
+pub record IsPast (newest : Grid) (stretch_start : ℕ) (older : List Older) (changes : List Change) : Type 0 where
   pub kept : AreKept newest (reverse older) changes
-  pub counted : AreCounted older_in_stretch (reverse older)
+  pub started : AreStarted stretch_start (reverse older)
   pub on_grid : AreOn newest.side changes

@@ -1,5 +1,5 @@
 -- What a colouring is looked up by, as a string of bits: the words of the print, of the stretch, and of each row of the board.
-use Rattle.std.specs.Prelude.{ℕ, zero, suc, ◌/◌, ◌%◌, Bool, ◌==◌, ◌&&◌, nat_lt, if◌then◌else◌, List, [], ◌∷◌, length, drop, ◌-◌}
+use Rattle.std.specs.Prelude.{ℕ, zero, suc, ◌/◌, ◌%◌, Bool, false, ◌==◌, ◌&&◌, nat_lt, if◌then◌else◌, List, [], ◌∷◌, length, drop, ◌-◌}
 use Rattle.go_board.specs.declared.quick.print_past.key.Key.{Key}
 use Rattle.go_board.specs.declared.stones.Cell.{Cell}
 use Rattle.go_board.specs.declared.stones.Cell.TheVariants.{Black, White}
@@ -42,8 +42,10 @@ since number held = drop (length held - 1 - number) held
 abbrev pub oldest : ℕ → List Held → List Held
 oldest count held = drop (length held - count) held
 
--- the keys of past colourings, newest first
-abbrev pub keys_of : List Held → List (ℕ → Bool)
-keys_of [] = []
-keys_of (newest ∷ older) =
-    key_bits (start_of (newest ∷ older)) (print_of newest.colouring) newest.colouring ∷ keys_of older
+-- the key of each past colouring, by its number, counted from 0 at the oldest
+abbrev pub keys_of : List Held → ℕ → ℕ → Bool
+keys_of [] number = λ place. false
+keys_of (newest ∷ older) number =
+    if number == length older
+    then key_bits (start_of (newest ∷ older)) (print_of newest.colouring) newest.colouring
+    else keys_of older number

@@ -2,7 +2,8 @@
 -- Item number `item`, counted from 0 at the oldest, has the node with its number. The node's depth is 1 more than the place where
 -- the item parted from all earlier items; it is 0 if the item parted nowhere: the first item, and one that equals an earlier one.
 -- A slot is a side of a node. It names a node below if that is deeper than its own, and otherwise an item.
-use Rattle.std.specs.Prelude.{◌≡◌, ◌≢◌, ◌⊎◌, ℕ, ◌+◌, ◌-◌, ◌^◌, ◌<◌, ◌≤◌, ◌==◌, Bool, false, if◌then◌else◌, List, [], ◌∷◌, length, take, slice_index_or, slice_set}
+use Rattle.std.specs.Prelude.{◌≡◌, ◌≢◌, ◌⊎◌, ℕ, zero, suc, ◌+◌, ◌-◌, ◌^◌, ◌<◌, ◌≤◌, ◌==◌, Bool, false, if◌then◌else◌, List, [], length, take, slice_index_or, slice_set}
+use Rattle.go_board.specs.declared.quick.print_past.key.TheConstants.{WIDTH}
 use Rattle.go_board.specs.declared.quick.print_past.trie.Node.{Node}
 use Rattle.go_board.specs.declared.quick.print_past.trie.Slot.{Slot}
 
@@ -14,11 +15,6 @@ pub record HasRoom (count capacity : ℕ) : Type 0 where
 -- the bits of two keys are the same before that place
 pub record Agree (one other : ℕ → Bool) (end : ℕ) : Type 0 where
   pub each : (place : ℕ) → place < end → one place ≡ other place
-
--- the bits of an item; the keys stand newest first
-abbrev pub bits_at : List (ℕ → Bool) → ℕ → ℕ → Bool
-bits_at [] item = λ place. false
-bits_at (bits ∷ older) item = if item == length older then bits else bits_at older item
 
 -- an item is under a slot: it has the bits of the node's item before the node's place, and the slot's side there
 pub record IsUnder (bit : ℕ → ℕ → Bool) (depth : ℕ → ℕ) (node : ℕ) (side : Bool) (item : ℕ) : Type 0 where
@@ -106,28 +102,35 @@ without_newest nodes =
     let front : List Node = take number nodes in
     if newest.up == number then front else with_named front newest.up newest.up_side (displaced number newest)
 
--- what the slot names where a walk by the bits of `key` ends, before the place `end`
-pub record IsNearest (keys : List (ℕ → Bool)) (nodes : List Node) (key : ℕ → Bool) (end near : ℕ) : Type 0 where
-  pub node : ℕ
-  pub side : Bool
-  pub way : IsOnWay (length nodes) (bits_at keys) (depth_of nodes) key end node side
-  pub stop : depth_of nodes node < depth_of nodes (kid_of nodes node side) → end < depth_of nodes (kid_of nodes node side)
-  pub names : near ≡ kid_of nodes node side
+-- A walk by the bits of `key` ends at the slot, before the place `end`. What the slot names lies no nearer than that.
+pub record IsWayTo (keys : ℕ → ℕ → Bool) (nodes : List Node) (key : ℕ → Bool) (end : ℕ) (slot : Slot) : Type 0 where
+  pub way : IsOnWay (length nodes) keys (depth_of nodes) key end slot.node slot.side
+  pub stop : depth_of nodes slot.node < depth_of nodes (kid_of nodes slot.node slot.side) → end < depth_of nodes (kid_of nodes slot.node slot.side)
+
+-- before the place `end`, an item is as a key at least as far as any other item is
+pub record IsNearest (keys : ℕ → ℕ → Bool) (nodes : List Node) (key : ℕ → Bool) (end near : ℕ) : Type 0 where
+  pub there : near < length nodes
+  pub equal : (item : ℕ) → item < length nodes → Agree (keys item) key end → Agree (keys near) key end
+  pub parts : (place : ℕ) → place < end → Agree (keys near) key place → keys near place ≢ key place → IsParting (length nodes) keys key near place
 
 -- the slot where an item with this bits comes in: the item parts from the others at that place
-pub record IsOpening (keys : List (ℕ → Bool)) (nodes : List Node) (bits : ℕ → Bool) (slot : Slot) (place : ℕ) : Type 0 where
+pub record IsOpening (keys : ℕ → ℕ → Bool) (nodes : List Node) (bits : ℕ → Bool) (slot : Slot) (place : ℕ) : Type 0 where
   pub item : ℕ
   pub there : IsSlot (length nodes) (depth_of nodes) slot.node slot.side
   pub low : depth_of nodes slot.node ≤ place
-  pub under : IsUnder (bits_at keys) (depth_of nodes) slot.node slot.side item
+  pub under : IsUnder keys (depth_of nodes) slot.node slot.side item
   pub stop : depth_of nodes slot.node < depth_of nodes (kid_of nodes slot.node slot.side) → place < depth_of nodes (kid_of nodes slot.node slot.side)
-  pub part : IsParting (length nodes) (bits_at keys) bits item place
+  pub part : IsParting (length nodes) keys bits item place
 
--- The nodes are a trie of items with these keys, newest first. Without the newest node they are a trie of the others.
-abbrev pub IsTrie : ℕ → List (ℕ → Bool) → List Node → Type 0
-IsTrie width [] nodes = nodes ≡ []
-IsTrie width (bits ∷ older) nodes =
-    (length nodes ≡ length (bits ∷ older))
-    × IsTree width (length (bits ∷ older)) (bits_at (bits ∷ older)) (depth_of nodes) (kid_of nodes)
-    × ((node_at nodes (length older)).up ≤ length older)
-    × IsTrie width older (without_newest nodes)
+-- The nodes are a trie of the first `count` items; `keys` has the key of each. Without the newest node they are a trie of one item less.
+abbrev pub IsTrieOf : ℕ → ℕ → (ℕ → ℕ → Bool) → List Node → Type 0
+IsTrieOf width zero keys nodes = nodes ≡ []
+IsTrieOf width (suc count) keys nodes =
+    (length nodes ≡ suc count)
+    × IsTree width (suc count) keys (depth_of nodes) (kid_of nodes)
+    × ((node_at nodes count).up ≤ count)
+    × IsTrieOf width count keys (without_newest nodes)
+
+-- the same of as many items as there are nodes
+abbrev pub IsTrie : (ℕ → ℕ → Bool) → List Node → Type 0
+IsTrie keys nodes = IsTrieOf WIDTH (length nodes) keys nodes

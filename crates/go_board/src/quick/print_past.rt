@@ -21,13 +21,13 @@ mod print;
 mod table;
 mod trie;
 
-ghost use Rattle.std.specs.Prelude.{◌≡◌, ◌≢◌, ◌<◌, false, IsTrue, IfSome, OnOk, OnErr, length};
+ghost use Rattle.std.specs.Prelude.{◌≡◌, ◌≢◌, ◌<◌, ◌↔◌, false, IsTrue, IsSome, IfSome, OnOk, OnErr, Contains, length};
 ghost use Rattle.go_board.specs.declared.stones.Cell.TheVariants.{Empty};
 ghost use Rattle.go_board.specs.declared.points.Point.{Point};
 ghost use Rattle.go_board.specs.Point.{IsOn};
-ghost use Rattle.go_board.specs.Grid.{cell_at};
+ghost use Rattle.go_board.specs.Grid.{Grid, cell_at};
 ghost use Rattle.go_board.specs.Clearing.{play};
-ghost use Rattle.go_board.specs.Past.{all_of, newest_grid, with_next};
+ghost use Rattle.go_board.specs.Past.{all_of, newest_grid, with_next, present_stretch, HaveSide};
 ghost use Rattle.go_board.specs.inner.Emptied.{IsEmptied};
 ghost use Rattle.go_board.specs.inner.Groups.{IsMove};
 ghost use Rattle.go_board.specs.inner.Print.{print_of, IsPrintedMove};
@@ -36,16 +36,13 @@ ghost use Rattle.go_board.specs.inner.Table.{IsGap, IsTable};
 
 use crate::board::Board;
 use crate::board::regions::no_rows;
-use crate::board::stone_rows::has_column;
 use crate::fault::MemoryFault;
 use crate::past::Past;
 use crate::points::Point;
 use crate::quick::capture::add_points;
 use crate::quick::print_past::colourings::Colourings;
 use crate::quick::print_past::emptied::Emptied;
-use crate::quick::print_past::print::{
-    print_after_stone, print_after_taking, print_from, print_of,
-};
+use crate::quick::print_past::print::{has_point, print_after_taking, print_of};
 use crate::quick::print_past::table::{Gap, Table};
 use crate::referee::SetupOp;
 use crate::size::MAX_ROWS;
@@ -167,7 +164,7 @@ impl PrintPast {
     fn link_stretch(&mut self)
         ensures { self.new ≡ self.old }
     {
-        if self.colourings.stretch_start() + 1 < self.table.len() {
+        if self.colourings.stretch_start() + 1 < self.table.next_number() as usize {
             self.table.link(&self.colourings);
         }
     }
@@ -182,13 +179,10 @@ impl PrintPast {
         let mut stones = no_rows();
         add_stones(self.colourings.newest(), &mut stones);
         self.emptied.reserve(stones.len())?;
-        let number = self.table.next_number();
-        self.table.push(print)?;
-        if self.colourings.add(board, begins).is_err() {
-            self.table.pop();
-            return Err(MemoryFault);
-        }
-        self.emptied.add(&stones, number);
+        self.table.reserve()?;
+        self.colourings.add(board, begins)?;
+        self.emptied.add(&stones, self.table.next_number());
+        self.table.push(print, None);
         self.last_stone = None;
         Ok(())
     }
@@ -219,8 +213,9 @@ impl PrintPast {
         requires stone { IsMove (newest_grid self.old) colour point taken.now }
         ensures { IsPlayed colour point self.old self.new result }
     {
-        self.colourings.newest().has_all_cells();
-        let print = self.print_once_put(colour, point, taken);
+        let newest = self.colourings.newest();
+        newest.has_all_cells();
+        let print = print_after_taking(self.table.newest(), newest, colour, point, taken);
         if self.may_repeat(point, taken) {
             return self.play_asked(colour, point, taken, print);
         }
@@ -272,9 +267,16 @@ impl PrintPast {
             if self.has_near(colour, point, taken, print) {
                 return Ok(false);
             }
-            self.table.link(&self.colourings);
             gap = self.table.gap(&self.colourings, print);
-            if self.has_made(gap, colour, point, taken, print) {
+            if has_made(
+                &self.colourings,
+                &self.table,
+                gap,
+                colour,
+                point,
+                taken,
+                print,
+            ) {
                 return Ok(false);
             }
         }
@@ -299,8 +301,11 @@ impl PrintPast {
         ensures unchanged { self.new ≡ self.old }
     {
         self.colourings.newest().has_all_cells();
-        if !has_point(taken, point) && self.last_stone_stays(taken) {
-            return true;
+        if let Some(stone) = self.last_stone {
+            let gone = has_point(taken, point) | has_point(taken, stone);
+            if !gone {
+                return true;
+            }
         }
         !self.table.may_have(print)
     }
@@ -320,53 +325,6 @@ impl PrintPast {
         self.colourings.is_at(number, &made)
     }
 
-    /// Whether the present stretch has the colouring that a stone makes; `print` is that colouring's print, and `taken` is what the
-    /// stone takes off. If it has a gap in the trie, the stretch can't have it. Otherwise all points are compared.
-    fn has_made(
-        &self,
-        gap: Option<Gap>,
-        colour: Colour,
-        point: Point,
-        taken: &[u64],
-        print: u64,
-    ) -> bool
-        requires lacks { (grid : Grid) → IsSome gap → print ≡ print_of grid → ¬ Contains (present_stretch self.now) grid }
-        requires one_side { HaveSide (newest_grid self.now).side self.now }
-        requires stone { IsPrintedMove (newest_grid self.now) colour point taken.now print }
-        ensures { IsTrue result ↔ Contains (present_stretch self.now) (play (newest_grid self.now) colour point) }
-    {
-        if gap.is_some() {
-            return false;
-        }
-        let mut made = self.newest().copy();
-        made.put(colour, point, taken);
-        self.table.has(&self.colourings, &made, print)
-    }
-
-    /// Whether the newest colouring has a stone that isn't in `taken`, and that no older colouring of the present stretch has.
-    fn last_stone_stays(&self, taken: &[u64]) -> bool
-        ensures { IsTrue result → (stone : Point) × IsLastStone self.now stone × IsFalse (is_set taken.now stone) }
-    {
-        self.colourings.newest().has_all_cells();
-        match self.last_stone {
-            Some(stone) => !has_point(taken, stone),
-            None => false,
-        }
-    }
-
-    /// The print of the colouring that a stone makes; `taken` is what the stone takes off.
-    fn print_once_put(&self, colour: Colour, point: Point, taken: &[u64]) -> u64
-        requires stone { IsMove (newest_grid self.now) colour point taken.now }
-        ensures { result ≡ print_of (play (newest_grid self.now) colour point) }
-    {
-        let newest = self.colourings.newest();
-        newest.has_all_cells();
-        if taken.is_empty() {
-            return print_after_stone(self.table.newest(), newest, colour, point);
-        }
-        print_after_taking(self.table.newest(), newest, colour, point, taken)
-    }
-
     /// The same as `play`, the plain way (`Board::place`) on a copy of the newest board. It is for boards that aren't settled.
     #[inline(never)]
     fn play_on_copy(&mut self, colour: Colour, point: Point) -> Result<bool, MemoryFault>
@@ -378,9 +336,9 @@ impl PrintPast {
         let mut made = self.newest().copy();
         made.place(colour, point);
         made.restore(true);
-        let print = print_from(self.table.newest(), self.newest(), &made);
+        let print = print_of(&made);
         self.table.link(&self.colourings);
-        if self.table.has(&self.colourings, &made, print) {
+        if self.table.find(&self.colourings, &made, print) {
             return Ok(false);
         }
         self.add(&made, print, false)?;
@@ -405,7 +363,7 @@ fn add_stone(
     requires table { IsTable (all_of colourings.old) table.old }
     requires emptied { IsEmptied (all_of colourings.old) emptied.old }
     requires stone { IsPrintedMove (newest_grid colourings.old) colour point taken.now print }
-    requires gap { IfSome gap (IsGap (all_of colourings.old) table.old.nodes.items) }
+    requires gap { IfSome gap (IsGap (all_of colourings.old) table.old.nodes.items print) }
     ensures ok { OnOk result (colourings.new ≡ with_next colourings.old (play (newest_grid colourings.old) colour point) false) }
     ensures err { OnErr result (colourings.new ≡ colourings.old) }
     ensures table { IsTable (all_of colourings.new) table.new }
@@ -413,15 +371,37 @@ fn add_stone(
 {
     colourings.newest().has_all_cells();
     emptied.reserve(taken.len())?;
-    let number = table.next_number();
-    table.push(print)?;
-    if colourings.add_stone(colour, point, taken).is_err() {
-        table.pop();
-        return Err(MemoryFault);
-    }
-    table.fill(gap);
-    emptied.add(taken, number);
+    table.reserve()?;
+    colourings.add_stone(colour, point, taken)?;
+    emptied.add(taken, table.next_number());
+    table.push(print, gap);
     Ok(())
+}
+
+/// Whether the present stretch has the colouring that a stone makes; `print` is that colouring's print, and `taken` is what the
+/// stone takes off. If it has a gap in the trie, the stretch can't have it. Otherwise all points are compared.
+fn has_made(
+    colourings: &Colourings,
+    table: &Table,
+    gap: Option<Gap>,
+    colour: Colour,
+    point: Point,
+    taken: &[u64],
+    print: u64,
+) -> bool
+    requires table { IsTable (all_of colourings.now) table.now }
+    requires all { length table.now.nodes.items ≡ length table.now.prints.items }
+    requires lacks { (grid : Grid) → IsSome gap → print ≡ print_of grid → ¬ Contains (present_stretch colourings.now) grid }
+    requires one_side { HaveSide (newest_grid colourings.now).side colourings.now }
+    requires stone { IsPrintedMove (newest_grid colourings.now) colour point taken.now print }
+    ensures { IsTrue result ↔ Contains (present_stretch colourings.now) (play (newest_grid colourings.now) colour point) }
+{
+    if gap.is_some() {
+        return false;
+    }
+    let mut made = colourings.newest().copy();
+    made.put(colour, point, taken);
+    table.find(colourings, &made, print)
 }
 
 /// Adds the points of a board's stones to a set.
@@ -433,17 +413,4 @@ fn add_stones(board: &Board, all: &mut [u64])
     board.has_all_cells();
     add_points(board.rows_of(Colour::Black), all);
     add_points(board.rows_of(Colour::White), all);
-}
-
-/// Whether a set has a point. The set may have fewer rows than the board.
-fn has_point(rows: &[u64], point: Point) -> bool
-    requires { point.col < 64 }
-    ensures { result ≡ is_set rows.now point }
-{
-    let row = usize::from(point.row);
-    if row < rows.len() {
-        has_column(rows[row], usize::from(point.col))
-    } else {
-        false
-    }
 }

@@ -1,18 +1,16 @@
 //! The rows that lead back from a colouring to the one before it.
 
-ghost use Rattle.std.specs.Prelude.{◌≡◌, ◌≢◌, ◌==◌, ◌<◌, ◌≤◌, ℕ, IsTrue, OnOk, OnErr, length, slice_index};
-ghost use Rattle.go_board.specs.declared.stones.Colour.{Colour};
-ghost use Rattle.go_board.specs.Point.{IsOn};
+ghost use Rattle.std.specs.Prelude.{◌≡◌, ◌+◌, ◌<◌, ◌≤◌, length};
+ghost use Rattle.std.specs.Vec.{vec_capacity};
 ghost use Rattle.go_board.specs.Clearing.{play};
-ghost use Rattle.go_board.specs.inner.Changes.{after_changes, AreOn, KeepRows, KeepPlayed, CoverChange, is_full};
-ghost use Rattle.go_board.specs.inner.Groups.{TakesOff};
-ghost use Rattle.go_board.specs.inner.Rows.{has_bit};
+ghost use Rattle.go_board.specs.inner.Changes.{after_changes, AddsRow, AreOn, KeepRows, is_full};
+ghost use Rattle.go_board.specs.inner.Groups.{IsMove};
 
 use crate::board::Board;
-use crate::board::regions::{all_columns, other_columns, with_column};
+use crate::board::regions::all_columns;
 use crate::board::stone_rows::{has_column, without_column};
-use crate::fault::MemoryFault;
 use crate::points::Point;
+use crate::size::MAX_ROWS;
 use crate::stones::Colour;
 
 /// One step in this many keeps all rows of the colouring before it. So an older colouring
@@ -32,8 +30,8 @@ pub(crate) struct Change {
 pub(crate) struct Older {
     /// The index of the first of the changes that lead back to it from the colouring after it.
     pub start: usize,
-    /// The number of older colourings in its stretch: 0 if it begins the stretch.
-    pub older_in_stretch: u32,
+    /// The number of the first colouring of its stretch.
+    pub stretch_start: u32,
     /// Whether every stone of it is known to have a liberty.
     pub settled: bool,
 }
@@ -59,106 +57,60 @@ pub(crate) fn take_back(board: &mut Board, changes: &[Change])
     }
 }
 
-/// Adds the rows of a board whose bits are set in `rows`. If memory is refused, none is added.
-pub(crate) fn keep_rows(
-    board: &Board,
-    rows: u64,
-    changes: &mut Vec<Change>,
-) -> Result<(), MemoryFault>
-    requires { (row : ℕ) → IsTrue (has_bit rows row) → row < board.now.side }
-    ensures ok { OnOk result (KeepRows board.now (has_bit rows) changes.old.items changes.new.items) }
-    ensures err { OnErr result (changes.new.items ≡ changes.old.items) }
+/// Adds a row of a board. There must be room for it.
+fn keep_row(board: &Board, row: u8, changes: &mut Vec<Change>)
+    requires row { row < board.now.side }
+    requires room { length changes.old.items < vec_capacity changes.old }
+    ensures row { AddsRow board.now row changes.old.items changes.new.items }
+    ensures room { vec_capacity changes.new ≡ vec_capacity changes.old }
 {
-    board.has_all_cells();
-    let start = changes.len();
-    let mut left = rows;
-    'each: while left != 0 {
-        let row = left.trailing_zeros() as usize;
-        left = without_column(left, row);
-        let change = Change {
-            row: row as u8,
-            black: board.columns_of(row as u8, Colour::Black),
-            white: board.columns_of(row as u8, Colour::White),
-        };
-        if changes.push(change).is_err() {
-            changes.truncate(start);
-            return Err(MemoryFault);
-        }
-    }
-    Ok(())
-}
-
-/// Adds one row of a board. If memory is refused, none is added.
-fn keep_row(board: &Board, row: u8, changes: &mut Vec<Change>) -> Result<(), MemoryFault>
-    requires { row < board.now.side }
-    ensures ok { OnOk result (KeepRows board.now (λ r. r == row) changes.old.items changes.new.items) }
-    ensures err { OnErr result (changes.new.items ≡ changes.old.items) }
-{
-    changes.push(Change {
+    changes.push_reserved(Change {
         row,
         black: board.columns_of(row, Colour::Black),
         white: board.columns_of(row, Colour::White),
-    })?;
-    Ok(())
+    });
 }
 
-/// Adds the rows of a board that a stone changes; all rows if `all` is true. `taken` is what the stone takes off. If memory is
-/// refused, none is added.
+/// Adds the rows of a board in which another board differs; all rows if `all` is true. There must be room for all.
+pub(crate) fn keep_rows(old: &Board, new: &Board, all: bool, changes: &mut Vec<Change>)
+    requires side { new.now.side ≡ old.now.side }
+    requires room { length changes.old.items + old.now.side ≤ vec_capacity changes.old }
+    ensures { KeepRows old.now new.now all old.now.side changes.old.items changes.new.items }
+{
+    old.has_all_cells();
+    for row in 0..old.size().side() {
+        let apart = all | !old.has_same_row(new, row);
+        if apart {
+            keep_row(old, row, changes);
+        }
+    }
+}
+
+/// Places a stone, and adds the rows that it changes as they were before; all rows if `all` is true. `taken` is what the stone takes off.
 #[inline(always)]
-pub(crate) fn keep_played(
-    board: &Board,
+pub(crate) fn put_kept(
+    board: &mut Board,
+    colour: Colour,
     point: Point,
     taken: &[u64],
     all: bool,
     changes: &mut Vec<Change>,
-) -> Result<(), MemoryFault>
-    requires on_board { IsOn board.now.side point }
-    requires few { length taken.now ≤ board.now.side }
-    ensures ok { OnOk result (KeepPlayed board.now point taken.now all changes.old.items changes.new.items) }
-    ensures err { OnErr result (changes.new.items ≡ changes.old.items) }
+)
+    requires stone { IsMove board.old colour point taken.now }
+    requires room { length changes.old.items + MAX_ROWS ≤ vec_capacity changes.old }
+    ensures board { board.new ≡ play board.old colour point }
+    ensures kept { KeepRows board.old board.new all board.old.side changes.old.items changes.new.items }
 {
+    board.has_all_cells();
     // most stones change their own row alone
     if taken.is_empty() && !all {
-        keep_row(board, point.row, changes)?;
-        return Ok(());
+        keep_row(board, point.row, changes);
+        board.put(colour, point, taken);
+        return;
     }
-    let rows = rows_played(board, point, taken, all);
-    keep_rows(board, rows, changes)?;
-    Ok(())
-}
-
-/// The rows in which two boards differ; all rows if `all` is true.
-pub(crate) fn rows_apart(old: &Board, new: &Board, all: bool) -> u64
-    requires { new.now.side ≡ old.now.side }
-    ensures within { (row : ℕ) → IsTrue (has_bit result row) → row < old.now.side }
-    ensures cover { CoverChange old.now new.now all (has_bit result) }
-{
-    old.has_all_cells();
-    let mut rows = 0;
-    for row in 0..old.size().side() {
-        let apart = all | !old.has_same_row(new, row);
-        rows = with_column(rows, usize::from(row), apart);
-    }
-    rows
-}
-
-/// The rows that a stone changes; all rows if `all` is true. `taken` is what the stone takes off.
-fn rows_played(old: &Board, point: Point, taken: &[u64], all: bool) -> u64
-    requires on_board { IsOn old.now.side point }
-    requires few { length taken.now ≤ old.now.side }
-    ensures within { (row : ℕ) → IsTrue (has_bit result row) → row < old.now.side }
-    ensures cover { (colour : Colour) → TakesOff old.now colour point taken.now
-        → CoverChange old.now (play old.now colour point) all (has_bit result) }
-{
-    old.has_all_cells();
-    if all {
-        return other_columns(0, usize::from(old.size().side()));
-    }
-    let mut rows = with_column(0, usize::from(point.row), true);
-    'each: for row in 0..taken.len() {
-        rows = with_column(rows, row, taken[row] != 0);
-    }
-    rows
+    let old = board.copy();
+    board.put(colour, point, taken);
+    keep_rows(&old, board, all, changes);
 }
 
 /// Whether the step after `count` others keeps all rows of the colouring before it.

@@ -12,7 +12,7 @@ use crate::board::Board;
 use crate::fault::MemoryFault;
 use crate::points::Point;
 use crate::quick::print_past::changes::{
-    Change, FULL, Older, is_full, keep_played, keep_rows, rows_apart, take_back,
+    Change, FULL, Older, is_full, keep_rows, put_kept, take_back,
 };
 use crate::size::MAX_ROWS;
 use crate::stones::Colour;
@@ -29,8 +29,8 @@ const MOST: usize = 0xffff_ffff;
 #[derive(Drop)]
 pub(crate) struct Colourings {
     newest: Board,
-    /// The number of older colourings in the stretch of the newest one.
-    older_in_stretch: usize,
+    /// The number of the first colouring of the present stretch.
+    stretch_start: usize,
     /// What is kept of the older colourings, oldest first.
     older: Vec<Older>,
     /// Their changes, oldest first.
@@ -38,7 +38,7 @@ pub(crate) struct Colourings {
 }
 
 impl Model for Colourings {
-    ghost use Rattle.std.specs.Prelude.{◌==◌, reverse};
+    ghost use Rattle.std.specs.Prelude.{◌==◌, length, reverse};
     ghost use Rattle.go_board.specs.Past.{PastColourings};
 
     ghost Value = { PastColourings };
@@ -46,11 +46,11 @@ impl Model for Colourings {
     ghost use Rattle.go_board.specs.inner.Changes.{held_before, IsPast};
 
     ghost view = { λ p. record {
-      newest = record { colouring = p.newest; begins = p.older_in_stretch == 0 };
+      newest = record { colouring = p.newest; begins = p.stretch_start == length (reverse p.older.items) };
       older = held_before p.newest (reverse p.older.items) p.changes.items;
     } };
 
-    ghost invariant = { λ p. IsPast p.newest p.older_in_stretch p.older.items p.changes.items };
+    ghost invariant = { λ p. IsPast p.newest p.stretch_start p.older.items p.changes.items };
 }
 
 impl Colourings {
@@ -60,7 +60,7 @@ impl Colourings {
     {
         Ok(Colourings {
             newest: board.copy(),
-            older_in_stretch: 0,
+            stretch_start: 0,
             older: Vec::with_capacity(alloc, FIRST_OLDER)?,
             changes: Vec::with_capacity(alloc, FIRST_OLDER)?,
         })
@@ -76,10 +76,9 @@ impl Colourings {
     /// The number of the first colouring of the present stretch.
     pub(crate) fn stretch_start(&self) -> usize
         ensures below { result < length (all_of self.now) }
-        ensures stretch { present_stretch self.now
-            ≡ map (λ (h : Held). h.colouring) (take (length (all_of self.now) - result) (all_of self.now)) }
+        ensures start { result ≡ start_of (all_of self.now) }
     {
-        self.older.len() - self.older_in_stretch
+        self.stretch_start
     }
 
     /// The number of the first colouring of the stretch of the colouring with this number.
@@ -88,9 +87,9 @@ impl Colourings {
         ensures { result ≡ start_of (since number (all_of self.now)) }
     {
         if number == self.older.len() {
-            return number - self.older_in_stretch;
+            return self.stretch_start;
         }
-        number - self.older[number].older_in_stretch as usize
+        self.older[number].stretch_start as usize
     }
 
     /// Whether the colouring with this number is the same as the board's.
@@ -134,18 +133,22 @@ impl Colourings {
     {
         self.newest.has_all_cells();
         board.has_all_cells();
-        make_room(&mut self.older)?;
+        make_room(&mut self.older, &mut self.changes)?;
         let kept = Older {
             start: self.changes.len(),
-            older_in_stretch: self.older_in_stretch as u32,
+            stretch_start: self.stretch_start as u32,
             settled: self.newest.is_settled(),
         };
         let all = is_full(self.older.len());
-        let rows = rows_apart(&self.newest, board, all);
-        keep_rows(&self.newest, rows, &mut self.changes)?;
+        keep_rows(&self.newest, board, all, &mut self.changes);
+        let stretch_start = if begins {
+            self.older.len() + 1
+        } else {
+            self.stretch_start
+        };
         self.older.push_reserved(kept);
         self.newest = board.copy();
-        self.older_in_stretch = next_older_in_stretch(self.older_in_stretch, begins);
+        self.stretch_start = stretch_start;
         Ok(())
     }
 
@@ -185,17 +188,22 @@ impl Colourings {
         ensures err { OnErr result (self.new ≡ self.old) }
     {
         self.newest.has_all_cells();
-        make_room(&mut self.older)?;
+        make_room(&mut self.older, &mut self.changes)?;
         let kept = Older {
             start: self.changes.len(),
-            older_in_stretch: self.older_in_stretch as u32,
+            stretch_start: self.stretch_start as u32,
             settled: self.newest.is_settled(),
         };
         let full = is_full(self.older.len());
-        keep_played(&self.newest, point, taken, full, &mut self.changes)?;
-        self.newest.put(colour, point, taken);
+        put_kept(
+            &mut self.newest,
+            colour,
+            point,
+            taken,
+            full,
+            &mut self.changes,
+        );
         self.older.push_reserved(kept);
-        self.older_in_stretch += 1;
         Ok(())
     }
 
@@ -208,7 +216,7 @@ impl Colourings {
         take_back(&mut self.newest, &self.changes[kept.start..]);
         self.newest.restore(kept.settled);
         self.changes.truncate(kept.start);
-        self.older_in_stretch = kept.older_in_stretch as usize;
+        self.stretch_start = kept.stretch_start as usize;
     }
 
     /// Forgets all colourings, and then holds this one alone, which begins a stretch.
@@ -216,33 +224,27 @@ impl Colourings {
         ensures { self.new ≡ only board.now }
     {
         self.newest = board.copy();
-        self.older_in_stretch = 0;
+        self.stretch_start = 0;
         self.older.clear();
         self.changes.clear();
     }
 }
 
-/// Makes room for one more older colouring. There are at most `MOST`.
+/// Makes room for one more older colouring, and for all rows of it. There are at most `MOST`.
 #[inline(always)]
-fn make_room(older: &mut Vec<Older>) -> Result<(), MemoryFault>
+fn make_room(older: &mut Vec<Older>, changes: &mut Vec<Change>) -> Result<(), MemoryFault>
     ensures items { older.new.items ≡ older.old.items }
     ensures ok { OnOk result (length older.new.items < vec_capacity older.new) }
     ensures few { OnOk result (length older.new.items < MOST) }
+    ensures changes { changes.new.items ≡ changes.old.items }
+    ensures rows { OnOk result (length changes.new.items + MAX_ROWS ≤ vec_capacity changes.new) }
 {
     if older.len() >= MOST {
         return Err(MemoryFault);
     }
     older.reserve(1)?;
+    changes.reserve(MAX_ROWS)?;
     Ok(())
-}
-
-/// How many older colourings the stretch has after one more colouring: one more than before, or 0
-/// if the new one begins a stretch.
-fn next_older_in_stretch(older_in_stretch: usize, begins: bool) -> usize
-    requires { older_in_stretch < usize.MAX }
-    ensures { result ≡ (if begins then 0 else older_in_stretch + 1) }
-{
-    if begins { 0 } else { older_in_stretch + 1 }
 }
 
 /// The colouring from which to work out the one with this number. It is the next one whose step kept all rows of the colouring

@@ -14,11 +14,10 @@ ghost use Rattle.go_board.specs.Point.{IsOn, index_of};
 ghost use Rattle.go_board.specs.Grid.{cell_at, with_cell};
 ghost use Rattle.go_board.specs.Clearing.{play};
 ghost use Rattle.go_board.specs.inner.Groups.{IsMove};
-ghost use Rattle.go_board.specs.inner.Print.{number_within, print_of, row_number, word_number};
-ghost use Rattle.go_board.specs.inner.Rows.{has_bit};
+ghost use Rattle.go_board.specs.inner.Print.{number_within, print_of, word_number};
+ghost use Rattle.go_board.specs.inner.Rows.{has_bit, is_set};
 
 use crate::board::Board;
-use crate::board::regions::columns_left;
 use crate::board::stone_rows::{has_column, without_column};
 use crate::points::Point;
 use crate::quick::print_past::bytes::byte_number;
@@ -44,28 +43,8 @@ pub(crate) fn print_of(board: &Board) -> u64
     print
 }
 
-/// The print of a board, from the print of a board of the same size. Only stones that differ are looked at.
-pub(crate) fn print_from(print: u64, old: &Board, new: &Board) -> u64
-    requires side { new.now.side ≡ old.now.side }
-    requires print { print ≡ print_of old.now }
-    ensures { result ≡ print_of new.now }
-{
-    old.has_all_cells();
-    new.has_all_cells();
-    let side = old.size().side();
-    let shift = small_power(usize::from(side));
-    let mut change: u64 = 0;
-    for row in 0..side {
-        change = change.wrapping_mul(shift);
-        if !old.has_same_row(new, row) {
-            change = change.wrapping_add(change_between(old, new, row));
-        }
-    }
-    print.wrapping_add(change)
-}
-
 /// The print after a stone is put on an empty point, from the print before.
-pub(crate) fn print_after_stone(print: u64, board: &Board, colour: Colour, point: Point) -> u64
+fn print_after_stone(print: u64, board: &Board, colour: Colour, point: Point) -> u64
     requires on_board { IsOn board.now.side point }
     requires empty { cell_at board.now point ≡ Empty }
     requires print { print ≡ print_of board.now }
@@ -79,8 +58,8 @@ pub(crate) fn print_after_stone(print: u64, board: &Board, colour: Colour, point
     })
 }
 
-/// The print after a stone is put on an empty point, from the print before; `taken` is what the stone takes off. Only stones that change
-/// are looked at.
+/// The same; `taken` is what the stone takes off. Only stones that change are looked at.
+#[inline(always)]
 pub(crate) fn print_after_taking(
     print: u64,
     board: &Board,
@@ -93,7 +72,10 @@ pub(crate) fn print_after_taking(
     ensures { result ≡ print_of (play board.now colour point) }
 {
     board.has_all_cells();
-    let is_taken = has_column(columns_in(taken, point.row), usize::from(point.col));
+    if taken.is_empty() {
+        return print_after_stone(print, board, colour, point);
+    }
+    let is_taken = has_point(taken, point);
     let put = if is_taken {
         print
     } else {
@@ -122,6 +104,14 @@ fn print_within(board: &Board, points: &[u64]) -> u64
     print
 }
 
+/// Whether a set has a point. The set may have fewer rows than the board.
+pub(crate) fn has_point(rows: &[u64], point: Point) -> bool
+    requires { point.col < 64 }
+    ensures { result ≡ is_set rows.now point }
+{
+    has_column(columns_in(rows, point.row), usize::from(point.col))
+}
+
 /// How many points come after a point, row by row from the top, from left to right.
 fn points_after(side: u8, point: Point) -> usize
     requires on_board { IsOn side point }
@@ -143,40 +133,11 @@ fn columns_in(rows: &[u64], row: u8) -> u64
     if row < rows.len() { rows[row] } else { 0 }
 }
 
-/// What is to be added to the number of a row of one board, modulo 2^64, to make that of the same row of another.
-fn change_between(old: &Board, new: &Board, row: u8) -> u64
-    requires side { new.now.side ≡ old.now.side }
-    requires row { row < old.now.side }
-    ensures { (result + row_number old.now row) % 2 ^ 64 ≡ row_number new.now row % 2 ^ 64 }
-{
-    let side = old.size().side();
-    let old_black = old.columns_of(row, Colour::Black);
-    let old_white = old.columns_of(row, Colour::White);
-    let new_black = new.columns_of(row, Colour::Black);
-    let new_white = new.columns_of(row, Colour::White);
-    in_both(
-        change_of(side, old_black, new_black),
-        change_of(side, old_white, new_white),
-    )
-}
-
 /// What the black and the white stones of a row add up to. The code of a white stone is 2, so their number counts twice.
 fn in_both(black: u64, white: u64) -> u64
     ensures { result ≡ (black + 2 * white) % 2 ^ 64 }
 {
     black.wrapping_add(white.wrapping_mul(2))
-}
-
-/// What is to be added to the number of a word, modulo 2^64, to make that of another.
-fn change_of(side: u8, old: u64, new: u64) -> u64
-    requires side { side ≤ MAX_SIDE }
-    requires old { (col : ℕ) → IsTrue (has_bit old col) → col < side }
-    requires new { (col : ℕ) → IsTrue (has_bit new col) → col < side }
-    ensures { (result + word_number side old) % 2 ^ 64 ≡ word_number side new % 2 ^ 64 }
-{
-    let more = number_of(side, columns_left(new, old));
-    let less = number_of(side, columns_left(old, new));
-    more.wrapping_sub(less)
 }
 
 /// The number of a word, modulo 2^64.

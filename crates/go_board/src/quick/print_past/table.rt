@@ -8,19 +8,19 @@
 //! they have the same print. To take one out is one step. None of this depends on how many colourings there are, or on what was played:
 //! equal prints make no look-up longer.
 //!
-//! This is so once `link` has put all colourings into the trie. The past calls it before each look-up of a stone that `may_have` doesn't
-//! answer (see `filter`). `has` itself changes nothing: it compares one by one with the colourings that aren't there yet.
+//! This is so once `link` has put all colourings into the trie. `gap` calls it first: the past asks `gap` for a stone that `may_have`
+//! doesn't answer (see `filter`). `has` asks no trie: it compares one by one.
 
-ghost use Rattle.std.specs.Prelude.{◌≡◌, ◌↔◌, ◌+◌, ◌<◌, ◌≤◌, ◌^◌, [], ◌∷◌, List, length, slice_index, IsTrue, IsFalse, IsSome, IfSome, IfOk, OnOk, OnErr, Contains};
+ghost use Rattle.std.specs.Prelude.{◌≡◌, ◌↔◌, ◌+◌, ◌<◌, ◌≤◌, ◌^◌, [], ◌∷◌, List, length, slice_index, IsTrue, IsFalse, IfSome, IfOk, OnOk, OnErr, Contains};
 ghost use Rattle.std.specs.Vec.{vec_capacity};
 ghost use Rattle.go_board.specs.declared.quick.print_past.trie.Node.{Node};
 ghost use Rattle.go_board.specs.Grid.{Grid};
 ghost use Rattle.go_board.specs.Past.{Held, all_of, present_stretch, stretch_of, HaveSide};
-ghost use Rattle.go_board.specs.inner.Changes.{IsNumber, HasNumber};
-ghost use Rattle.go_board.specs.inner.Key.{bits_of, key_bits, keys_of, oldest, start_of, since};
+ghost use Rattle.go_board.specs.inner.Changes.{IsNumber};
+ghost use Rattle.go_board.specs.inner.Key.{bits_of, keys_of};
 ghost use Rattle.go_board.specs.inner.Print.{print_of, prints_of};
-ghost use Rattle.go_board.specs.inner.Table.{IsGap, IsTable};
-ghost use Rattle.go_board.specs.inner.Trie.{IsNearest};
+ghost use Rattle.go_board.specs.inner.Table.{HasRoomForNext, IsGap, IsTable};
+ghost use Rattle.go_board.specs.inner.Trie.{Agree};
 
 use crate::board::Board;
 use crate::board::stone_rows::has_column;
@@ -55,10 +55,9 @@ pub(crate) struct Table {
     filter: Filter,
 }
 
-/// Where a colouring with that print comes into the trie.
+/// Where a colouring comes into the trie.
 #[derive(Clone, Copy)]
 pub(crate) struct Gap {
-    print: u64,
     slot: Slot,
     /// The place of the bit where it parts from the others. It is one of the print.
     place: u32,
@@ -78,13 +77,6 @@ impl Table {
         })
     }
 
-    /// How many colourings there are.
-    pub(crate) fn len(&self) -> usize
-        ensures { result ≡ length self.now.prints.items }
-    {
-        self.prints.len()
-    }
-
     /// The number that the next colouring gets.
     pub(crate) fn next_number(&self) -> u32
         requires { (held : List Held) × IsTable held self.now }
@@ -101,20 +93,36 @@ impl Table {
         self.prints[self.prints.len() - 1]
     }
 
-    /// Adds a colouring with this print.
+    /// Makes room for one more colouring.
     #[inline(always)]
-    pub(crate) fn push(&mut self, print: u64) -> Result<(), MemoryFault>
+    pub(crate) fn reserve(&mut self) -> Result<(), MemoryFault>
         requires { (held : List Held) × IsTable held self.old }
-        ensures ok { OnOk result ((held : List Held) (next : Held) → IsTable held self.old → print ≡ print_of next.colouring
-            → IsTable (next ∷ held) self.new) }
+        ensures table { (held : List Held) → IsTable held self.old → IsTable held self.new }
         ensures nodes { self.new.nodes.items ≡ self.old.nodes.items }
-        ensures err { OnErr result ((held : List Held) → IsTable held self.old → IsTable held self.new) }
+        ensures ok { OnOk result (HasRoomForNext self.new) }
     {
         if self.prints.len() >= self.nodes.capacity() {
             make_room(&mut self.nodes)?;
         }
-        self.prints.push(print)?;
+        self.prints.reserve(1)?;
         Ok(())
+    }
+
+    /// Adds a colouring with this print, and puts it into the trie if its gap there is known. There must be room for it.
+    #[inline(always)]
+    pub(crate) fn push(&mut self, print: u64, gap: Option<Gap>)
+        requires table { (held : List Held) × (next : Held) × IsTable held self.old × IfSome gap (IsGap held self.old.nodes.items print)
+            × (print ≡ print_of next.colouring) }
+        requires room { HasRoomForNext self.old }
+        ensures { (held : List Held) (next : Held) → IsTable held self.old → IfSome gap (IsGap held self.old.nodes.items print)
+            → print ≡ print_of next.colouring → IsTable (next ∷ held) self.new }
+    {
+        self.prints.push_reserved(print);
+        let Some(gap) = gap else {
+            return;
+        };
+        let bit = has_column(print, gap.place as usize);
+        insert(&mut self.nodes, gap.slot, gap.place, bit);
     }
 
     /// Takes back the newest colouring.
@@ -164,14 +172,14 @@ impl Table {
         self.filter.may_have(&self.prints, print)
     }
 
-    /// Where a colouring with this print comes in, if all colourings are in the trie and none has this print; None otherwise.
-    pub(crate) fn gap(&self, colourings: &Colourings, print: u64) -> Option<Gap>
-        requires { IsTable (all_of colourings.now) self.now }
-        ensures { IfSome result (λ gap. IsGap (all_of colourings.now) self.now.nodes.items gap × (gap.print ≡ print)) }
+    /// Where a colouring with this print comes in, if none has this print; None otherwise. Puts all colourings into the trie first.
+    pub(crate) fn gap(&mut self, colourings: &Colourings, print: u64) -> Option<Gap>
+        requires { IsTable (all_of colourings.now) self.old }
+        ensures table { IsTable (all_of colourings.now) self.new }
+        ensures all { length self.new.nodes.items ≡ length self.new.prints.items }
+        ensures gap { IfSome result (IsGap (all_of colourings.now) self.new.nodes.items print) }
     {
-        if self.nodes.len() != self.prints.len() {
-            return None;
-        }
+        self.link(colourings);
         let key = Key::new(0, print, colourings.newest());
         let from = descend(&self.nodes, &key, WORD);
         let apart = print ^ self.prints[kid(&self.nodes, from) as usize];
@@ -180,49 +188,19 @@ impl Table {
         }
         let place = apart.trailing_zeros();
         Some(Gap {
-            print,
             slot: opening(&self.nodes, &key, from, place),
             place,
         })
     }
 
-    /// Puts the newest colouring into the trie, if it has the print of the gap.
-    #[inline(always)]
-    pub(crate) fn fill(&mut self, gap: Option<Gap>)
-        requires { (newest : Held) × (older : List Held) × IsTable (newest ∷ older) self.old × IfSome gap (IsGap older self.old.nodes.items) }
-        ensures { (newest : Held) (older : List Held) → IsTable (newest ∷ older) self.old
-            → IfSome gap (IsGap older self.old.nodes.items) → IsTable (newest ∷ older) self.new }
-    {
-        let Some(gap) = gap else {
-            return;
-        };
-        if self.newest() == gap.print {
-            let bit = has_column(gap.print, gap.place as usize);
-            insert(&mut self.nodes, gap.slot, gap.place, bit);
-        }
-    }
-
-    /// Whether the present stretch has this colouring; `print` is its print. Colourings that aren't in the trie yet are compared one
-    /// by one.
+    /// Whether the present stretch has this colouring; `print` is its print. All that have the print are compared one by one.
     pub(crate) fn has(&self, colourings: &Colourings, board: &Board, print: u64) -> bool
         requires table { IsTable (all_of colourings.now) self.now }
-        requires side { HaveSide board.now.side colourings.now }
         requires print { print ≡ print_of board.now }
         ensures { IsTrue result ↔ Contains (present_stretch colourings.now) board.now }
     {
         let start = colourings.stretch_start();
-        self.has_unlinked(colourings, start, board, print)
-            || self.has_linked(colourings, start, board, print)
-    }
-
-    /// Whether a colouring from `start` on that isn't in the trie yet is this one.
-    fn has_unlinked(&self, colourings: &Colourings, start: usize, board: &Board, print: u64) -> bool
-        requires table { IsTable (all_of colourings.now) self.now }
-        requires print { print ≡ print_of board.now }
-        ensures { IsTrue result ↔ HasNumber (all_of colourings.now) (λ number. (start ≤ number)
-            × (length self.now.nodes.items ≤ number)) board.now }
-    {
-        'each: for number in (start.max(self.nodes.len())..self.prints.len()).rev() {
+        'each: for number in (start..self.prints.len()).rev() {
             if self.prints[number] == print && colourings.is_at(number, board) {
                 return true;
             }
@@ -230,21 +208,17 @@ impl Table {
         false
     }
 
-    /// Whether a colouring from `start` on that is in the trie is this one; `start` begins the present stretch. If none has the print,
-    /// no colouring is worked out.
-    fn has_linked(&self, colourings: &Colourings, start: usize, board: &Board, print: u64) -> bool
+    /// The same by the trie, which must have all colourings. If none has the print, no colouring is worked out.
+    pub(crate) fn find(&self, colourings: &Colourings, board: &Board, print: u64) -> bool
         requires table { IsTable (all_of colourings.now) self.now }
+        requires all { length self.now.nodes.items ≡ length self.now.prints.items }
         requires side { HaveSide board.now.side colourings.now }
-        requires start { start ≡ start_of (all_of colourings.now) }
         requires print { print ≡ print_of board.now }
-        ensures { IsTrue result ↔ HasNumber (all_of colourings.now) (λ number. (start ≤ number)
-            × (number < length self.now.nodes.items)) board.now }
+        ensures { IsTrue result ↔ Contains (present_stretch colourings.now) board.now }
     {
-        if self.nodes.is_empty() {
-            return false;
-        }
+        let start = colourings.stretch_start();
         let key = Key::new(start, print, board);
-        let near = self.nearest(&key, WIDTH);
+        let near = nearest(&self.nodes, &key, WIDTH);
         if near < start || self.prints[near] != print {
             return false;
         }
@@ -254,24 +228,12 @@ impl Table {
         board.same(&past)
     }
 
-    /// The colouring in the trie whose key is as `key` at least as far as any other key is, as far as `end` (`trie::nearest`).
-    fn nearest(&self, key: &Key<'_>, end: u32) -> usize
-        requires table { (held : List Held) × IsTable held self.now }
-        requires some { 0 < length self.now.nodes.items }
-        requires within { end ≤ WIDTH }
-        ensures there { result < length self.now.nodes.items }
-        ensures nearest { (held : List Held) → IsTable held self.now
-            → IsNearest (keys_of (oldest (length self.now.nodes.items) held)) self.now.nodes.items (bits_of key.now) end result }
-    {
-        nearest(&self.nodes, key, end)
-    }
-
     /// The front of the key of the colouring with this number, and for its rest the bits of a board.
     fn key_of<'a>(&self, colourings: &Colourings, number: usize, board: &'a Board) -> Key<'a>
         requires table { IsTable (all_of colourings.now) self.now }
         requires number { number < length (all_of colourings.now) }
-        ensures { (grid : Grid) → IsNumber (all_of colourings.now) number grid
-            → bits_of result ≡ key_bits (start_of (since number (all_of colourings.now))) (print_of grid) board.now }
+        ensures front { Agree (bits_of result) (keys_of (all_of colourings.now) number) FRONT }
+        ensures whole { IsNumber (all_of colourings.now) number board.now → bits_of result ≡ keys_of (all_of colourings.now) number }
     {
         Key::new(colourings.start_at(number), self.prints[number], board)
     }
@@ -302,7 +264,7 @@ impl Table {
             return;
         }
         let key = self.key_of(colourings, number, colourings.newest());
-        let near = self.nearest(&key, FRONT);
+        let near = nearest(&self.nodes, &key, FRONT);
         let other = self.key_of(colourings, near, colourings.newest());
         match first_difference(&key, &other, FRONT / WORD) {
             Some(place) => part(&mut self.nodes, &key, place),
@@ -322,7 +284,7 @@ impl Table {
         let next = self.nodes.len();
         let board = colourings.board_at(next);
         let key = self.key_of(colourings, next, &board);
-        let near = self.nearest(&key, WIDTH);
+        let near = nearest(&self.nodes, &key, WIDTH);
         let past = colourings.board_at(near);
         let other = self.key_of(colourings, near, &past);
         match first_difference(&key, &other, WIDTH / WORD) {

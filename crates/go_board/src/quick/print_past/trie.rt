@@ -3,11 +3,11 @@
 //! Each step of a walk goes to a deeper bit. So a walk takes at most as many steps as a key has bits, however many items there are,
 //! and whoever chose them.
 
-ghost use Rattle.std.specs.Prelude.{not, ◌≡◌, ℕ, ◌+◌, ◌-◌, ◌^◌, ◌<◌, ◌≤◌, ◌∷◌, ◌++◌, [], List, Bool, length};
+ghost use Rattle.std.specs.Prelude.{not, ◌≡◌, ℕ, ◌+◌, ◌-◌, ◌^◌, ◌<◌, ◌≤◌, [], Bool, length};
 ghost use Rattle.std.specs.Vec.{vec_capacity};
 ghost use Rattle.go_board.specs.declared.quick.print_past.trie.Node.{Node};
 ghost use Rattle.go_board.specs.inner.Key.{bits_of};
-ghost use Rattle.go_board.specs.inner.Trie.{HasRoom, IsTrie, Agree, IsOnWay, IsNearest, IsOpening, IsParting, bits_at, node_at, depth_of, kid_of, named, with_named, without_newest, displaced};
+ghost use Rattle.go_board.specs.inner.Trie.{HasRoom, IsTrie, Agree, IsOnWay, IsWayTo, IsNearest, IsOpening, IsParting, node_at, depth_of, kid_of, named, with_named, without_newest, displaced};
 
 use crate::quick::print_past::key::{Key, WIDTH};
 
@@ -44,12 +44,12 @@ pub(crate) fn kid(nodes: &[Node], slot: Slot) -> u32
 
 /// The slot where the walk by the bits of a key ends, before the place `end`.
 pub(crate) fn descend(nodes: &[Node], key: &Key<'_>, end: u32) -> Slot
-    requires trie { (keys : List (ℕ → Bool)) × IsTrie WIDTH keys nodes.now }
+    requires trie { (keys : ℕ → ℕ → Bool) × IsTrie keys nodes.now }
     requires some { 0 < length nodes.now }
     requires within { end ≤ WIDTH }
     ensures node { result.node < length nodes.now }
-    ensures way { (keys : List (ℕ → Bool)) → IsTrie WIDTH keys nodes.now
-        → IsOnWay (length nodes.now) (bits_at keys) (depth_of nodes.now) (bits_of key.now) end result.node result.side }
+    ensures way { (keys : ℕ → ℕ → Bool) → IsTrie keys nodes.now
+        → IsOnWay (length nodes.now) keys (depth_of nodes.now) (bits_of key.now) end result.node result.side }
     ensures stop { depth_of nodes.now result.node < depth_of nodes.now (kid_of nodes.now result.node result.side)
         → end < depth_of nodes.now (kid_of nodes.now result.node result.side) }
 {
@@ -75,16 +75,13 @@ pub(crate) fn descend(nodes: &[Node], key: &Key<'_>, end: u32) -> Slot
 /// The slot where an item comes in that parts at a place. Up to that place, the item has the bits of `key`; `from` is where the walk by
 /// them ends before `end`.
 pub(crate) fn opening(nodes: &[Node], key: &Key<'_>, from: Slot, place: u32) -> Slot
-    requires trie { (keys : List (ℕ → Bool)) × IsTrie WIDTH keys nodes.now }
+    requires trie { (keys : ℕ → ℕ → Bool) × IsTrie keys nodes.now }
     requires from { from.node < length nodes.now }
     requires within { place < WIDTH }
     ensures there { result.node < length nodes.now }
-    ensures opening { (keys : List (ℕ → Bool)) (bits : ℕ → Bool) (end : ℕ) → IsTrie WIDTH keys nodes.now
-        → IsOnWay (length nodes.now) (bits_at keys) (depth_of nodes.now) (bits_of key.now) end from.node from.side
-        → (depth_of nodes.now from.node < depth_of nodes.now (kid_of nodes.now from.node from.side)
-        → end < depth_of nodes.now (kid_of nodes.now from.node from.side))
-        → place < end → Agree (bits_of key.now) bits (place + 1)
-        → IsParting (length nodes.now) (bits_at keys) bits (kid_of nodes.now from.node from.side) place
+    ensures opening { (keys : ℕ → ℕ → Bool) (bits : ℕ → Bool) (end : ℕ) → IsTrie keys nodes.now
+        → IsWayTo keys nodes.now (bits_of key.now) end from → place < end → Agree (bits_of key.now) bits (place + 1)
+        → IsParting (length nodes.now) keys bits (kid_of nodes.now from.node from.side) place
         → IsOpening keys nodes.now bits result place }
 {
     // mostly the item parts from the others behind all places of the walk
@@ -96,11 +93,11 @@ pub(crate) fn opening(nodes: &[Node], key: &Key<'_>, from: Slot, place: u32) -> 
 
 /// The item that is as `key` at least as far as any other is, as far as `end`. (Behind that place it may be any item that is so.)
 pub(crate) fn nearest(nodes: &[Node], key: &Key<'_>, end: u32) -> usize
-    requires trie { (keys : List (ℕ → Bool)) × IsTrie WIDTH keys nodes.now }
+    requires trie { (keys : ℕ → ℕ → Bool) × IsTrie keys nodes.now }
     requires some { 0 < length nodes.now }
     requires within { end ≤ WIDTH }
     ensures there { result < length nodes.now }
-    ensures nearest { (keys : List (ℕ → Bool)) → IsTrie WIDTH keys nodes.now → IsNearest keys nodes.now (bits_of key.now) end result }
+    ensures nearest { (keys : ℕ → ℕ → Bool) → IsTrie keys nodes.now → IsNearest keys nodes.now (bits_of key.now) end result }
 {
     kid(nodes, descend(nodes, key, end)) as usize
 }
@@ -109,7 +106,8 @@ pub(crate) fn nearest(nodes: &[Node], key: &Key<'_>, end: u32) -> usize
 pub(crate) fn plant(nodes: &mut Vec<Node>)
     requires none { nodes.old.items ≡ [] }
     requires room { 0 < vec_capacity nodes.old }
-    ensures trie { (bits : ℕ → Bool) → IsTrie WIDTH (bits ∷ []) nodes.new.items }
+    ensures trie { (keys : ℕ → ℕ → Bool) → IsTrie keys nodes.new.items }
+    ensures one { length nodes.new.items ≡ 1 }
     ensures room { vec_capacity nodes.new ≡ vec_capacity nodes.old }
 {
     nodes.push_reserved(lone_node(0));
@@ -134,8 +132,9 @@ fn lone_node(number: u32) -> Node
 pub(crate) fn repeat(nodes: &mut Vec<Node>)
     requires some { 0 < length nodes.old.items }
     requires room { HasRoom (length nodes.old.items) (vec_capacity nodes.old) }
-    ensures trie { (keys : List (ℕ → Bool)) (bits : ℕ → Bool) (item : ℕ) → IsTrie WIDTH keys nodes.old.items
-        → item < length nodes.old.items → Agree (bits_at keys item) bits WIDTH → IsTrie WIDTH (bits ∷ keys) nodes.new.items }
+    ensures trie { (keys : ℕ → ℕ → Bool) (item : ℕ) → IsTrie keys nodes.old.items → item < length nodes.old.items
+        → Agree (keys item) (keys (length nodes.old.items)) WIDTH → IsTrie keys nodes.new.items }
+    ensures more { length nodes.new.items ≡ length nodes.old.items + 1 }
     ensures room { vec_capacity nodes.new ≡ vec_capacity nodes.old }
 {
     let number = nodes.len() as u32;
@@ -144,13 +143,14 @@ pub(crate) fn repeat(nodes: &mut Vec<Node>)
 
 /// Adds the node of an item that parts from the others at a place. Up to that place, the item has the bits of `key`.
 pub(crate) fn part(nodes: &mut Vec<Node>, key: &Key<'_>, place: u32)
-    requires trie { (keys : List (ℕ → Bool)) × IsTrie WIDTH keys nodes.old.items }
+    requires trie { (keys : ℕ → ℕ → Bool) × IsTrie keys nodes.old.items }
     requires some { 0 < length nodes.old.items }
     requires room { HasRoom (length nodes.old.items) (vec_capacity nodes.old) }
     requires within { place < WIDTH }
-    ensures trie { (keys : List (ℕ → Bool)) (bits : ℕ → Bool) (item : ℕ) → IsTrie WIDTH keys nodes.old.items
-        → Agree (bits_of key.now) bits (place + 1) → IsParting (length nodes.old.items) (bits_at keys) bits item place
-        → IsTrie WIDTH (bits ∷ keys) nodes.new.items }
+    ensures trie { (keys : ℕ → ℕ → Bool) (item : ℕ) → IsTrie keys nodes.old.items
+        → Agree (bits_of key.now) (keys (length nodes.old.items)) (place + 1)
+        → IsParting (length nodes.old.items) keys (keys (length nodes.old.items)) item place → IsTrie keys nodes.new.items }
+    ensures more { length nodes.new.items ≡ length nodes.old.items + 1 }
     ensures room { vec_capacity nodes.new ≡ vec_capacity nodes.old }
 {
     let slot = descend(nodes, key, place);
@@ -162,8 +162,10 @@ pub(crate) fn insert(nodes: &mut Vec<Node>, slot: Slot, place: u32, bit: bool)
     requires slot { slot.node < length nodes.old.items }
     requires room { HasRoom (length nodes.old.items) (vec_capacity nodes.old) }
     requires within { place < WIDTH }
-    ensures trie { (keys : List (ℕ → Bool)) (bits : ℕ → Bool) → IsTrie WIDTH keys nodes.old.items
-        → IsOpening keys nodes.old.items bits slot place → bits place ≡ bit → IsTrie WIDTH (bits ∷ keys) nodes.new.items }
+    ensures trie { (keys : ℕ → ℕ → Bool) → IsTrie keys nodes.old.items
+        → IsOpening keys nodes.old.items (keys (length nodes.old.items)) slot place → keys (length nodes.old.items) place ≡ bit
+        → IsTrie keys nodes.new.items }
+    ensures more { length nodes.new.items ≡ length nodes.old.items + 1 }
     ensures room { vec_capacity nodes.new ≡ vec_capacity nodes.old }
 {
     let number = nodes.len() as u32;
@@ -211,7 +213,7 @@ fn name(nodes: &mut Vec<Node>, slot: Slot, kid: u32)
 
 /// Takes the newest node away. The slot that named it names again what it named before.
 pub(crate) fn take_back(nodes: &mut Vec<Node>)
-    requires trie { (keys : List (ℕ → Bool)) × IsTrie WIDTH keys nodes.old.items }
+    requires trie { (keys : ℕ → ℕ → Bool) × IsTrie keys nodes.old.items }
     requires some { 0 < length nodes.old.items }
     requires few { length nodes.old.items ≤ 2 ^ 32 }
     ensures back { nodes.new.items ≡ without_newest nodes.old.items }

@@ -12,63 +12,43 @@ use Rattle.go_board.proofs.quick.print_past.add_stone.Goals as goal
 abbrev next_of : PastColourings → Colour → Point → Held
 next_of was k p = record { colouring = play (newest_grid was) k p; begins = false }
 
-pub returns-in_err-reserve-clause-emptied : goal.returns-in_err-reserve-clause-emptied
-returns-in_err-reserve-clause-emptied c = c.reserve.ensures.emptied (all_of c.args.colourings.now) c.requires.emptied
+pub returns-in_err-reserve-2-clause-table : goal.returns-in_err-reserve-2-clause-table
+returns-in_err-reserve-2-clause-table c = c.reserve-2.ensures.table (all_of c.args.colourings.now) c.requires.table
 
-pub returns-in_err-push-clause-table : goal.returns-in_err-push-clause-table
-returns-in_err-push-clause-table c = c.in_err-push.ensures.err (all_of c.args.colourings.now) c.requires.table
+pub returns-in_err-add_stone-clause-table : goal.returns-in_err-add_stone-clause-table
+returns-in_err-add_stone-clause-table c =
+    rw c.in_err-add_stone.ensures.err (c.reserve-2.ensures.table (all_of c.args.colourings.now) c.requires.table)
 
-pub returns-in_err-push-clause-emptied : goal.returns-in_err-push-clause-emptied
-returns-in_err-push-clause-emptied c = c.reserve.ensures.emptied (all_of c.args.colourings.now) c.requires.emptied
+pub returns-in_err-add_stone-clause-emptied : goal.returns-in_err-add_stone-clause-emptied
+returns-in_err-add_stone-clause-emptied c =
+    rw c.in_err-add_stone.ensures.err (c.reserve.ensures.emptied (all_of c.args.colourings.now) c.requires.emptied)
 
-pub pop-requires : goal.pop-requires
-pop-requires c =
-    let was = c.args.colourings.now in
-    let next = next_of was c.args.colour c.args.point in
-    (next, all_of was, c.in_ok-push.ensures.ok (all_of was) next c.requires.table c.requires.stone.print)
+pub next_number-requires : goal.next_number-requires
+next_number-requires c = (all_of c.args.colourings.now, c.reserve-2.ensures.table (all_of c.args.colourings.now) c.requires.table)
 
-pub returns-then-is_err-clause-table : goal.returns-then-is_err-clause-table
-returns-then-is_err-clause-table c =
-    let was = c.args.colourings.now in
-    let next = next_of was c.args.colour c.args.point in
-    let same : c.add_stone.new.self ≡ was = search rules in
-    subst (λ (past : PastColourings). IsTable (all_of past) c.pop.new.self) (sym same) (c.pop.ensures next (all_of was) (c.in_ok-push.ensures.ok (all_of was) next c.requires.table c.requires.stone.print))
-
-pub returns-then-is_err-clause-emptied : goal.returns-then-is_err-clause-emptied
-returns-then-is_err-clause-emptied c =
-    let was = c.args.colourings.now in
-    let same : c.add_stone.new.self ≡ was = search rules in
-    subst (λ (past : PastColourings). IsEmptied (all_of past) c.reserve.new.self) (sym same) (c.reserve.ensures.emptied (all_of was) c.requires.emptied)
-
-pub fill-requires : goal.fill-requires
-fill-requires c =
-    let was = c.args.colourings.now in
-    let next = next_of was c.args.colour c.args.point in (
-      next,
+pub push-requires-clause-table : goal.push-requires-clause-table
+push-requires-clause-table c =
+    let was = c.args.colourings.now in (
       all_of was,
-      c.in_ok-push.ensures.ok (all_of was) next c.requires.table c.requires.stone.print,
-      subst (λ (xs : List Node). IfSome c.args.gap (IsGap (all_of was) xs)) (sym c.in_ok-push.ensures.nodes) c.requires.gap,
+      next_of was c.args.colour c.args.point,
+      c.reserve-2.ensures.table (all_of was) c.requires.table,
+      rw c.reserve-2.ensures.nodes c.requires.gap,
+      c.requires.stone.print,
     )
-
-pub add-requires-clause-emptied : goal.add-requires-clause-emptied
-add-requires-clause-emptied c = (all_of c.args.colourings.now, c.reserve.ensures.emptied (all_of c.args.colourings.now) c.requires.emptied)
 
 pub returns-clause-table : goal.returns-clause-table
 returns-clause-table c =
     let was = c.args.colourings.now in
     let next = next_of was c.args.colour c.args.point in
-    let made : c.add_stone.new.self ≡ with_next was next.colouring false = search rules in
-    subst (λ (past : PastColourings). IsTable (all_of past) c.fill.new.self) (sym made)
-    (c.fill.ensures next (all_of was) (c.in_ok-push.ensures.ok (all_of was) next c.requires.table c.requires.stone.print)
-    (subst (λ (xs : List Node). IfSome c.args.gap (IsGap (all_of was) xs)) (sym c.in_ok-push.ensures.nodes) c.requires.gap))
+    rw c.in_ok-add_stone.ensures.ok
+    (c.push.ensures (all_of was) next (c.reserve-2.ensures.table (all_of was) c.requires.table) (rw c.reserve-2.ensures.nodes c.requires.gap) c.requires.stone.print)
 
 pub returns-clause-emptied : goal.returns-clause-emptied
 returns-clause-emptied c =
     let was = c.args.colourings.now in
     let k = c.args.colour in
     let p = c.args.point in
-    let next = next_of was k p in
-    let made : c.add_stone.new.self ≡ with_next was next.colouring false = search rules in
-    subst (λ (past : PastColourings). IsEmptied (all_of past) c.add.new.self) (sym made)
-    (c.add.ensures.emptied next was.newest was.older (c.reserve.ensures.emptied (all_of was) c.requires.emptied) (c.next_number-number.ensures (all_of was) c.requires.table)
+    let table = c.reserve-2.ensures.table (all_of was) c.requires.table in
+    rw c.in_ok-add_stone.ensures.ok
+    (c.add.ensures.emptied (next_of was k p) was.newest was.older (c.reserve.ensures.emptied (all_of was) c.requires.emptied) (c.next_number.ensures (all_of was) table)
     (λ goes_on. emptied_by_play (newest_grid was) k p c.args.taken.now c.requires.stone.move))

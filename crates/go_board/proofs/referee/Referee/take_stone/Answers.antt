@@ -11,7 +11,7 @@ use Rattle.go_board.proofs.SettledLemmas.{side_play}
 use Rattle.go_board.proofs.TurnLemmas.{reason_by_past, reason_of-new, on_err}
 use Rattle.go_board.proofs.referee.Referee.take_stone.Given.{Over}
 use Rattle.go_board.proofs.referee.Referee.take_stone.Goals as goal
-use Rattle.go_board.proofs.referee.Referee.take_stone.Goals.{After-play, After-pop}
+use Rattle.go_board.proofs.referee.Referee.take_stone.Goals.{After-play}
 
 -- where the stretch doesn't have what the stone makes, there is no reason
 new : (g : Over) (c : After-play g) → (Contains (present_stretch (g.P.Past.held c.self.inside.past)) (play (newest_grid (g.P.Past.held c.self.inside.past)) c.args.colour c.args.point) → ⊥) → reason_of c.args.self.now.present c.args.colour (Stone c.args.point) ≡ None
@@ -51,20 +51,3 @@ invariant_of-self-2 g c =
     IsRefereeKept-grown past was.player was.passes was.turns was.earlier.items
     kept.result true (kept.ensures.player ∙ sym (ap (λ (states : States). states.present.player) c.self.view_is)) (kept.ensures.passes ∙ sym (ap (λ (states : States). states.present.passes) c.self.view_is)) kept.ensures.grew kept.ensures.turned
     (was.turns + 1) (omega arith) c.self.invariant (g.P.Past.held c.play.new.self) made false (Some c.opponent.result) c.push.new.self.items now (side_play (newest_grid past) c.args.colour c.args.point) items
-
--- once the stone is taken back, the past is as it was
-back : (g : Over) (c : After-pop g) → g.P.Past.held c.pop.new.self ≡ g.P.Past.held c.self.inside.past
-back g c =
-    let past = g.P.Past.held c.self.inside.past in
-    let now : g.P.Past.held c.play.new.self ≡ with_next past (play (newest_grid past) c.args.colour c.args.point) false = rw c.if-not-branch.false at c.in_ok-play.ensures.ok in
-    ap (λ (hs : List Held). past_of_older past hs) (sym c.pop.ensures ∙ ap (λ (p : PastColourings). p.older) now)
-
-pub invariant_of-self-then-is_err : goal.invariant_of-self-then-is_err
-invariant_of-self-then-is_err g c =
-    let items : c.push.new.self.items ≡ c.self.inside.earlier.items = search rules in
-    rw (back g (goal.at.invariant_of-self-then-is_err g c).After-pop, items) c.self.invariant
-
-pub returns-then-is_err-clause-err : goal.returns-then-is_err-clause-err
-returns-then-is_err-clause-err g c =
-    let items : c.push.new.self.items ≡ c.self.inside.earlier.items = search rules in
-    rw (back g (goal.at.returns-then-is_err-clause-err g c).After-pop, items) c.self.view_is

@@ -5,9 +5,6 @@ use Rattle.go_board.specs.Past.{PastColourings, all_of, newest_grid, present_str
 use Rattle.go_board.proofs.TableLemmas.{has_colouring, tabled}
 use Rattle.go_board.proofs.quick.print_past.PrintPast.has_near.Goals as goal
 
-pub is_at-requires : goal.is_at-requires
-is_at-requires c = omega (arith, c.in-Some.ensures.1, tabled (all_of c.self.inside.colourings) c.self.inside.table c.self.invariant.tabled)
-
 pub returns : goal.returns
 returns c = λ is.
     let inside = c.self.inside.colourings in
@@ -15,6 +12,6 @@ returns c = λ is.
     let p = c.args.point in
     let made : c.put.new.self ≡ play (newest_grid c.args.self.now) k p = search rules in
     let number = c.is_at.ensures.0 is in
-    let has = has_colouring (all_of inside) c.stretch_start-start.result c.put.new.self c.stretch_start-start.ensures.stretch
-    (c.in-Some.number, omega (arith, c.in-Some.ensures.1, tabled (all_of inside) c.self.inside.table c.self.invariant.tabled), c.in-Some.ensures.0, number) in
+    let has = has_colouring (all_of inside) c.in-Some.number c.put.new.self (omega (arith, c.in-Some.ensures.0, c.stretch_start-start.ensures.start))
+    (omega (arith, c.in-Some.ensures.1, tabled (all_of inside) c.self.inside.table c.self.invariant.tabled)) number in
     subst (λ (past : PastColourings). Contains (present_stretch past) (play (newest_grid c.args.self.now) k p)) c.self.view_is (subst (λ (g : Grid). Contains (present_stretch inside) g) made has)

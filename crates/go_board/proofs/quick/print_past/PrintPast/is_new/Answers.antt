@@ -1,8 +1,9 @@
 use Rattle.std.proofs.Common.{◌≡◌, ◌*◌, ◌∙◌, Contains, length, ap, sym, subst}
-use Rattle.std.proofs.lemmas.Bool.{not-true}
+use Rattle.std.proofs.lemmas.Bool.{not-true, or_parts}
 use Rattle.go_board.specs.Grid.{Grid}
 use Rattle.go_board.specs.Clearing.{play}
 use Rattle.go_board.specs.Past.{PastColourings, all_of, newest_grid, present_stretch}
+use Rattle.go_board.specs.inner.Emptied.{IsLastStone}
 use Rattle.go_board.specs.inner.Print.{print_of}
 use Rattle.go_board.proofs.RepeatLemmas.{never_back_with}
 use Rattle.go_board.proofs.quick.print_past.PrintPast.is_new.Goals as goal
@@ -10,13 +11,15 @@ use Rattle.go_board.proofs.quick.print_past.PrintPast.is_new.Goals as goal
 pub invariant_of-self : goal.invariant_of-self
 invariant_of-self c = record { tabled = c.may_have.ensures.table (all_of c.self.inside.colourings) c.self.invariant.tabled; emptied_in = c.self.invariant.emptied_in; last = c.self.invariant.last }
 
-pub returns-then-last_stone_stays-clause-new : goal.returns-then-last_stone_stays-clause-new
-returns-then-last_stone_stays-clause-new c = λ _ has.
+pub returns-then-not-gone-clause-new : goal.returns-then-not-gone-clause-new
+returns-then-not-gone-clause-new c = λ _ has.
     let past = c.args.self.now in
     let same : c.newest.result.now ≡ newest_grid past = c.newest.ensures ∙ ap (λ (held : PastColourings). newest_grid held) c.self.view_is in
-    let last = c.last_stone_stays.ensures c.if-last_stone_stays.true in
-    never_back_with past c.args.colour c.args.point last.0 c.args.taken.now (subst (λ (g : Grid). length g.cells ≡ g.side * g.side) same c.has_all_cells.ensures.all)
-    c.requires.stone.move last.1 last.2 (sym c.has_point.ensures ∙ c.if-not-has_point.true) has
+    let known = rw c.in-Some.is at c.self.invariant.last in
+    let last = subst (λ (held : PastColourings). IsLastStone held c.in-Some.stone) c.self.view_is known in
+    let unset = or_parts _ _ c.if-not-gone.true in
+    never_back_with past c.args.colour c.args.point c.in-Some.stone c.args.taken.now (subst (λ (g : Grid). length g.cells ≡ g.side * g.side) same c.has_all_cells.ensures.all)
+    c.requires.stone.move last (sym c.has_point-in-Some.ensures ∙ unset.1) (sym c.has_point.ensures ∙ unset.0) has
 
 pub returns-clause-new : goal.returns-clause-new
 returns-clause-new c = λ is has.

@@ -7,35 +7,35 @@ use Rattle.go_board.specs.Past.{PastColourings, newest_grid, present_stretch, wi
 use Rattle.go_board.proofs.RepeatLemmas.{played_again, played_new, played_refused}
 use Rattle.go_board.proofs.SettledLemmas.{settled_by_play}
 use Rattle.go_board.proofs.quick.print_past.PrintPast.play_on_copy.Goals as goal
-use Rattle.go_board.proofs.quick.print_past.PrintPast.play_on_copy.Goals.{After-has}
+use Rattle.go_board.proofs.quick.print_past.PrintPast.play_on_copy.Goals.{After-find}
 
 pub restore-requires : goal.restore-requires
 restore-requires c = λ _. ap has_unreaching c.place.ensures.value ∙ settled_by_play c.copy-made.result c.args.colour c.args.point
 
-module _ (c : After-has) where
+module _ (c : After-find) where
   pub made : c.restore.new.self ≡ play (newest_grid c.self.inside.colourings) c.args.colour c.args.point
   made =
       c.restore.ensures ∙ c.place.ensures.value
       ∙ ap (λ (g : Grid). play g c.args.colour c.args.point) (c.copy-made.ensures ∙ c.newest.ensures ∙ ap (λ (past : PastColourings). newest_grid past) (sym c.self.view_is))
 
-  pub never : c.has.result ≡ false → Contains (present_stretch c.self.inside.colourings) (play (newest_grid c.self.inside.colourings) c.args.colour c.args.point) → ⊥
-  never none has = false≢true (sym none ∙ c.has.ensures.1 (subst (λ (g : Grid). Contains (present_stretch c.self.inside.colourings) g) (sym made) has))
+  pub never : c.find.result ≡ false → Contains (present_stretch c.self.inside.colourings) (play (newest_grid c.self.inside.colourings) c.args.colour c.args.point) → ⊥
+  never none has = false≢true (sym none ∙ c.find.ensures.1 (subst (λ (g : Grid). Contains (present_stretch c.self.inside.colourings) g) (sym made) has))
 
-pub returns-then-has : goal.returns-then-has
-returns-then-has c =
+pub returns-then-find : goal.returns-then-find
+returns-then-find c =
     let was = c.self.inside.colourings in
-    let has = subst (λ (g : Grid). Contains (present_stretch was) g) (made (goal.at.returns-then-has c).After-has) (c.has.ensures.0 c.if-has.true) in
+    let has = subst (λ (g : Grid). Contains (present_stretch was) g) (made (goal.at.returns-then-find c).After-find) (c.find.ensures.0 c.if-find.true) in
     subst (λ (past : PastColourings). IsPlayed {E = MemoryFault} c.args.colour c.args.point past was (Ok false)) c.self.view_is (played_again c.args.colour c.args.point was was has refl)
 
 pub returns-in_err-add : goal.returns-in_err-add
 returns-in_err-add c =
     let was = c.self.inside.colourings in
     subst (λ (past : PastColourings). IsPlayed c.args.colour c.args.point past c.add.new.self c.from_residual.result) c.self.view_is
-    (played_refused c.args.colour c.args.point was c.add.new.self c.from_residual.result c.from_residual.ensures.0 (never (goal.at.returns-in_err-add c).After-has c.if-has.false) c.in_err-add.ensures.err)
+    (played_refused c.args.colour c.args.point was c.add.new.self c.from_residual.result c.from_residual.ensures.0 (never (goal.at.returns-in_err-add c).After-find c.if-find.false) c.in_err-add.ensures.err)
 
 pub returns : goal.returns
 returns c =
     let was = c.self.inside.colourings in
-    let w = (goal.at.returns c).After-has in
+    let w = (goal.at.returns c).After-find in
     subst (λ (past : PastColourings). IsPlayed {E = MemoryFault} c.args.colour c.args.point past c.add.new.self (Ok true)) c.self.view_is
-    (played_new c.args.colour c.args.point was c.add.new.self (never w c.if-has.false) (c.in_ok-add.ensures.ok ∙ ap (λ (g : Grid). with_next was g false) (made w)))
+    (played_new c.args.colour c.args.point was c.add.new.self (never w c.if-find.false) (c.in_ok-add.ensures.ok ∙ ap (λ (g : Grid). with_next was g false) (made w)))

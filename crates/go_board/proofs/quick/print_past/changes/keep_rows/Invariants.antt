@@ -1,15 +1,11 @@
--- The rows that aren't left are kept.
-use Rattle.std.proofs.Common.{◌<◌, ◌^◌, ◌&&◌, not}
+-- Of the rows looked at so far, those that differ are kept.
+use Rattle.std.proofs.Common.{◌+◌, ◌≤◌, length}
+use Rattle.std.specs.Vec.{vec_capacity}
 use Rattle.go_board.specs.inner.Changes.{KeepRows}
-use Rattle.go_board.specs.inner.Rows.{has_bit, IsPart}
 use Rattle.go_board.proofs.quick.print_past.changes.keep_rows.Given as goal
 
-abbrev pub invariant-each : goal.invariant-each
-invariant-each l = record {
-  low : l.left < 2 ^ 64;
-  part : IsPart (has_bit l.left) (has_bit l.rows);
-  kept : KeepRows l.board (λ row. has_bit l.rows row && not (has_bit l.left row)) l.fn.changes.items l.changes.items;
+abbrev pub invariant-loop-row : goal.invariant-loop-row
+invariant-loop-row l = record {
+  kept : KeepRows l.old l.new l.all l.row l.fn.changes.items l.changes.items;
+  room : length l.changes.items + l.old.side ≤ vec_capacity l.changes + l.row;
 }
-
-abbrev pub decreases-each : goal.decreases-each
-decreases-each l = l.left

@@ -1,16 +1,23 @@
-use Rattle.std.proofs.Common.{◌≡◌, ◌≢◌, ◌*◌, true, false, length, slice_index, refl, ap, ◌∙◌, sym}
+use Rattle.std.proofs.Common.{◌≡◌, ◌≢◌, ◌*◌, true, false, length, refl, ap, ◌∙◌, sym, rules}
 use Rattle.std.proofs.lemmas.Bool.{false≢true}
 use Rattle.std.proofs.lemmas.List.{length-set}
 use Rattle.go_board.specs.Colour.{stone_of}
 use Rattle.go_board.specs.Point.{index_of}
 use Rattle.go_board.specs.Grid.{with_cell}
 use Rattle.go_board.specs.Clearing.{play}
-use Rattle.go_board.specs.inner.Rows.{has_bit, is_set}
+use Rattle.go_board.specs.inner.Print.{print_of}
+use Rattle.go_board.specs.inner.Rows.{is_set}
 use Rattle.go_board.proofs.GridLemmas.{cell_at-with_cell_elsewhere}
 use Rattle.go_board.proofs.PrintLemmas.{print_left}
+use Rattle.go_board.proofs.TakenLemmas.{takes_nothing-alone}
 use Rattle.go_board.proofs.SettledLemmas.{side_play}
 use Rattle.go_board.proofs.quick.print_past.print.print_after_taking.Goals as goal
 use Rattle.go_board.proofs.quick.print_past.print.print_after_taking.Goals.{then-is_taken, else-is_taken}
+
+pub returns-then-is_empty : goal.returns-then-is_empty
+returns-then-is_empty c =
+    let none : length c.args.taken.now ≡ 0 = search rules in
+    c.print_after_stone.ensures ∙ ap print_of (sym (takes_nothing-alone c.args.board.now c.args.point c.args.colour c.args.taken.now c.has_all_cells.ensures.all none c.requires.stone.taken))
 
 pub returns : goal.returns
 returns c =
@@ -25,8 +32,7 @@ returns c =
     let all = c.has_all_cells.ensures.all in
     let all_made = length-set g.cells (index_of g.side p) (stone_of k) ∙ all in
     let all_left : length left.cells ≡ left.side * left.side = played.all ∙ all_made ∙ ap (λ n. n * n) (sym side) in
-    let is : c.has_column-is_taken.result ≡ is_set taken p =
-    c.has_column-is_taken.ensures ∙ ap (λ w. has_bit w c.from.result) c.columns_in.ensures ∙ ap (has_bit (slice_index taken p.row)) c.from.ensures in
+    let is : c.has_point-is_taken.result ≡ is_set taken p = c.has_point-is_taken.ensures in
     elim c.if-is_taken.branch [
       | then-is_taken w ↦
           let there : is_set taken p ≡ true = sym is ∙ w.if-is_taken.true in

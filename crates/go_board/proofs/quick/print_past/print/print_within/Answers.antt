@@ -60,10 +60,3 @@ loop-row-preserved c =
           ∙ sym (mul-mod number base m)
           ∙ ap (λ n. n % m) (product ∙ sym (in_base-more base row digits))
     ]
-
-pub returns : goal.returns
-returns c =
-    let g = c.args.board.now in
-    let all : c.loop-row.row ≡ g.side = omega (arith, c.loop-row-test.false, c.loop-row.auto.row-end, c.side-side.ensures.value, c.size.ensures) in
-    c.loop-row.invariant
-    ∙ ap (λ n. in_base (31 ^ g.side) n (λ row. row_within g (slice_index c.args.points.now row) row) % 2 ^ 64) all

@@ -1,14 +1,13 @@
 use Rattle.std.proofs.Common.{◌≡◌, ◌-◌, ◌<◌, ℕ, Bool, List, length}
-use Rattle.go_board.specs.declared.quick.print_past.key.TheConstants.{WIDTH}
 use Rattle.go_board.specs.inner.Key.{bits_of}
-use Rattle.go_board.specs.inner.Trie.{IsTrie, IsOnWay, bits_at, depth_of, kid_of}
+use Rattle.go_board.specs.inner.Trie.{IsTrie, IsOnWay, depth_of, kid_of}
 use Rattle.go_board.proofs.quick.print_past.trie.descend.Given as goal
 
 abbrev pub invariant-down : goal.invariant-down
 invariant-down l = record {
   node : l.slot.node < length l.nodes;
-  way : (keys : List (ℕ → Bool)) → IsTrie WIDTH keys l.nodes
-      → IsOnWay (length l.nodes) (bits_at keys) (depth_of l.nodes) (bits_of l.key) l.end l.slot.node l.slot.side;
+  way : (keys : ℕ → ℕ → Bool) → IsTrie keys l.nodes
+      → IsOnWay (length l.nodes) keys (depth_of l.nodes) (bits_of l.key) l.end l.slot.node l.slot.side;
   depth : l.depth ≡ depth_of l.nodes l.slot.node;
   below : l.below ≡ kid_of l.nodes l.slot.node l.slot.side;
   there : l.below < length l.nodes;

@@ -1,12 +1,19 @@
-use Rattle.std.proofs.Common.{◌≡◌, ◌++◌, ◌∷◌, [], List, Bool, not, length, ap, sym, subst, ◌∙◌, arith, rules}
+use Rattle.std.proofs.Common.{◌≡◌, ◌+◌, ◌++◌, ◌∷◌, [], List, Bool, not, length, length-append, ap, sym, subst, ◌∙◌, arith, rules}
+use Rattle.std.proofs.lemmas.List.{length-set}
 use Rattle.go_board.specs.declared.quick.print_past.trie.Node.{Node}
 use Rattle.go_board.specs.declared.quick.print_past.key.TheConstants.{WIDTH}
-use Rattle.go_board.specs.inner.Trie.{IsTrie, named, kid_of, with_named}
+use Rattle.go_board.specs.inner.Trie.{IsTrieOf, named, node_at, kid_of, with_kid, with_named}
 use Rattle.go_board.proofs.TrieLemmas.{trie_parted}
 use Rattle.go_board.proofs.quick.print_past.trie.insert.Goals as goal
 
+pub returns-clause-more : goal.returns-clause-more
+returns-clause-more c =
+    let nodes = c.args.nodes.now.items in
+    let slot = c.args.slot in
+    omega (arith, ap length c.push_reserved.ensures.items, length-append c.name.new.nodes.items (c.parted_node-node.result ∷ []), ap length c.name.ensures.named, length-set nodes slot.node (with_kid (node_at nodes slot.node) slot.side c.len-number.result))
+
 pub returns-clause-trie : goal.returns-clause-trie
-returns-clause-trie c = λ keys bits trie opening bit.
+returns-clause-trie c = λ keys trie opening bit.
     let nodes = c.args.nodes.now.items in
     let slot = c.args.slot in
     let node = c.parted_node-node in
@@ -16,12 +23,14 @@ returns-clause-trie c = λ keys bits trie opening bit.
     c.name.ensures.named ∙ ap (λ n. with_named nodes slot.node slot.side n) number in
     let made : c.push_reserved.new.self.items ≡ with_named nodes slot.node slot.side (length nodes) ++ node.result ∷ [] =
     c.push_reserved.ensures.items ∙ ap (λ (xs : List Node). xs ++ node.result ∷ []) named_so in
-    subst (λ (xs : List Node). IsTrie WIDTH (bits ∷ keys) xs) (sym made)
-    (trie_parted keys nodes bits trie (omega (arith, opening.there.there)) node.result opening.there opening.low opening.under opening.stop c.requires.within opening.part
+    let more : length c.push_reserved.new.self.items ≡ length nodes + 1 = returns-clause-more c in
+    subst (λ m. IsTrieOf WIDTH m keys c.push_reserved.new.self.items) (sym more)
+    (subst (λ (xs : List Node). IsTrieOf WIDTH (length nodes + 1) keys xs) (sym made)
+    (trie_parted keys nodes trie (omega (arith, opening.there.there)) node.result opening c.requires.within
     (record {
       depth = node.ensures.depth;
       up = node.ensures.up;
       up_side = node.ensures.side;
       own = ap (λ (t : Bool). named node.result t) bit ∙ node.ensures.own ∙ number;
       rest = ap (λ (t : Bool). named node.result (not t)) bit ∙ node.ensures.rest ∙ below;
-    }))
+    })))

@@ -4,9 +4,9 @@ use Rattle.go_board.proofs.TrieLemmas.{way_opens, end_opens}
 use Rattle.go_board.proofs.quick.print_past.trie.opening.Goals as goal
 
 pub returns-then-from-place-clause-opening : goal.returns-then-from-place-clause-opening
-returns-then-from-place-clause-opening c = λ keys bits end trie way stop before same part.
-    end_opens WIDTH keys c.args.nodes.now c.args.from c.args.place trie way stop before (omega (arith, c.if-from-place.true, c.from.ensures)) part
+returns-then-from-place-clause-opening c = λ keys bits end trie walk before same part.
+    end_opens WIDTH keys c.args.nodes.now trie c.args.from walk c.args.place before (omega (arith, c.if-from-place.true, c.from.ensures)) part
 
 pub returns-clause-opening : goal.returns-clause-opening
-returns-clause-opening c = λ keys bits end trie way stop before same part.
-    way_opens c.descend.result c.args.place (c.descend.ensures.way keys trie) c.descend.ensures.stop same part
+returns-clause-opening c = λ keys bits end trie walk before same part.
+    way_opens c.descend.result c.args.place (record { way = c.descend.ensures.way keys trie; stop = c.descend.ensures.stop }) same part

@@ -15,6 +15,6 @@ name-requires c =
     let was : nodes ≡ left ++ newest ∷ [] = search rules in
     let count : length nodes ≡ n + 1 = ap length was ∙ length-append left (newest ∷ []) in
     let at : node_at nodes n ≡ newest = ap (λ (xs : List Node). node_at xs n) was ∙ get_or-append_seam left newest [] no_node in
-    let up : newest.up ≤ n = subst (λ (x : Node). x.up ≤ n) at (trie_up WIDTH c.requires.trie.0 nodes n c.requires.trie.1 count) in
+    let up : newest.up ≤ n = subst (λ (x : Node). x.up ≤ n) at (trie_up WIDTH n c.requires.trie.0 nodes c.requires.trie.1 count) in
     let number : c.len-number.result ≡ n = search rules in
     omega (arith, up, c.if-newest-number.false, number)

@@ -20,7 +20,7 @@ walked c =
     let to = c.next_full-from in
     let found = rw c.deref.ensures.value at to.ensures in
     let same : c.args.board.now ≡ p.newest = c.requires.newest ∙ ap newest_grid (sym c.self.view_is) in
-    let is = walk p.newest c.args.board.now p.older_in_stretch p.older.items p.changes.items (all_of c.args.self.now) (ap all_of c.self.view_is) c.self.invariant.kept same c.has_all_cells.ensures.all
+    let is = walk p.newest c.args.board.now p.stretch_start p.older.items p.changes.items (all_of c.args.self.now) (ap all_of c.self.view_is) c.self.invariant.kept same c.has_all_cells.ensures.all
     c.args.number to.result.0 to.result.1 c.len.result c.index.result.now c.if-number-from.true found.high found.full (c.len.ensures ∙ p.changes.ok.0) found.end in
     (rw (← ap (λ (o : Older). o.start) c.index.ensures) at is.low, is.high)
 
@@ -42,7 +42,7 @@ returns-then-number-from c =
     let to = c.next_full-from in
     let found = rw c.deref.ensures.value at to.ensures in
     let same : c.args.board.now ≡ p.newest = c.requires.newest ∙ ap newest_grid (sym c.self.view_is) in
-    let is = walk p.newest c.args.board.now p.older_in_stretch p.older.items p.changes.items (all_of c.args.self.now) (ap all_of c.self.view_is) c.self.invariant.kept same c.has_all_cells.ensures.all
+    let is = walk p.newest c.args.board.now p.stretch_start p.older.items p.changes.items (all_of c.args.self.now) (ap all_of c.self.view_is) c.self.invariant.kept same c.has_all_cells.ensures.all
     c.args.number to.result.0 to.result.1 c.len.result c.index.result.now c.if-number-from.true found.high found.full (c.len.ensures ∙ p.changes.ok.0) found.end in
     let all : length (all_of c.args.self.now) ≡ length p.older.items + 1 = sym (ap (λ (past : PastColourings). length (all_of past)) c.self.view_is) ∙ omega (arith, length-held p.newest (reverse p.older.items) p.changes.items, length-reverse p.older.items) in
     let count : length (all_of c.args.self.now) - 1 - c.args.number ≡ length p.older.items - c.args.number = omega (arith, all) in

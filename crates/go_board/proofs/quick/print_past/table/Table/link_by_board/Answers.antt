@@ -1,48 +1,54 @@
-use Rattle.std.proofs.Common.{◌+◌, ◌∷◌, length, refl, ap, subst, ◌∙◌}
+use Rattle.std.proofs.Common.{◌≡◌, length, refl, sym, subst, ◌∙◌, arith}
 use Rattle.go_board.specs.declared.quick.print_past.key.TheConstants.{WIDTH}
 use Rattle.go_board.specs.Past.{all_of}
-use Rattle.go_board.specs.inner.Changes.{IsNumber}
-use Rattle.go_board.specs.inner.Key.{bits_of, key_bits, start_of, since}
-use Rattle.go_board.specs.inner.Print.{print_of}
-use Rattle.go_board.specs.inner.Trie.{IsTrie}
-use Rattle.go_board.proofs.TableLemmas.{linked_keys, nearest_parts_whole, nearest_same, tabled_next}
-use Rattle.go_board.proofs.TrieLemmas.{agree_self}
+use Rattle.go_board.specs.inner.Key.{bits_of, keys_of}
+use Rattle.go_board.specs.inner.Trie.{Agree, IsNearest}
+use Rattle.go_board.proofs.TableLemmas.{tabled_with}
+use Rattle.go_board.proofs.TrieLemmas.{agree_back, agree_on, agree_self, parts_as}
 use Rattle.go_board.proofs.quick.print_past.table.Table.link_by_board.Goals as goal
+use Rattle.go_board.proofs.quick.print_past.table.Table.link_by_board.Goals.{After-key_of-other}
+
+-- the nearest colouring in the trie, and the bits of its key and of the next one's
+module _ (c : After-key_of-other) where
+  pub nearest_is : IsNearest (keys_of (all_of c.args.colourings.now)) c.args.self.now.nodes.items (bits_of c.key_of-key.result) WIDTH c.nearest-near.result
+  nearest_is = let found = rw c.deref.ensures.value at c.nearest-near.ensures in found.nearest (keys_of (all_of c.args.colourings.now)) c.requires.table.linked
+
+  pub own : Agree (bits_of c.key_of-key.result) (keys_of (all_of c.args.colourings.now) (length c.args.self.now.nodes.items)) WIDTH
+  own =
+      let count = c.len-next.ensures ∙ c.args.self.now.nodes.ok.0 in
+      let same = rw count at (c.key_of-key.ensures.whole c.board_at-board.ensures) in
+      subst (λ x. Agree (bits_of c.key_of-key.result) x WIDTH) same (agree_self (bits_of c.key_of-key.result) WIDTH)
+
+  pub other : Agree (bits_of c.key_of-other.result) (keys_of (all_of c.args.colourings.now) c.nearest-near.result) WIDTH
+  other = subst (λ x. Agree (bits_of c.key_of-other.result) x WIDTH) (c.key_of-other.ensures.whole c.board_at-past.ensures) (agree_self (bits_of c.key_of-other.result) WIDTH)
 
 pub returns-in-Some : goal.returns-in-Some
 returns-in-Some c =
     let t = c.args.self.now in
     let held = all_of c.args.colourings.now in
     let is = c.requires.table in
-    let count = c.len-next.ensures ∙ t.nodes.ok.0 in
-    let board = c.board_at-board.result in
-    let at : IsNumber held (length t.nodes.items) board = subst (λ n. IsNumber held n board) count c.board_at-board.ensures in
-    let keys = linked_keys held t is in
-    let key = bits_of c.key_of-key.result in
-    let is_key = c.key_of-key.ensures board c.board_at-board.ensures ∙ ap (λ n. key_bits (start_of (since n held)) (print_of board) board) count in
-    let near = c.nearest-near.result in
-    let past = c.board_at-past in
+    let keys = keys_of held in
+    let w = (goal.at.returns-in-Some c).After-key_of-other in
     let apart = c.in-Some.ensures in
-    let parts = nearest_parts_whole held t is c.requires.some key near (c.nearest-near.ensures.nearest held is) (bits_of c.key_of-other.result) past.result past.ensures (c.key_of-other.ensures past.result past.ensures)
-    c.in-Some.place apart.0 apart.1 apart.2 in
-    let next = tabled_next held t (record t { nodes = c.part.new.nodes }) board is c.requires.more refl refl c.part.ensures.room at
-    (subst (λ bits. IsTrie WIDTH (bits ∷ keys) c.part.new.nodes.items) is_key (c.part.ensures.trie keys key near is.linked (agree_self key (c.in-Some.place + 1)) parts)) in
-    record { table = next.0; next = next.1; prints = refl }
+    let parts = parts_as (nearest_is w) (keys (length t.nodes.items)) _ c.in-Some.place apart.0 (own w) (other w) apart.1 apart.2 in
+    let more = c.part.ensures.more in
+    record {
+      table = tabled_with held t (record t { nodes = c.part.new.nodes }) is refl refl (omega (arith, is.room, c.part.ensures.room)) (omega (arith, is.most, c.part.ensures.room)) (omega (arith, more, c.requires.more)) (c.part.ensures.trie keys c.nearest-near.result c.requires.table.linked parts.0 parts.1);
+      next = more;
+      prints = refl;
+    }
 
 pub returns-in-None : goal.returns-in-None
 returns-in-None c =
     let t = c.args.self.now in
     let held = all_of c.args.colourings.now in
     let is = c.requires.table in
-    let count = c.len-next.ensures ∙ t.nodes.ok.0 in
-    let board = c.board_at-board.result in
-    let at : IsNumber held (length t.nodes.items) board = subst (λ n. IsNumber held n board) count c.board_at-board.ensures in
-    let keys = linked_keys held t is in
-    let key = bits_of c.key_of-key.result in
-    let is_key = c.key_of-key.ensures board c.board_at-board.ensures ∙ ap (λ n. key_bits (start_of (since n held)) (print_of board) board) count in
-    let near = c.nearest-near.result in
-    let past = c.board_at-past in
-    let same = nearest_same held t is c.requires.some key near (c.nearest-near.ensures.nearest held is) (bits_of c.key_of-other.result) past.result past.ensures (c.key_of-other.ensures past.result past.ensures) c.in-None.ensures in
-    let next = tabled_next held t (record t { nodes = c.repeat.new.nodes }) board is c.requires.more refl refl c.repeat.ensures.room at
-    (subst (λ bits. IsTrie WIDTH (bits ∷ keys) c.repeat.new.nodes.items) is_key (c.repeat.ensures.trie keys key near is.linked c.nearest-near.ensures.there same)) in
-    record { table = next.0; next = next.1; prints = refl }
+    let keys = keys_of held in
+    let w = (goal.at.returns-in-None c).After-key_of-other in
+    let more = c.repeat.ensures.more in
+    record {
+      table = tabled_with held t (record t { nodes = c.repeat.new.nodes }) is refl refl (omega (arith, is.room, c.repeat.ensures.room)) (omega (arith, is.most, c.repeat.ensures.room)) (omega (arith, more, c.requires.more))
+          (c.repeat.ensures.trie keys c.nearest-near.result c.requires.table.linked (nearest_is w).there (agree_on (agree_back (other w)) (agree_on (agree_back c.in-None.ensures) (own w))));
+      next = more;
+      prints = refl;
+    }

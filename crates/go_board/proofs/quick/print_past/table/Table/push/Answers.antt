@@ -1,40 +1,33 @@
-use Rattle.std.proofs.Common.{◌≡◌, ◌<◌, ◌+◌, ◌^◌, ◌++◌, ◌∷◌, [], List, ℕ, length, length-append, reverse, refl, ap, sym, subst, ◌∙◌, arith}
-use Rattle.std.specs.Vec.{vec_capacity}
-use Rattle.std.proofs.lemmas.List.{reverse-append}
+use Rattle.std.proofs.Common.{◌≡◌, ◌+◌, ◌<◌, ◌++◌, ◌∷◌, [], length, refl, subst, sym, ◌∙◌, arith}
 use Rattle.go_board.specs.declared.quick.print_past.table.Table.{Table}
-use Rattle.go_board.specs.declared.quick.print_past.trie.Node.{Node}
-use Rattle.go_board.specs.declared.quick.print_past.key.TheConstants.{WIDTH}
 use Rattle.go_board.specs.Past.{Held}
-use Rattle.go_board.specs.inner.Key.{keys_of, oldest}
+use Rattle.go_board.specs.inner.Key.{keys_of}
 use Rattle.go_board.specs.inner.Print.{print_of}
-use Rattle.go_board.specs.inner.Trie.{IsTrie}
-use Rattle.go_board.proofs.FilterLemmas.{filter_more}
-use Rattle.go_board.proofs.TableLemmas.{linked_few, oldest-same}
+use Rattle.go_board.specs.inner.Rows.{has_bit}
+use Rattle.go_board.specs.inner.Trie.{IsOpening}
+use Rattle.go_board.proofs.TableLemmas.{keys-print, linked_before, tabled, tabled_more}
 use Rattle.go_board.proofs.quick.print_past.table.Table.push.Goals as goal
-use Rattle.go_board.proofs.quick.print_past.table.Table.push.Goals.{then-len-capacity+in_ok-make_room, else-len-capacity}
 
-pub returns-clause-ok : goal.returns-clause-ok
-returns-clause-ok c = λ held next is fits.
+pub insert-requires-clause-slot : goal.insert-requires-clause-slot
+insert-requires-clause-slot c =
+    let gap = rw c.in-Some.is at c.requires.table.3 in
+    (gap.opens c.requires.table.1 (sym c.requires.table.4)).there.there
+
+pub returns-in_default : goal.returns-in_default
+returns-in_default c = λ held next is some printed.
     let t = c.args.self.now in
-    let after = c.if-len-capacity.self in
-    let kept : (after.nodes.items ≡ t.nodes.items) × (after.prints.items ≡ t.prints.items) × (length t.prints.items < vec_capacity after.nodes) × (vec_capacity after.nodes < 2 ^ 32) × (after.filter ≡ t.filter) = elim c.if-len-capacity.branch [
-      | then-len-capacity+in_ok-make_room w ↦
-          subst (λ (x : Table). (x.nodes.items ≡ t.nodes.items) × (x.prints.items ≡ t.prints.items) × (length t.prints.items < vec_capacity x.nodes) × (vec_capacity x.nodes < 2 ^ 32) × (x.filter ≡ t.filter)) (sym w.self-is)
-          (w.in_ok-make_room.ensures.items, refl, omega (arith, w.in_ok-make_room.ensures.ok, is.room), w.in_ok-make_room.ensures.most, refl)
-      | else-len-capacity w ↦
-          subst (λ (x : Table). (x.nodes.items ≡ t.nodes.items) × (x.prints.items ≡ t.prints.items) × (length t.prints.items < vec_capacity x.nodes) × (vec_capacity x.nodes < 2 ^ 32) × (x.filter ≡ t.filter)) (sym w.self-is)
-          (refl, refl, omega (arith, w.if-len-capacity.false, c.len.ensures, c.capacity.ensures, t.prints.ok.0), is.most, refl)
-    ] in
-    let pushed : c.push.new.self.items ≡ t.prints.items ++ c.args.print ∷ [] = c.in_ok-push.ensures.items ∙ ap (λ (xs : List ℕ). xs ++ c.args.print ∷ []) kept.1 in
-    let count : length c.push.new.self.items ≡ length t.prints.items + 1 = ap (λ (xs : List ℕ). length xs) pushed ∙ length-append t.prints.items (c.args.print ∷ []) in
-    let nodes : length after.nodes.items ≡ length t.nodes.items = ap (λ (xs : List Node). length xs) kept.0 in
-    record {
-      printed = ap (λ (xs : List ℕ). reverse xs) pushed ∙ reverse-append t.prints.items (c.args.print ∷ [])
-          ∙ ap (λ n. n ∷ reverse t.prints.items) fits ∙ ap (λ (xs : List ℕ). print_of next.colouring ∷ xs) is.printed;
-      few = omega (arith, count, nodes, is.few);
-      linked = subst (λ (xs : List Node). IsTrie WIDTH (keys_of (oldest (length xs) (next ∷ held))) xs) (sym kept.0)
-          (subst (λ (hs : List Held). IsTrie WIDTH (keys_of hs) t.nodes.items) (sym (oldest-same (length t.nodes.items) next held (linked_few held t is))) is.linked);
-      room = omega (arith, count, kept.2);
-      most = kept.3;
-      filtered = rw (pushed, kept.4) (filter_more t.prints.items c.args.print t.filter is.filtered);
-    }
+    tabled_more held t (record t { prints = c.push_reserved.new.self }) next c.args.print is printed c.push_reserved.ensures.items refl c.requires.room.nodes is.most (omega (arith, is.few))
+    (linked_before (length t.nodes.items) next held t.nodes.items (omega (arith, is.few, tabled held t is)) is.linked)
+
+pub returns : goal.returns
+returns c = λ held next is some printed.
+    let t = c.args.self.now in
+    let nodes = t.nodes.items in
+    let gap = rw c.in-Some.is at some in
+    let keys = keys_of (next ∷ held) in
+    let after : Table = record t { prints = c.push_reserved.new.self; nodes = c.insert.new.nodes } in
+    let bit : keys (length held) c.in-Some.gap.place ≡ has_bit c.args.print c.in-Some.gap.place = keys-print next held c.args.print c.in-Some.gap.place (sym printed) gap.low in
+    let trie = c.insert.ensures.trie keys (linked_before (length nodes) next held nodes (omega (arith, gap.all)) is.linked) (subst (λ m. IsOpening keys nodes (keys m) c.in-Some.gap.slot c.in-Some.gap.place) (sym gap.all) (gap.opens next (sym printed)))
+    (subst (λ m. keys m c.in-Some.gap.place ≡ has_bit c.args.print c.in-Some.gap.place) (sym gap.all) bit ∙ sym c.has_column-bit.ensures) in
+    tabled_more held t after next c.args.print is printed c.push_reserved.ensures.items refl (omega (arith, c.requires.room.nodes, c.insert.ensures.room)) (omega (arith, is.most, c.insert.ensures.room))
+    (omega (arith, c.insert.ensures.more, gap.all, tabled held t is)) trie

@@ -2,7 +2,7 @@
 use Rattle.std.proofs.Common.{ℕ, ◌<◌, ◌≤◌, length}
 use Rattle.go_board.specs.Past.{all_of}
 use Rattle.go_board.specs.inner.Changes.{IsNumber}
-use Rattle.go_board.proofs.quick.print_past.table.Table.has_unlinked.Given as goal
+use Rattle.go_board.proofs.quick.print_past.table.Table.has.Given as goal
 
 abbrev pub invariant-each : goal.invariant-each
 invariant-each l = record {
