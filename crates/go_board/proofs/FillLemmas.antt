@@ -51,7 +51,7 @@ module _ (word next col : ℕ) (b : Bool) (there : has_bit next col ≡ (has_bit
   from_with elsewhere k is = elim (cases_eq k col) [ inl same ↦ inr same | inr other ↦ inl (sym (elsewhere k other) ∙ is) ]
 
 -- with no row that waits, all is filled
-pub IsClosed-all : (region first rows : List ℕ) (waiting : ℕ) → IsFilledBut region first rows waiting → waiting ≡ 0 → IsClosed (is_set region) (is_set rows)
+pub IsClosed-all : (region first rows : List ℕ) (waiting : ℕ) → IsFilledBut region first rows waiting (length region) → waiting ≡ 0 → IsClosed (is_set region) (is_set rows)
 IsClosed-all region first rows waiting done none =
     λ p q adjacent there is.
     done.closed p.row (row_below region p there) (ap (λ w. has_bit w p.row) none ∙ has_bit-zero p.row) p q refl adjacent there is
@@ -75,77 +75,17 @@ closed_still region rows next row r kept others other was taken =
       | inr elsewhere_row ↦ kept p (was p q same adjacent there (ap (λ w. has_bit w q.col) (sym (others q.row elsewhere_row)) ∙ is))
     ]
 
--- one row grown
-module _ (region first rows next : List ℕ) (waiting left row : ℕ) (was : IsFilledBut region first rows waiting) (gone : has_bit left row ≡ false) (elsewhere : (k : ℕ) → k ≢ row → has_bit left k ≡ has_bit waiting k) (long : length next ≡ length rows) (grows : Grows (is_set region) (is_set rows) (is_set next)) (closed : IsRowClosed (is_set region) (is_set next) row) where
-  still_in : (r : ℕ) → has_bit left r ≡ true → r < length region
-  still_in r is =
-      elim (cases_eq r row) [
-        | inl same ↦ absurd (false≢true (sym gone ∙ ap (has_bit left) (sym same) ∙ is))
-        | inr other ↦ was.rows_in r (sym (elsewhere r other) ∙ is)
-      ]
-
-  twice : Grows (is_set region) (is_set first) (is_set next)
-  twice = record {
-    within = grows.within;
-    kept = λ p is. grows.kept p (was.grows.kept p is);
-    least = λ set shut part. grows.least set shut (was.grows.least set shut part);
-  }
-
-  -- it had all that there is beside it
-  pub filled_same : next ≡ rows → IsFilledBut region first next left
-  filled_same same = record {
-    all = long ∙ was.all;
-    grows = twice;
-    rows_in = still_in;
-    closed = λ r below none.
-        elim (cases_eq r row) [
-          | inl e ↦ subst (IsRowClosed (is_set region) (is_set next)) (sym e) closed
-          | inr other ↦
-              subst (λ rs. IsRowClosed (is_set region) (is_set rs) r) (sym same) (was.closed r below (sym (elsewhere r other) ∙ none))
-        ];
-  }
-
-  -- the rows beside it that lack a point of it wait
-  pub filled_more : (after : ℕ) → ((k : ℕ) → k ≢ row → slice_index next k ≡ slice_index rows k) → IsPart (has_bit left) (has_bit after) → ((r : ℕ) → has_bit after r ≡ true → (has_bit left r ≡ true) ⊎ (r < length next)) → ((r : ℕ) → DifferByOne r row → r < length next → has_bit after r ≡ false → IsTaken region next r (slice_index next row)) → IsFilledBut region first next after
-  filled_more after others kept from taken = record {
-    all = long ∙ was.all;
-    grows = twice;
-    rows_in = λ r is. elim (from r is) [ inl old ↦ still_in r old | inr below ↦ subst (λ n. r < n) (long ∙ was.all) below ];
-    closed = λ r below none.
-        elim (cases_eq r row) [
-          | inl e ↦ subst (IsRowClosed (is_set region) (is_set next)) (sym e) closed
-          | inr other ↦
-              closed_still region rows next row r grows.kept others other (was.closed r below (sym (elsewhere r other) ∙ not_left r none))
-              (λ differ. taken r differ (subst (λ n. r < n) (sym (long ∙ was.all)) below) none)
-        ];
-  }
-    where
-      not_left : (r : ℕ) → has_bit after r ≡ false → has_bit left r ≡ false
-      not_left r none =
-          elim (cases_Bool (has_bit left r)) [ inl is ↦ absurd (false≢true (sym none ∙ kept r is)) | inr out ↦ out ]
-
--- the first rows are filled, but for some that wait
-pub record AreFilledTo (region first rows : List ℕ) (waiting count : ℕ) : Type 0 where
-  pub all : length rows ≡ length region
-  pub grows : Grows (is_set region) (is_set first) (is_set rows)
-  pub rows_in : (row : ℕ) → has_bit waiting row ≡ true → row < length region
-  pub closed : (row : ℕ) → row < count → has_bit waiting row ≡ false → IsRowClosed (is_set region) (is_set rows) row
-
--- one row more
-pub filled_to_more : (region first rows next : List ℕ) (waiting after row : ℕ) → row < length rows → AreFilledTo region first rows waiting row → length next ≡ length rows → Grows (is_set region) (is_set rows) (is_set next) → IsRowClosed (is_set region) (is_set next) row → ((k : ℕ) → k ≢ row → slice_index next k ≡ slice_index rows k) → IsPart (has_bit waiting) (has_bit after) → ((r : ℕ) → has_bit after r ≡ true → (has_bit waiting r ≡ true) ⊎ (r + 1 ≡ row)) → ((r : ℕ) → r + 1 ≡ row → has_bit after r ≡ false → IsTaken region next r (slice_index next row)) → AreFilledTo region first next after (row + 1)
-filled_to_more region first rows next waiting after row within was long grows closed others kept from taken = record {
+-- one row grown, and perhaps one row more among the first ones
+pub filled_more : (region first rows next : List ℕ) (waiting after row from count : ℕ) → IsFilledBut region first rows waiting from → ((r : ℕ) → r < count → r ≢ row → r < from) → length next ≡ length rows → Grows (is_set region) (is_set rows) (is_set next) → IsRowClosed (is_set region) (is_set next) row → ((k : ℕ) → k ≢ row → slice_index next k ≡ slice_index rows k) → ((r : ℕ) → r ≢ row → has_bit after r ≡ false → has_bit waiting r ≡ false) → ((r : ℕ) → has_bit after r ≡ true → r < length region) → ((r : ℕ) → DifferByOne r row → r < count → has_bit after r ≡ false → IsTaken region next r (slice_index next row)) → IsFilledBut region first next after count
+filled_more region first rows next waiting after row from count was below_from long grows closed others kept rows_in taken = record {
   all = long ∙ was.all;
   grows = Grows-twice region first rows next was.grows grows;
-  rows_in = λ r is. elim (from r is) [ inl old ↦ was.rows_in r old | inr before ↦ omega (arith, before, within, was.all) ];
+  rows_in = rows_in;
   closed = λ r below none.
       elim (cases_eq r row) [
         | inl e ↦ subst (IsRowClosed (is_set region) (is_set next)) (sym e) closed
         | inr other ↦
-            closed_still region rows next row r grows.kept others other (was.closed r (omega (arith, below, other)) (not_waiting r none))
-            (λ differ. elim differ [ inl before ↦ taken r before none | inr after_it ↦ absurd (omega (arith, after_it, below)) ])
+            closed_still region rows next row r grows.kept others other (was.closed r (below_from r below other) (kept r other none))
+            (λ differ. taken r differ below none)
       ];
 }
-  where
-    not_waiting : (r : ℕ) → has_bit after r ≡ false → has_bit waiting r ≡ false
-    not_waiting r none =
-        elim (cases_Bool (has_bit waiting r)) [ inl is ↦ absurd (false≢true (sym none ∙ kept r is)) | inr out ↦ out ]

@@ -1,6 +1,6 @@
 -- The group of a stone, and the points beside it.
 use Rattle.std.proofs.Common.{◌≡◌, ◌≢◌, inl, inr, ℕ, zero, suc, ◌+◌, ◌*◌, ◌/◌, ◌%◌, ◌^◌, ◌<◌, subst, true, false, w64, List, length, get_or, set, take, replicate, bit_and, bit_or, slice_index, refl, sym, ap, ◌∙◌, arith}
-use Rattle.std.proofs.lemmas.Bool.{or_cases, or_left, or_right, and_parts, false≢true, cases_eq}
+use Rattle.std.proofs.lemmas.Bool.{or_cases, or_left, or_right, and_parts, and_from, false≢true, cases_eq}
 use Rattle.std.specs.Int.{trailing_zeros}
 use Rattle.std.proofs.lemmas.List.{length-set, get_or-set_same, get_or-set_other}
 use Rattle.go_board.specs.declared.points.Point.{Point}
@@ -13,7 +13,7 @@ use Rattle.go_board.specs.inner.Glance.{IsRowAt}
 use Rattle.go_board.proofs.NeighbourLemmas.{DifferByOne-sym}
 use Rattle.go_board.proofs.GrowLemmas.{Grows-none}
 use Rattle.go_board.proofs.FillLemmas.{closed_still}
-use Rattle.go_board.proofs.WordLemmas.{has_bit-or, has_bit-and, has_bit-left, from_left, has_bit-right, has_bit-zero}
+use Rattle.go_board.proofs.WordLemmas.{has_bit-or, has_bit-and, has_bit-left, from_left, has_bit-right, has_bit-zero, column_below}
 use Rattle.go_board.proofs.SweepLemmas.{lowest_left}
 
 -- the columns of two rows and those beside the columns of the row between them
@@ -57,6 +57,13 @@ common_column a b low some =
     let both = and_parts _ _ (sym (has_bit-and a b (trailing_zeros w64 (bit_and a b))) ∙ lowest.0) in
     (trailing_zeros w64 (bit_and a b), both.0, both.1)
 
+-- where a word has no column with a liberty, none of its stones has one
+pub none_lives : (own others : List ℕ) (row word alive : ℕ) → word < 2 ^ 64 → ((stone : Point) → stone.row ≡ row → stone.col < 64 → HasLiberty own others stone → has_bit alive stone.col ≡ true) → bit_and word alive ≡ 0 → (stone : Point) → stone.row ≡ row → has_bit word stone.col ≡ true → ¬ (HasLiberty own others stone)
+none_lives own others row word alive low to none stone at there free =
+    false≢true
+    (sym (ap (λ w. has_bit w stone.col) none ∙ has_bit-zero stone.col) ∙ has_bit-and word alive stone.col
+    ∙ and_from _ _ there (to stone at (column_below 64 word stone.col low there) free))
+
 -- with no row set no point is
 pub none_in_front : (n m : ℕ) (words : List ℕ) (p : Point) → words ≡ replicate m 0 → is_set (take n words) p ≡ false
 none_in_front n m words p is = ap (λ ws. is_set (take n ws) p) is ∙ ap (λ w. has_bit w p.col) (zeros n m p.row) ∙ has_bit-zero p.col
@@ -72,13 +79,13 @@ module _ (own others : List ℕ) (row : ℕ) (above here below : RowStones) (is_
   pub free_beside : (col : ℕ) → IsInOrBeside above.free here.free below.free col → HasLiberty own others (record { col = col; row = row })
   free_beside col (inl up) =
       let f = is_above.are_free col up in
-      (f.0, (f.2, f.3, f.4), inl (f.1.0, inl (omega (arith, f.1.1))))
+      (f.0, f.2, inl (f.1.0, inl (omega (arith, f.1.1))))
   free_beside col (inr (inl down)) =
       let f = is_below.are_free col down in
-      (f.0, (f.2, f.3, f.4), inl (f.1.0, inr (omega (arith, f.1.1))))
+      (f.0, f.2, inl (f.1.0, inr (omega (arith, f.1.1))))
   free_beside col (inr (inr (d, differ, there))) =
       let f = is_here.are_free d there in
-      (f.0, (f.2, f.3, f.4), inr (omega (arith, f.1.1), subst (λ n. DifferByOne n col) (sym f.1.0) (DifferByOne-sym col d differ)))
+      (f.0, f.2, inr (omega (arith, f.1.1), subst (λ n. DifferByOne n col) (sym f.1.0) (DifferByOne-sym col d differ)))
 
 -- the free columns of a row around another one
 abbrev pub HasFree : List ℕ → List ℕ → ℕ → ℕ → ℕ → Type 0
@@ -132,7 +139,7 @@ module _ (own others : List ℕ) (from : Point) where
           ∙ of_first p.col (shut p.col q.col differ (ap (λ r. has_bit (slice_index own r) p.col) (sym row) ∙ own_p) (in_first q is).1)
 
       -- all rows but those that wait are closed
-      pub first_filled : (waiting : ℕ) → length old ≡ length own → ((r : ℕ) → has_bit waiting r ≡ true → r < length own) → ((r : ℕ) → DifferByOne r from.row → r < length own → has_bit waiting r ≡ false → IsTaken own first r (slice_index first from.row)) → IsFilledBut own first first waiting
+      pub first_filled : (waiting : ℕ) → length old ≡ length own → ((r : ℕ) → has_bit waiting r ≡ true → r < length own) → ((r : ℕ) → DifferByOne r from.row → r < length own → has_bit waiting r ≡ false → IsTaken own first r (slice_index first from.row)) → IsFilledBut own first first waiting (length own)
       first_filled waiting long rows_in taken = record {
         all = ap (λ (l : List ℕ). length l) first_is ∙ length-set old from.row word ∙ long;
         grows = Grows-none own first (λ p is. (let w = in_first p is in ap (λ r. has_bit (slice_index own r) p.col) w.0 ∙ part p.col w.1));

@@ -1,7 +1,7 @@
 -- Words as sets of columns: what the operations on words make of their bits.
 use Rattle.std.proofs.Common.{◌≡◌, ◌≢◌, ◌⊎◌, inl, inr, ℕ, zero, suc, ◌+◌, ◌-◌, ◌*◌, ◌/◌, ◌%◌, ◌^◌, ◌<◌, ◌≤◌, ◌==◌, ◌||◌, ◌&&◌, min, max, Bool, true, false, not, bit_and, bit_or, w64, refl, sym, ap, ◌∙◌, arith, subst}
 use Rattle.std.specs.Int.{bit_at, bit_not}
-use Rattle.std.proofs.lemmas.Bool.{not-false, false≢true, cases_lt, cases_eq, eqb-true, eqb-false}
+use Rattle.std.proofs.lemmas.Bool.{not-false, false_from_ne_true, false≢true, cases_lt, cases_eq, eqb-true, eqb-false}
 use Rattle.std.proofs.lemmas.Nat.{le_or_l, and_mask, mod_below, pow_pos}
 use Rattle.std.proofs.lemmas.Nat.Bits.{bit_at_and, bit_at_or, bit_at_not, bit_at-lt, bit_at-suc, bit_at-zero, bit_at_above, bit_at_ones, bit_at_cat_high, bit_at_cat_low, same_from_bits}
 use Rattle.go_board.specs.inner.Rows.{has_bit, IsPart}
@@ -42,6 +42,10 @@ has_bit-without word other c low column =
     ap (λ n. n == 1)
     (bit_at_and word (bit_not w64 other) c ∙ ap (λ b. min (bit_at word c) b) (bit_at_not w64 other c low column))
     ∙ test_without (bit_at word c) (bit_at other c) (bit_at-lt word c) (bit_at-lt other c)
+
+-- what isn't in a set isn't in a part of it
+pub not_in_part : (some all : ℕ → Bool) (k : ℕ) → IsPart some all → all k ≡ false → some k ≡ false
+not_in_part some all k part none = false_from_ne_true (some k) (λ is. false≢true (sym none ∙ part k is))
 
 -- where nothing of the one is left without the other, what is in the one is in the other
 pub in_the_other : (x y : Bool) → x ≡ true → (x && not y) ≡ false → y ≡ true

@@ -28,7 +28,8 @@ pub(crate) fn grow_lowest(rows: &mut [u64], region: &[u64], waiting: u64) -> (us
     requires within { IsWithin rows.old region.now }
     requires wait { SomeWait waiting (length region.now) }
     ensures row { result.0 < length rows.new }
-    ensures filled { (first : List ℕ) → IsFilledBut region.now first rows.old waiting → IsFilledBut region.now first rows.new result.1 }
+    ensures filled { (first : List ℕ) → IsFilledBut region.now first rows.old waiting (length region.now)
+        → IsFilledBut region.now first rows.new result.1 (length region.now) }
     ensures others { (other : ℕ) → other ≢ result.0 → (slice_index rows.new other ≡ slice_index rows.old other)
         × (IsTrue (has_bit waiting other) → IsTrue (has_bit result.1 other)) }
     ensures less { lacking rows.new * 2 ^ 64 + result.1 < lacking rows.old * 2 ^ 64 + waiting }
@@ -47,7 +48,7 @@ pub(crate) fn grow_lowest(rows: &mut [u64], region: &[u64], waiting: u64) -> (us
 /// Returns the rows that can take a point from the row below them.
 fn grow_down(rows: &mut [u64], region: &[u64]) -> u64
     requires { IsWithin rows.old region.now }
-    ensures { IsFilledBut region.now rows.old rows.new result }
+    ensures { IsFilledBut region.now rows.old rows.new result (length region.now) }
 {
     // the row above, and what it lacks of the region, stay at hand for the row below it
     let mut above = 0;
@@ -72,25 +73,24 @@ pub(crate) fn with_rows_lacking(waiting: u64, rows: &[u64], region: &[u64], row:
     ensures taken { (r : ℕ) → DifferByOne r row → r < length rows.now → has_bit result r ≡ false
         → IsTaken region.now rows.now r (slice_index rows.now row) }
 {
-    let up = if row > 0 {
-        with_column(waiting, row - 1, lacks(rows, region, row - 1, rows[row]))
-    } else {
-        waiting
-    };
-    if row + 1 < rows.len() {
-        with_column(up, row + 1, lacks(rows, region, row + 1, rows[row]))
-    } else {
-        up
-    }
+    let word = rows[row];
+    let above = with_row_lacking(waiting, rows, region, row.wrapping_sub(1), word);
+    with_row_lacking(above, rows, region, row + 1, word)
 }
 
-/// Whether some column of `word` is in the region's row, but not yet in the set's row.
-fn lacks(rows: &[u64], region: &[u64], row: usize, word: u64) -> bool
+/// The rows that wait, and `row` if the board has it and it can take a point from the columns of `word`.
+fn with_row_lacking(waiting: u64, rows: &[u64], region: &[u64], row: usize, word: u64) -> u64
     requires same { length region.now ≡ length rows.now }
-    requires row { row < length rows.now }
-    ensures { result ≡ false → IsTaken region.now rows.now row word }
+    requires few { length rows.now < 64 }
+    ensures kept { IsPart (has_bit waiting) (has_bit result) }
+    ensures from { (r : ℕ) → IsTrue (has_bit result r) → IsTrue (has_bit waiting r) ⊎ (r < length rows.now) }
+    ensures taken { row < length rows.now → has_bit result row ≡ false → IsTaken region.now rows.now row word }
 {
-    word & region[row] & !rows[row] != 0
+    if row < rows.len() {
+        with_column(waiting, row, word & region[row] & !rows[row] != 0)
+    } else {
+        waiting
+    }
 }
 
 /// Adds the points of a row that are in the region and beside points of the set.

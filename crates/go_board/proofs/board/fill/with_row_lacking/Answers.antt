@@ -1,0 +1,17 @@
+use Rattle.std.proofs.Common.{◌<◌, ◌^◌, inl, inr, get_or, arith, rules}
+use Rattle.go_board.proofs.FillLemmas.{part_with, from_with, taken_with, none_lacking}
+use Rattle.go_board.proofs.board.fill.with_row_lacking.Goals as goal
+
+pub returns-then-row-rows : goal.returns-then-row-rows
+returns-then-row-rows c =
+    let e = c.with_column.ensures in
+    let region = get_or c.args.region.now c.args.row 0 in
+    let here = get_or c.args.rows.now c.args.row 0 in
+    let low_room : region < 2 ^ 64 = search rules in
+    let low_here : here < 2 ^ 64 = search rules in
+    record {
+      kept = part_with _ _ _ _ e.there e.elsewhere;
+      from = λ r is.
+          elim (from_with _ _ _ _ e.there e.elsewhere r is) [ inl old ↦ inl old | inr at ↦ inr (omega (arith, at, c.if-row-rows.true)) ];
+      taken = λ below none. none_lacking c.args.word region here low_room low_here (taken_with _ _ _ _ e.there none);
+    }
