@@ -15,20 +15,13 @@ zero_of n none =
     elim (cases_Bool (nat_eq n 0))
     [ inl is ↦ (Decides-eqb n 0).0 is | inr other ↦ absurd (true≢false (sym (ap not other) ∙ none)) ]
 
--- nothing of a word is lacked
-pub none_lacking : (word region here : ℕ) → region < 2 ^ 64 → here < 2 ^ 64 → not (nat_eq (bit_and (bit_and word region) (bit_not w64 here)) 0) ≡ false → (col : ℕ) → has_bit region col ≡ true → has_bit word col ≡ true → has_bit here col ≡ true
-none_lacking word region here low_room low_here none col there is =
-    in_the_other (has_bit (bit_and word region) col) (has_bit here col) (has_bit-and word region col ∙ and_from _ _ is there)
-    (sym (has_bit-without (bit_and word region) here col low_here (column_below 64 region col low_room there))
-    ∙ ap (λ n. has_bit n col) (zero_of (bit_and (bit_and word region) (bit_not w64 here)) none) ∙ has_bit-zero col)
-
 -- where a word has none of what a row lacks, the row has what the word has of the region
 and_left : (a b : Bool) → b ≡ true → (a && b) ≡ false → a ≡ false
 and_left true b is none = sym is ∙ none
 and_left false b is none = refl
 
-pub none_left : (word region here left : ℕ) → region < 2 ^ 64 → here < 2 ^ 64 → left ≡ bit_and region (bit_not w64 here) → not (nat_eq (bit_and left word) 0) ≡ false → (col : ℕ) → has_bit region col ≡ true → has_bit word col ≡ true → has_bit here col ≡ true
-none_left word region here left low_room low_here left_is none col there is =
+pub none_left : (word region here left : ℕ) → left ≡ bit_and region (bit_not w64 here) → region < 2 ^ 64 → here < 2 ^ 64 → not (nat_eq (bit_and left word) 0) ≡ false → (col : ℕ) → has_bit region col ≡ true → has_bit word col ≡ true → has_bit here col ≡ true
+none_left word region here left left_is low_room low_here none col there is =
     in_the_other (has_bit region col) (has_bit here col) there
     (sym (has_bit-without region here col low_here (column_below 64 region col low_room there))
     ∙ ap (λ n. has_bit n col) (sym left_is)

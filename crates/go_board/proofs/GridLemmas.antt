@@ -19,6 +19,13 @@ Decides-same_cell White White = (λ _. refl, λ _. refl)
 Decides-same_cell Empty Empty = (λ _. refl, λ _. refl)
 Decides-same_cell _ _ = (λ h. cc, λ h. cc)
 
+-- cells that are alike for both colours are one
+pub same_stones : (a b : Cell) → same_cell a Black ≡ same_cell b Black → same_cell a White ≡ same_cell b White → a ≡ b
+same_stones Black Black black white = refl
+same_stones White White black white = refl
+same_stones Empty Empty black white = refl
+same_stones _ _ black white = cc
+
 -- what `==` says of two cells
 pub Decides-cell_eq : (a b : Cell) → Decides (sameb the_type a b) (a ≡ b)
 Decides-cell_eq a b = (same_true the_type (search rules) a b, true_same the_type a b)

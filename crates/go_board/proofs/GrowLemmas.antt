@@ -17,6 +17,14 @@ row_below rows p is =
       | inr above ↦ absurd (false≢true (sym (ap (λ w. has_bit w p.col) (get_or-eq_default rows 0 {n = p.row} above) ∙ has_bit-zero p.col) ∙ is))
     ]
 
+-- the points of rows of which one is written
+pub set_there : (rows : List ℕ) (row word : ℕ) → row < length rows → (q : Point) → q.row ≡ row → is_set (set rows row word) q ≡ has_bit word q.col
+set_there rows row word within q same =
+    ap (λ r. has_bit (get_or (set rows row word) r 0) q.col) same ∙ ap (λ w. has_bit w q.col) (get_or-set_same rows row word 0 within)
+
+pub set_elsewhere : (rows : List ℕ) (row word : ℕ) (q : Point) → q.row ≢ row → is_set (set rows row word) q ≡ is_set rows q
+set_elsewhere rows row word q other = ap (λ w. has_bit w q.col) (get_or-set_other rows row q.row word 0 other)
+
 pub Grows-twice : (region a b c : List ℕ) → Grows (is_set region) (is_set a) (is_set b) → Grows (is_set region) (is_set b) (is_set c) → Grows (is_set region) (is_set a) (is_set c)
 Grows-twice region a b c first second = record {
   within = second.within;
@@ -52,12 +60,10 @@ module _ (rows region : List ℕ) (row beside grown : ℕ) (within_row : row < l
   grown_rows = set rows row grown
 
   here : (p : Point) → p.row ≡ row → is_set grown_rows p ≡ has_bit grown p.col
-  here p same =
-      ap (λ r. has_bit (get_or grown_rows r 0) p.col) same
-      ∙ ap (λ w. has_bit w p.col) (get_or-set_same rows row grown 0 within_row)
+  here = set_there rows row grown within_row
 
   elsewhere : (p : Point) → p.row ≢ row → is_set grown_rows p ≡ is_set rows p
-  elsewhere p other = ap (λ w. has_bit w p.col) (get_or-set_other rows row p.row grown 0 other)
+  elsewhere = set_elsewhere rows row grown
 
   own_seed : (col : ℕ) → has_bit (get_or rows row 0) col ≡ true → has_bit (seed_of rows region row beside) col ≡ true
   own_seed col is =

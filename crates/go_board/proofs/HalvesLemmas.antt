@@ -7,7 +7,7 @@ use Rattle.std.proofs.lemmas.Nat.{mod_below, pow_pos}
 use Rattle.std.proofs.lemmas.Nat.Bits.{bit_at_cat_high}
 use Rattle.go_board.specs.declared.points.Point.{Point}
 use Rattle.go_board.specs.Point.{AreAdjacent}
-use Rattle.go_board.specs.inner.Rows.{has_bit, is_set, IsAmong, IsClosed, Grows}
+use Rattle.go_board.specs.inner.Rows.{has_bit, is_set, IsAmong, IsClosed}
 use Rattle.go_board.specs.inner.Halves.{low_halves, high_halves}
 use Rattle.go_board.proofs.RegionLemmas.{same_bools}
 use Rattle.go_board.proofs.WordLemmas.{bit_at-mod, column_below}
@@ -43,7 +43,7 @@ there_and_back p from =
     let same : 32 + (p.col - 32) ≡ p.col = omega (arith, from) in
     ap (λ (c : ℕ). let r : Point = record { col = c; row = p.row } in r) same
 
-back_again : (p : Point) → unshifted (shifted p) ≡ p
+pub back_again : (p : Point) → unshifted (shifted p) ≡ p
 back_again p =
     let same : 32 + p.col - 32 ≡ p.col = omega arith in
     ap (λ (c : ℕ). let r : Point = record { col = c; row = p.row } in r) same
@@ -59,7 +59,7 @@ in_high rows p =
 pub low_from : (rows : List ℕ) (p : Point) → p.col < 32 → is_set rows p ≡ true → is_set (low_halves rows) p ≡ true
 low_from rows p low is = in_low rows p ∙ and_from _ _ ((Decides-ltb p.col 32).1 low) is
 
-low_parts : (rows : List ℕ) (p : Point) → is_set (low_halves rows) p ≡ true → (p.col < 32) × (is_set rows p ≡ true)
+pub low_parts : (rows : List ℕ) (p : Point) → is_set (low_halves rows) p ≡ true → (p.col < 32) × (is_set rows p ≡ true)
 low_parts rows p is = let both = and_parts _ _ (sym (in_low rows p) ∙ is) in ((Decides-ltb p.col 32).0 both.0, both.1)
 
 pub high_from : (rows : List ℕ) (p : Point) → 32 ≤ p.col → is_set rows p ≡ true → is_set (high_halves rows) (unshifted p) ≡ true
@@ -83,27 +83,24 @@ adjacent_shifted p q (inl column) = inl (ap (λ n. 32 + n) column.0, column.1)
 adjacent_shifted p q (inr (row, inl next)) = inr (row, inl (omega (arith, next)))
 adjacent_shifted p q (inr (row, inr next)) = inr (row, inr (omega (arith, next)))
 
-adjacent_unshifted : (p q : Point) → 32 ≤ p.col → 32 ≤ q.col → AreAdjacent p q → AreAdjacent (unshifted p) (unshifted q)
+pub adjacent_unshifted : (p q : Point) → 32 ≤ p.col → 32 ≤ q.col → AreAdjacent p q → AreAdjacent (unshifted p) (unshifted q)
 adjacent_unshifted p q from_p from_q (inl column) = inl (ap (λ n. n - 32) column.0, column.1)
 adjacent_unshifted p q from_p from_q (inr (row, inl next)) = inr (row, inl (omega (arith, next, from_p, from_q)))
 adjacent_unshifted p q from_p from_q (inr (row, inr next)) = inr (row, inr (omega (arith, next, from_p, from_q)))
 
 -- beside a point of the one half, past an empty column, is no point of the other
-stays_low : (p q : Point) → AreAdjacent p q → p.col < 32 → p.col ≢ 31 → q.col < 32
+pub stays_low : (p q : Point) → AreAdjacent p q → p.col < 32 → p.col ≢ 31 → q.col < 32
 stays_low p q (inl column) below apart = omega (arith, column.0, below)
 stays_low p q (inr (row, inl next)) below apart = omega (arith, next, below, apart)
 stays_low p q (inr (row, inr next)) below apart = omega (arith, next, below)
 
-stays_high : (p q : Point) → AreAdjacent p q → 32 ≤ p.col → q.col ≢ 31 → 32 ≤ q.col
+pub stays_high : (p q : Point) → AreAdjacent p q → 32 ≤ p.col → q.col ≢ 31 → 32 ≤ q.col
 stays_high p q (inl column) from apart = omega (arith, column.0, from)
 stays_high p q (inr (row, inl next)) from apart = omega (arith, next, from)
 stays_high p q (inr (row, inr next)) from apart = omega (arith, next, from, apart)
 
--- a filling, and each of its halves
-module _ (region seed rows : List ℕ) (gap : (p : Point) → is_set region p ≡ true → p.col ≢ 31) (grows : Grows (is_set region) (is_set seed) (is_set rows)) (closed : IsClosed (is_set region) (is_set rows)) where
-  seed_in : IsAmong (is_set seed) (is_set region)
-  seed_in p is = grows.within p (grows.kept p is)
-
+-- a closed set, and each of its halves
+module _ (region rows : List ℕ) (closed : IsClosed (is_set region) (is_set rows)) where
   pub IsClosed-low : IsClosed (is_set (low_halves region)) (is_set (low_halves rows))
   IsClosed-low p q adjacent there is =
       let at = low_parts region p there in
@@ -114,76 +111,9 @@ module _ (region seed rows : List ℕ) (gap : (p : Point) → is_set region p �
       in_high rows p
       ∙ closed (shifted p) (shifted q) (adjacent_shifted p q adjacent) (sym (in_high region p) ∙ there) (sym (in_high rows q) ∙ is)
 
-  -- a set of the low halves, with all of the high ones; and the other way round
-  module _ (set : Point → Bool) where
-    with_high : Point → Bool
-    with_high p = is_set region p && (nat_le 32 p.col || set p)
+-- so are the halves of a part of a set
+pub among_low : (some all : List ℕ) → IsAmong (is_set some) (is_set all) → IsAmong (is_set (low_halves some)) (is_set (low_halves all))
+among_low some all part p is = let at = low_parts some p is in low_from all p at.0 (part p at.1)
 
-    with_low : Point → Bool
-    with_low p = is_set region p && (nat_lt p.col 32 || set (unshifted p))
-
-    with_high_closed : IsClosed (is_set (low_halves region)) set → IsClosed (is_set region) with_high
-    unfolding with_high
-    with_high_closed shut p q adjacent there is =
-        let both = and_parts (is_set region q) (nat_le 32 q.col || set q) is in
-        and_from _ _ there
-        (elim (cases_lt p.col 32) [
-          | inr from ↦ or_left _ _ (le-leb 32 p.col from)
-          | inl below ↦
-              let near : q.col < 32 = stays_low p q adjacent below (gap p there) in
-              or_right _ _
-              (shut p q adjacent (low_from region p below there)
-              (elim (or_cases (nat_le 32 q.col) (set q) both.1) [ inl high ↦ absurd (let far : 32 ≤ q.col = leb-true 32 q.col high in omega (arith, near, far)) | inr in_set ↦ in_set ]))
-        ])
-
-    with_low_closed : IsClosed (is_set (high_halves region)) set → IsClosed (is_set region) with_low
-    unfolding with_low
-    with_low_closed shut p q adjacent there is =
-        let both = and_parts _ _ is in
-        and_from _ _ there
-        (elim (cases_lt p.col 32) [
-          | inl below ↦ or_left _ _ ((Decides-ltb p.col 32).1 below)
-          | inr from ↦
-              let near : 32 ≤ q.col = stays_high p q adjacent from (gap q both.0) in
-              or_right _ _
-              (shut (unshifted p) (unshifted q) (adjacent_unshifted p q from near adjacent) (high_from region p from there)
-              (elim (or_cases (nat_lt q.col 32) (set (unshifted q)) both.1) [ inl low ↦ absurd (let far : q.col < 32 = (Decides-ltb q.col 32).0 low in omega (arith, near, far)) | inr in_set ↦ in_set ]))
-        ])
-
-  pub Grows-low : Grows (is_set (low_halves region)) (is_set (low_halves seed)) (is_set (low_halves rows))
-  unfolding with_high
-  Grows-low = record {
-    within = λ p is. let at = low_parts rows p is in low_from region p at.0 (grows.within p at.1);
-    kept = λ p is. let at = low_parts seed p is in low_from rows p at.0 (grows.kept p at.1);
-    least = λ set shut part.
-        λ p is.
-        let at = low_parts rows p is in
-        let found = grows.least (with_high set) (with_high_closed set shut)
-        (λ q of_seed.
-        and_from _ _ (seed_in q of_seed)
-        (elim (cases_lt q.col 32) [
-          | inr from ↦ or_left _ _ (le-leb 32 q.col from)
-          | inl below ↦ or_right _ _ (part q (low_from seed q below of_seed))
-        ])) p at.1 in
-        elim (or_cases (nat_le 32 p.col) (set p) (and_parts _ _ found).1) [ inl high ↦ absurd (let far : 32 ≤ p.col = leb-true 32 p.col high in omega (arith, at.0, far)) | inr in_set ↦ in_set ];
-  }
-
-  pub Grows-high : Grows (is_set (high_halves region)) (is_set (high_halves seed)) (is_set (high_halves rows))
-  unfolding with_low
-  Grows-high = record {
-    within = λ p is. in_high region p ∙ grows.within (shifted p) (sym (in_high rows p) ∙ is);
-    kept = λ p is. in_high rows p ∙ grows.kept (shifted p) (sym (in_high seed p) ∙ is);
-    least = λ set shut part.
-        λ p is.
-        let found = grows.least (with_low set) (with_low_closed set shut)
-        (λ q of_seed.
-        and_from _ _ (seed_in q of_seed)
-        (elim (cases_lt q.col 32) [
-          | inl below ↦ or_left _ _ ((Decides-ltb q.col 32).1 below)
-          | inr from ↦ or_right _ _ (part (unshifted q) (high_from seed q from of_seed))
-        ])) (shifted p) (sym (in_high rows p) ∙ is) in
-        elim (or_cases (nat_lt (32 + p.col) 32) (set (unshifted (shifted p))) (and_parts _ _ found).1) [
-          | inl low ↦ absurd (let below : 32 + p.col < 32 = (Decides-ltb (32 + p.col) 32).0 low in omega (arith, below))
-          | inr in_set ↦ ap set (sym (back_again p)) ∙ in_set
-        ];
-  }
+pub among_high : (some all : List ℕ) → IsAmong (is_set some) (is_set all) → IsAmong (is_set (high_halves some)) (is_set (high_halves all))
+among_high some all part p is = in_high all p ∙ part (shifted p) (sym (in_high some p) ∙ is)

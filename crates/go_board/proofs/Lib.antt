@@ -35,7 +35,6 @@ pub mod ByteLemmas
 pub mod PrintPastLemmas
 pub mod EmptiedLemmas
 pub mod ChangesLemmas
-pub mod ColumnLemmas
 pub mod ColouringsLemmas
 pub mod FilterLemmas
 pub mod TableLemmas

@@ -18,7 +18,8 @@ use Rattle.go_board.specs.Clearing.{has_unreaching}
 use Rattle.go_board.proofs.GridLemmas.{Decides-same_cell}
 use Rattle.go_board.proofs.SettledLemmas.{both_reach, AllReach-settled}
 use Rattle.go_board.proofs.ReachingLemmas.{Decides-reaches, path_by_step}
-use Rattle.go_board.proofs.GroupLemmas.{stone_of≢Empty, neither_stone}
+use Rattle.go_board.proofs.GroupLemmas.{stone_of≢Empty}
+use Rattle.go_board.proofs.StoneGroupLemmas.{liberty_reaches}
 use Rattle.go_board.proofs.NeighbourLemmas.{AreAdjacent-sym}
 use Rattle.go_board.proofs.GrowLemmas.{Grows-none}
 use Rattle.go_board.proofs.WordLemmas.{in_the_other}
@@ -63,13 +64,8 @@ module _ (g : Grid) (k : Colour) (rows others first : List ℕ) (small : g.side 
     unfolding reaching
     first_reaches p is =
         let found = alive.from p is in
-        let q = found.1.0 in
-        let free = found.1.1 in
         let on = is_own.off p found.0 in
-        let at = subst (λ n. IsOn n q) all free.0 in
-        let goal : cell_at g q ≡ Empty = neither_stone k (cell_at g q) (sym (is_own.on q at) ∙ free.1) (sym (is_other.on q at) ∙ free.2) in
-        and_from _ _ found.0
-        ((Decides-reaches g Empty p on).1 (path_by_step g Empty p q on (AreAdjacent-sym q p found.1.2) at (inr goal) ([], (at, goal))))
+        and_from _ _ found.0 ((Decides-reaches g Empty p on).1 (liberty_reaches g k rows others all is_own is_other p on found.1))
 
     module _ (closed : IsClosed (is_set rows) (is_set reached)) where
       along : (p : Point) (path : List Point) → is_set rows p ≡ true → Leads g (stone_of k) Empty p path → is_set reached p ≡ true

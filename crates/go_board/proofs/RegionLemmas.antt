@@ -2,7 +2,6 @@
 use Rattle.std.proofs.Common.{◌≡◌, ◌≢◌, ◌⊎◌, inl, inr, ℕ, ◌+◌, ◌-◌, ◌*◌, ◌^◌, ◌%◌, ◌<◌, ◌==◌, ◌||◌, ◌&&◌, Bool, true, false, not, List, [], ◌∷◌, length, get_or, set, slice_index, bit_and, bit_or, w64, refl, sym, ap, ◌∙◌, arith, subst}
 use Rattle.std.proofs.lemmas.Bool.{or_cases, or_left, or_right, and_parts, and_from, false≢true, cases_lt, cases_eq}
 use Rattle.std.specs.Int.{bit_not}
-use Rattle.std.proofs.Math.Bool.{or_self}
 use Rattle.std.proofs.Math.Nat.{mod-eq_of_lt}
 use Rattle.std.proofs.lemmas.Nat.{pow_below}
 use Rattle.std.proofs.lemmas.List.{get_or-set_same, get_or-set_other}
@@ -15,13 +14,13 @@ use Rattle.go_board.specs.declared.stones.Colour.TheVariants.{Black as BlackPlay
 use Rattle.go_board.specs.Colour.{opponent, stone_of, same_cell}
 use Rattle.go_board.specs.Point.{IsOn, AreAdjacent}
 use Rattle.go_board.specs.Grid.{Grid, cell_at}
-use Rattle.go_board.specs.Reaching.{Leads, Reaches, reaches}
+use Rattle.go_board.specs.Reaching.{Leads, reaches}
 use Rattle.go_board.specs.inner.Rows.{has_bit, is_set, IsAmong, IsClosed, Grows}
 use Rattle.go_board.specs.inner.Regions.{is_either, AreRowsOf, IsDifference, reaches_through_own}
 use Rattle.go_board.proofs.GridLemmas.{Decides-same_cell}
 use Rattle.go_board.proofs.GrowLemmas.{row_below}
 use Rattle.go_board.proofs.WordLemmas.{has_bit-and, has_bit-without, bit_at-gone}
-use Rattle.go_board.proofs.ReachingLemmas.{Decides-reaches}
+use Rattle.go_board.proofs.ReachingLemmas.{Decides-reaches, path_by_step}
 
 -- a word with one bit set
 pub has_bit-set_there : (word col : ℕ) (b : Bool) → b ≡ true → col < 64 → has_bit (bit_or word (1 * 2 ^ col % 2 ^ 64)) col ≡ (has_bit word col || b)
@@ -114,70 +113,61 @@ either_first c one other is = or_left _ _ ((Decides-same_cell c one).1 is)
 either_second : (c one other : Cell) → c ≡ other → is_either c one other ≡ true
 either_second c one other is = or_right _ _ ((Decides-same_cell c other).1 is)
 
--- a colour's points, and the points that haven't the other colour
-module _ (g : Grid) (k : Colour) (rows others region : List ℕ) (is_own : AreRowsOf g.side (λ p. same_cell (cell_at g p) (stone_of k)) rows) (is_other : AreRowsOf g.side (λ p. same_cell (cell_at g p) (stone_of (opponent k))) others) (all : length others ≡ g.side) (is_room : AreRowsOf (length others) (λ p. not (is_set others p)) region) where
-  pub seed_is : AreRowsOf g.side (λ p. is_either (cell_at g p) (stone_of k) (stone_of k)) rows
-  seed_is = AreRowsOf-same g.side _ _ rows (λ p on. sym (or_self (same_cell (cell_at g p) (stone_of k)))) is_own
+-- the points that haven't the other player's stones
+pub region_is : (g : Grid) (k : Colour) (others region : List ℕ) → AreRowsOf g.side (λ p. same_cell (cell_at g p) (stone_of (opponent k))) others → length others ≡ g.side → AreRowsOf (length others) (λ p. not (is_set others p)) region → AreRowsOf g.side (λ p. is_either (cell_at g p) Empty (stone_of k)) region
+region_is g k others region is_other all is_room =
+    AreRowsOf-same g.side _ _ region (λ p on. ap not (is_other.on p on) ∙ not_other k (cell_at g p))
+    (subst (λ n. AreRowsOf n (λ p. not (is_set others p)) region) all is_room)
 
-  pub region_is : AreRowsOf g.side (λ p. is_either (cell_at g p) Empty (stone_of k)) region
-  region_is =
-      AreRowsOf-same g.side _ _ region (λ p on. ap not (is_other.on p on) ∙ not_other k (cell_at g p))
-      (subst (λ n. AreRowsOf n (λ p. not (is_set others p)) region) all is_room)
-
-module _ (g : Grid) (own wanted : Cell) (region seed result : List ℕ) (is_room : AreRowsOf g.side (λ p. is_either (cell_at g p) own wanted) region) (is_seed : AreRowsOf g.side (λ p. is_either (cell_at g p) wanted wanted) seed) (grows : Grows (is_set region) (is_set seed) (is_set result)) (closed : IsClosed (is_set region) (is_set result)) where
-  -- those of the region that reach the colour
-  reaching_in : Point → Bool
-  reaching_in p = is_set region p && reaches g wanted p
-
-  step_back : (p q : Point) → IsOn g.side p → IsOn g.side q → AreAdjacent p q → (cell_at g p ≡ own) ⊎ (cell_at g p ≡ wanted) → (cell_at g q ≡ own) ⊎ (cell_at g q ≡ wanted) → Reaches g wanted q → Reaches g wanted p
-  step_back p q on at adjacent (inr goal) cell way = ([], (on, goal))
-  step_back p q on at adjacent (inl own_p) (inr goal) way = (q ∷ [], (on, refl, adjacent, (at, goal)))
-  step_back p q on at adjacent (inl own_p) (inl own_q) way =
-      (q ∷ way.0, (on, refl, adjacent, subst (λ k. Leads g k wanted q way.0) (own_q ∙ sym own_p) way.1))
-
-  reaching_closed : IsClosed (is_set region) reaching_in
-  unfolding reaching_in
-  reaching_closed =
-      λ p q adjacent there is.
-      let both = and_parts _ _ is in
+module _ (g : Grid) (own wanted : Cell) (region seed : List ℕ) (is_room : AreRowsOf g.side (λ p. is_either (cell_at g p) own wanted) region) (is_seed : AreRowsOf g.side (λ p. same_cell (cell_at g p) wanted) seed) where
+  -- a point of the region beside one that reaches the colour reaches it, too
+  pub reaching_closed : (p q : Point) → AreAdjacent p q → is_set region p ≡ true → is_set region q ≡ true → reaches g wanted q ≡ true → reaches g wanted p ≡ true
+  reaching_closed p q adjacent there near is =
       let on = is_room.off p there in
-      let at = is_room.off q both.0 in
-      let cell_p = either_is _ own wanted (sym (is_room.on p on) ∙ there) in
-      let cell_q = either_is _ own wanted (sym (is_room.on q at) ∙ both.0) in
-      and_from _ _ there
-      ((Decides-reaches g wanted p on).1 (step_back p q on at adjacent cell_p cell_q ((Decides-reaches g wanted q at).0 both.1)))
+      let at = is_room.off q near in
+      let way = (Decides-reaches g wanted q at).0 is in
+      (Decides-reaches g wanted p on).1
+      (elim (either_is _ own wanted (sym (is_room.on p on) ∙ there)) [
+        | inr goal ↦ ([], (on, goal))
+        | inl own_p ↦
+            path_by_step g wanted p q on adjacent at
+            (elim (either_is _ own wanted (sym (is_room.on q at) ∙ near)) [ inl own_q ↦ inl (own_q ∙ sym own_p) | inr goal ↦ inr goal ]) way
+      ])
 
-  seed_reaches : IsAmong (is_set seed) reaching_in
-  unfolding reaching_in
-  seed_reaches =
-      λ p is.
+  pub seed_reaches : (p : Point) → is_set seed p ≡ true → (is_set region p ≡ true) × (reaches g wanted p ≡ true)
+  seed_reaches p is =
       let on = is_seed.off p is in
-      let goal : cell_at g p ≡ wanted =
-      elim (either_is _ wanted wanted (sym (is_seed.on p on) ∙ is)) [ inl e ↦ e | inr e ↦ e ] in
-      and_from _ _ (is_room.on p on ∙ either_second _ own wanted goal) ((Decides-reaches g wanted p on).1 ([], (on, goal)))
+      let goal = (Decides-same_cell _ _).0 (sym (is_seed.on p on) ∙ is) in
+      (is_room.on p on ∙ either_second _ own wanted goal, (Decides-reaches g wanted p on).1 ([], (on, goal)))
 
-  goal_in : (p : Point) → IsOn g.side p → cell_at g p ≡ wanted → is_set result p ≡ true
-  goal_in p on goal = grows.kept p (is_seed.on p on ∙ either_first _ wanted wanted goal)
+  -- what a filling adds reaches the colour
+  pub filled_reaches : (result : List ℕ) → Grows (is_set region) (is_set seed) (is_set result) → (p : Point) → is_set result p ≡ true → reaches g wanted p ≡ true
+  filled_reaches result grows p is =
+      (and_parts _ _
+      (grows.least (λ q. is_set region q && reaches g wanted q)
+      (λ q r adjacent there in_it. let both = and_parts _ _ in_it in and_from _ _ there (reaching_closed q r adjacent there both.0 both.1))
+      (λ q there. let both = seed_reaches q there in and_from _ _ both.0 both.1) p is)).1
 
-  along : (p : Point) (path : List Point) → Leads g own wanted p path → is_set result p ≡ true
-  along p [] way = goal_in p way.0 way.1
-  along p (q ∷ path) way =
-      closed p q way.2 (is_room.on p way.0 ∙ either_first _ own wanted way.1) (along q path way.3)
+  module _ (result : List ℕ) (within : IsAmong (is_set result) (is_set region)) (kept : IsAmong (is_set seed) (is_set result)) (closed : IsClosed (is_set region) (is_set result)) (only : (p : Point) → is_set result p ≡ true → reaches g wanted p ≡ true) where
+    goal_in : (p : Point) → IsOn g.side p → cell_at g p ≡ wanted → is_set result p ≡ true
+    goal_in p on goal = kept p (is_seed.on p on ∙ (Decides-same_cell _ _).1 goal)
 
-  pub AreRowsOf-filled : AreRowsOf g.side (reaches_through_own g own wanted) result
-  unfolding reaching_in
-  AreRowsOf-filled = record {
-    on = λ p on.
-        same_bools _ _
-        (λ is.
-        let both = and_parts _ _ (grows.least reaching_in reaching_closed seed_reaches p is) in
-        and_from _ _ (sym (is_room.on p on) ∙ both.0) both.1)
-        (λ is.
-        let both = and_parts _ _ is in
-        let way = (Decides-reaches g wanted p on).0 both.1 in
-        elim (either_is _ own wanted both.0) [
-          | inl own_p ↦ along p way.0 (subst (λ k. Leads g k wanted p way.0) own_p way.1)
-          | inr goal ↦ goal_in p on goal
-        ]);
-    off = λ p is. is_room.off p (grows.within p is);
-  }
+    along : (p : Point) (path : List Point) → Leads g own wanted p path → is_set result p ≡ true
+    along p [] way = goal_in p way.0 way.1
+    along p (q ∷ path) way =
+        closed p q way.2 (is_room.on p way.0 ∙ either_first _ own wanted way.1) (along q path way.3)
+
+    pub AreRowsOf-filled : AreRowsOf g.side (reaches_through_own g own wanted) result
+    AreRowsOf-filled = record {
+      on = λ p on.
+          same_bools _ _
+          (λ is. and_from _ _ (sym (is_room.on p on) ∙ within p is) (only p is))
+          (λ is.
+          let both = and_parts _ _ is in
+          let way = (Decides-reaches g wanted p on).0 both.1 in
+          elim (either_is _ own wanted both.0) [
+            | inl own_p ↦ along p way.0 (subst (λ k. Leads g k wanted p way.0) own_p way.1)
+            | inr goal ↦ goal_in p on goal
+          ]);
+      off = λ p is. is_room.off p (within p is);
+    }

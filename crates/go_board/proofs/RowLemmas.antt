@@ -1,5 +1,5 @@
 -- A set of points as words of bits, one for each row, as a marking.
-use Rattle.std.proofs.Common.{◌≡◌, ◌≢◌, inl, inr, ℕ, ◌*◌, ◌/◌, ◌%◌, ◌^◌, ◌<◌, ◌≤◌, ◌==◌, true, false, List, map, set, replicate, length, get_or, bit_and, bit_or, w64, sym, ap, ◌∙◌, arith}
+use Rattle.std.proofs.Common.{◌≡◌, ◌≢◌, inl, inr, ℕ, ◌*◌, ◌/◌, ◌%◌, ◌^◌, ◌<◌, ◌≤◌, ◌==◌, true, false, List, map, set, replicate, length, get_or, bit_and, bit_or, w64, refl, sym, ap, ◌∙◌, arith}
 use Rattle.std.specs.Int.{bit_at}
 use Rattle.std.proofs.lemmas.Bool.{cases_eq}
 use Rattle.std.proofs.lemmas.Nat.Bits.{bit_at-zero, shr_and_one, bit_at_set_same, bit_at_set_other}
@@ -7,9 +7,10 @@ use Rattle.std.proofs.lemmas.List.{length-map, length-set, length-replicate, get
 use Rattle.go_board.specs.declared.points.Point.{Point}
 use Rattle.go_board.specs.Point.{IsOn, index_of, point_at, points}
 use Rattle.go_board.specs.Marking.{is_marked, marking_of}
-use Rattle.go_board.specs.inner.Rows.{is_set}
+use Rattle.go_board.specs.inner.Rows.{has_bit, is_set}
 use Rattle.go_board.specs.inner.Search.{no_marks, with_mark}
 use Rattle.go_board.proofs.PointLemmas.{one_point, length-points, get_or-map-points, is_map-points, IsOn-point_at, index_of-point_at, point_at-index_of, index_below}
+use Rattle.go_board.proofs.GrowLemmas.{set_there, set_elsewhere}
 use Rattle.go_board.proofs.GridLemmas.{get_or-replicate_default, is_marked-marking_of}
 
 -- with no bit set no point is marked
@@ -30,19 +31,16 @@ with_bit rows p = set rows p.row (bit_or (get_or rows p.row 0) (1 * 2 ^ p.col % 
 
 is_set-same : (rows : List ℕ) (p : Point) → p.row < length rows → p.col < 64 → is_set (with_bit rows p) p ≡ true
 is_set-same rows p within low =
-    ap (λ w. bit_at w p.col == 1) (get_or-set_same rows p.row _ 0 within)
-    ∙ ap (λ b. b == 1) (bit_at_set_same w64 (get_or rows p.row 0) p.col low)
+    set_there rows p.row _ within p refl ∙ ap (λ b. b == 1) (bit_at_set_same w64 (get_or rows p.row 0) p.col low)
 
 is_set-other : (rows : List ℕ) (p q : Point) → p.row < length rows → p.col < 64 → q ≢ p → is_set (with_bit rows p) q ≡ is_set rows q
 is_set-other rows p q within low other =
     elim (cases_eq q.row p.row) [
       | inl row ↦
-          let col : q.col ≢ p.col = λ e. other (one_point q p e row) in
-          ap (λ r. bit_at (get_or (with_bit rows p) r 0) q.col == 1) row
-          ∙ ap (λ w. bit_at w q.col == 1) (get_or-set_same rows p.row _ 0 within)
-          ∙ ap (λ b. b == 1) (bit_at_set_other w64 (get_or rows p.row 0) p.col low q.col col)
-          ∙ ap (λ r. bit_at (get_or rows r 0) q.col == 1) (sym row)
-      | inr row ↦ ap (λ w. bit_at w q.col == 1) (get_or-set_other rows p.row q.row _ 0 row)
+          set_there rows p.row _ within q row
+          ∙ ap (λ b. b == 1) (bit_at_set_other w64 (get_or rows p.row 0) p.col low q.col (λ e. other (one_point q p e row)))
+          ∙ ap (λ r. has_bit (get_or rows r 0) q.col) (sym row)
+      | inr row ↦ set_elsewhere rows p.row _ q row
     ]
 
 pub rows-with_bit : (side : ℕ) (rows : List ℕ) (p : Point) → side ≤ length rows → side ≤ 64 → IsOn side p → marking_of side (is_set (with_bit rows p)) ≡ with_mark (marking_of side (is_set rows)) p

@@ -1,5 +1,5 @@
 -- What the rows of a stone's group tell of a grid: the stone reaches empty, or its group has no liberty.
-use Rattle.std.proofs.Common.{◌≡◌, inl, inr, ℕ, ◌&&◌, Bool, true, false, not, List, [], length, sym, ap, ◌∙◌, subst}
+use Rattle.std.proofs.Common.{◌≡◌, inl, inr, ℕ, ◌&&◌, Bool, true, false, not, List, [], ◌∷◌, length, refl, sym, ap, ◌∙◌, subst}
 use Rattle.std.proofs.lemmas.Bool.{and_parts, and_from, cases_Bool, false≢true}
 use Rattle.go_board.specs.declared.stones.Cell.TheVariants.{Empty}
 use Rattle.go_board.specs.declared.stones.Colour.{Colour}
@@ -11,11 +11,17 @@ use Rattle.go_board.specs.Reaching.{Reaches, reaches}
 use Rattle.go_board.specs.inner.Groups.{IsWithoutLiberty}
 use Rattle.go_board.specs.inner.Rows.{is_set, IsClosed}
 use Rattle.go_board.specs.inner.Regions.{AreRowsOf}
-use Rattle.go_board.specs.inner.Linked.{IsLiberty, IsShutIn}
+use Rattle.go_board.specs.inner.Linked.{HasLiberty, IsLiberty, IsShutIn}
 use Rattle.go_board.proofs.GridLemmas.{Decides-same_cell}
 use Rattle.go_board.proofs.NeighbourLemmas.{AreAdjacent-sym}
 use Rattle.go_board.proofs.GroupLemmas.{neither_stone, stone_of≢Empty}
 use Rattle.go_board.proofs.ReachingLemmas.{Decides-reaches, path_by_step}
+
+-- a stone with a liberty reaches empty
+pub liberty_reaches : (g : Grid) (k : Colour) (own others : List ℕ) → length own ≡ g.side → AreRowsOf g.side (λ p. same_cell (cell_at g p) (stone_of k)) own → AreRowsOf g.side (λ p. same_cell (cell_at g p) (stone_of (opponent k))) others → (p : Point) → IsOn g.side p → HasLiberty own others p → Reaches g Empty p
+liberty_reaches g k own others all is_own is_other p on (q, free, next) =
+    let at = subst (λ n. IsOn n q) all free.0 in
+    (q ∷ [], (on, refl, AreAdjacent-sym q p next, (at, neither_stone k (cell_at g q) (sym (is_own.on q at) ∙ free.1) (sym (is_other.on q at) ∙ free.2))))
 
 module _ (g : Grid) (k : Colour) (own others : List ℕ) (from : Point) (all : length own ≡ g.side) (is_own : AreRowsOf g.side (λ p. same_cell (cell_at g p) (stone_of k)) own) (is_other : AreRowsOf g.side (λ p. same_cell (cell_at g p) (stone_of (opponent k))) others) where
   own_stone : (p : Point) → is_set own p ≡ true → cell_at g p ≡ stone_of k
@@ -58,12 +64,8 @@ module _ (g : Grid) (k : Colour) (own others : List ℕ) (from : Point) (all : l
   pub Reaches-liberty : IsOn g.side from → cell_at g from ≡ stone_of k → (q : Point) → IsLiberty own others from q → Reaches g Empty from
   unfolding shut_in
   Reaches-liberty on_from cell q is =
-      let p = is.liberty.0 in
-      let free = is.liberty.1 in
-      let on_p = subst (λ n. IsOn n p) all free.0 in
       let on_q = is_own.off q is.own_stone in
-      let empty : cell_at g p ≡ Empty = neither_stone k (cell_at g p) (sym (is_own.on p on_p) ∙ free.1) (sym (is_other.on p on_p) ∙ free.2) in
-      let way = (Decides-reaches g Empty q on_q).1 (path_by_step g Empty q p on_q (AreAdjacent-sym p q is.liberty.2) on_p (inr empty) ([], (on_p, empty))) in
+      let way = (Decides-reaches g Empty q on_q).1 (liberty_reaches g k own others all is_own is_other q on_q is.liberty) in
       elim (cases_Bool (reaches g Empty from)) [
         | inl reach ↦ (Decides-reaches g Empty from on_from).0 reach
         | inr shut ↦

@@ -5,8 +5,8 @@ use Rattle.std.proofs.Math.Bool.{or-true, and-true, and-false}
 use Rattle.std.proofs.lemmas.Bool.{and_parts, cases_Bool, cases_lt, false≢true}
 use Rattle.std.proofs.lemmas.Bool.Decides.{Decides-eqb}
 use Rattle.std.proofs.lemmas.Nat.{mod_below, pow_pos}
-use Rattle.std.proofs.lemmas.Nat.Bits.{bit_at_above, same_from_bits}
-use Rattle.std.proofs.lemmas.List.{ext_get_or, get_or-take, get_or-set_same, get_or-set_other, length-set, length-take-le, length-replicate}
+use Rattle.std.proofs.lemmas.Nat.Bits.{same_from_bits}
+use Rattle.std.proofs.lemmas.List.{ext_get_or, get_or-take, length-set, length-take-le, length-replicate}
 use Rattle.go_board.specs.declared.stones.Cell.{Cell}
 use Rattle.go_board.specs.declared.stones.Cell.TheVariants.{Black, White, Empty}
 use Rattle.go_board.specs.declared.points.Point.{Point}
@@ -15,8 +15,8 @@ use Rattle.go_board.specs.Point.{IsOn, index_of}
 use Rattle.go_board.specs.Grid.{Grid, cell_at, with_cell, empty_grid}
 use Rattle.go_board.specs.inner.Rows.{has_bit, is_set}
 use Rattle.go_board.specs.inner.Regions.{AreRowsOf, AreStones, grid_with, stone_in, with_columns, with_row}
-use Rattle.go_board.proofs.WordLemmas.{has_bit-zero, has_bit-and, has_bit-or, has_bit-without, bit_at-there, bit_at-gone}
-use Rattle.go_board.proofs.GrowLemmas.{row_below}
+use Rattle.go_board.proofs.WordLemmas.{has_bit-zero, has_bit-or, has_bit-less, bit_at-there, bit_at-gone}
+use Rattle.go_board.proofs.GrowLemmas.{row_below, set_there, set_elsewhere}
 use Rattle.go_board.proofs.RowLemmas.{is_set-none}
 use Rattle.go_board.proofs.RegionLemmas.{has_bit-set_there, has_bit-set_elsewhere, same_bools}
 use Rattle.go_board.proofs.PointLemmas.{one_point, same_or_not}
@@ -109,21 +109,30 @@ same_rows n side other a b c d g h all sizes is_g is_h first second =
       λ e. same_words side a b c d first (subst (λ m. AreStones m c d) (sym sizes) second) (is_g ∙ e ∙ sym grid),
     )
 
+-- the words of one colour with one row set
+is_set-row : (words : List ℕ) (row word : ℕ) → row < length words → (q : Point) → is_set (set words row word) q ≡ cond (q.row == row) (has_bit word q.col) (is_set words q)
+is_set-row words row word within q =
+    elim (cases_Bool (q.row == row)) [
+      | inl same ↦
+          set_there words row word within q ((Decides-eqb q.row row).0 same) ∙ ap (λ b. cond b (has_bit word q.col) (is_set words q)) (sym same)
+      | inr apart ↦
+          set_elsewhere words row word q (λ e. false≢true (sym apart ∙ (Decides-eqb q.row row).1 e))
+          ∙ ap (λ b. cond b (has_bit word q.col) (is_set words q)) (sym apart)
+    ]
+
 -- the words of one kind of stone after points of a row were coloured
 is_set-coloured : (words : List ℕ) (row columns word : ℕ) (c k : Cell) → row < length words → ((col : ℕ) → has_bit word col ≡ cond (has_bit columns col) (same_cell c k) (has_bit (get_or words row 0) col)) → (q : Point) → is_set (set words row word) q ≡ cond ((q.row == row) && has_bit columns q.col) (same_cell c k) (is_set words q)
 is_set-coloured words row columns word c k within is q =
-    elim (cases_Bool (q.row == row)) [
+    is_set-row words row word within q ∙ (elim (cases_Bool (q.row == row)) [
       | inl same ↦
-          let e = (Decides-eqb q.row row).0 same in
-          ap (λ r. has_bit (get_or (set words row word) r 0) q.col) e
-          ∙ ap (λ w. has_bit w q.col) (get_or-set_same words row word 0 within)
+          ap (λ b. cond b (has_bit word q.col) (is_set words q)) same
           ∙ is q.col
-          ∙ ap (λ r. cond (has_bit columns q.col) (same_cell c k) (has_bit (get_or words r 0) q.col)) (sym e)
+          ∙ ap (λ r. cond (has_bit columns q.col) (same_cell c k) (has_bit (get_or words r 0) q.col)) (sym ((Decides-eqb q.row row).0 same))
           ∙ ap (λ b. cond (b && has_bit columns q.col) (same_cell c k) (is_set words q)) (sym same)
       | inr apart ↦
-          ap (λ w. has_bit w q.col) (get_or-set_other words row q.row word 0 (λ e. false≢true (sym apart ∙ (Decides-eqb q.row row).1 e)))
+          ap (λ b. cond b (has_bit word q.col) (is_set words q)) apart
           ∙ ap (λ b. cond (b && has_bit columns q.col) (same_cell c k) (is_set words q)) (sym apart)
-    ]
+    ])
 
 chosen : (t : Bool) (c : Cell) (b w : Bool) → cond (cond t (same_cell c Black) b) Black (cond (cond t (same_cell c White) w) White Empty) ≡ cond t c (cond b Black (cond w White Empty))
 chosen true c b w = stone_is c
@@ -172,19 +181,6 @@ module _ (side : ℕ) (black white : List ℕ) (row columns : ℕ) (c : Cell) (b
       ∙ ap (λ x. cond (cond (turned q) (same_cell c Black) (is_set black q)) Black (cond x White Empty)) (is_white q)
       ∙ chosen (turned q) c (is_set black q) (is_set white q)
       ∙ ap (λ x. cond (turned q) c x) (sym (cell_at-grid_of side (stone_in black white) q on)))
-
--- the words of one colour with one row set
-is_set-row : (words : List ℕ) (row word : ℕ) → row < length words → (q : Point) → is_set (set words row word) q ≡ cond (q.row == row) (has_bit word q.col) (is_set words q)
-is_set-row words row word within q =
-    elim (cases_Bool (q.row == row)) [
-      | inl same ↦
-          ap (λ r. has_bit (get_or (set words row word) r 0) q.col) ((Decides-eqb q.row row).0 same)
-          ∙ ap (λ w. has_bit w q.col) (get_or-set_same words row word 0 within)
-          ∙ ap (λ b. cond b (has_bit word q.col) (is_set words q)) (sym same)
-      | inr apart ↦
-          ap (λ w. has_bit w q.col) (get_or-set_other words row q.row word 0 (λ e. false≢true (sym apart ∙ (Decides-eqb q.row row).1 e)))
-          ∙ ap (λ b. cond b (has_bit word q.col) (is_set words q)) (sym apart)
-    ]
 
 row_on : (side : ℕ) (words : List ℕ) (row word : ℕ) → row < length words → row < side → ((col : ℕ) → has_bit word col ≡ true → col < side) → ((q : Point) → is_set words q ≡ true → IsOn side q) → (q : Point) → is_set (set words row word) q ≡ true → IsOn side q
 row_on side words row word within below here elsewhere q is =
@@ -283,14 +279,7 @@ columns_set word columns c = has_bit-or word columns c ∙ either (has_bit word 
     either false false = refl
 
 pub columns_cleared : (word columns c : ℕ) → word < 2 ^ 64 → columns < 2 ^ 64 → has_bit (bit_and word (bit_not w64 columns)) c ≡ cond (has_bit columns c) false (has_bit word c)
-columns_cleared word columns c low low_columns =
-    elim (cases_lt c 64) [
-      | inl inside ↦ has_bit-without word columns c low_columns inside ∙ without (has_bit word c) (has_bit columns c)
-      | inr past ↦
-          let none : has_bit word c ≡ false = ap (λ n. n == 1) (bit_at_above word 64 c low past) in
-          let no_column : has_bit columns c ≡ false = ap (λ n. n == 1) (bit_at_above columns 64 c low_columns past) in
-          has_bit-and word (bit_not w64 columns) c ∙ ap (λ x. x && has_bit (bit_not w64 columns) c) none ∙ sym none ∙ ap (λ b. cond b false (has_bit word c)) (sym no_column)
-    ]
+columns_cleared word columns c low low_columns = has_bit-less word columns c low low_columns ∙ without (has_bit word c) (has_bit columns c)
   where
     without : (a b : Bool) → (a && not b) ≡ cond b false a
     without true true = refl
@@ -311,19 +300,13 @@ bit_there col low = has_bit-set_there 0 col true refl low ∙ or-true (has_bit 0
 bit_elsewhere : (col : ℕ) → col < 64 → (k : ℕ) → k ≢ col → has_bit (bit_of col) k ≡ false
 bit_elsewhere col low k other = has_bit-set_elsewhere 0 col low k other ∙ has_bit-zero k
 
-pub without_there : (word col : ℕ) → col < 64 → has_bit (bit_and word (bit_not w64 (bit_of col))) col ≡ false
-without_there word col low =
-    has_bit-without word (bit_of col) col (small col) low ∙ ap (λ x. has_bit word col && not x) (bit_there col low) ∙ and-false (has_bit word col)
+pub without_there : (word col : ℕ) → word < 2 ^ 64 → col < 64 → has_bit (bit_and word (bit_not w64 (bit_of col))) col ≡ false
+without_there word col fits low =
+    has_bit-less word (bit_of col) col fits (small col) ∙ ap (λ x. has_bit word col && not x) (bit_there col low) ∙ and-false (has_bit word col)
 
 pub without_elsewhere : (word col : ℕ) → word < 2 ^ 64 → col < 64 → (k : ℕ) → k ≢ col → has_bit (bit_and word (bit_not w64 (bit_of col))) k ≡ has_bit word k
 without_elsewhere word col fits low k other =
-    elim (cases_lt k 64) [
-      | inl inside ↦
-          has_bit-without word (bit_of col) k (small col) inside ∙ ap (λ x. has_bit word k && not x) (bit_elsewhere col low k other) ∙ and-true (has_bit word k)
-      | inr past ↦
-          let none : has_bit word k ≡ false = ap (λ n. n == 1) (bit_at_above word 64 k fits past) in
-          has_bit-and word (bit_not w64 (bit_of col)) k ∙ ap (λ x. x && has_bit (bit_not w64 (bit_of col)) k) none ∙ sym none
-    ]
+    has_bit-less word (bit_of col) k fits (small col) ∙ ap (λ x. has_bit word k && not x) (bit_elsewhere col low k other) ∙ and-true (has_bit word k)
 
 -- a board on which nothing stands
 pub AreStones-none : (side : ℕ) (black white : List ℕ) → side ≤ 52 → black ≡ replicate 52 0 → white ≡ replicate 52 0 → AreStones side black white × (grid_with side black white ≡ empty_grid side)

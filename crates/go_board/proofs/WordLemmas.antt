@@ -43,6 +43,16 @@ has_bit-without word other c low column =
     (bit_at_and word (bit_not w64 other) c ∙ ap (λ b. min (bit_at word c) b) (bit_at_not w64 other c low column))
     ∙ test_without (bit_at word c) (bit_at other c) (bit_at-lt word c) (bit_at-lt other c)
 
+-- the same in every column, of words
+pub has_bit-less : (word other c : ℕ) → word < 2 ^ 64 → other < 2 ^ 64 → has_bit (bit_and word (bit_not w64 other)) c ≡ (has_bit word c && not (has_bit other c))
+has_bit-less word other c low few =
+    elim (cases_lt c 64) [
+      | inl inside ↦ has_bit-without word other c few inside
+      | inr past ↦
+          let none = ap (λ n. n == 1) (bit_at_above word 64 c low past) in
+          has_bit-and word _ c ∙ ap (λ b. b && has_bit (bit_not w64 other) c) none ∙ sym (ap (λ b. b && not (has_bit other c)) none)
+    ]
+
 -- what isn't in a set isn't in a part of it
 pub not_in_part : (some all : ℕ → Bool) (k : ℕ) → IsPart some all → all k ≡ false → some k ≡ false
 not_in_part some all k part none = false_from_ne_true (some k) (λ is. false≢true (sym none ∙ part k is))

@@ -103,10 +103,7 @@ impl Board {
             ≡ same_cell (cell_at self.now (record { col = col; row = row })) (stone_of colour) }
         ensures off { (col : ℕ) → IsTrue (has_bit result col) → col < self.now.side }
     {
-        match colour {
-            Colour::Black => self.black[usize::from(row)],
-            Colour::White => self.white[usize::from(row)],
-        }
+        self.rows_of(colour)[usize::from(row)]
     }
 
     /// Changes what stands on one point, and on no other. The point must be on the board. Nothing is cleared.
@@ -162,8 +159,8 @@ impl Board {
         ensures { IsTrue result → (col : ℕ) → col < self.now.side
             → cell_at self.now (record { col = col; row = row }) ≡ cell_at other.now (record { col = col; row = row }) }
     {
-        let row = usize::from(row);
-        self.black[row] == other.black[row] && self.white[row] == other.white[row]
+        self.columns_of(row, Colour::Black) == other.columns_of(row, Colour::Black)
+            && self.columns_of(row, Colour::White) == other.columns_of(row, Colour::White)
     }
 
     /// A board with the same side and the same colouring.

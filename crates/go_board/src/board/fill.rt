@@ -37,14 +37,15 @@ pub(crate) fn grow_lowest(rows: &mut [u64], region: &[u64], waiting: u64) -> (us
     let row = waiting.trailing_zeros() as usize;
     let left = without_column(waiting, row);
     let old = rows[row];
-    grow_row(rows, region, row);
+    let above = row_above(rows, row);
+    grow_row(rows, region, row, above);
     if rows[row] == old {
         return (row, left);
     }
     (row, with_rows_lacking(left, rows, region, row))
 }
 
-/// Grows each row (`grow_row_below`), from the first row to the last.
+/// Grows each row (`grow_row`), from the first row to the last.
 /// Returns the rows that can take a point from the row below them.
 fn grow_down(rows: &mut [u64], region: &[u64]) -> u64
     requires { IsWithin rows.old region.now }
@@ -55,7 +56,7 @@ fn grow_down(rows: &mut [u64], region: &[u64]) -> u64
     let mut lacking = 0;
     let mut waiting_above = 0;
     'rows: for row in 0..rows.len() {
-        grow_row_below(rows, region, row, above);
+        grow_row(rows, region, row, above);
         above = rows[row];
         waiting_above = with_column(waiting_above, row, lacking & above != 0);
         lacking = region[row] & !above;
@@ -87,24 +88,14 @@ fn with_row_lacking(waiting: u64, rows: &[u64], region: &[u64], row: usize, word
     ensures taken { row < length rows.now → has_bit result row ≡ false → IsTaken region.now rows.now row word }
 {
     if row < rows.len() {
-        with_column(waiting, row, word & region[row] & !rows[row] != 0)
+        with_column(waiting, row, region[row] & !rows[row] & word != 0)
     } else {
         waiting
     }
 }
 
-/// Adds the points of a row that are in the region and beside points of the set.
-fn grow_row(rows: &mut [u64], region: &[u64], row: usize)
-    requires within { IsWithin rows.old region.now }
-    requires row { row < length rows.old }
-    ensures { IsRowGrown region.now rows.old rows.new row }
-{
-    let above = row_above(rows, row);
-    grow_row_below(rows, region, row, above);
-}
-
-/// Grows a row (`grow_row`); `above` is the row above it.
-fn grow_row_below(rows: &mut [u64], region: &[u64], row: usize, above: u64)
+/// Adds the points of a row that are in the region and beside points of the set. `above` is the row above it.
+fn grow_row(rows: &mut [u64], region: &[u64], row: usize, above: u64)
     requires within { IsWithin rows.old region.now }
     requires row { row < length rows.old }
     requires above { above ≡ row_above rows.old row }

@@ -16,9 +16,6 @@ use crate::board::liberty::columns_with_liberty;
 use crate::size::MAX_ROWS;
 use crate::stones::Colour;
 
-/// The most rows of a small board. Its sets take few words, which are quick to clear.
-pub(crate) const FEW_ROWS: usize = 32;
-
 impl Board {
     /// Writes to `area` the points of a colour, and the empty points that reach it.
     pub(crate) fn area_of(&self, colour: Colour, area: &mut [u64])

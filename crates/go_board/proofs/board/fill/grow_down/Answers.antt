@@ -11,10 +11,10 @@ rows-preserved c =
     let region = c.args.region.now in
     let first = c.args.rows.now in
     let rows = l.rows in
-    let next = c.grow_row_below.new.rows in
+    let next = c.grow_row.new.rows in
     let row = l.row in
     let was = l.invariant.filled in
-    let grown = c.grow_row_below.ensures in
+    let grown = c.grow_row.ensures in
     let long : length next ≡ length rows = search rules in
     let within : row < length rows = omega (arith, c.rows-test.true, was.all, c.requires.same) in
     let e = c.with_column-waiting_above.ensures in
@@ -36,7 +36,7 @@ rows-preserved c =
           let at : suc r ≡ row = elim differ [ inl before ↦ omega (arith, before) | inr past ↦ absurd (omega (arith, past, below)) ] in
           let other : r ≢ row = omega (arith, at) in
           let left = l.invariant.lacking r (omega (arith, at)) ∙ ap (λ w. bit_and (slice_index region r) (bit_not w64 w)) (sym (grown.others r other)) in
-          none_left (slice_index next row) (slice_index region r) (slice_index next r) l.lacking (region_low r) (next_low r) left
+          none_left (slice_index next row) (slice_index region r) (slice_index next r) l.lacking left (region_low r) (next_low r)
           (taken_with _ _ _ _ e.there (ap (has_bit after) (sym at) ∙ sym (bits after r) ∙ none)));
       above = sym (ap (row_above next) step);
       lacking = λ r before.

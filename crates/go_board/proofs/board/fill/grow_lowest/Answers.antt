@@ -13,6 +13,9 @@ lowest_in waiting count some low each = each _ (lowest_left waiting waiting some
 pub bounds-rows-row : goal.bounds-rows-row
 bounds-rows-row c = omega (arith, lowest_in c.args.waiting _ c.requires.wait.some (omega (arith, c.ranges.waiting.fits)) c.requires.wait.rows_in, c.requires.within.same)
 
+pub row_above-above-requires : goal.row_above-above-requires
+row_above-above-requires c = omega (arith, lowest_in c.args.waiting _ c.requires.wait.some (omega (arith, c.ranges.waiting.fits)) c.requires.wait.rows_in, c.requires.within.same)
+
 pub grow_row-requires-clause-row : goal.grow_row-requires-clause-row
 grow_row-requires-clause-row c = omega (arith, lowest_in c.args.waiting _ c.requires.wait.some (omega (arith, c.ranges.waiting.fits)) c.requires.wait.rows_in, c.requires.within.same)
 

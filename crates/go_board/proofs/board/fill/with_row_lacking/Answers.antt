@@ -1,5 +1,5 @@
-use Rattle.std.proofs.Common.{◌<◌, ◌^◌, inl, inr, get_or, arith, rules}
-use Rattle.go_board.proofs.FillLemmas.{part_with, from_with, taken_with, none_lacking}
+use Rattle.std.proofs.Common.{◌<◌, ◌^◌, inl, inr, refl, get_or, arith, rules}
+use Rattle.go_board.proofs.FillLemmas.{part_with, from_with, taken_with, none_left}
 use Rattle.go_board.proofs.board.fill.with_row_lacking.Goals as goal
 
 pub returns-then-row-rows : goal.returns-then-row-rows
@@ -13,5 +13,5 @@ returns-then-row-rows c =
       kept = part_with _ _ _ _ e.there e.elsewhere;
       from = λ r is.
           elim (from_with _ _ _ _ e.there e.elsewhere r is) [ inl old ↦ inl old | inr at ↦ inr (omega (arith, at, c.if-row-rows.true)) ];
-      taken = λ below none. none_lacking c.args.word region here low_room low_here (taken_with _ _ _ _ e.there none);
+      taken = λ below none. none_left c.args.word region here _ refl low_room low_here (taken_with _ _ _ _ e.there none);
     }

@@ -49,7 +49,7 @@ returns c =
           c.look_at_row-along.ensures.shut own others p q 1 along none (omega (arith, next.0))
           (c.columns_beside.ensures.to q.col (column_below 64 _ q.col low set) (inr (inr (p.col, DifferByOne-sym p.col q.col next.1, there)))) set;
       across = λ none q set next.
-          let both = none_of_two _ _ none in
+          let both = none_of_two c.look_at_row-up.result.shut c.look_at_row-down.result.shut none in
           let in_column = ap (has_bit stone) (sym next.0) ∙ there in
           elim next.1 [
             | inl row ↦ c.look_at_row-down.ensures.shut own others p q 2 down both.1 (omega (arith, row)) in_column set

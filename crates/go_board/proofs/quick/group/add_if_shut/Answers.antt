@@ -1,6 +1,7 @@
-use Rattle.std.proofs.Common.{◌^◌, ◌<◌, refl, sym, rules}
+use Rattle.std.proofs.Common.{◌^◌, ◌<◌, refl, sym, subst, rules}
 use Rattle.std.proofs.lemmas.Bool.{false≢true}
-use Rattle.go_board.proofs.LinkedLemmas.{common_column, IsLiberty-joined, none_lives}
+use Rattle.go_board.specs.inner.Linked.{HasLiberty}
+use Rattle.go_board.proofs.LinkedLemmas.{common_column, none_lives}
 use Rattle.go_board.proofs.quick.group.add_if_shut.Goals as goal
 
 pub returns-then-joined-columns_with_liberty-ne0 : goal.returns-then-joined-columns_with_liberty-ne0
@@ -9,7 +10,17 @@ returns-then-joined-columns_with_liberty-ne0 c =
     let low : joined.result < 2 ^ 64 = search rules in
     let both = common_column joined.result c.columns_with_liberty.result low c.if-joined-columns_with_liberty-ne0.true in
     record {
-      lives = λ _. (refl, IsLiberty-joined c.args.own.now c.args.others.now c.args.from joined.result c.from.result c.from.ensures joined.ensures.within joined.ensures.linked c.columns_with_liberty.result c.columns_with_liberty.ensures.from both);
+      lives = λ _. (
+        refl,
+        (
+          record { col = both.0; row = c.args.from.row },
+          record {
+            own_stone = joined.ensures.within both.0 both.1;
+            linked = joined.ensures.linked both.0 both.1;
+            liberty = subst (λ r. HasLiberty c.args.own.now c.args.others.now (record { col = both.0; row = r })) c.from.ensures (c.columns_with_liberty.ensures.from both.0 both.2);
+          },
+        ),
+      );
       shut = λ no. absurd (false≢true no);
     }
 
