@@ -17,7 +17,7 @@ use Rattle.go_board.specs.inner.Regions.{AreRowsOf}
 use Rattle.go_board.specs.inner.Rows.{has_bit, is_set, IsInOrBeside}
 use Rattle.go_board.proofs.GridLemmas.{Decides-same_cell, cell_at-with_cell_elsewhere}
 use Rattle.go_board.proofs.GroupLemmas.{neither_stone}
-use Rattle.go_board.proofs.NeighbourLemmas.{DifferByOne-sym}
+use Rattle.go_board.proofs.PointLemmas.{DifferByOne-sym}
 use Rattle.go_board.proofs.ReachingLemmas.{path_by_step}
 use Rattle.go_board.proofs.SweepLemmas.{lowest_left}
 use Rattle.go_board.proofs.WordLemmas.{in_the_other, has_bit-or, has_bit-and, has_bit-without, has_bit-zero, column_below}

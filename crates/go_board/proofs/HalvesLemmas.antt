@@ -1,16 +1,24 @@
--- Sets of points in the halves of words: a path within such a region stays in its half.
-use Rattle.std.proofs.Common.{◌≡◌, ◌≢◌, inl, inr, ℕ, ◌+◌, ◌-◌, ◌*◌, ◌/◌, ◌%◌, ◌^◌, ◌<◌, ◌≤◌, ◌==◌, ◌||◌, ◌&&◌, Bool, true, nat_lt, nat_le, List, slice_index, sym, ap, ◌∙◌, arith}
-use Rattle.std.proofs.lemmas.Bool.{or_cases, or_left, or_right, and_parts, and_from, cases_lt, le-leb, leb-true}
+-- Sets of points in the halves of words: a path within such a region stays in its half. So one filling finds the areas of both colours.
+use Rattle.std.proofs.Common.{◌≡◌, ◌≢◌, inl, inr, ℕ, ◌+◌, ◌-◌, ◌*◌, ◌/◌, ◌%◌, ◌^◌, ◌<◌, ◌≤◌, ◌==◌, ◌||◌, ◌&&◌, Bool, true, nat_lt, nat_le, List, slice_index, sym, ap, ◌∙◌, arith, cond, length, subst}
+use Rattle.std.proofs.lemmas.Bool.{or_cases, or_left, or_right, and_parts, and_from, cases_lt, le-leb, leb-true, false_from_ne_true}
 use Rattle.std.proofs.lemmas.Bool.Decides.{Decides-ltb}
 use Rattle.std.proofs.Math.ListN.{get_or-map}
 use Rattle.std.proofs.lemmas.Nat.{mod_below, pow_pos}
 use Rattle.std.proofs.lemmas.Nat.Bits.{bit_at_cat_high}
+use Rattle.std.proofs.lemmas.List.{length-map}
 use Rattle.go_board.specs.declared.points.Point.{Point}
 use Rattle.go_board.specs.Point.{AreAdjacent}
-use Rattle.go_board.specs.inner.Rows.{has_bit, is_set, IsAmong, IsClosed}
-use Rattle.go_board.specs.inner.Halves.{low_halves, high_halves}
-use Rattle.go_board.proofs.RegionLemmas.{same_bools}
+use Rattle.go_board.specs.inner.Rows.{has_bit, is_set, IsAmong, IsClosed, Grows}
+use Rattle.go_board.specs.inner.Halves.{low_halves, high_halves, ArePaired, AreOthersPaired}
+use Rattle.go_board.specs.declared.stones.Cell.TheVariants.{Black as BlackStone, White as WhiteStone, Empty}
+use Rattle.go_board.specs.declared.stones.Colour.TheVariants.{Black, White}
+use Rattle.go_board.specs.Colour.{same_cell}
+use Rattle.go_board.specs.Grid.{Grid, cell_at}
+use Rattle.go_board.specs.Reaching.{reaches}
+use Rattle.go_board.specs.inner.Regions.{is_either, AreRowsOf, reaches_through_own}
+use Rattle.go_board.proofs.RegionLemmas.{same_bools, AreOthers, AreRowsOf-others, AreRowsOf-filled, region_is, reaching_closed, seed_reaches}
 use Rattle.go_board.proofs.WordLemmas.{bit_at-mod, column_below}
+use Rattle.go_board.proofs.CountLemmas.{below_from_bits}
 
 -- a column of a half
 has_bit-low_half : (word col : ℕ) → has_bit (word % 2 ^ 32) col ≡ (nat_lt col 32 && has_bit word col)
@@ -117,3 +125,117 @@ among_low some all part p is = let at = low_parts some p is in low_from all p at
 
 pub among_high : (some all : List ℕ) → IsAmong (is_set some) (is_set all) → IsAmong (is_set (high_halves some)) (is_set (high_halves all))
 among_high some all part p is = in_high all p ∙ part (shifted p) (sym (in_high some p) ∙ is)
+
+-- a word of few columns
+pub fits_half : (word side : ℕ) → side < 32 → ((col : ℕ) → has_bit word col ≡ true → col < side) → word < 2 ^ 32
+fits_half word side small each =
+    subst (λ n. n < 2 ^ 32) (below_from_bits word 32 (λ col is. let below = each col is in omega (arith, below, small))) (mod_below word (2 ^ 32) (pow_pos 32))
+
+-- the words of two sets, row by row
+abbrev pub IsPair : List ℕ → List ℕ → ℕ → ℕ → Type 0
+IsPair black white row word = (word % 2 ^ 32 ≡ slice_index black row) × (word / 2 ^ 32 ≡ slice_index white row)
+
+abbrev pub IsPairOfOthers : ℕ → List ℕ → List ℕ → ℕ → ℕ → Type 0
+IsPairOfOthers side black white row word =
+    AreOthers side (slice_index white row) (word % 2 ^ 32) × AreOthers side (slice_index black row) (word / 2 ^ 32)
+
+pub others_paired_all : (black white rows : List ℕ) → length rows ≡ length black → length rows ≡ length white → ((r : ℕ) → r < length rows → IsPairOfOthers (length black) black white r (slice_index rows r)) → AreOthersPaired black white rows
+others_paired_all black white rows long_black long_white each = record {
+  low = AreRowsOf-others white (low_halves rows) (length-map rows (λ w. w % 2 ^ 32) ∙ long_white)
+      (λ r below.
+      let within : r < length rows = omega (arith, below, long_white) in
+      subst (AreOthers (length white) (slice_index white r)) (sym (get_or-map (λ w. w % 2 ^ 32) rows r 0))
+      (subst (λ n. AreOthers n (slice_index white r) (slice_index rows r % 2 ^ 32)) (sym long_black ∙ long_white) (each r within).0));
+  high = AreRowsOf-others black (high_halves rows) (length-map rows (λ w. w / 2 ^ 32) ∙ long_black)
+      (λ r below.
+      let within : r < length rows = omega (arith, below, long_black) in
+      subst (AreOthers (length black) (slice_index black r)) (sym (get_or-map (λ w. w / 2 ^ 32) rows r 0)) (each r within).1);
+}
+
+-- the rows of the same points
+moved : (side : ℕ) (test : Point → Bool) (rows other : List ℕ) → ((p : Point) → is_set other p ≡ is_set rows p) → AreRowsOf side test rows → AreRowsOf side test other
+moved side test rows other same are = record { on = λ p on. same p ∙ are.on p on; off = λ p is. are.off p (sym (same p) ∙ is) }
+
+module _ (g : Grid) (black white first region : List ℕ) (small : g.side < 32) (is_black : AreRowsOf g.side (λ p. same_cell (cell_at g p) BlackStone) black) (is_white : AreRowsOf g.side (λ p. same_cell (cell_at g p) WhiteStone) white) (all_black : length black ≡ g.side) (all_white : length white ≡ g.side) (pair : ArePaired black white first) (others : AreOthersPaired black white region) where
+  region_low : AreRowsOf g.side (λ p. is_either (cell_at g p) Empty BlackStone) (low_halves region)
+  region_low = region_is g Black white (low_halves region) is_white all_white others.low
+
+  region_high : AreRowsOf g.side (λ p. is_either (cell_at g p) Empty WhiteStone) (high_halves region)
+  region_high = region_is g White black (high_halves region) is_black all_black others.high
+
+  seed_low : AreRowsOf g.side (λ p. same_cell (cell_at g p) BlackStone) (low_halves first)
+  seed_low = moved g.side _ black (low_halves first) pair.low is_black
+
+  seed_high : AreRowsOf g.side (λ p. same_cell (cell_at g p) WhiteStone) (high_halves first)
+  seed_high = moved g.side _ white (high_halves first) pair.high is_white
+
+  reaches_low : (p : Point) → is_set (low_halves first) p ≡ true → (is_set (low_halves region) p ≡ true) × (reaches g BlackStone p ≡ true)
+  reaches_low = seed_reaches g Empty BlackStone (low_halves region) (low_halves first) region_low seed_low
+
+  reaches_high : (p : Point) → is_set (high_halves first) p ≡ true → (is_set (high_halves region) p ≡ true) × (reaches g WhiteStone p ≡ true)
+  reaches_high = seed_reaches g Empty WhiteStone (high_halves region) (high_halves first) region_high seed_high
+
+  pub stones_within : IsAmong (is_set first) (is_set region)
+  stones_within = among_by_halves first region (λ p is. (reaches_low p is).0) (λ p is. (reaches_high p is).0)
+
+  gap : (p : Point) → is_set region p ≡ true → p.col ≢ 31
+  gap p is at =
+      let below : p.col < 32 = omega (arith, at) in
+      let on = region_low.off p (low_from region p below is) in
+      omega (arith, on.0, small, at)
+
+  -- the points of the words whose points in a half reach its colour
+  reaching : Point → Bool
+  reaching p = cond (nat_lt p.col 32) (reaches g BlackStone p) (reaches g WhiteStone (unshifted p))
+
+  at_low : (p : Point) → p.col < 32 → reaching p ≡ reaches g BlackStone p
+  unfolding reaching
+  at_low p low = ap (λ b. cond b (reaches g BlackStone p) (reaches g WhiteStone (unshifted p))) ((Decides-ltb p.col 32).1 low)
+
+  at_high : (p : Point) → 32 ≤ p.col → reaching p ≡ reaches g WhiteStone (unshifted p)
+  unfolding reaching
+  at_high p from =
+      ap (λ b. cond b (reaches g BlackStone p) (reaches g WhiteStone (unshifted p)))
+      (false_from_ne_true _ (λ is. let low = (Decides-ltb p.col 32).0 is in omega (arith, from, low)))
+
+  module _ (rows : List ℕ) (grows : Grows (is_set region) (is_set first) (is_set rows)) (closed : IsClosed (is_set region) (is_set rows)) where
+    all_reach : (p : Point) → is_set rows p ≡ true → reaching p ≡ true
+    all_reach p is =
+        (and_parts _ _
+        (grows.least (λ q. is_set region q && reaching q)
+        (λ q r adjacent there in_it.
+        let both = and_parts _ _ in_it in
+        and_from _ _ there
+        (elim (cases_lt q.col 32) [
+          | inl low ↦
+              let near = stays_low q r adjacent low (gap q there) in
+              at_low q low
+              ∙ reaching_closed g Empty BlackStone (low_halves region) (low_halves first) region_low seed_low q r adjacent (low_from region q low there) (low_from region r near both.0)
+              (sym (at_low r near) ∙ both.1)
+          | inr from ↦
+              let near = stays_high q r adjacent from (gap r both.0) in
+              at_high q from
+              ∙ reaching_closed g Empty WhiteStone (high_halves region) (high_halves first) region_high seed_high (unshifted q) (unshifted r) (adjacent_unshifted q r from near adjacent)
+              (high_from region q from there) (high_from region r near both.0) (sym (at_high r near) ∙ both.1)
+        ]))
+        (λ q there.
+        and_from _ _ (stones_within q there)
+        (elim (cases_lt q.col 32) [
+          | inl low ↦ at_low q low ∙ (reaches_low q (low_from first q low there)).1
+          | inr from ↦ at_high q from ∙ (reaches_high (unshifted q) (high_from first q from there)).1
+        ])) p is)).1
+
+    area_low : AreRowsOf g.side (reaches_through_own g Empty BlackStone) (low_halves rows)
+    area_low =
+        AreRowsOf-filled g Empty BlackStone (low_halves region) (low_halves first) region_low seed_low (low_halves rows)
+        (among_low rows region grows.within) (among_low first rows grows.kept) (IsClosed-low region rows closed)
+        (λ p is. let at = low_parts rows p is in sym (at_low p at.0) ∙ all_reach p at.1)
+
+    area_high : AreRowsOf g.side (reaches_through_own g Empty WhiteStone) (high_halves rows)
+    area_high =
+        AreRowsOf-filled g Empty WhiteStone (high_halves region) (high_halves first) region_high seed_high (high_halves rows)
+        (among_high rows region grows.within) (among_high first rows grows.kept) (IsClosed-high region rows closed)
+        (λ p is. ap (reaches g WhiteStone) (sym (back_again p)) ∙ sym (at_high (shifted p) (omega arith)) ∙ all_reach (shifted p) (sym (in_high rows p) ∙ is))
+
+    pub areas : AreRowsOf g.side (reaches_through_own g Empty BlackStone) (low_halves rows) × AreRowsOf g.side (reaches_through_own g Empty WhiteStone) (high_halves rows)
+    areas = (area_low, area_high)

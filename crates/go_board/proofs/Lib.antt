@@ -17,12 +17,8 @@ pub mod LinkedLemmas
 pub mod StoneGroupLemmas
 pub mod RegionLemmas
 pub mod HalvesLemmas
-pub mod BesideLemmas
 pub mod LibertyLemmas
 pub mod CountLemmas
-pub mod AreaHalvesLemmas
-pub mod NeighbourLemmas
-pub mod FloodLemmas
 pub mod SweepLemmas
 pub mod ListPastLemmas
 pub mod EarlierLemmas

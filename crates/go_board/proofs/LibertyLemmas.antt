@@ -1,5 +1,5 @@
 -- Whether all stones of a colour reach empty, by filling rows of words from the empty points.
-use Rattle.std.proofs.Common.{◌≡◌, Decides, inl, inr, ℕ, ◌≤◌, ◌&&◌, Bool, true, false, not, List, [], ◌∷◌, length, refl, sym, ap, ◌∙◌, arith, subst}
+use Rattle.std.proofs.Common.{◌≡◌, Decides, inl, inr, ℕ, ◌≤◌, ◌&&◌, Bool, true, false, not, List, [], ◌∷◌, length, refl, sym, ap, ◌∙◌, arith, subst, ◌<◌, slice_index, bit_and}
 use Rattle.std.proofs.lemmas.Bool.{and_parts, and_from, false≢true, cases_Bool}
 use Rattle.go_board.specs.declared.stones.Cell.{Cell}
 use Rattle.go_board.specs.declared.stones.Cell.TheVariants.{Black as BlackStone, White as WhiteStone, Empty}
@@ -10,9 +10,9 @@ use Rattle.go_board.specs.Colour.{opponent, stone_of, same_cell}
 use Rattle.go_board.specs.Point.{IsOn}
 use Rattle.go_board.specs.Grid.{Grid, cell_at}
 use Rattle.go_board.specs.inner.Groups.{AllReach, is_shut}
-use Rattle.go_board.specs.inner.Rows.{is_set, IsAmong, IsClosed, Grows}
+use Rattle.go_board.specs.inner.Rows.{is_set, IsAmong, IsClosed, Grows, has_bit}
 use Rattle.go_board.specs.inner.Regions.{AreRowsOf, IsDifference, HaveLiberty}
-use Rattle.go_board.specs.inner.Linked.{IsFree}
+use Rattle.go_board.specs.inner.Linked.{IsFree, HasLiberty}
 use Rattle.go_board.specs.Reaching.{Leads, reaches}
 use Rattle.go_board.specs.Clearing.{has_unreaching}
 use Rattle.go_board.proofs.GridLemmas.{Decides-same_cell}
@@ -20,10 +20,27 @@ use Rattle.go_board.proofs.SettledLemmas.{both_reach, AllReach-settled}
 use Rattle.go_board.proofs.ReachingLemmas.{Decides-reaches, path_by_step}
 use Rattle.go_board.proofs.GroupLemmas.{stone_of≢Empty}
 use Rattle.go_board.proofs.StoneGroupLemmas.{liberty_reaches}
-use Rattle.go_board.proofs.NeighbourLemmas.{AreAdjacent-sym}
-use Rattle.go_board.proofs.GrowLemmas.{Grows-none}
-use Rattle.go_board.proofs.WordLemmas.{in_the_other}
+use Rattle.go_board.proofs.PointLemmas.{AreAdjacent-sym}
+use Rattle.go_board.proofs.GrowLemmas.{Grows-none, row_below}
+use Rattle.go_board.proofs.WordLemmas.{in_the_other, has_bit-and}
 use Rattle.go_board.proofs.RegionLemmas.{same_bools}
+
+-- a word has the stones of a row that have a liberty
+pub record AreAlive (own others : List ℕ) (row alive : ℕ) : Type 0 where
+  pub from : (col : ℕ) → has_bit alive col ≡ true → (has_bit (slice_index own row) col ≡ true) × HasLiberty own others (record { col = col; row = row })
+  pub to : (col : ℕ) → col < 64 → has_bit (slice_index own row) col ≡ true → HasLiberty own others (record { col = col; row = row }) → has_bit alive col ≡ true
+
+pub AreAlive-row : (own others : List ℕ) (row wide : ℕ) → ((col : ℕ) → has_bit wide col ≡ true → HasLiberty own others (record { col = col; row = row })) → ((col : ℕ) → col < 64 → HasLiberty own others (record { col = col; row = row }) → has_bit wide col ≡ true) → AreAlive own others row (bit_and (slice_index own row) wide)
+AreAlive-row own others row wide from to = record {
+  from = λ col is. let both = and_parts _ _ (sym (has_bit-and (slice_index own row) wide col) ∙ is) in (both.0, from col both.1);
+  to = λ col low stone free. has_bit-and (slice_index own row) wide col ∙ and_from _ _ stone (to col low free);
+}
+
+pub HaveLiberty-all : (own others alive : List ℕ) → length alive ≡ length own → ((r : ℕ) → r < length own → AreAlive own others r (slice_index alive r)) → HaveLiberty own others alive
+HaveLiberty-all own others alive long each = record {
+  from = λ q is. (each q.row (rw (← long) (row_below alive q is))).from q.col is;
+  to = λ q low stone free. (each q.row (row_below own q stone)).to q.col low stone free;
+}
 
 empty_apart : (k : Colour) (c : Cell) → c ≡ Empty → same_cell c (stone_of k) ≡ false
 empty_apart Black Empty is = refl

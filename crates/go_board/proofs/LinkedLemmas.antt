@@ -10,7 +10,7 @@ use Rattle.go_board.specs.inner.Rows.{has_bit, is_set, IsPart, HasBeside, IsRowC
 use Rattle.go_board.specs.inner.Linked.{HasLiberty}
 use Rattle.go_board.specs.inner.Fill.{IsFilledBut}
 use Rattle.go_board.specs.inner.Glance.{IsRowAt}
-use Rattle.go_board.proofs.NeighbourLemmas.{DifferByOne-sym}
+use Rattle.go_board.proofs.PointLemmas.{DifferByOne-sym}
 use Rattle.go_board.proofs.GrowLemmas.{set_there, set_elsewhere, Grows-none}
 use Rattle.go_board.proofs.FillLemmas.{closed_still}
 use Rattle.go_board.proofs.WordLemmas.{has_bit-or, has_bit-and, has_bit-left, from_left, has_bit-right, has_bit-zero, column_below}

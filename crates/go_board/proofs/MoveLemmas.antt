@@ -15,10 +15,9 @@ use Rattle.go_board.specs.Reaching.{Leads, Reaches}
 use Rattle.go_board.specs.Clearing.{clear, play, has_unreaching}
 use Rattle.go_board.specs.inner.Groups.{IsWithoutLiberty, AreShutGroups, AllReach, ReachBeside, IsWithout, IsTakenOrReaches, AreTakenOrReachBeside, TakesOff}
 use Rattle.go_board.specs.inner.Rows.{is_set}
-use Rattle.go_board.proofs.PointLemmas.{same_or_not}
+use Rattle.go_board.proofs.PointLemmas.{same_or_not, AreAdjacent-sym}
 use Rattle.go_board.proofs.GridLemmas.{cell_at-with_cell, cell_at-with_cell_elsewhere}
 use Rattle.go_board.proofs.ReachingLemmas.{Leads-on, Leads-next, path_by_step}
-use Rattle.go_board.proofs.NeighbourLemmas.{AreAdjacent-sym}
 use Rattle.go_board.proofs.RuleLemmas.{side-clear, length-clear, cell_at-clear, emptied, kept, others_kept}
 use Rattle.go_board.proofs.GroupLemmas.{coloured_or_not, stone_of≢Empty}
 use Rattle.go_board.proofs.SettledLemmas.{reaches_or_not, clear-AllReach, AllReach-settled}

@@ -10,7 +10,7 @@ use Rattle.std.proofs.lemmas.List.Folds.{list_any_at}
 use Rattle.std.proofs.lemmas.Bool.{cases_eq}
 use Rattle.std.proofs.lemmas.Bool.Decides.{Decides-eqb, Decides-and, Decides-or, Decides-by_or}
 use Rattle.go_board.specs.declared.points.Point.{Point}
-use Rattle.go_board.specs.Point.{IsOn, AreAdjacent, are_adjacent, index_of, point_at, points}
+use Rattle.go_board.specs.Point.{IsOn, AreAdjacent, are_adjacent, index_of, point_at, points, DifferByOne}
 
 -- the upper left corner
 abbrev pub origin : Point
@@ -133,3 +133,11 @@ same_or_not p q =
 pub record IsAt (side index : ℕ) (p : Point) : Type 0 where
   pub at_index : index_of side p ≡ index
   pub in_columns : index < side * side → p.col < side
+
+pub DifferByOne-sym : (a b : ℕ) → DifferByOne a b → DifferByOne b a
+DifferByOne-sym a b (inl e) = inr e
+DifferByOne-sym a b (inr e) = inl e
+
+pub AreAdjacent-sym : (p q : Point) → AreAdjacent p q → AreAdjacent q p
+AreAdjacent-sym p q (inl (e, d)) = inl (sym e, DifferByOne-sym _ _ d)
+AreAdjacent-sym p q (inr (e, d)) = inr (sym e, DifferByOne-sym _ _ d)

@@ -13,7 +13,7 @@ use Rattle.go_board.specs.inner.Rows.{is_set, IsClosed}
 use Rattle.go_board.specs.inner.Regions.{AreRowsOf}
 use Rattle.go_board.specs.inner.Linked.{HasLiberty, IsLiberty, IsShutIn}
 use Rattle.go_board.proofs.GridLemmas.{Decides-same_cell}
-use Rattle.go_board.proofs.NeighbourLemmas.{AreAdjacent-sym}
+use Rattle.go_board.proofs.PointLemmas.{AreAdjacent-sym}
 use Rattle.go_board.proofs.GroupLemmas.{neither_stone, stone_of≢Empty}
 use Rattle.go_board.proofs.ReachingLemmas.{Decides-reaches, path_by_step}
 

@@ -1,5 +1,6 @@
 -- Words as sets of columns: what the operations on words make of their bits.
 use Rattle.std.proofs.Common.{◌≡◌, ◌≢◌, ◌⊎◌, inl, inr, ℕ, zero, suc, ◌+◌, ◌-◌, ◌*◌, ◌/◌, ◌%◌, ◌^◌, ◌<◌, ◌≤◌, ◌==◌, ◌||◌, ◌&&◌, min, max, Bool, true, false, not, bit_and, bit_or, w64, refl, sym, ap, ◌∙◌, arith, subst}
+use Rattle.std.proofs.lemmas.Grind.{common_steps}
 use Rattle.std.specs.Int.{bit_at, bit_not}
 use Rattle.std.proofs.lemmas.Bool.{not-false, false_from_ne_true, false≢true, cases_lt, cases_eq, eqb-true, eqb-false}
 use Rattle.std.proofs.lemmas.Nat.{le_or_l, and_mask, mod_below, pow_pos}
@@ -23,9 +24,7 @@ test_min : (x y : ℕ) → x < 2 → y < 2 → (min x y == 1) ≡ ((x == 1) && (
 test_min = by_bits (λ x y. (min x y == 1) ≡ ((x == 1) && (y == 1))) refl refl refl refl
 
 max_part : (x y : ℕ) → x < 2 → y < 2 → ((x == 1) ≡ true → (y == 1) ≡ true) → max x y ≡ y
-max_part =
-    by_bits (λ x y. ((x == 1) ≡ true → (y == 1) ≡ true) → max x y ≡ y)
-    (λ part. refl) (λ part. refl) (λ part. absurd (false≢true (part refl))) (λ part. refl)
+max_part = grind (arith, common_steps, by_bits)
 
 pub has_bit-or : (a b c : ℕ) → has_bit (bit_or a b) c ≡ (has_bit a c || has_bit b c)
 has_bit-or a b c = ap (λ n. n == 1) (bit_at_or a b c) ∙ test_max (bit_at a c) (bit_at b c) (bit_at-lt a c) (bit_at-lt b c)
@@ -74,11 +73,7 @@ has_bit-zero c = ap (λ n. n == 1) (bit_at-zero c)
 
 -- a column of a word of k bits is below k
 pub column_below : (k a c : ℕ) → a < 2 ^ k → has_bit a c ≡ true → c < k
-column_below k a c low is =
-    elim (cases_lt c k) [
-      | inl below ↦ below
-      | inr above ↦ absurd (false≢true (sym (ap (λ n. n == 1) (bit_at_above a k c low above)) ∙ is))
-    ]
+column_below k a c low is = grind (arith, common_steps, bit_at_above)
 
 min_one : (x : ℕ) → x < 2 → min x 1 ≡ x
 min_one zero h = refl
@@ -103,9 +98,7 @@ has_bit-left a c low =
     ∙ ap (λ x. x == 1) (ap (λ n. bit_at n (c + 1)) (omega arith) ∙ bit_at_cat_high a 1 0 (c + 1) (omega arith) (omega arith) ∙ ap (bit_at a) (omega arith))
 
 has_bit-left_first : (a : ℕ) → has_bit (a * 2 ^ 1 % 2 ^ 64) 0 ≡ false
-has_bit-left_first a =
-    has_bit-low (a * 2 ^ 1) 0 (omega arith)
-    ∙ ap (λ x. x == 1) (ap (λ n. bit_at n 0) (omega arith) ∙ bit_at_cat_low a 1 0 0 (omega arith) ∙ bit_at-zero 0)
+has_bit-left_first a = grind (arith, common_steps, bit_at-zero, bit_at_cat_low, has_bit-low)
 
 pub from_left : (a c : ℕ) → has_bit (a * 2 ^ 1 % 2 ^ 64) c ≡ true → (d : ℕ) × (d + 1 ≡ c) × (has_bit a d ≡ true)
 from_left a zero is = absurd (false≢true (sym (has_bit-left_first a) ∙ is))

@@ -6,7 +6,7 @@ use Rattle.go_board.specs.Point.{IsOn}
 use Rattle.go_board.specs.inner.Regions.{AreRowsOf, count_apart, reaches_through_own}
 use Rattle.go_board.specs.inner.Halves.{low_halves, high_halves}
 use Rattle.go_board.proofs.CountLemmas.{score_by_rows}
-use Rattle.go_board.proofs.AreaHalvesLemmas.{stones_within, areas}
+use Rattle.go_board.proofs.HalvesLemmas.{stones_within, areas}
 use Rattle.go_board.proofs.board.Board.score_in_halves.Goals as goal
 use Rattle.go_board.proofs.board.Board.score_in_halves.Goals.{After-fill}
 

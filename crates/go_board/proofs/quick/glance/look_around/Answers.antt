@@ -2,7 +2,7 @@ use Rattle.std.proofs.Common.{◌≡◌, ◌≢◌, ◌<◌, ◌^◌, rules, ℕ
 use Rattle.go_board.specs.inner.Glance.{IsRowAt, IsLookedAt}
 use Rattle.go_board.specs.inner.Rows.{has_bit}
 use Rattle.go_board.proofs.WordLemmas.{column_below}
-use Rattle.go_board.proofs.NeighbourLemmas.{DifferByOne-sym}
+use Rattle.go_board.proofs.PointLemmas.{DifferByOne-sym}
 use Rattle.go_board.proofs.GlanceLemmas.{column_there, beside_up, beside_down, beside_along, row_here, free_here, free_elsewhere, some_of_three, none_of_two}
 use Rattle.go_board.proofs.quick.glance.look_around.Goals as goal
 

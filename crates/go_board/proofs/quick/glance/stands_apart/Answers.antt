@@ -3,7 +3,7 @@ use Rattle.std.proofs.lemmas.Bool.{eqb-false, not-true, and_parts, false≢true}
 use Rattle.go_board.specs.declared.points.Point.{Point}
 use Rattle.go_board.specs.inner.Rows.{has_bit}
 use Rattle.go_board.proofs.WordLemmas.{has_bit-and, column_below}
-use Rattle.go_board.proofs.NeighbourLemmas.{DifferByOne-sym}
+use Rattle.go_board.proofs.PointLemmas.{DifferByOne-sym}
 use Rattle.go_board.proofs.GrowLemmas.{above_at}
 use Rattle.go_board.proofs.GlanceLemmas.{column_there, beside_along, some_bit, untouched, apart}
 use Rattle.go_board.proofs.quick.glance.stands_apart.Goals as goal
