@@ -1,5 +1,6 @@
 -- Counting points by the bits of words.
 use Rattle.std.proofs.Common.{◌≡◌, inl, inr, ℕ, zero, suc, ◌+◌, ◌*◌, ◌^◌, ◌%◌, ◌<◌, ◌≤◌, ◌==◌, ◌||◌, ◌&&◌, Bool, true, not, cond, IsTrue, List, [], map, get_or, bit_and, count_ones, count_by, sum, sum_by, refl, sym, ap, ◌∙◌, arith, w64}
+use Rattle.std.proofs.lemmas.Grind.{common_steps}
 use Rattle.std.specs.Int.{bit_at, bit_not}
 use Rattle.std.specs.List.{range_with_len}
 use lib.Count.{ones}
@@ -34,11 +35,7 @@ ones_of_bit (suc (suc n)) h = absurd (omega arith)
 
 -- one column more
 ones_more : (n c : ℕ) → count_ones (n % 2 ^ (1 + c)) ≡ count_ones (n % 2 ^ c) + cond (has_bit n c) 1 0
-ones_more n c =
-    ap count_ones (mod-pow-add n 1 c)
-    ∙ ones_cat c (bit_at n c) (n % 2 ^ c) (mod_below n (2 ^ c) (pow_pos c))
-    ∙ ap (λ m. m + count_ones (n % 2 ^ c)) (ones_of_bit (bit_at n c) (bit_at-lt n c))
-    ∙ omega arith
+ones_more n c = grind (arith, common_steps, bit_at-lt, mod-pow-add, mod_below, ones_cat, ones_of_bit, pow_pos)
 
 -- a word whose bits are all below k
 pub below_from_bits : (n k : ℕ) → ((c : ℕ) → has_bit n c ≡ true → c < k) → n % 2 ^ k ≡ n

@@ -1,5 +1,6 @@
 -- What the words of bits around a point tell of a stone on it.
 use Rattle.std.proofs.Common.{◌≡◌, ◌≢◌, ◌⊎◌, inl, inr, ℕ, ◌+◌, ◌^◌, ◌<◌, ◌||◌, ◌&&◌, Bool, true, false, not, List, [], length, get_or, bit_and, bit_or, w64, refl, sym, ap, ◌∙◌, arith, subst}
+use Rattle.std.proofs.lemmas.Grind.{common_steps}
 use Rattle.std.specs.Int.{bit_not}
 use Rattle.std.proofs.lemmas.Bool.{or_cases, or_parts, and_parts, and_from, or_right, not-true, false≢true, cases_eq}
 use Rattle.std.proofs.lemmas.Nat.{le_or_l, le_or_r}
@@ -27,11 +28,7 @@ pub some_bit : (w : ℕ) → w < 2 ^ 64 → w ≢ 0 → (c : ℕ) × (has_bit w 
 some_bit w low some = (_, (lowest_left w w some low (λ c is. is)).0)
 
 pub some_of_three : (a b c : ℕ) → bit_or (bit_or a b) c ≢ 0 → (a ≢ 0) ⊎ ((b ≢ 0) ⊎ (c ≢ 0))
-some_of_three a b c some =
-    elim (cases_eq a 0) [
-      | inr first ↦ inl first
-      | inl no_a ↦ elim (cases_eq b 0) [ inr second ↦ inr (inl second) | inl no_b ↦ inr (inr (λ no_c. some (rw (no_a, no_b, no_c)))) ]
-    ]
+some_of_three a b c some = grind (arith, common_steps)
 
 pub none_of_two : (a b : ℕ) → bit_or a b ≡ 0 → (a ≡ 0) × (b ≡ 0)
 none_of_two a b none = (omega (arith, none, le_or_l a b), omega (arith, none, le_or_r a b))
@@ -73,12 +70,7 @@ or_from a b first second = rw (first, second)
 pub row_free : (own others : List ℕ) (middle i r free : ℕ) → r + 2 ≡ middle + i
     → ((col : ℕ) → col < length own → has_bit free col ≡ not (has_bit (bit_or (get_or own r 0) (get_or others r 0)) col))
     → (p : Point) → p.row + 2 ≡ middle + i → IsOn (length own) p → is_set own p ≡ false → is_set others p ≡ false → has_bit free p.col ≡ true
-row_free own others middle i r free at within p there on not_own not_other =
-    let same : p.row ≡ r = omega (arith, there, at) in
-    within p.col on.0
-    ∙ ap not
-    (has_bit-or (get_or own r 0) (get_or others r 0) p.col
-    ∙ or_from _ _ (ap (λ n. has_bit (get_or own n 0) p.col) (sym same) ∙ not_own) (ap (λ n. has_bit (get_or others n 0) p.col) (sym same) ∙ not_other))
+row_free own others middle i r free at within p there on not_own not_other = grind (arith, common_steps, has_bit-or, or_from)
 
 -- no point is free in no column
 pub none_free : (own others : List ℕ) (p : Point) (i : ℕ) → AreFree own others p i 0
@@ -118,10 +110,7 @@ AreBeside p i columns = (q : Point) → q.row + 2 ≡ p.row + i → has_bit colu
 -- the column of a point alone, and the columns beside it
 module _ (p : Point) (col stone : ℕ) (same : col ≡ p.col) (put : has_bit stone col ≡ (has_bit 0 col || true)) (elsewhere : (k : ℕ) → k ≢ col → has_bit stone k ≡ has_bit 0 k) where
   alone : (n : ℕ) → has_bit stone n ≡ true → n ≡ p.col
-  alone n is = elim (cases_eq n p.col) [
-    | inl at ↦ at
-    | inr other ↦ absurd (false≢true (sym (has_bit-zero n) ∙ sym (elsewhere n (λ e. other (e ∙ same))) ∙ is))
-  ]
+  alone n is = grind (arith, common_steps, has_bit-zero)
 
   pub column_there : has_bit stone p.col ≡ true
   column_there = ap (has_bit stone) (sym same) ∙ put ∙ or_right (has_bit 0 col) true refl
@@ -133,12 +122,7 @@ module _ (p : Point) (col stone : ℕ) (same : col ≡ p.col) (put : has_bit sto
   beside_down q row is = inl (sym (alone q.col is), inl (omega (arith, row)))
 
   pub beside_along : (wide : ℕ) → ((c : ℕ) → has_bit wide c ≡ true → IsInOrBeside 0 stone 0 c) → AreBeside p 2 wide
-  beside_along wide from q row is =
-      elim (from q.col is) [
-        | inl up ↦ absurd (false≢true (sym (has_bit-zero q.col) ∙ up))
-        | inr (inl down) ↦ absurd (false≢true (sym (has_bit-zero q.col) ∙ down))
-        | inr (inr w) ↦ inr (omega (arith, row), DifferByOne-sym q.col p.col (subst (DifferByOne q.col) (alone w.0 w.2) w.1))
-      ]
+  beside_along wide from q row is = grind (arith, common_steps, alone, has_bit-zero)
 
 -- what a look at a row tells
 module _ (own others : List ℕ) (p : Point) (i columns above : ℕ) (row : RowStones) (below : ℕ) (is : IsLookedAt own others p i columns above row below) (near : ℕ) (from : (col : ℕ) → has_bit near col ≡ true → IsInOrBeside above row.free below col) where
@@ -152,12 +136,19 @@ module _ (own others : List ℕ) (p : Point) (i columns above : ℕ) (row : RowS
             (f.0, f.2, f.3, inr (omega (arith, f.1.1, at), subst (DifferByOne q.col) (sym f.1.0) w.1))
       ]
 
-  -- the stone has a liberty, by itself or by a stone beside it
+  -- the stone has a liberty
+  pub free_there : (col : ℕ) → has_bit (bit_and columns row.free) col ≡ true → Lives own others p
+  free_there col there =
+      let both = and_parts _ _ (sym (has_bit-and columns row.free col) ∙ there) in
+      let f = is.free_here col both.1 in
+      inl (f.0, f.2, f.3, is.beside f.0 f.1.1 (ap (has_bit columns) f.1.0 ∙ both.0))
+
+  -- or a stone beside it has one
   pub lives_there : (col : ℕ) → has_bit (bit_and columns (bit_or row.free (bit_and row.own near))) col ≡ true → Lives own others p
   lives_there col there =
       let both = and_parts _ _ (sym (has_bit-and columns _ col) ∙ there) in
       elim (or_cases _ _ (sym (has_bit-or row.free _ col) ∙ both.1)) [
-        | inl free ↦ (let f = is.free_here col free in inl (f.0, f.2, f.3, is.beside f.0 f.1.1 (ap (has_bit columns) f.1.0 ∙ both.0)))
+        | inl free ↦ free_there col (has_bit-and columns row.free col ∙ and_from _ _ both.0 free)
         | inr friend ↦
             let parts = and_parts _ _ (sym (has_bit-and row.own near col) ∙ friend) in
             let f = is.stones.are_own col parts.0 in

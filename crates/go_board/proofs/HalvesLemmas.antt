@@ -1,5 +1,6 @@
 -- Sets of points in the halves of words: a path within such a region stays in its half. So one filling finds the areas of both colours.
 use Rattle.std.proofs.Common.{◌≡◌, ◌≢◌, inl, inr, ℕ, ◌+◌, ◌-◌, ◌*◌, ◌/◌, ◌%◌, ◌^◌, ◌<◌, ◌≤◌, ◌==◌, ◌||◌, ◌&&◌, Bool, true, nat_lt, nat_le, List, slice_index, sym, ap, ◌∙◌, arith, cond, length, subst}
+use Rattle.std.proofs.lemmas.Grind.{common_steps}
 use Rattle.std.proofs.lemmas.Bool.{or_cases, or_left, or_right, and_parts, and_from, cases_lt, le-leb, leb-true, false_from_ne_true}
 use Rattle.std.proofs.lemmas.Bool.Decides.{Decides-ltb}
 use Rattle.std.proofs.Math.ListN.{get_or-map}
@@ -47,14 +48,10 @@ abbrev pub unshifted : Point → Point
 unshifted p = record { col = p.col - 32; row = p.row }
 
 there_and_back : (p : Point) → 32 ≤ p.col → shifted (unshifted p) ≡ p
-there_and_back p from =
-    let same : 32 + (p.col - 32) ≡ p.col = omega (arith, from) in
-    ap (λ (c : ℕ). let r : Point = record { col = c; row = p.row } in r) same
+there_and_back p from = grind (arith, common_steps)
 
 pub back_again : (p : Point) → unshifted (shifted p) ≡ p
-back_again p =
-    let same : 32 + p.col - 32 ≡ p.col = omega arith in
-    ap (λ (c : ℕ). let r : Point = record { col = c; row = p.row } in r) same
+back_again p = grind (arith, common_steps)
 
 pub in_low : (rows : List ℕ) (p : Point) → is_set (low_halves rows) p ≡ (nat_lt p.col 32 && is_set rows p)
 in_low rows p =
@@ -179,10 +176,7 @@ module _ (g : Grid) (black white first region : List ℕ) (small : g.side < 32) 
   stones_within = among_by_halves first region (λ p is. (reaches_low p is).0) (λ p is. (reaches_high p is).0)
 
   gap : (p : Point) → is_set region p ≡ true → p.col ≢ 31
-  gap p is at =
-      let below : p.col < 32 = omega (arith, at) in
-      let on = region_low.off p (low_from region p below is) in
-      omega (arith, on.0, small, at)
+  gap p is at = grind (arith, common_steps, low_from, region_low)
 
   -- the points of the words whose points in a half reach its colour
   reaching : Point → Bool
@@ -194,9 +188,7 @@ module _ (g : Grid) (black white first region : List ℕ) (small : g.side < 32) 
 
   at_high : (p : Point) → 32 ≤ p.col → reaching p ≡ reaches g WhiteStone (unshifted p)
   unfolding reaching
-  at_high p from =
-      ap (λ b. cond b (reaches g BlackStone p) (reaches g WhiteStone (unshifted p)))
-      (false_from_ne_true _ (λ is. let low = (Decides-ltb p.col 32).0 is in omega (arith, from, low)))
+  at_high p from = grind (arith, common_steps, Decides-ltb, false_from_ne_true, unshifted)
 
   module _ (rows : List ℕ) (grows : Grows (is_set region) (is_set first) (is_set rows)) (closed : IsClosed (is_set region) (is_set rows)) where
     all_reach : (p : Point) → is_set rows p ≡ true → reaching p ≡ true

@@ -6,15 +6,12 @@ pub mod ReachingLemmas
 pub mod RuleLemmas
 pub mod GroupLemmas
 pub mod SettledLemmas
-pub mod MoveLemmas
 pub mod SearchLemmas
 pub mod RowLemmas
 pub mod WordLemmas
 pub mod CarryLemmas
 pub mod GrowLemmas
-pub mod FillLemmas
 pub mod LinkedLemmas
-pub mod StoneGroupLemmas
 pub mod RegionLemmas
 pub mod HalvesLemmas
 pub mod LibertyLemmas

@@ -1,5 +1,6 @@
 -- The group of a stone, and the points beside it.
 use Rattle.std.proofs.Common.{◌≡◌, ◌≢◌, inl, inr, ℕ, zero, suc, ◌+◌, ◌*◌, ◌/◌, ◌%◌, ◌^◌, ◌<◌, subst, true, false, w64, List, length, get_or, set, take, replicate, bit_and, bit_or, slice_index, refl, sym, ap, ◌∙◌, arith}
+use Rattle.std.proofs.lemmas.Grind.{common_steps}
 use Rattle.std.proofs.lemmas.Bool.{or_cases, or_left, or_right, and_parts, and_from, false≢true, cases_eq}
 use Rattle.std.specs.Int.{trailing_zeros}
 use Rattle.std.proofs.lemmas.List.{length-set, get_or-set_other}
@@ -11,8 +12,7 @@ use Rattle.go_board.specs.inner.Linked.{HasLiberty}
 use Rattle.go_board.specs.inner.Fill.{IsFilledBut}
 use Rattle.go_board.specs.inner.Glance.{IsRowAt}
 use Rattle.go_board.proofs.PointLemmas.{DifferByOne-sym}
-use Rattle.go_board.proofs.GrowLemmas.{set_there, set_elsewhere, Grows-none}
-use Rattle.go_board.proofs.FillLemmas.{closed_still}
+use Rattle.go_board.proofs.GrowLemmas.{set_there, set_elsewhere, Grows-none, closed_still}
 use Rattle.go_board.proofs.WordLemmas.{has_bit-or, has_bit-and, has_bit-left, from_left, has_bit-right, has_bit-zero, column_below}
 use Rattle.go_board.proofs.SweepLemmas.{lowest_left}
 
@@ -20,8 +20,8 @@ use Rattle.go_board.proofs.SweepLemmas.{lowest_left}
 abbrev pub beside_columns : ℕ → ℕ → ℕ → ℕ
 beside_columns above here below = bit_or (bit_or (bit_or above below) (here * 2 ^ 1 % 2 ^ 64)) (here / 2 ^ 1)
 
-pub beside-from : (above here below col : ℕ) → has_bit (beside_columns above here below) col ≡ true → IsInOrBeside above here below col
-beside-from above here below col is =
+pub beside_from : (above here below col : ℕ) → has_bit (beside_columns above here below) col ≡ true → IsInOrBeside above here below col
+beside_from above here below col is =
     elim (or_cases _ _ (sym (has_bit-or (bit_or (bit_or above below) (here * 2 ^ 1 % 2 ^ 64)) (here / 2 ^ 1) col) ∙ is)) [
       | inr right ↦ inr (inr (suc col, inl (omega arith), sym (has_bit-right here col) ∙ right))
       | inl rest ↦
@@ -32,23 +32,8 @@ beside-from above here below col is =
           ]
     ]
 
-pub beside-to : (above here below col : ℕ) → col < 64 → IsInOrBeside above here below col → has_bit (beside_columns above here below) col ≡ true
-beside-to above here below col low is =
-    has_bit-or (bit_or (bit_or above below) (here * 2 ^ 1 % 2 ^ 64)) (here / 2 ^ 1) col
-    ∙ (elim is [
-      | inl up ↦
-          or_left _ _
-          (has_bit-or (bit_or above below) (here * 2 ^ 1 % 2 ^ 64) col ∙ or_left _ _ (has_bit-or above below col ∙ or_left _ _ up))
-      | inr (inl down) ↦
-          or_left _ _
-          (has_bit-or (bit_or above below) (here * 2 ^ 1 % 2 ^ 64) col ∙ or_left _ _ (has_bit-or above below col ∙ or_right _ _ down))
-      | inr (inr (d, inl next, there)) ↦
-          or_right _ _ (has_bit-right here col ∙ ap (has_bit here) (omega arith) ∙ there)
-      | inr (inr (d, inr next, there)) ↦
-          or_left _ _
-          (has_bit-or (bit_or above below) (here * 2 ^ 1 % 2 ^ 64) col
-          ∙ or_right _ _ (ap (has_bit (here * 2 ^ 1 % 2 ^ 64)) (sym next) ∙ has_bit-left here d (omega arith) ∙ there))
-    ])
+pub beside_to : (above here below col : ℕ) → col < 64 → IsInOrBeside above here below col → has_bit (beside_columns above here below) col ≡ true
+beside_to above here below col low is = grind (arith, common_steps, has_bit-left, has_bit-or, has_bit-right, or_left, or_right)
 
 -- a column that two sets have in common
 pub common_column : (a b : ℕ) → a < 2 ^ 64 → bit_and a b ≢ 0 → (col : ℕ) × (has_bit a col ≡ true) × (has_bit b col ≡ true)
@@ -66,13 +51,7 @@ none_lives own others row word alive low to none stone at there free =
 
 -- with no row set no point is
 pub none_in_front : (n m : ℕ) (words : List ℕ) (p : Point) → words ≡ replicate m 0 → is_set (take n words) p ≡ false
-none_in_front n m words p is = ap (λ ws. is_set (take n ws) p) is ∙ ap (λ w. has_bit w p.col) (zeros n m p.row) ∙ has_bit-zero p.col
-  where
-    zeros : (n m r : ℕ) → ◌≡◌ {A = ℕ} (get_or (take n (replicate m 0)) r 0) 0
-    zeros zero m r = refl
-    zeros (suc n) zero r = refl
-    zeros (suc n) (suc m) zero = refl
-    zeros (suc n) (suc m) (suc r) = zeros n m r
+none_in_front n m words p is = grind (arith, common_steps, has_bit-zero, suc, zero)
 
 -- the points around a row that have no stone
 module _ (own others : List ℕ) (row : ℕ) (above here below : RowStones) (is_above : IsRowAt own others row 1 above) (is_here : IsRowAt own others row 2 here) (is_below : IsRowAt own others row 3 below) where
@@ -109,11 +88,7 @@ module _ (own old : List ℕ) (row word : ℕ) (none : (p : Point) → is_set ol
   of_first k is = set_there old row word within_row (record { col = k; row = row }) refl ∙ is
 
   pub in_first : (p : Point) → is_set (set old row word) p ≡ true → (p.row ≡ row) × (has_bit word p.col ≡ true)
-  in_first p is =
-      elim (cases_eq p.row row) [
-        | inl same ↦ (same, sym (set_there old row word within_row p same) ∙ is)
-        | inr other ↦ absurd (false≢true (sym (set_elsewhere old row word p other ∙ none p) ∙ is))
-      ]
+  in_first p is = grind (arith, common_steps, set_elsewhere, set_there)
 
   module _ (part : IsPart (has_bit word) (has_bit (slice_index own row))) (shut : HasBeside (has_bit (slice_index own row)) (has_bit word)) where
     row_closed : IsRowClosed (is_set own) (is_set first) row
@@ -124,17 +99,4 @@ module _ (own old : List ℕ) (row word : ℕ) (none : (p : Point) → is_set ol
 
     -- all rows but those that wait are closed
     pub first_filled : (waiting : ℕ) → length old ≡ length own → ((r : ℕ) → has_bit waiting r ≡ true → r < length own) → ((r : ℕ) → DifferByOne r row → r < length own → has_bit waiting r ≡ false → IsTaken own (set old row word) r (slice_index (set old row word) row)) → IsFilledBut own (set old row word) (set old row word) waiting (length own)
-    first_filled waiting long rows_in taken = record {
-      all = length-set old row word ∙ long;
-      grows = Grows-none own first (λ p is. (let w = in_first p is in ap (λ r. has_bit (slice_index own r) p.col) w.0 ∙ part p.col w.1));
-      rows_in = rows_in;
-      closed = λ r below none_waits.
-          elim (cases_eq r row) [
-            | inl same ↦ subst (IsRowClosed (is_set own) (is_set first)) (sym same) row_closed
-            | inr other ↦
-                closed_still own old first row r (λ p is. absurd (false≢true (sym (none p) ∙ is)))
-                (λ k elsewhere. get_or-set_other old row k word 0 elsewhere) other
-                (λ p q at adjacent own_p is. absurd (false≢true (sym (none q) ∙ is)))
-                (λ differ. taken r differ below none_waits)
-          ];
-    }
+    first_filled waiting long rows_in taken = grind (arith, common_steps, closed_still, get_or-set_other, in_first, length-set, row_closed, slice_index)

@@ -1,5 +1,6 @@
 -- Rows of words that have the points of a grid with certain cells, and those that reach a colour through them.
 use Rattle.std.proofs.Common.{◌≡◌, ◌≢◌, ◌⊎◌, inl, inr, ℕ, ◌+◌, ◌-◌, ◌*◌, ◌^◌, ◌%◌, ◌<◌, ◌==◌, ◌||◌, ◌&&◌, Bool, true, false, not, List, [], ◌∷◌, length, get_or, set, slice_index, bit_and, bit_or, w64, refl, sym, ap, ◌∙◌, arith, subst}
+use Rattle.std.proofs.lemmas.Grind.{common_steps}
 use Rattle.std.proofs.lemmas.Bool.{or_cases, or_left, or_right, and_parts, and_from, false≢true, cases_lt, cases_eq}
 use Rattle.std.specs.Int.{bit_not}
 use Rattle.std.proofs.Math.Nat.{mod-eq_of_lt}
@@ -23,28 +24,24 @@ use Rattle.go_board.proofs.WordLemmas.{has_bit-and, has_bit-without, bit_at-gone
 use Rattle.go_board.proofs.ReachingLemmas.{Decides-reaches, path_by_step}
 
 -- a word with one bit set
-pub has_bit-set_there : (word col : ℕ) (b : Bool) → b ≡ true → col < 64 → has_bit (bit_or word (1 * 2 ^ col % 2 ^ 64)) col ≡ (has_bit word col || b)
-has_bit-set_there word col b is low =
+pub set_bit_there : (word col : ℕ) (b : Bool) → b ≡ true → col < 64 → has_bit (bit_or word (1 * 2 ^ col % 2 ^ 64)) col ≡ (has_bit word col || b)
+set_bit_there word col b is low =
     ap (λ n. n == 1) (bit_at_set_same w64 word col low) ∙ sym (or_right (has_bit word col) b is)
 
-pub has_bit-set_elsewhere : (word col : ℕ) → col < 64 → (k : ℕ) → k ≢ col → has_bit (bit_or word (1 * 2 ^ col % 2 ^ 64)) k ≡ has_bit word k
-has_bit-set_elsewhere word col low k other = ap (λ n. n == 1) (bit_at_set_other w64 word col low k other)
+pub set_bit_elsewhere : (word col : ℕ) → col < 64 → (k : ℕ) → k ≢ col → has_bit (bit_or word (1 * 2 ^ col % 2 ^ 64)) k ≡ has_bit word k
+set_bit_elsewhere word col low k other = ap (λ n. n == 1) (bit_at_set_other w64 word col low k other)
 
 -- the columns of a row that aren't in a set
 mask_is : (side : ℕ) → side < 64 → 1 * 2 ^ side % 2 ^ 64 - 1 ≡ 2 ^ side - 2 ^ 0
-mask_is side small =
-    let less : 2 ^ side < 2 ^ 64 = pow_below side 64 small in
-    let one : 1 * 2 ^ side ≡ 2 ^ side = omega arith in
-    let unit : 2 ^ 0 ≡ 1 = omega arith in
-    ap (λ n. n % 2 ^ 64 - 1) one ∙ ap (λ n. n - 1) (mod-eq_of_lt less) ∙ ap (λ n. 2 ^ side - n) (sym unit)
+mask_is side small = grind (arith, common_steps, mod-eq_of_lt, pow_below)
 
-pub others-within : (word side col : ℕ) → word < 2 ^ 64 → side < 64 → col < side → has_bit (bit_and (1 * 2 ^ side % 2 ^ 64 - 1) (bit_not w64 word)) col ≡ not (has_bit word col)
-others-within word side col low small below =
+pub others_within : (word side col : ℕ) → word < 2 ^ 64 → side < 64 → col < side → has_bit (bit_and (1 * 2 ^ side % 2 ^ 64 - 1) (bit_not w64 word)) col ≡ not (has_bit word col)
+others_within word side col low small below =
     let inside : has_bit (1 * 2 ^ side % 2 ^ 64 - 1) col ≡ true = ap (λ n. has_bit n col) (mask_is side small) ∙ ap (λ n. n == 1) (bit_at_mask_inside 0 side col (omega arith) below) in
     has_bit-without (1 * 2 ^ side % 2 ^ 64 - 1) word col low (omega (arith, below, small)) ∙ ap (λ b. b && not (has_bit word col)) inside
 
-pub others-off : (word side col : ℕ) → side < 64 → has_bit (bit_and (1 * 2 ^ side % 2 ^ 64 - 1) (bit_not w64 word)) col ≡ true → col < side
-others-off word side col small is =
+pub others_off : (word side col : ℕ) → side < 64 → has_bit (bit_and (1 * 2 ^ side % 2 ^ 64 - 1) (bit_not w64 word)) col ≡ true → col < side
+others_off word side col small is =
     elim (cases_lt col side) [
       | inl below ↦ below
       | inr past ↦
@@ -54,11 +51,7 @@ others-off word side col small is =
 
 -- what holds of each row that is written, once one more is
 pub written_more : (P : ℕ → ℕ → Type 0) (rows : List ℕ) (row word : ℕ) → row < length rows → ((r : ℕ) → r < row → P r (slice_index rows r)) → P row word → (r : ℕ) → r < row + 1 → P r (slice_index (set rows row word) r)
-written_more P rows row word within before here r below =
-    elim (cases_eq r row) [
-      | inl same ↦ subst (λ k. P k (slice_index (set rows row word) k)) (sym same) (subst (P row) (sym (get_or-set_same rows row word 0 within)) here)
-      | inr other ↦ subst (P r) (sym (get_or-set_other rows row r word 0 other)) (before r (omega (arith, below, other)))
-    ]
+written_more P rows row word within before here r below = grind (arith, common_steps, get_or-set_other, get_or-set_same, slice_index)
 
 -- the columns of a row that aren't in a set
 abbrev pub AreOthers : ℕ → ℕ → ℕ → Type 0
@@ -74,12 +67,7 @@ AreRowsOf-others rows others long each = record {
 }
 
 pub IsDifference-all : (rows others left : List ℕ) → length left ≡ length rows → ((r : ℕ) → get_or others r 0 < 2 ^ 64) → ((r : ℕ) → r < length rows → slice_index left r ≡ bit_and (slice_index rows r) (bit_not w64 (slice_index others r))) → IsDifference rows others left
-IsDifference-all rows others left long low each = record {
-  on = λ p row col. ap (λ w. has_bit w p.col) (each p.row row) ∙ has_bit-without (get_or rows p.row 0) (get_or others p.row 0) p.col (low p.row) col;
-  off = λ p is.
-      let word = ap (λ w. has_bit w p.col) (each p.row (rw (← long) (row_below left p is))) in
-      (and_parts _ _ (sym (has_bit-and (get_or rows p.row 0) (bit_not w64 (get_or others p.row 0)) p.col) ∙ sym word ∙ is)).0;
-}
+IsDifference-all rows others left long low each = grind (arith, common_steps, and_parts, has_bit-and, has_bit-without, row_below)
 
 -- a word with no bit set
 pub row_zero : (rows : List ℕ) (row : ℕ) → ((p : Point) → is_set rows p ≡ false) → slice_index rows row ≡ 0
@@ -103,9 +91,7 @@ same_bools false true there back = back refl
 same_bools false false there back = refl
 
 either_is : (c one other : Cell) → is_either c one other ≡ true → (c ≡ one) ⊎ (c ≡ other)
-either_is c one other is =
-    elim (or_cases _ _ is)
-    [ inl first ↦ inl ((Decides-same_cell c one).0 first) | inr second ↦ inr ((Decides-same_cell c other).0 second) ]
+either_is c one other is = grind (arith, common_steps, Decides-same_cell, or_cases)
 
 pub either_first : (c one other : Cell) → c ≡ one → is_either c one other ≡ true
 either_first c one other is = or_left _ _ ((Decides-same_cell c one).1 is)
@@ -115,9 +101,7 @@ either_second c one other is = or_right _ _ ((Decides-same_cell c other).1 is)
 
 -- the points that haven't the other player's stones
 pub region_is : (g : Grid) (k : Colour) (others region : List ℕ) → AreRowsOf g.side (λ p. same_cell (cell_at g p) (stone_of (opponent k))) others → length others ≡ g.side → AreRowsOf (length others) (λ p. not (is_set others p)) region → AreRowsOf g.side (λ p. is_either (cell_at g p) Empty (stone_of k)) region
-region_is g k others region is_other all is_room =
-    AreRowsOf-same g.side _ _ region (λ p on. ap not (is_other.on p on) ∙ not_other k (cell_at g p))
-    (subst (λ n. AreRowsOf n (λ p. not (is_set others p)) region) all is_room)
+region_is g k others region is_other all is_room = grind (arith, common_steps, AreRowsOf-same, not_other)
 
 module _ (g : Grid) (own wanted : Cell) (region seed : List ℕ) (is_room : AreRowsOf g.side (λ p. is_either (cell_at g p) own wanted) region) (is_seed : AreRowsOf g.side (λ p. same_cell (cell_at g p) wanted) seed) where
   -- a point of the region beside one that reaches the colour reaches it, too
@@ -135,10 +119,7 @@ module _ (g : Grid) (own wanted : Cell) (region seed : List ℕ) (is_room : AreR
       ])
 
   pub seed_reaches : (p : Point) → is_set seed p ≡ true → (is_set region p ≡ true) × (reaches g wanted p ≡ true)
-  seed_reaches p is =
-      let on = is_seed.off p is in
-      let goal = (Decides-same_cell _ _).0 (sym (is_seed.on p on) ∙ is) in
-      (is_room.on p on ∙ either_second _ own wanted goal, (Decides-reaches g wanted p on).1 ([], (on, goal)))
+  seed_reaches p is = grind (arith, common_steps, Decides-reaches, Decides-same_cell, either_second)
 
   -- what a filling adds reaches the colour
   pub filled_reaches : (result : List ℕ) → Grows (is_set region) (is_set seed) (is_set result) → (p : Point) → is_set result p ≡ true → reaches g wanted p ≡ true
@@ -158,16 +139,4 @@ module _ (g : Grid) (own wanted : Cell) (region seed : List ℕ) (is_room : AreR
         closed p q way.2 (is_room.on p way.0 ∙ either_first _ own wanted way.1) (along q path way.3)
 
     pub AreRowsOf-filled : AreRowsOf g.side (reaches_through_own g own wanted) result
-    AreRowsOf-filled = record {
-      on = λ p on.
-          same_bools _ _
-          (λ is. and_from _ _ (sym (is_room.on p on) ∙ within p is) (only p is))
-          (λ is.
-          let both = and_parts _ _ is in
-          let way = (Decides-reaches g wanted p on).0 both.1 in
-          elim (either_is _ own wanted both.0) [
-            | inl own_p ↦ along p way.0 (subst (λ k. Leads g k wanted p way.0) own_p way.1)
-            | inr goal ↦ goal_in p on goal
-          ]);
-      off = λ p is. is_room.off p (within p is);
-    }
+    AreRowsOf-filled = grind (arith, common_steps, Decides-reaches, along, and_from, and_parts, either_is, goal_in, same_bools)

@@ -1,5 +1,6 @@
 -- A set of points as words of bits, one for each row, as a marking.
 use Rattle.std.proofs.Common.{◌≡◌, ◌≢◌, inl, inr, ℕ, ◌*◌, ◌/◌, ◌%◌, ◌^◌, ◌<◌, ◌≤◌, ◌==◌, true, false, List, map, set, replicate, length, get_or, bit_and, bit_or, w64, refl, sym, ap, ◌∙◌, arith}
+use Rattle.std.proofs.lemmas.Grind.{common_steps}
 use Rattle.std.specs.Int.{bit_at}
 use Rattle.std.proofs.lemmas.Bool.{cases_eq}
 use Rattle.std.proofs.lemmas.Nat.Bits.{bit_at-zero, shr_and_one, bit_at_set_same, bit_at_set_other}
@@ -70,7 +71,4 @@ rows-with_bit side rows p fits low on =
 
 -- reading a bit
 pub rows-has : (side : ℕ) (rows : List ℕ) (p : Point) (row : ℕ) → row ≡ p.row → IsOn side p → (bit_and (get_or rows row 0 / 2 ^ p.col) 1 == 1) ≡ is_marked (marking_of side (is_set rows)) p
-rows-has side rows p row is on =
-    ap (λ b. b == 1) (shr_and_one (get_or rows row 0) p.col)
-    ∙ ap (λ r. bit_at (get_or rows r 0) p.col == 1) is
-    ∙ sym (is_marked-marking_of side (is_set rows) p on)
+rows-has side rows p row is on = grind (arith, common_steps, is_marked-marking_of, shr_and_one)

@@ -1,5 +1,6 @@
 -- What a search keeps as points are found. Once no point of a flood waits, exactly what reaches the colour is marked.
 use Rattle.std.proofs.Common.{◌≡◌, ◌⊎◌, inl, inr, ℕ, zero, suc, ◌+◌, ◌*◌, ◌<◌, ◌≤◌, Bool, true, false, cond, List, [], ◌∷◌, ◌++◌, length, get_or, take, set, refl, sym, ap, ◌∙◌, subst, arith, IsTrue}
+use Rattle.std.proofs.lemmas.Grind.{common_steps}
 use Rattle.std.proofs.lemmas.List.{get_or-set_same, length-set, length_push, take_more_set, length-take-le}
 use Rattle.std.proofs.lemmas.List.Elements.{All-push, All-weaker, Contains-append_left, Contains-push, Contains-push_cases}
 use Rattle.std.proofs.lemmas.List.Sums.{sum_by-set, count_by-le-length}
@@ -17,31 +18,11 @@ use Rattle.go_board.proofs.ReachingLemmas.{Leads-on, step_kind, path_by_step}
 
 -- points found after others
 pub Finds-then : (A B C : Point → Type 0) (s t u : Searched) → Finds A s t → Finds B t u → ((p : Point) → IsOn s.marking.side p → C p → A p ⊎ B p) → ((p : Point) → IsOn s.marking.side p → A p ⊎ B p → C p) → Finds C s u
-Finds-then A B C s t u first next parts both = record {
-  side = next.side ∙ first.side;
-  all = next.all ∙ first.all;
-  kept = λ p is. next.kept p (first.kept p is);
-  found = λ p on is. elim (parts p on is) [ inl a ↦ next.kept p (first.found p on a) | inr b ↦ next.found p (rw first.side on) b ];
-  only = λ p on is.
-      elim (next.only p (rw first.side on) is) [
-        | inl before ↦ elim (first.only p on before) [ inl old ↦ inl old | inr new ↦ inr (both p on (inl new.0), next.waiting p new.1) ]
-        | inr new ↦ inr (both p on (inr new.0), new.1)
-      ];
-  waiting = λ p is. next.waiting p (first.waiting p is);
-  counted = omega (arith, first.counted, next.counted);
-}
+Finds-then A B C s t u first next parts both = grind (arith, common_steps)
 
 -- the same points found, as another set
 pub Finds-same : (A B : Point → Type 0) (s t : Searched) → ((p : Point) → IsOn s.marking.side p → A p → B p) → ((p : Point) → IsOn s.marking.side p → B p → A p) → Finds A s t → Finds B s t
-Finds-same A B s t to from finds = record {
-  side = finds.side;
-  all = finds.all;
-  kept = finds.kept;
-  found = λ p on b. finds.found p on (from p on b);
-  only = λ p on is. elim (finds.only p on is) [ inl old ↦ inl old | inr new ↦ inr (to p on new.0, new.1) ];
-  waiting = finds.waiting;
-  counted = finds.counted;
-}
+Finds-same A B s t to from finds = grind (arith, common_steps)
 
 -- a mark that is set stays so
 set_keeps : (xs : List Bool) (i j : ℕ) → get_or xs j false ≡ true → get_or (set xs i true) j false ≡ true
@@ -77,15 +58,7 @@ module _ (s : Searched) (p : Point) (sound : IsSound s) (on : IsOn s.marking.sid
       omega (arith, changed, here)
 
   pub IsSound-next : IsSound next
-  IsSound-next = record {
-    all = length-set s.marking.marks (index_of s.marking.side p) true ∙ sound.all;
-    few = omega (arith, sound.few, counted, length_push s.waiting p);
-    waiting =
-        All-push (λ q. IsOn s.marking.side q × IsTrue (is_marked next.marking q)) s.waiting p
-        (All-weaker (λ q. IsOn s.marking.side q × IsTrue (is_marked s.marking q)) (λ q. IsOn s.marking.side q × IsTrue (is_marked next.marking q))
-        (λ q is. (is.0, set_keeps s.marking.marks _ _ is.1)) s.waiting sound.waiting)
-        (on, marked);
-  }
+  IsSound-next = grind (arith, common_steps, counted, length-set, length_push, marked, set_keeps)
 
   pub Finds-next : (wanted : Bool) → IsTrue wanted → Finds (λ q. IsTrue wanted × (q ≡ p)) s next
   Finds-next wanted is = record {

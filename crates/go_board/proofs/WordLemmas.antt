@@ -116,8 +116,3 @@ le_from_part a b part =
     (same_from_bits (bit_or a b) b
     (λ i. bit_at_or a b i ∙ max_part (bit_at a i) (bit_at b i) (bit_at-lt a i) (bit_at-lt b i) (part i)))
     (le_or_l a b)
-
--- a word with a column more
-module _ (word next col : ℕ) (there : has_bit next col ≡ (has_bit word col || true)) (elsewhere : (k : ℕ) → k ≢ col → has_bit next k ≡ has_bit word k) where
-  pub from_more : (k : ℕ) → has_bit next k ≡ true → (has_bit word k ≡ true) ⊎ (k ≡ col)
-  from_more k is = elim (cases_eq k col) [ inl same ↦ inr same | inr other ↦ inl (sym (elsewhere k other) ∙ is) ]

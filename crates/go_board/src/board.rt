@@ -199,6 +199,7 @@ impl Board {
 
     /// Clears a colour (Tromp-Taylor): captures its groups without a liberty. Empties all points of the colour that don't reach empty,
     /// each tested on the board as it was.
+    #[tactic(auto, using(crate::proofs::SweepLemmas::without_shut, crate::proofs::StoneRowsLemmas::all_cells))]
     pub fn clear(&mut self, colour: Colour)
         ensures value { self.new ≡ clear self.old colour }
         ensures side { self.new.side ≡ self.old.side }
@@ -246,6 +247,7 @@ impl Board {
     }
 
     /// Whether some stone doesn't reach empty. A setup can leave such a stone.
+    #[tactic(auto, using(crate::proofs::LibertyLemmas::unreaching_is))]
     pub fn has_unreaching(&self) -> bool
         ensures { result ≡ has_unreaching self.now }
     {

@@ -3,6 +3,7 @@
 use Rattle.std.specs.Prelude.{◌≡◌, ◌≢◌, ◌⊎◌, ℕ, ◌+◌, IsTrue, List}
 use Rattle.go_board.specs.declared.points.Point.{Point}
 use Rattle.go_board.specs.declared.board.liberty.RowStones.{RowStones}
+use Rattle.go_board.specs.declared.quick.glance.Around.{Around}
 use Rattle.go_board.specs.Point.{AreAdjacent, DifferByOne}
 use Rattle.go_board.specs.inner.Linked.{IsFree}
 use Rattle.go_board.specs.inner.Rows.{has_bit, is_set}
@@ -50,6 +51,13 @@ pub record LeavesAllAlive (own others : List ℕ) (point : Point) : Type 0 where
   pub lives : Lives own others point
   pub along : LeavesAlong own others point
   pub across : LeavesAcross own others point
+
+-- what a look at the rows around the point shows
+pub record IsSeenAround (own others : List ℕ) (point : Point) (around : Around) : Type 0 where
+  pub free : around.free ≢ 0 → Lives own others point
+  pub alive : around.alive ≢ 0 → Lives own others point
+  pub along : around.along ≡ 0 → LeavesAlong own others point
+  pub across : around.across ≡ 0 → LeavesAcross own others point
 
 -- a look at the row with the index `index + 1` around the point's row, in columns beside the point; `above` and `below` are free columns
 -- of the rows before and after it

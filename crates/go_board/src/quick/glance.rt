@@ -5,7 +5,7 @@ ghost use Rattle.std.specs.Prelude.{◌≡◌, ◌≢◌, ◌+◌, false, ℕ, �
 ghost use Rattle.go_board.specs.declared.points.Point.{Point};
 ghost use Rattle.go_board.specs.Point.{IsOn};
 ghost use Rattle.go_board.specs.Clearing.{has_unreaching};
-ghost use Rattle.go_board.specs.inner.Glance.{AreFree, IsLookedAt, LeavesAcross, LeavesAllAlive, LeavesAlong, Lives, StaysOpen};
+ghost use Rattle.go_board.specs.inner.Glance.{AreFree, IsLookedAt, IsSeenAround, LeavesAcross, LeavesAllAlive, Lives, StaysOpen};
 ghost use Rattle.go_board.specs.inner.Groups.{TakesOff};
 ghost use Rattle.go_board.specs.inner.Rows.{has_bit, is_set, AreOfOneBoard};
 
@@ -31,31 +31,25 @@ impl Board {
     }
 }
 
-/// Some columns of a row. In those of `alive` the player's stone finds a liberty. In those of `shut` an opponent's stone has no empty
-/// point beside it.
+/// Some columns of a row. Those of `free` are free. In those of `alive` the player's stone finds a liberty. In those of `shut` an
+/// opponent's stone has no empty point beside it.
 #[derive(Clone, Copy)]
 struct Look {
+    free: u64,
     alive: u64,
     shut: u64,
 }
 
-/// What the rows around a player's stone show. `alive` isn't 0 if they show a liberty of the stone, by itself or by a stone beside it.
+/// What the rows around a player's stone show. `free` isn't 0 if they show a liberty of the stone itself, and `alive` isn't 0 if they show
+/// one of the stone or of a stone beside it.
 /// `along` is 0 if they show an empty point beside each stone of the opponent to its left and right, and `across` is 0 if they show one
 /// beside each stone of the opponent above and below it.
 #[derive(Clone, Copy)]
 struct Around {
+    free: u64,
     alive: u64,
     along: u64,
     across: u64,
-}
-
-impl Around {
-    /// Whether they show that the stone lives, and that no stone of the opponent beside it loses its last liberty.
-    fn are_all_alive(self) -> bool
-        ensures { IsTrue result → (self.alive ≢ 0) × (self.along ≡ 0) × (self.across ≡ 0) }
-    {
-        self.alive != 0 && self.along | self.across == 0
-    }
 }
 
 /// Whether a player's stone on a point has a free point to its left or right, and no stone of the opponent beside it. This is the
@@ -76,6 +70,7 @@ fn stands_apart(own: &[u64], others: &[u64], point: Point) -> bool
 
 /// Whether a glance at the rows around a point shows two things about a player's stone there. The stone has a liberty, by itself or
 /// by a stone beside it. And each stone of the opponent beside it still has an empty point beside itself. Usually three rows show this.
+#[tactic(auto, using(crate::proofs::GlanceLemmas::none_free))]
 fn leaves_all_alive(own: &[u64], others: &[u64], point: Point) -> bool
     requires rows { AreOfOneBoard own.now others.now }
     requires on_board { IsOn (length own.now) point }
@@ -85,33 +80,59 @@ fn leaves_all_alive(own: &[u64], others: &[u64], point: Point) -> bool
         return true;
     }
     let near = look_around(own, others, point, 0, 0);
-    near.are_all_alive() || near.along == 0 && five_rows_show_alive(own, others, point)
+    if near.free == 0 {
+        return five_rows_show_alive(own, others, point);
+    }
+    if near.along != 0 {
+        return false;
+    }
+    near.across == 0 || five_rows_leave_across(own, others, point)
 }
 
-/// The same as `leaves_all_alive`, by five rows: the stones just above and below the point may have an empty point further off.
+/// The same as `leaves_all_alive`, by five rows. It is for a stone without a free point beside it, which may live by a stone beside it.
 #[inline(never)]
 fn five_rows_show_alive(own: &[u64], others: &[u64], point: Point) -> bool
     requires rows { AreOfOneBoard own.now others.now }
     requires on_board { IsOn (length own.now) point }
     ensures { IsTrue result → LeavesAllAlive own.now others.now point }
 {
+    let around = look_at_five_rows(own, others, point);
+    around.alive != 0 && around.along | around.across == 0
+}
+
+/// Whether five rows show that each stone of the opponent just above or below a point still has an empty point beside itself, once a
+/// player's stone is on the point.
+#[inline(never)]
+fn five_rows_leave_across(own: &[u64], others: &[u64], point: Point) -> bool
+    requires rows { AreOfOneBoard own.now others.now }
+    requires on_board { IsOn (length own.now) point }
+    ensures { IsTrue result → LeavesAcross own.now others.now point }
+{
+    look_at_five_rows(own, others, point).across == 0
+}
+
+/// Looks at the two rows above a player's stone on a point, its own row, and the two rows below it.
+#[inline(always)]
+fn look_at_five_rows(own: &[u64], others: &[u64], point: Point) -> Around
+    requires rows { AreOfOneBoard own.now others.now }
+    requires on_board { IsOn (length own.now) point }
+    ensures { IsSeenAround own.now others.now point result }
+{
     let middle = usize::from(point.row);
     let all = all_columns(own.len());
     let first = row_at(own, others, all, middle, 0);
     let last = row_at(own, others, all, middle, 4);
-    look_around(own, others, point, first.free, last.free).are_all_alive()
+    look_around(own, others, point, first.free, last.free)
 }
 
-/// Looks at the three rows around a player's stone on a point. `first` and `last` are free columns of the rows before and after these.
+/// Looks at the three rows around a player's stone on a point. `first` and `last` are free columns of the rows before and after them.
 #[inline(always)]
 fn look_around(own: &[u64], others: &[u64], point: Point, first: u64, last: u64) -> Around
     requires rows { AreOfOneBoard own.now others.now }
     requires on_board { IsOn (length own.now) point }
     requires first { AreFree own.now others.now point 0 first }
     requires last { AreFree own.now others.now point 4 last }
-    ensures alive { result.alive ≢ 0 → Lives own.now others.now point }
-    ensures along { result.along ≡ 0 → LeavesAlong own.now others.now point }
-    ensures across { result.across ≡ 0 → LeavesAcross own.now others.now point }
+    ensures { IsSeenAround own.now others.now point result }
 {
     let col = usize::from(point.col);
     let middle = usize::from(point.row);
@@ -121,10 +142,11 @@ fn look_around(own: &[u64], others: &[u64], point: Point, first: u64, last: u64)
     here.free = without_column(here.free, col);
     let below = row_at(own, others, all, middle, 3);
     let stone = with_column(0, col, true);
-    let up = look_at_row(stone, first, above, here.free);
+    let up = look_at_row(stone, first, above, 0);
     let along = look_at_row(columns_beside(0, stone, 0), above.free, here, below.free);
-    let down = look_at_row(stone, here.free, below, last);
+    let down = look_at_row(stone, 0, below, last);
     Around {
+        free: up.free | along.free | down.free,
         alive: up.alive | along.alive | down.alive,
         along: along.shut,
         across: up.shut | down.shut,
@@ -133,6 +155,8 @@ fn look_around(own: &[u64], others: &[u64], point: Point, first: u64, last: u64)
 
 /// Looks at the points in some columns of a row. `above` and `below` are the free columns of the rows above and below this row.
 fn look_at_row(columns: u64, above: u64, row: RowStones, below: u64) -> Look
+    ensures free { (own others : List ℕ) (point : Point) (i : ℕ) → IsLookedAt own others point i columns above row below
+        → result.free ≢ 0 → Lives own others point }
     ensures alive { (own others : List ℕ) (point : Point) (i : ℕ) → IsLookedAt own others point i columns above row below
         → result.alive ≢ 0 → Lives own others point }
     ensures shut { (own others : List ℕ) (point stone : Point) (i : ℕ) → IsLookedAt own others point i columns above row below
@@ -140,6 +164,7 @@ fn look_at_row(columns: u64, above: u64, row: RowStones, below: u64) -> Look
 {
     let open = columns_beside(above, row.free, below);
     Look {
+        free: columns & row.free,
         alive: columns & (row.free | row.own & open),
         shut: columns & row.others & !open,
     }

@@ -3,7 +3,7 @@ use Rattle.std.proofs.lemmas.Bool.{cases_Bool, or_left, or_right, false≢true}
 use Rattle.go_board.specs.inner.Groups.{AreShutGroups}
 use Rattle.go_board.specs.inner.Rows.{is_set}
 use Rattle.go_board.proofs.GridLemmas.{Decides-same_cell}
-use Rattle.go_board.proofs.StoneGroupLemmas.{rows_of_opponent, Reaches-liberty, IsWithoutLiberty-shut}
+use Rattle.go_board.proofs.LibertyLemmas.{rows_of_opponent, Reaches-liberty, IsWithoutLiberty-shut}
 use Rattle.go_board.proofs.TakenLemmas.{AreShutGroups-both}
 use Rattle.go_board.proofs.board.Board.find_shut.Goals as goal
 

@@ -1,4 +1,4 @@
-use Rattle.go_board.proofs.StoneGroupLemmas.{rows_of_opponent}
+use Rattle.go_board.proofs.LibertyLemmas.{rows_of_opponent}
 use Rattle.go_board.proofs.GlanceLemmas.{all_live}
 use Rattle.go_board.proofs.TakenLemmas.{takes_nothing}
 use Rattle.go_board.proofs.board.Board.takes_nothing_at_a_glance.Goals as goal

@@ -2,7 +2,7 @@ use Rattle.std.proofs.Common.{◌≡◌, ◌≢◌, ◌<◌, ◌+◌, ◌/◌, �
 use Rattle.std.specs.Int.{bit_not}
 use Rattle.go_board.specs.inner.Rows.{has_bit, row_above}
 use Rattle.go_board.proofs.WordLemmas.{has_bit-right, not_in_part}
-use Rattle.go_board.proofs.FillLemmas.{filled_more, part_with, from_with, taken_with, none_left}
+use Rattle.go_board.proofs.GrowLemmas.{filled_more, part_with, from_with, taken_with, none_left}
 use Rattle.go_board.proofs.board.fill.grow_down.Goals as goal
 
 pub rows-preserved : goal.rows-preserved

@@ -4,7 +4,7 @@ use Rattle.std.specs.Int.{trailing_zeros}
 use Rattle.go_board.specs.inner.Rows.{has_bit, lacking}
 use Rattle.go_board.proofs.WordLemmas.{not_in_part}
 use Rattle.go_board.proofs.SweepLemmas.{lowest_left, next_smaller}
-use Rattle.go_board.proofs.FillLemmas.{filled_more}
+use Rattle.go_board.proofs.GrowLemmas.{filled_more}
 use Rattle.go_board.proofs.board.fill.grow_lowest.Goals as goal
 
 lowest_in : (waiting count : ℕ) → waiting ≢ 0 → waiting < 2 ^ 64 → ((row : ℕ) → has_bit waiting row ≡ true → row < count) → trailing_zeros w64 waiting < count

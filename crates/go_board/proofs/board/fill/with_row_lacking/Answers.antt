@@ -1,5 +1,5 @@
 use Rattle.std.proofs.Common.{◌<◌, ◌^◌, inl, inr, refl, get_or, arith, rules}
-use Rattle.go_board.proofs.FillLemmas.{part_with, from_with, taken_with, none_left}
+use Rattle.go_board.proofs.GrowLemmas.{part_with, from_with, taken_with, none_left}
 use Rattle.go_board.proofs.board.fill.with_row_lacking.Goals as goal
 
 pub returns-then-row-rows : goal.returns-then-row-rows

@@ -3,7 +3,7 @@ use Rattle.go_board.specs.inner.Glance.{IsRowAt, IsLookedAt}
 use Rattle.go_board.specs.inner.Rows.{has_bit}
 use Rattle.go_board.proofs.WordLemmas.{column_below}
 use Rattle.go_board.proofs.PointLemmas.{DifferByOne-sym}
-use Rattle.go_board.proofs.GlanceLemmas.{column_there, beside_up, beside_down, beside_along, row_here, free_here, free_elsewhere, some_of_three, none_of_two}
+use Rattle.go_board.proofs.GlanceLemmas.{column_there, beside_up, beside_down, beside_along, row_here, free_here, none_free, free_elsewhere, some_of_three, none_of_two}
 use Rattle.go_board.proofs.quick.glance.look_around.Goals as goal
 
 pub returns : goal.returns
@@ -25,8 +25,8 @@ returns c =
     let here = free_here own others p c.without_column.result c.row_at-here.result out left was_here in
     let below = free_elsewhere own others p 3 c.row_at-below.result (omega arith) is_below in
     let there = column_there p c.from-col.result stone same put.there put.elsewhere in
-    let up : IsLookedAt own others p 0 stone c.args.first c.row_at-above.result c.without_column.result =
-    record { stones = is_above; beside = beside_up p c.from-col.result stone same put.there put.elsewhere; free_above = c.requires.first; free_here = above; free_below = here } in
+    let up : IsLookedAt own others p 0 stone c.args.first c.row_at-above.result 0 =
+    record { stones = is_above; beside = beside_up p c.from-col.result stone same put.there put.elsewhere; free_above = c.requires.first; free_here = above; free_below = none_free own others p 2 } in
     let along : IsLookedAt own others p 1 c.columns_beside.result c.row_at-above.result.free _ c.row_at-below.result.free =
     record {
       stones = row_here own others p c.without_column.result c.row_at-here.result out left was_here;
@@ -35,9 +35,15 @@ returns c =
       free_here = here;
       free_below = below;
     } in
-    let down : IsLookedAt own others p 2 stone c.without_column.result c.row_at-below.result c.args.last =
-    record { stones = is_below; beside = beside_down p c.from-col.result stone same put.there put.elsewhere; free_above = here; free_here = below; free_below = c.requires.last } in
+    let down : IsLookedAt own others p 2 stone 0 c.row_at-below.result c.args.last =
+    record { stones = is_below; beside = beside_down p c.from-col.result stone same put.there put.elsewhere; free_above = none_free own others p 2; free_here = below; free_below = c.requires.last } in
     record {
+      free = λ some.
+          elim (some_of_three _ _ _ some) [
+            | inl is ↦ c.look_at_row-up.ensures.free own others p 0 up is
+            | inr (inl is) ↦ c.look_at_row-along.ensures.free own others p 1 along is
+            | inr (inr is) ↦ c.look_at_row-down.ensures.free own others p 2 down is
+          ];
       alive = λ some.
           elim (some_of_three _ _ _ some) [
             | inl is ↦ c.look_at_row-up.ensures.alive own others p 0 up is

@@ -1,7 +1,12 @@
 use Rattle.std.proofs.Common.{◌<◌, ◌^◌, arith, bit_and, bit_or, rules}
 use Rattle.std.proofs.lemmas.Nat.{and_le_l}
-use Rattle.go_board.proofs.GlanceLemmas.{some_bit, lives_there, left_there}
+use Rattle.go_board.proofs.GlanceLemmas.{some_bit, free_there, lives_there, left_there}
 use Rattle.go_board.proofs.quick.glance.look_at_row.Goals as goal
+
+pub returns-clause-free : goal.returns-clause-free
+returns-clause-free c = λ own others p i is some.
+    let found = some_bit (bit_and c.args.columns c.args.row.free) (omega (arith, c.ranges.columns.fits, and_le_l c.args.columns c.args.row.free)) some in
+    free_there own others p i c.args.columns c.args.above c.args.row c.args.below is c.columns_beside-open.result c.columns_beside-open.ensures.from found.0 found.1
 
 pub returns-clause-alive : goal.returns-clause-alive
 returns-clause-alive c = λ own others p i is some.
