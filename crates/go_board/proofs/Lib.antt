@@ -7,7 +7,6 @@ pub mod RuleLemmas
 pub mod GroupLemmas
 pub mod SettledLemmas
 pub mod SearchLemmas
-pub mod RowLemmas
 pub mod WordLemmas
 pub mod CarryLemmas
 pub mod GrowLemmas

@@ -81,6 +81,13 @@ module _ (g : Grid) (k : Colour) (own others : List ℕ) (from : Point) (all : l
             (sym (ap not way) ∙ (and_parts _ _ (is.linked shut_in shut_in-closed (and_from _ _ (own_set from on_from cell) (ap not shut)))).1))
       ]
 
+-- the columns of a row that have a stone of a colour
+pub columns_at : (g : Grid) (k d : Colour) (rows : List ℕ) (n row : ℕ) → d ≡ k → n ≡ row → row < g.side → AreRowsOf g.side (λ p. same_cell (cell_at g p) (stone_of k)) rows → ((col : ℕ) → col < g.side → has_bit (slice_index rows n) col ≡ same_cell (cell_at g (record { col = col; row = row })) (stone_of d)) × ((col : ℕ) → has_bit (slice_index rows n) col ≡ true → col < g.side)
+columns_at g k d rows n row colour at below are = rw (colour, at) (
+  λ col low. are.on (record { col = col; row = row }) (low, below),
+  λ col there. (are.off (record { col = col; row = row }) there).0,
+)
+
 -- the rows of a colour, by another word
 pub rows_of_colour : (g : Grid) (k d : Colour) (rows : List ℕ) → d ≡ k → AreRowsOf g.side (λ p. same_cell (cell_at g p) (stone_of k)) rows → AreRowsOf g.side (λ p. same_cell (cell_at g p) (stone_of d)) rows
 rows_of_colour g k d rows is are = subst (λ c. AreRowsOf g.side (λ p. same_cell (cell_at g p) (stone_of c)) rows) (sym is) are

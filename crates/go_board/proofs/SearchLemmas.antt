@@ -1,20 +1,85 @@
--- What a search keeps as points are found. Once no point of a flood waits, exactly what reaches the colour is marked.
-use Rattle.std.proofs.Common.{◌≡◌, ◌⊎◌, inl, inr, ℕ, zero, suc, ◌+◌, ◌*◌, ◌<◌, ◌≤◌, Bool, true, false, cond, List, [], ◌∷◌, ◌++◌, length, get_or, take, set, refl, sym, ap, ◌∙◌, subst, arith, IsTrue}
+-- Rows of bits as a marking. What a search keeps as points are found. Once no point of a flood waits, exactly what reaches the colour is marked.
+use Rattle.std.proofs.Common.{◌≡◌, ◌⊎◌, inl, inr, ℕ, zero, suc, ◌+◌, ◌*◌, ◌<◌, ◌≤◌, Bool, true, false, cond, List, [], ◌∷◌, ◌++◌, length, get_or, take, set, refl, sym, ap, ◌∙◌, subst, arith, IsTrue, ◌≢◌, ◌/◌, ◌%◌, ◌^◌, ◌==◌, map, replicate, bit_and, bit_or, w64}
 use Rattle.std.proofs.lemmas.Grind.{common_steps}
-use Rattle.std.proofs.lemmas.List.{get_or-set_same, length-set, length_push, take_more_set, length-take-le}
+use Rattle.std.proofs.lemmas.List.{get_or-set_same, length-set, length_push, take_more_set, length-take-le, length-map, length-replicate, get_or-set_other}
 use Rattle.std.proofs.lemmas.List.Elements.{All-push, All-weaker, Contains-append_left, Contains-push, Contains-push_cases}
 use Rattle.std.proofs.lemmas.List.Sums.{sum_by-set, count_by-le-length}
 use Rattle.std.specs.List.{Contains}
+use Rattle.std.specs.Int.{bit_at}
+use Rattle.std.proofs.lemmas.Bool.{cases_eq}
+use Rattle.std.proofs.lemmas.Nat.Bits.{bit_at-zero, shr_and_one, bit_at_set_same, bit_at_set_other}
 use Rattle.go_board.specs.declared.points.Point.{Point}
-use Rattle.go_board.specs.Point.{IsOn, index_of}
-use Rattle.go_board.specs.Marking.{Marking, is_marked, marked_count}
-use Rattle.go_board.specs.inner.Search.{Searched, with_mark, IsSound, Finds}
+use Rattle.go_board.specs.Point.{IsOn, index_of, point_at, points}
+use Rattle.go_board.specs.Marking.{Marking, is_marked, marked_count, marking_of}
+use Rattle.go_board.specs.inner.Search.{Searched, with_mark, IsSound, Finds, no_marks}
 use Rattle.go_board.specs.declared.stones.Cell.{Cell}
 use Rattle.go_board.specs.Grid.{Grid}
 use Rattle.go_board.specs.Reaching.{Leads, Reaches}
 use Rattle.go_board.specs.inner.Flood.{ReachesThrough, IsUnderWay}
-use Rattle.go_board.proofs.PointLemmas.{index_below, index_of-injective, AreAdjacent-sym}
+use Rattle.go_board.specs.inner.Rows.{has_bit, is_set}
+use Rattle.go_board.proofs.PointLemmas.{index_below, index_of-injective, AreAdjacent-sym, one_point, length-points, get_or-map-points, is_map-points, IsOn-point_at, index_of-point_at, point_at-index_of}
 use Rattle.go_board.proofs.ReachingLemmas.{Leads-on, step_kind, path_by_step}
+use Rattle.go_board.proofs.GrowLemmas.{set_there, set_elsewhere}
+use Rattle.go_board.proofs.GridLemmas.{get_or-replicate_default, is_marked-marking_of}
+
+-- with no bit set no point is marked
+pub is_set-none : (n : ℕ) (p : Point) → is_set (replicate n 0) p ≡ false
+is_set-none n p =
+    ap (λ w. bit_at w p.col == 1) (get_or-replicate_default n p.row 0) ∙ ap (λ b. b == 1) (bit_at-zero p.col)
+
+pub rows-none : (side n : ℕ) (rows : List ℕ) → rows ≡ replicate n 0 → marking_of side (is_set rows) ≡ no_marks side
+rows-none side n rows is =
+    ap (λ l. marking_of side (is_set l)) is
+    ∙ ap (λ l. record { side = side; marks = l })
+    (sym (is_map-points (is_set (replicate n 0)) side (replicate (side * side) false) false (length-replicate (side * side) false)
+    (λ i below. get_or-replicate_default (side * side) i false ∙ sym (is_set-none n (point_at side i)))))
+
+-- the rows with the bit of a point set
+abbrev pub with_bit : List ℕ → Point → List ℕ
+with_bit rows p = set rows p.row (bit_or (get_or rows p.row 0) (1 * 2 ^ p.col % 2 ^ 64))
+
+is_set-same : (rows : List ℕ) (p : Point) → p.row < length rows → p.col < 64 → is_set (with_bit rows p) p ≡ true
+is_set-same rows p within low =
+    set_there rows p.row _ within p refl ∙ ap (λ b. b == 1) (bit_at_set_same w64 (get_or rows p.row 0) p.col low)
+
+is_set-other : (rows : List ℕ) (p q : Point) → p.row < length rows → p.col < 64 → q ≢ p → is_set (with_bit rows p) q ≡ is_set rows q
+is_set-other rows p q within low other =
+    elim (cases_eq q.row p.row) [
+      | inl row ↦
+          set_there rows p.row _ within q row
+          ∙ ap (λ b. b == 1) (bit_at_set_other w64 (get_or rows p.row 0) p.col low q.col (λ e. other (one_point q p e row)))
+          ∙ ap (λ r. has_bit (get_or rows r 0) q.col) (sym row)
+      | inr row ↦ set_elsewhere rows p.row _ q row
+    ]
+
+pub rows-with_bit : (side : ℕ) (rows : List ℕ) (p : Point) → side ≤ length rows → side ≤ 64 → IsOn side p → marking_of side (is_set (with_bit rows p)) ≡ with_mark (marking_of side (is_set rows)) p
+rows-with_bit side rows p fits low on =
+    let old = map (is_set rows) (points side) in
+    let all : length old ≡ side * side = length-map (points side) (is_set rows) ∙ length-points side in
+    let below : index_of side p < length old = rw all (index_below side p on) in
+    let within : p.row < length rows = omega (arith, on.1, fits) in
+    let column : p.col < 64 = omega (arith, on.0, low) in
+    ap (λ l. record { side = side; marks = l })
+    (sym (is_map-points (is_set (with_bit rows p)) side (set old (index_of side p) true) false (length-set old (index_of side p) true ∙ all)
+    (λ i h.
+    let q = point_at side i in
+    let at = IsOn-point_at side i h in
+    elim (cases_eq i (index_of side p)) [
+      | inl same ↦
+          ap (λ j. get_or (set old (index_of side p) true) j false) same
+          ∙ get_or-set_same old (index_of side p) true false below
+          ∙ sym (ap (λ j. is_set (with_bit rows p) (point_at side j)) same ∙ ap (is_set (with_bit rows p)) (point_at-index_of side p on)
+          ∙ is_set-same rows p within column)
+      | inr other ↦
+          get_or-set_other old (index_of side p) i true false other
+          ∙ ap (λ j. get_or old j false) (sym (index_of-point_at side i h))
+          ∙ get_or-map-points (is_set rows) side q false at
+          ∙ sym (is_set-other rows p q within column (λ e. other (sym (index_of-point_at side i h) ∙ ap (index_of side) e)))
+    ])))
+
+-- reading a bit
+pub rows-has : (side : ℕ) (rows : List ℕ) (p : Point) (row : ℕ) → row ≡ p.row → IsOn side p → (bit_and (get_or rows row 0 / 2 ^ p.col) 1 == 1) ≡ is_marked (marking_of side (is_set rows)) p
+rows-has side rows p row is on = grind (arith, common_steps, is_marked-marking_of, shr_and_one)
 
 -- points found after others
 pub Finds-then : (A B C : Point → Type 0) (s t u : Searched) → Finds A s t → Finds B t u → ((p : Point) → IsOn s.marking.side p → C p → A p ⊎ B p) → ((p : Point) → IsOn s.marking.side p → A p ⊎ B p → C p) → Finds C s u

@@ -18,7 +18,7 @@ use Rattle.go_board.specs.inner.Rows.{has_bit, is_set}
 use Rattle.go_board.specs.inner.Regions.{AreRowsOf, AreStones, grid_with, stone_in, with_columns, with_row}
 use Rattle.go_board.proofs.WordLemmas.{has_bit-zero, has_bit-or, has_bit-less, bit_at-there, bit_at-gone}
 use Rattle.go_board.proofs.GrowLemmas.{row_below, set_there, set_elsewhere}
-use Rattle.go_board.proofs.RowLemmas.{is_set-none}
+use Rattle.go_board.proofs.SearchLemmas.{is_set-none}
 use Rattle.go_board.proofs.RegionLemmas.{set_bit_there, set_bit_elsewhere, same_bools}
 use Rattle.go_board.proofs.PointLemmas.{one_point, same_or_not}
 use Rattle.go_board.proofs.GridLemmas.{get_or-replicate_default, cell_at-grid_of, length-grid_of, cell_at-with_cell, cell_at-with_cell_elsewhere}
@@ -118,12 +118,6 @@ chosen : (t : Bool) (c : Cell) (b w : Bool) → cond (cond t (same_cell c Black)
 chosen true c b w = stone_is c
 chosen false c b w = refl
 
-not_both : (t : Bool) (c : Cell) (b w : Bool) → (b ≡ true → w ≡ false) → cond t (same_cell c Black) b ≡ true → cond t (same_cell c White) w ≡ false
-not_both true Black b w apart is = refl
-not_both true White b w apart is = absurd (false≢true is)
-not_both true Empty b w apart is = absurd (false≢true is)
-not_both false c b w apart is = apart is
-
 -- a board after points of a row were coloured
 module _ (side : ℕ) (black white : List ℕ) (row columns : ℕ) (c : Cell) (b w : ℕ) (are : AreStones side black white) (below : row < side) (within : (col : ℕ) → has_bit columns col ≡ true → col < side) (in_black : (col : ℕ) → has_bit b col ≡ cond (has_bit columns col) (same_cell c Black) (has_bit (get_or black row 0) col)) (in_white : (col : ℕ) → has_bit w col ≡ cond (has_bit columns col) (same_cell c White) (has_bit (get_or white row 0) col)) where
   abbrev turned : Point → Bool
@@ -135,12 +129,6 @@ module _ (side : ℕ) (black white : List ℕ) (row columns : ℕ) (c : Cell) (b
   is_white : (q : Point) → is_set (set white row w) q ≡ cond (turned q) (same_cell c White) (is_set white q)
   is_white = is_set-coloured white row columns w c White (omega (arith, are.few, are.white_rows)) in_white
 
-  still_on : (q : Point) (x old : Bool) → (old ≡ true → IsOn side q) → cond (turned q) x old ≡ true → IsOn side q
-  still_on q x old on is = grind (arith, common_steps, Decides-eqb, and_parts)
-
-  pub AreStones-coloured : AreStones side (set black row b) (set white row w)
-  AreStones-coloured = grind (arith, common_steps, is_black, is_white, length-set, not_both, still_on)
-
   pub grid-coloured : grid_with side (set black row b) (set white row w) ≡ with_columns (grid_with side black white) row columns c
   unfolding with_columns
   grid-coloured =
@@ -150,14 +138,6 @@ module _ (side : ℕ) (black white : List ℕ) (row columns : ℕ) (c : Cell) (b
       ∙ ap (λ x. cond (cond (turned q) (same_cell c Black) (is_set black q)) Black (cond x White Empty)) (is_white q)
       ∙ chosen (turned q) c (is_set black q) (is_set white q)
       ∙ ap (λ x. cond (turned q) c x) (sym (cell_at-grid_of side (stone_in black white) q on)))
-
-row_on : (side : ℕ) (words : List ℕ) (row word : ℕ) → row < length words → row < side → ((col : ℕ) → has_bit word col ≡ true → col < side) → ((q : Point) → is_set words q ≡ true → IsOn side q) → (q : Point) → is_set (set words row word) q ≡ true → IsOn side q
-row_on side words row word within below here elsewhere q is = grind (arith, common_steps, Decides-eqb, is_set-row)
-
-one_stone : (b all w : Bool) → b ≡ (all && not w) → b ≡ true → w ≡ false
-one_stone b all false is there = refl
-one_stone b true true is there = absurd (false≢true (sym is ∙ there))
-one_stone b false true is there = absurd (false≢true (sym is ∙ there))
 
 row_stone : (e b w x y : Bool) → cond (cond e (b && not w) x) Black (cond (cond e w y) White Empty) ≡ cond e (cond w White (cond b Black Empty)) (cond x Black (cond y White Empty))
 row_stone false b w x y = refl
@@ -173,9 +153,6 @@ module _ (side : ℕ) (black white : List ℕ) (row all b w : ℕ) (are : AreSto
 
   in_white_rows : row < length white
   in_white_rows = omega (arith, below, are.few, are.white_rows)
-
-  pub AreStones-row : AreStones side (set black row b) (set white row w)
-  AreStones-row = grind (arith, common_steps, in_black_rows, in_white_rows, is_set-row, length-set, one_stone, row_on)
 
   pub grid-row : grid_with side (set black row b) (set white row w) ≡ with_row (grid_with side black white) row all w
   unfolding with_row

@@ -75,19 +75,27 @@ pub(crate) fn with_rows_lacking(waiting: u64, rows: &[u64], region: &[u64], row:
         → IsTaken region.now rows.now r (slice_index rows.now row) }
 {
     let word = rows[row];
-    let above = with_row_lacking(waiting, rows, region, row.wrapping_sub(1), word);
-    with_row_lacking(above, rows, region, row + 1, word)
+    let above = with_row_lacking(waiting, rows, region, row.wrapping_sub(1), row > 0, word);
+    with_row_lacking(above, rows, region, row + 1, row + 1 < rows.len(), word)
 }
 
-/// The rows that wait, and `row` if the board has it and it can take a point from the columns of `word`.
-fn with_row_lacking(waiting: u64, rows: &[u64], region: &[u64], row: usize, word: u64) -> u64
+/// The rows that wait, and `row` if the board has it (`there`) and it can take a point from the columns of `word`.
+fn with_row_lacking(
+    waiting: u64,
+    rows: &[u64],
+    region: &[u64],
+    row: usize,
+    there: bool,
+    word: u64,
+) -> u64
     requires same { length region.now ≡ length rows.now }
     requires few { length rows.now < 64 }
+    requires there { IsTrue there → row < length rows.now }
     ensures kept { IsPart (has_bit waiting) (has_bit result) }
     ensures from { (r : ℕ) → IsTrue (has_bit result r) → IsTrue (has_bit waiting r) ⊎ (r < length rows.now) }
-    ensures taken { row < length rows.now → has_bit result row ≡ false → IsTaken region.now rows.now row word }
+    ensures taken { IsTrue there → has_bit result row ≡ false → IsTaken region.now rows.now row word }
 {
-    if row < rows.len() {
+    if there {
         with_column(waiting, row, region[row] & !rows[row] & word != 0)
     } else {
         waiting

@@ -1,4 +1,5 @@
-use Rattle.std.proofs.Common.{◌≡◌, ◌+◌, ◌-◌, ◌%◌, ◌^◌, inl, inr, slice_index, ap, ◌∙◌, arith, subst}
+use Rattle.std.proofs.Common.{◌≡◌, ◌+◌, ◌-◌, ◌%◌, ◌^◌, inl, inr, length, slice_index, ap, ◌∙◌, arith, subst}
+use Rattle.std.proofs.lemmas.Bool.Decides.{Decides-ltb}
 use Rattle.go_board.specs.inner.Rows.{has_bit, IsTaken}
 use Rattle.go_board.proofs.WordLemmas.{not_in_part}
 use Rattle.go_board.proofs.board.fill.with_rows_lacking.Goals as goal
@@ -16,7 +17,7 @@ returns c =
           elim differ [
             | inl next ↦
                 let at : (row + (2 ^ 64 - 1)) % 2 ^ 64 ≡ r = omega (arith, next, below, c.requires.few) in
-                subst taken at (up.taken (omega (arith, at, below)) (ap (has_bit c.with_row_lacking-above.result) at ∙ not_in_part _ _ r down.kept none))
-            | inr last ↦ subst taken last (down.taken (omega (arith, last, below)) (ap (has_bit c.with_row_lacking.result) last ∙ none))
+                subst taken at (up.taken ((Decides-ltb 0 row).1 (omega (arith, next))) (ap (has_bit c.with_row_lacking-above.result) at ∙ not_in_part _ _ r down.kept none))
+            | inr last ↦ subst taken last (down.taken ((Decides-ltb (row + 1) (length c.args.rows.now)).1 (omega (arith, last, below))) (ap (has_bit c.with_row_lacking.result) last ∙ none))
           ];
     }
