@@ -1,5 +1,6 @@
 -- An area coloured row by row.
 use Rattle.std.proofs.Common.{◌≡◌, ℕ, ◌+◌, ◌-◌, ◌*◌, ◌%◌, ◌^◌, ◌<◌, ◌≤◌, ◌==◌, ◌&&◌, true, inl, inr, nat_le, List, [], ◌∷◌, fold, length, get_or, take, refl, sym, ap, ◌∙◌, arith}
+use Rattle.std.proofs.lemmas.Grind.{common_steps}
 use Rattle.std.proofs.Math.Bool.{and-true}
 use Rattle.std.proofs.lemmas.List.Sums.{fold_more}
 use Rattle.std.proofs.lemmas.Bool.{cases_lt, leb-true, le-leb, and_from, and_parts, false≢true}
@@ -16,38 +17,14 @@ use Rattle.go_board.proofs.RegionLemmas.{same_bools}
 
 -- the columns from one to another
 pub column_word : (k : ℕ) → k < 64 → 1 * 2 ^ k % 2 ^ 64 ≡ 2 ^ k
-column_word k low =
-    let one : 1 * 2 ^ k ≡ 2 ^ k = omega arith in
-    ap (λ n. n % 2 ^ 64) one ∙ mod-eq_of_lt (pow_below k 64 low)
+column_word k low = grind (arith, common_steps, mod-eq_of_lt, pow_below)
 
 pub columns_between : (first last k : ℕ) → first ≤ last → last < 63 → has_bit (1 * 2 ^ (last + 1) % 2 ^ 64 - 1 * 2 ^ first % 2 ^ 64) k ≡ (nat_le first k && nat_le k last)
-columns_between first last k ordered few =
-    ap (λ n. has_bit (n - 1 * 2 ^ first % 2 ^ 64) k) (column_word (last + 1) (omega (arith, few)))
-    ∙ ap (λ n. has_bit (2 ^ (last + 1) - n) k) (column_word first (omega (arith, ordered, few)))
-    ∙ same_bools _ _ there back
-  where
-    there : has_bit (2 ^ (last + 1) - 2 ^ first) k ≡ true → (nat_le first k && nat_le k last) ≡ true
-    there is =
-        elim (cases_lt k first) [
-          | inl before ↦ absurd (false≢true (sym (ap (λ n. n == 1) (bit_at_mask_below first (last + 1) k before)) ∙ is))
-          | inr from ↦
-              elim (cases_lt k (last + 1)) [
-                | inl within ↦ and_from _ _ (le-leb first k from) (le-leb k last (omega (arith, within)))
-                | inr past ↦ absurd (false≢true (sym (ap (λ n. n == 1) (bit_at_mask_above first (last + 1) k past)) ∙ is))
-              ]
-        ]
-
-    back : (nat_le first k && nat_le k last) ≡ true → has_bit (2 ^ (last + 1) - 2 ^ first) k ≡ true
-    back is =
-        let both = and_parts _ _ is in
-        ap (λ n. n == 1) (bit_at_mask_inside first (last + 1) k (leb-true first k both.0) (omega (arith, leb-true k last both.1)))
+columns_between first last k ordered few = grind (arith, common_steps, and_from, and_parts, bit_at_mask_above, bit_at_mask_below, bit_at_mask_inside, column_word, le-leb, leb-true, nat_le, same_bools)
 
 -- in the rows of an area the columns between its sides are its points
 pub area_columns : (area : Rect) (columns : ℕ) (p : Point) → ((k : ℕ) → has_bit columns k ≡ (nat_le area.first.col k && nat_le k area.last.col)) → area.first.row ≤ p.row → p.row ≤ area.last.row → has_bit columns p.col ≡ is_in area p
-area_columns area columns p is from to =
-    is p.col
-    ∙ sym (and-true (nat_le area.first.col p.col && nat_le p.col area.last.col))
-    ∙ ap (λ b. (nat_le area.first.col p.col && nat_le p.col area.last.col) && b) (sym (and_from _ _ (le-leb area.first.row p.row from) (le-leb p.row area.last.row to)))
+area_columns area columns p is from to = grind (arith, common_steps, and-true, and_from, le-leb, nat_le)
 
 -- a point of an area is between its first and its last row
 pub area_rows : (area : Rect) (p : Point) → is_in area p ≡ true → (area.first.row ≤ p.row) × (p.row ≤ area.last.row)

@@ -1,5 +1,6 @@
 -- Widening a set of columns: a sum carries from a column on as far as there is region, and steps go back from there.
 use Rattle.std.proofs.Common.{◌≡◌, ◌⊎◌, inl, inr, ℕ, zero, suc, ◌+◌, ◌-◌, ◌*◌, ◌/◌, ◌%◌, ◌^◌, ◌<◌, ◌≤◌, Bool, true, false, not, bit_and, bit_or, w64, sym, ap, ◌∙◌, arith}
+use Rattle.std.proofs.lemmas.Grind.{common_steps}
 use Rattle.std.specs.Int.{bit_at, bit_not}
 use Rattle.std.proofs.Math.Nat.{add-mod, add-mod_left, mod-eq_of_lt, two-pow-succ}
 use Rattle.std.proofs.lemmas.Bool.{or_cases, or_left, or_right, and_parts, and_from, false≢true, cases_lt, cases_Bool}
@@ -64,11 +65,7 @@ module _ (region seed : ℕ) (low : region < 2 ^ 64) (part : IsPart (has_bit see
   carried = bit_or (bit_and region (bit_not w64 ((region + seed) % 2 ^ 64))) seed
 
   carried-within : IsPart (has_bit carried) (has_bit region)
-  carried-within c is =
-      elim (or_cases _ _ (sym (has_bit-or _ seed c) ∙ is)) [
-        | inl far ↦ (and_parts _ _ (sym (has_bit-and region _ c) ∙ far)).0
-        | inr own ↦ part c own
-      ]
+  carried-within c is = grind (arith, common_steps, and_parts, has_bit-and, has_bit-or, or_cases)
 
   carried-kept : IsPart (has_bit seed) (has_bit carried)
   carried-kept c is = has_bit-or _ seed c ∙ or_right _ _ is
@@ -127,28 +124,11 @@ module _ (region seed : ℕ) (low : region < 2 ^ 64) (part : IsPart (has_bit see
         )
 
     carried-least : IsPart (has_bit carried) set
-    carried-least c is =
-        elim (far_or_own c is) [
-          | inl (in_room, none, carries) ↦
-              (let before = carry_from c carries in
-              beside c before.0 (inr before.1) in_room before.2)
-          | inr own ↦ there c own
-        ]
+    carried-least c is = grind (arith, common_steps, carry_from, far_or_own)
 
   -- from each column something is carried into the next
   carries-next : (c : ℕ) → has_bit carried c ≡ true → 2 ^ suc c ≤ region % 2 ^ suc c + seed % 2 ^ suc c
-  carries-next c is =
-      let double = two-pow-succ c in
-      elim (far_or_own c is) [
-        | inl (in_room, none, carries) ↦
-            (let first = low-set region c in_room in
-            let second = low-unset seed c none in
-            omega (arith, double, first, second, carries))
-        | inr own ↦
-            (let first = low-set region c (part c own) in
-            let second = low-set seed c own in
-            omega (arith, double, first, second))
-      ]
+  carries-next c is = grind (arith, common_steps, far_or_own, low-set, low-unset, two-pow-succ)
 
   carried-next : HasNext (has_bit region) (has_bit carried)
   carried-next c is in_room =
@@ -177,13 +157,7 @@ with_before word region = bit_or word (bit_and region (word / 2 ^ 1))
 
 module _ (region seed word : ℕ) (widened : IsWidened region seed word) where
   before_or_own : (c : ℕ) → has_bit (with_before word region) c ≡ true → (has_bit word c ≡ true) ⊎ ((has_bit region c ≡ true) × (has_bit word (suc c) ≡ true))
-  before_or_own c is =
-      elim (or_cases _ _ (sym (has_bit-or word _ c) ∙ is)) [
-        | inl own ↦ inl own
-        | inr far ↦
-            (let both = and_parts _ _ (sym (has_bit-and region _ c) ∙ far) in
-            inr (both.0, sym (has_bit-right word c) ∙ both.1))
-      ]
+  before_or_own c is = grind (arith, common_steps, and_parts, has_bit-and, has_bit-or, has_bit-right, or_cases)
 
   keeps : IsPart (has_bit word) (has_bit (with_before word region))
   keeps c is = has_bit-or word _ c ∙ or_left _ _ is

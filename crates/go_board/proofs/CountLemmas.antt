@@ -1,11 +1,12 @@
 -- Counting points by the bits of words.
 use Rattle.std.proofs.Common.{◌≡◌, inl, inr, ℕ, zero, suc, ◌+◌, ◌*◌, ◌^◌, ◌%◌, ◌<◌, ◌≤◌, ◌==◌, ◌||◌, ◌&&◌, Bool, true, not, cond, IsTrue, List, [], map, get_or, bit_and, count_ones, count_by, sum, sum_by, refl, sym, ap, ◌∙◌, arith, w64}
+use Rattle.std.proofs.lemmas.Grind.{common_steps}
 use Rattle.std.specs.Int.{bit_at, bit_not}
 use Rattle.std.specs.List.{range_with_len}
 use lib.Count.{ones}
 use Rattle.std.proofs.lemmas.Bool.{and_parts, cases_lt, false_from_ne_true}
 use Rattle.std.proofs.Math.Nat.{add_assoc}
-use Rattle.std.proofs.lemmas.Nat.{ones_cat, mod-pow-add, mod_below, pow_pos}
+use Rattle.std.proofs.lemmas.Nat.{and_le_l, ones-le, ones_cat, mod-pow-add, mod_below, pow_pos}
 use Rattle.std.proofs.lemmas.Nat.Bits.{bit_at-lt, bit_at_above, same_from_bits}
 use Rattle.std.proofs.lemmas.List.{length-map}
 use Rattle.std.proofs.lemmas.List.Sums.{sum-map}
@@ -34,11 +35,7 @@ ones_of_bit (suc (suc n)) h = absurd (omega arith)
 
 -- one column more
 ones_more : (n c : ℕ) → count_ones (n % 2 ^ (1 + c)) ≡ count_ones (n % 2 ^ c) + cond (has_bit n c) 1 0
-ones_more n c =
-    ap count_ones (mod-pow-add n 1 c)
-    ∙ ones_cat c (bit_at n c) (n % 2 ^ c) (mod_below n (2 ^ c) (pow_pos c))
-    ∙ ap (λ m. m + count_ones (n % 2 ^ c)) (ones_of_bit (bit_at n c) (bit_at-lt n c))
-    ∙ omega arith
+ones_more n c = grind (arith, common_steps, bit_at-lt, mod-pow-add, mod_below, ones_cat, ones_of_bit, pow_pos)
 
 -- a word whose bits are all below k
 pub below_from_bits : (n k : ℕ) → ((c : ℕ) → has_bit n c ≡ true → c < k) → n % 2 ^ k ≡ n
@@ -80,7 +77,7 @@ abbrev pub apart_before : ℕ → List ℕ → List ℕ → ℕ → ℕ
 apart_before side rows others n =
     count_by (λ p. is_set rows p && not (is_set others p)) (map (point_at side) (range_with_len 0 (n * side)))
 
-pub apart_more : (side : ℕ) (rows others : List ℕ) (row : ℕ) → side ≤ 52 → row < side → get_or others row 0 < 2 ^ 64 → ((p : Point) → IsTrue (is_set rows p) → IsOn side p) → apart_before side rows others (row + 1) ≡ apart_before side rows others row + count_ones (bit_and (get_or rows row 0) (bit_not w64 (get_or others row 0)))
+apart_more : (side : ℕ) (rows others : List ℕ) (row : ℕ) → side ≤ 52 → row < side → get_or others row 0 < 2 ^ 64 → ((p : Point) → IsTrue (is_set rows p) → IsOn side p) → apart_before side rows others (row + 1) ≡ apart_before side rows others row + count_ones (bit_and (get_or rows row 0) (bit_not w64 (get_or others row 0)))
 unfolding counted
 apart_more side rows others row small on low board =
     let word = bit_and (get_or rows row 0) (bit_not w64 (get_or others row 0)) in
@@ -93,9 +90,26 @@ apart_more side rows others row small on low board =
     (λ col below. sym (has_bit-without (get_or rows row 0) (get_or others row 0) col low (omega (arith, below, small))))
     ∙ ap (λ w. apart_before side rows others row + count_ones w) all
 
-pub count_apart-all : (side : ℕ) (rows others : List ℕ) → apart_before side rows others side ≡ count_apart side rows others
+count_apart-all : (side : ℕ) (rows others : List ℕ) → apart_before side rows others side ≡ count_apart side rows others
 unfolding count_apart points
 count_apart-all side rows others = refl
+
+-- `count` is how many points of the first rows are in the one set and not in the other
+pub record IsCounted (side : ℕ) (rows others : List ℕ) (row count : ℕ) : Type 0 where
+  pub value : count ≡ apart_before side rows others row
+  pub few : count ≤ row * 64
+
+pub counted_more : (side : ℕ) (rows others : List ℕ) (row word other count : ℕ) → IsCounted side rows others row count → side ≤ 52 → row < side → get_or rows row 0 ≡ word → get_or others row 0 ≡ other → word < 2 ^ 64 → other < 2 ^ 64 → ((p : Point) → IsTrue (is_set rows p) → IsOn side p) → IsCounted side rows others (row + 1) (count + count_ones (bit_and word (bit_not w64 other)))
+counted_more side rows others row word other count was small on is_word is_other low low_other board =
+    let more = apart_more side rows others row small on (omega (arith, is_other, low_other)) board in
+    let same : count_ones (bit_and (get_or rows row 0) (bit_not w64 (get_or others row 0))) ≡ count_ones (bit_and word (bit_not w64 other)) = rw (is_word, is_other) in
+    record {
+      value = omega (arith, was.value, more, same);
+      few = omega (arith, was.few, ones-le 64 (bit_and word (bit_not w64 other)) (omega (arith, low, and_le_l word (bit_not w64 other))));
+    }
+
+pub counted_all : (side : ℕ) (rows others : List ℕ) (row count : ℕ) → IsCounted side rows others row count → row ≡ side → count ≡ count_apart side rows others
+counted_all side rows others row count is end = is.value ∙ ap (apart_before side rows others) end ∙ count_apart-all side rows others
 
 -- two tests that agree on the points of the grid count the same
 count_alike : (side : ℕ) (p q : Point → Bool) → ((r : Point) → IsOn side r → p r ≡ q r) → count_by p (points side) ≡ count_by q (points side)

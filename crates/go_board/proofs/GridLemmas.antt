@@ -1,5 +1,6 @@
 -- Reading the grids and markings that functions of the points make, and grids after a point was set.
-use Rattle.std.proofs.Common.{◌≡◌, ◌≢◌, ℕ, ◌*◌, ◌<◌, Bool, false, length, get_or, refl, ap, ◌∙◌, Decides, rules, replicate, zero, suc}
+use Rattle.std.proofs.Common.{◌≡◌, ◌≢◌, ℕ, ◌*◌, ◌<◌, Bool, false, length, get_or, refl, ap, ◌∙◌, Decides, rules, replicate, zero, suc, arith}
+use Rattle.std.proofs.lemmas.Grind.{common_steps}
 use Rattle.std.proofs.lemmas.List.{length-map, get_or-set_same, get_or-set_other}
 use Rattle.std.proofs.lemmas.Bool.Decides.{same_from_decides}
 use denote.Enum.Bare.{sameb, same_true, true_same}
@@ -18,6 +19,13 @@ Decides-same_cell Black Black = (λ _. refl, λ _. refl)
 Decides-same_cell White White = (λ _. refl, λ _. refl)
 Decides-same_cell Empty Empty = (λ _. refl, λ _. refl)
 Decides-same_cell _ _ = (λ h. cc, λ h. cc)
+
+-- cells that are alike for both colours are one
+pub same_stones : (a b : Cell) → same_cell a Black ≡ same_cell b Black → same_cell a White ≡ same_cell b White → a ≡ b
+same_stones Black Black black white = refl
+same_stones White White black white = refl
+same_stones Empty Empty black white = refl
+same_stones _ _ black white = cc
 
 -- what `==` says of two cells
 pub Decides-cell_eq : (a b : Cell) → Decides (sameb the_type a b) (a ≡ b)
@@ -44,9 +52,7 @@ pub length-marking_of : (side : ℕ) (test : Point → Bool) → length (marking
 length-marking_of side test = length-map (points side) test ∙ length-points side
 
 pub cell_at-with_cell : (g : Grid) (p : Point) (c : Cell) → IsOn g.side p → length g.cells ≡ g.side * g.side → cell_at (with_cell g p c) p ≡ c
-cell_at-with_cell g p c h all =
-    let below : index_of g.side p < length g.cells = rw all (index_below g.side p h) in
-    get_or-set_same g.cells (index_of g.side p) c Empty below
+cell_at-with_cell g p c h all = grind (arith, common_steps, get_or-set_same, index_below)
 
 pub cell_at-with_cell_elsewhere : (g : Grid) (p q : Point) (c : Cell) → IsOn g.side p → IsOn g.side q → q ≢ p → cell_at (with_cell g p c) q ≡ cell_at g q
 cell_at-with_cell_elsewhere g p q c hp hq other =

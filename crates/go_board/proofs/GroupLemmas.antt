@@ -1,5 +1,6 @@
 -- A group without a liberty can be taken off before its colour is cleared: the cleared grid is the same.
-use Rattle.std.proofs.Common.{◌≡◌, ◌≢◌, ◌⊎◌, inl, inr, ℕ, ◌*◌, false, List, [], ◌∷◌, length, get_or, refl, sym, ap, subst, ◌∙◌}
+use Rattle.std.proofs.Common.{◌≡◌, ◌≢◌, ◌⊎◌, inl, inr, ℕ, ◌*◌, false, List, [], ◌∷◌, length, get_or, refl, sym, ap, subst, ◌∙◌, arith}
+use Rattle.std.proofs.lemmas.Grind.{common_steps}
 use Rattle.std.proofs.lemmas.Bool.{cases_Bool, true≢false}
 use Rattle.std.proofs.lemmas.Bool.Decides.{not_from_Decides}
 use Rattle.go_board.specs.declared.stones.Cell.{Cell}
@@ -16,9 +17,7 @@ use Rattle.go_board.proofs.GridLemmas.{Decides-same_cell, cell_at-grid_of, lengt
 
 -- a point has that colour or not
 pub coloured_or_not : (a b : Cell) → (a ≡ b) ⊎ (a ≢ b)
-coloured_or_not a b =
-    elim (cases_Bool (same_cell a b))
-    [ inl alike ↦ inl ((Decides-same_cell a b).0 alike) | inr unlike ↦ inr (not_from_Decides _ (Decides-same_cell a b) unlike) ]
+coloured_or_not a b = grind (arith, common_steps, Decides-same_cell, not_from_Decides)
 
 pub stone_of≢Empty : (k : Colour) → stone_of k ≢ Empty
 stone_of≢Empty Black = λ e. cc

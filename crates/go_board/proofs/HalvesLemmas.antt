@@ -1,16 +1,25 @@
--- Sets of points in the halves of words: a path within such a region stays in its half.
-use Rattle.std.proofs.Common.{◌≡◌, ◌≢◌, inl, inr, ℕ, ◌+◌, ◌-◌, ◌*◌, ◌/◌, ◌%◌, ◌^◌, ◌<◌, ◌≤◌, ◌==◌, ◌||◌, ◌&&◌, Bool, true, nat_lt, nat_le, List, slice_index, sym, ap, ◌∙◌, arith}
-use Rattle.std.proofs.lemmas.Bool.{or_cases, or_left, or_right, and_parts, and_from, cases_lt, le-leb, leb-true}
+-- Sets of points in the halves of words: a path within such a region stays in its half. So one filling finds the areas of both colours.
+use Rattle.std.proofs.Common.{◌≡◌, ◌≢◌, inl, inr, ℕ, ◌+◌, ◌-◌, ◌*◌, ◌/◌, ◌%◌, ◌^◌, ◌<◌, ◌≤◌, ◌==◌, ◌||◌, ◌&&◌, Bool, true, nat_lt, nat_le, List, slice_index, sym, ap, ◌∙◌, arith, cond, length, subst}
+use Rattle.std.proofs.lemmas.Grind.{common_steps}
+use Rattle.std.proofs.lemmas.Bool.{or_cases, or_left, or_right, and_parts, and_from, cases_lt, le-leb, leb-true, false_from_ne_true}
 use Rattle.std.proofs.lemmas.Bool.Decides.{Decides-ltb}
 use Rattle.std.proofs.Math.ListN.{get_or-map}
 use Rattle.std.proofs.lemmas.Nat.{mod_below, pow_pos}
 use Rattle.std.proofs.lemmas.Nat.Bits.{bit_at_cat_high}
+use Rattle.std.proofs.lemmas.List.{length-map}
 use Rattle.go_board.specs.declared.points.Point.{Point}
 use Rattle.go_board.specs.Point.{AreAdjacent}
 use Rattle.go_board.specs.inner.Rows.{has_bit, is_set, IsAmong, IsClosed, Grows}
-use Rattle.go_board.specs.inner.Halves.{low_halves, high_halves}
-use Rattle.go_board.proofs.RegionLemmas.{same_bools}
+use Rattle.go_board.specs.inner.Halves.{low_halves, high_halves, ArePaired, AreOthersPaired}
+use Rattle.go_board.specs.declared.stones.Cell.TheVariants.{Black as BlackStone, White as WhiteStone, Empty}
+use Rattle.go_board.specs.declared.stones.Colour.TheVariants.{Black, White}
+use Rattle.go_board.specs.Colour.{same_cell}
+use Rattle.go_board.specs.Grid.{Grid, cell_at}
+use Rattle.go_board.specs.Reaching.{reaches}
+use Rattle.go_board.specs.inner.Regions.{is_either, AreRowsOf, reaches_through_own}
+use Rattle.go_board.proofs.RegionLemmas.{same_bools, AreOthers, AreRowsOf-others, AreRowsOf-filled, region_is, reaching_closed, seed_reaches}
 use Rattle.go_board.proofs.WordLemmas.{bit_at-mod, column_below}
+use Rattle.go_board.proofs.CountLemmas.{below_from_bits}
 
 -- a column of a half
 has_bit-low_half : (word col : ℕ) → has_bit (word % 2 ^ 32) col ≡ (nat_lt col 32 && has_bit word col)
@@ -39,14 +48,10 @@ abbrev pub unshifted : Point → Point
 unshifted p = record { col = p.col - 32; row = p.row }
 
 there_and_back : (p : Point) → 32 ≤ p.col → shifted (unshifted p) ≡ p
-there_and_back p from =
-    let same : 32 + (p.col - 32) ≡ p.col = omega (arith, from) in
-    ap (λ (c : ℕ). let r : Point = record { col = c; row = p.row } in r) same
+there_and_back p from = grind (arith, common_steps)
 
-back_again : (p : Point) → unshifted (shifted p) ≡ p
-back_again p =
-    let same : 32 + p.col - 32 ≡ p.col = omega arith in
-    ap (λ (c : ℕ). let r : Point = record { col = c; row = p.row } in r) same
+pub back_again : (p : Point) → unshifted (shifted p) ≡ p
+back_again p = grind (arith, common_steps)
 
 pub in_low : (rows : List ℕ) (p : Point) → is_set (low_halves rows) p ≡ (nat_lt p.col 32 && is_set rows p)
 in_low rows p =
@@ -59,7 +64,7 @@ in_high rows p =
 pub low_from : (rows : List ℕ) (p : Point) → p.col < 32 → is_set rows p ≡ true → is_set (low_halves rows) p ≡ true
 low_from rows p low is = in_low rows p ∙ and_from _ _ ((Decides-ltb p.col 32).1 low) is
 
-low_parts : (rows : List ℕ) (p : Point) → is_set (low_halves rows) p ≡ true → (p.col < 32) × (is_set rows p ≡ true)
+pub low_parts : (rows : List ℕ) (p : Point) → is_set (low_halves rows) p ≡ true → (p.col < 32) × (is_set rows p ≡ true)
 low_parts rows p is = let both = and_parts _ _ (sym (in_low rows p) ∙ is) in ((Decides-ltb p.col 32).0 both.0, both.1)
 
 pub high_from : (rows : List ℕ) (p : Point) → 32 ≤ p.col → is_set rows p ≡ true → is_set (high_halves rows) (unshifted p) ≡ true
@@ -83,27 +88,24 @@ adjacent_shifted p q (inl column) = inl (ap (λ n. 32 + n) column.0, column.1)
 adjacent_shifted p q (inr (row, inl next)) = inr (row, inl (omega (arith, next)))
 adjacent_shifted p q (inr (row, inr next)) = inr (row, inr (omega (arith, next)))
 
-adjacent_unshifted : (p q : Point) → 32 ≤ p.col → 32 ≤ q.col → AreAdjacent p q → AreAdjacent (unshifted p) (unshifted q)
+pub adjacent_unshifted : (p q : Point) → 32 ≤ p.col → 32 ≤ q.col → AreAdjacent p q → AreAdjacent (unshifted p) (unshifted q)
 adjacent_unshifted p q from_p from_q (inl column) = inl (ap (λ n. n - 32) column.0, column.1)
 adjacent_unshifted p q from_p from_q (inr (row, inl next)) = inr (row, inl (omega (arith, next, from_p, from_q)))
 adjacent_unshifted p q from_p from_q (inr (row, inr next)) = inr (row, inr (omega (arith, next, from_p, from_q)))
 
 -- beside a point of the one half, past an empty column, is no point of the other
-stays_low : (p q : Point) → AreAdjacent p q → p.col < 32 → p.col ≢ 31 → q.col < 32
+pub stays_low : (p q : Point) → AreAdjacent p q → p.col < 32 → p.col ≢ 31 → q.col < 32
 stays_low p q (inl column) below apart = omega (arith, column.0, below)
 stays_low p q (inr (row, inl next)) below apart = omega (arith, next, below, apart)
 stays_low p q (inr (row, inr next)) below apart = omega (arith, next, below)
 
-stays_high : (p q : Point) → AreAdjacent p q → 32 ≤ p.col → q.col ≢ 31 → 32 ≤ q.col
+pub stays_high : (p q : Point) → AreAdjacent p q → 32 ≤ p.col → q.col ≢ 31 → 32 ≤ q.col
 stays_high p q (inl column) from apart = omega (arith, column.0, from)
 stays_high p q (inr (row, inl next)) from apart = omega (arith, next, from)
 stays_high p q (inr (row, inr next)) from apart = omega (arith, next, from, apart)
 
--- a filling, and each of its halves
-module _ (region seed rows : List ℕ) (gap : (p : Point) → is_set region p ≡ true → p.col ≢ 31) (grows : Grows (is_set region) (is_set seed) (is_set rows)) (closed : IsClosed (is_set region) (is_set rows)) where
-  seed_in : IsAmong (is_set seed) (is_set region)
-  seed_in p is = grows.within p (grows.kept p is)
-
+-- a closed set, and each of its halves
+module _ (region rows : List ℕ) (closed : IsClosed (is_set region) (is_set rows)) where
   pub IsClosed-low : IsClosed (is_set (low_halves region)) (is_set (low_halves rows))
   IsClosed-low p q adjacent there is =
       let at = low_parts region p there in
@@ -114,76 +116,118 @@ module _ (region seed rows : List ℕ) (gap : (p : Point) → is_set region p �
       in_high rows p
       ∙ closed (shifted p) (shifted q) (adjacent_shifted p q adjacent) (sym (in_high region p) ∙ there) (sym (in_high rows q) ∙ is)
 
-  -- a set of the low halves, with all of the high ones; and the other way round
-  module _ (set : Point → Bool) where
-    with_high : Point → Bool
-    with_high p = is_set region p && (nat_le 32 p.col || set p)
+-- so are the halves of a part of a set
+pub among_low : (some all : List ℕ) → IsAmong (is_set some) (is_set all) → IsAmong (is_set (low_halves some)) (is_set (low_halves all))
+among_low some all part p is = let at = low_parts some p is in low_from all p at.0 (part p at.1)
 
-    with_low : Point → Bool
-    with_low p = is_set region p && (nat_lt p.col 32 || set (unshifted p))
+pub among_high : (some all : List ℕ) → IsAmong (is_set some) (is_set all) → IsAmong (is_set (high_halves some)) (is_set (high_halves all))
+among_high some all part p is = in_high all p ∙ part (shifted p) (sym (in_high some p) ∙ is)
 
-    with_high_closed : IsClosed (is_set (low_halves region)) set → IsClosed (is_set region) with_high
-    unfolding with_high
-    with_high_closed shut p q adjacent there is =
-        let both = and_parts (is_set region q) (nat_le 32 q.col || set q) is in
+-- a word of few columns
+pub fits_half : (word side : ℕ) → side < 32 → ((col : ℕ) → has_bit word col ≡ true → col < side) → word < 2 ^ 32
+fits_half word side small each =
+    subst (λ n. n < 2 ^ 32) (below_from_bits word 32 (λ col is. let below = each col is in omega (arith, below, small))) (mod_below word (2 ^ 32) (pow_pos 32))
+
+-- the words of two sets, row by row
+abbrev pub IsPair : List ℕ → List ℕ → ℕ → ℕ → Type 0
+IsPair black white row word = (word % 2 ^ 32 ≡ slice_index black row) × (word / 2 ^ 32 ≡ slice_index white row)
+
+abbrev pub IsPairOfOthers : ℕ → List ℕ → List ℕ → ℕ → ℕ → Type 0
+IsPairOfOthers side black white row word =
+    AreOthers side (slice_index white row) (word % 2 ^ 32) × AreOthers side (slice_index black row) (word / 2 ^ 32)
+
+pub others_paired_all : (black white rows : List ℕ) → length rows ≡ length black → length rows ≡ length white → ((r : ℕ) → r < length rows → IsPairOfOthers (length black) black white r (slice_index rows r)) → AreOthersPaired black white rows
+others_paired_all black white rows long_black long_white each = record {
+  low = AreRowsOf-others white (low_halves rows) (length-map rows (λ w. w % 2 ^ 32) ∙ long_white)
+      (λ r below.
+      let within : r < length rows = omega (arith, below, long_white) in
+      subst (AreOthers (length white) (slice_index white r)) (sym (get_or-map (λ w. w % 2 ^ 32) rows r 0))
+      (subst (λ n. AreOthers n (slice_index white r) (slice_index rows r % 2 ^ 32)) (sym long_black ∙ long_white) (each r within).0));
+  high = AreRowsOf-others black (high_halves rows) (length-map rows (λ w. w / 2 ^ 32) ∙ long_black)
+      (λ r below.
+      let within : r < length rows = omega (arith, below, long_black) in
+      subst (AreOthers (length black) (slice_index black r)) (sym (get_or-map (λ w. w / 2 ^ 32) rows r 0)) (each r within).1);
+}
+
+-- the rows of the same points
+moved : (side : ℕ) (test : Point → Bool) (rows other : List ℕ) → ((p : Point) → is_set other p ≡ is_set rows p) → AreRowsOf side test rows → AreRowsOf side test other
+moved side test rows other same are = record { on = λ p on. same p ∙ are.on p on; off = λ p is. are.off p (sym (same p) ∙ is) }
+
+module _ (g : Grid) (black white first region : List ℕ) (small : g.side < 32) (is_black : AreRowsOf g.side (λ p. same_cell (cell_at g p) BlackStone) black) (is_white : AreRowsOf g.side (λ p. same_cell (cell_at g p) WhiteStone) white) (all_black : length black ≡ g.side) (all_white : length white ≡ g.side) (pair : ArePaired black white first) (others : AreOthersPaired black white region) where
+  region_low : AreRowsOf g.side (λ p. is_either (cell_at g p) Empty BlackStone) (low_halves region)
+  region_low = region_is g Black white (low_halves region) is_white all_white others.low
+
+  region_high : AreRowsOf g.side (λ p. is_either (cell_at g p) Empty WhiteStone) (high_halves region)
+  region_high = region_is g White black (high_halves region) is_black all_black others.high
+
+  seed_low : AreRowsOf g.side (λ p. same_cell (cell_at g p) BlackStone) (low_halves first)
+  seed_low = moved g.side _ black (low_halves first) pair.low is_black
+
+  seed_high : AreRowsOf g.side (λ p. same_cell (cell_at g p) WhiteStone) (high_halves first)
+  seed_high = moved g.side _ white (high_halves first) pair.high is_white
+
+  reaches_low : (p : Point) → is_set (low_halves first) p ≡ true → (is_set (low_halves region) p ≡ true) × (reaches g BlackStone p ≡ true)
+  reaches_low = seed_reaches g Empty BlackStone (low_halves region) (low_halves first) region_low seed_low
+
+  reaches_high : (p : Point) → is_set (high_halves first) p ≡ true → (is_set (high_halves region) p ≡ true) × (reaches g WhiteStone p ≡ true)
+  reaches_high = seed_reaches g Empty WhiteStone (high_halves region) (high_halves first) region_high seed_high
+
+  pub stones_within : IsAmong (is_set first) (is_set region)
+  stones_within = among_by_halves first region (λ p is. (reaches_low p is).0) (λ p is. (reaches_high p is).0)
+
+  gap : (p : Point) → is_set region p ≡ true → p.col ≢ 31
+  gap p is at = grind (arith, common_steps, low_from, region_low)
+
+  -- the points of the words whose points in a half reach its colour
+  reaching : Point → Bool
+  reaching p = cond (nat_lt p.col 32) (reaches g BlackStone p) (reaches g WhiteStone (unshifted p))
+
+  at_low : (p : Point) → p.col < 32 → reaching p ≡ reaches g BlackStone p
+  unfolding reaching
+  at_low p low = ap (λ b. cond b (reaches g BlackStone p) (reaches g WhiteStone (unshifted p))) ((Decides-ltb p.col 32).1 low)
+
+  at_high : (p : Point) → 32 ≤ p.col → reaching p ≡ reaches g WhiteStone (unshifted p)
+  unfolding reaching
+  at_high p from = grind (arith, common_steps, Decides-ltb, false_from_ne_true, unshifted)
+
+  module _ (rows : List ℕ) (grows : Grows (is_set region) (is_set first) (is_set rows)) (closed : IsClosed (is_set region) (is_set rows)) where
+    all_reach : (p : Point) → is_set rows p ≡ true → reaching p ≡ true
+    all_reach p is =
+        (and_parts _ _
+        (grows.least (λ q. is_set region q && reaching q)
+        (λ q r adjacent there in_it.
+        let both = and_parts _ _ in_it in
         and_from _ _ there
-        (elim (cases_lt p.col 32) [
-          | inr from ↦ or_left _ _ (le-leb 32 p.col from)
-          | inl below ↦
-              let near : q.col < 32 = stays_low p q adjacent below (gap p there) in
-              or_right _ _
-              (shut p q adjacent (low_from region p below there)
-              (elim (or_cases (nat_le 32 q.col) (set q) both.1) [ inl high ↦ absurd (let far : 32 ≤ q.col = leb-true 32 q.col high in omega (arith, near, far)) | inr in_set ↦ in_set ]))
-        ])
-
-    with_low_closed : IsClosed (is_set (high_halves region)) set → IsClosed (is_set region) with_low
-    unfolding with_low
-    with_low_closed shut p q adjacent there is =
-        let both = and_parts _ _ is in
-        and_from _ _ there
-        (elim (cases_lt p.col 32) [
-          | inl below ↦ or_left _ _ ((Decides-ltb p.col 32).1 below)
+        (elim (cases_lt q.col 32) [
+          | inl low ↦
+              let near = stays_low q r adjacent low (gap q there) in
+              at_low q low
+              ∙ reaching_closed g Empty BlackStone (low_halves region) (low_halves first) region_low seed_low q r adjacent (low_from region q low there) (low_from region r near both.0)
+              (sym (at_low r near) ∙ both.1)
           | inr from ↦
-              let near : 32 ≤ q.col = stays_high p q adjacent from (gap q both.0) in
-              or_right _ _
-              (shut (unshifted p) (unshifted q) (adjacent_unshifted p q from near adjacent) (high_from region p from there)
-              (elim (or_cases (nat_lt q.col 32) (set (unshifted q)) both.1) [ inl low ↦ absurd (let far : q.col < 32 = (Decides-ltb q.col 32).0 low in omega (arith, near, far)) | inr in_set ↦ in_set ]))
-        ])
-
-  pub Grows-low : Grows (is_set (low_halves region)) (is_set (low_halves seed)) (is_set (low_halves rows))
-  unfolding with_high
-  Grows-low = record {
-    within = λ p is. let at = low_parts rows p is in low_from region p at.0 (grows.within p at.1);
-    kept = λ p is. let at = low_parts seed p is in low_from rows p at.0 (grows.kept p at.1);
-    least = λ set shut part.
-        λ p is.
-        let at = low_parts rows p is in
-        let found = grows.least (with_high set) (with_high_closed set shut)
-        (λ q of_seed.
-        and_from _ _ (seed_in q of_seed)
+              let near = stays_high q r adjacent from (gap r both.0) in
+              at_high q from
+              ∙ reaching_closed g Empty WhiteStone (high_halves region) (high_halves first) region_high seed_high (unshifted q) (unshifted r) (adjacent_unshifted q r from near adjacent)
+              (high_from region q from there) (high_from region r near both.0) (sym (at_high r near) ∙ both.1)
+        ]))
+        (λ q there.
+        and_from _ _ (stones_within q there)
         (elim (cases_lt q.col 32) [
-          | inr from ↦ or_left _ _ (le-leb 32 q.col from)
-          | inl below ↦ or_right _ _ (part q (low_from seed q below of_seed))
-        ])) p at.1 in
-        elim (or_cases (nat_le 32 p.col) (set p) (and_parts _ _ found).1) [ inl high ↦ absurd (let far : 32 ≤ p.col = leb-true 32 p.col high in omega (arith, at.0, far)) | inr in_set ↦ in_set ];
-  }
+          | inl low ↦ at_low q low ∙ (reaches_low q (low_from first q low there)).1
+          | inr from ↦ at_high q from ∙ (reaches_high (unshifted q) (high_from first q from there)).1
+        ])) p is)).1
 
-  pub Grows-high : Grows (is_set (high_halves region)) (is_set (high_halves seed)) (is_set (high_halves rows))
-  unfolding with_low
-  Grows-high = record {
-    within = λ p is. in_high region p ∙ grows.within (shifted p) (sym (in_high rows p) ∙ is);
-    kept = λ p is. in_high rows p ∙ grows.kept (shifted p) (sym (in_high seed p) ∙ is);
-    least = λ set shut part.
-        λ p is.
-        let found = grows.least (with_low set) (with_low_closed set shut)
-        (λ q of_seed.
-        and_from _ _ (seed_in q of_seed)
-        (elim (cases_lt q.col 32) [
-          | inl below ↦ or_left _ _ ((Decides-ltb q.col 32).1 below)
-          | inr from ↦ or_right _ _ (part (unshifted q) (high_from seed q from of_seed))
-        ])) (shifted p) (sym (in_high rows p) ∙ is) in
-        elim (or_cases (nat_lt (32 + p.col) 32) (set (unshifted (shifted p))) (and_parts _ _ found).1) [
-          | inl low ↦ absurd (let below : 32 + p.col < 32 = (Decides-ltb (32 + p.col) 32).0 low in omega (arith, below))
-          | inr in_set ↦ ap set (sym (back_again p)) ∙ in_set
-        ];
-  }
+    area_low : AreRowsOf g.side (reaches_through_own g Empty BlackStone) (low_halves rows)
+    area_low =
+        AreRowsOf-filled g Empty BlackStone (low_halves region) (low_halves first) region_low seed_low (low_halves rows)
+        (among_low rows region grows.within) (among_low first rows grows.kept) (IsClosed-low region rows closed)
+        (λ p is. let at = low_parts rows p is in sym (at_low p at.0) ∙ all_reach p at.1)
+
+    area_high : AreRowsOf g.side (reaches_through_own g Empty WhiteStone) (high_halves rows)
+    area_high =
+        AreRowsOf-filled g Empty WhiteStone (high_halves region) (high_halves first) region_high seed_high (high_halves rows)
+        (among_high rows region grows.within) (among_high first rows grows.kept) (IsClosed-high region rows closed)
+        (λ p is. ap (reaches g WhiteStone) (sym (back_again p)) ∙ sym (at_high (shifted p) (omega arith)) ∙ all_reach (shifted p) (sym (in_high rows p) ∙ is))
+
+    pub areas : AreRowsOf g.side (reaches_through_own g Empty BlackStone) (low_halves rows) × AreRowsOf g.side (reaches_through_own g Empty WhiteStone) (high_halves rows)
+    areas = (area_low, area_high)

@@ -1,27 +1,27 @@
 -- The group of a stone, and the points beside it.
 use Rattle.std.proofs.Common.{◌≡◌, ◌≢◌, inl, inr, ℕ, zero, suc, ◌+◌, ◌*◌, ◌/◌, ◌%◌, ◌^◌, ◌<◌, subst, true, false, w64, List, length, get_or, set, take, replicate, bit_and, bit_or, slice_index, refl, sym, ap, ◌∙◌, arith}
-use Rattle.std.proofs.lemmas.Bool.{or_cases, or_left, or_right, and_parts, false≢true, cases_eq}
+use Rattle.std.proofs.lemmas.Grind.{common_steps}
+use Rattle.std.proofs.lemmas.Bool.{or_cases, or_left, or_right, and_parts, and_from, false≢true, cases_eq}
 use Rattle.std.specs.Int.{trailing_zeros}
-use Rattle.std.proofs.lemmas.List.{length-set, get_or-set_same, get_or-set_other}
+use Rattle.std.proofs.lemmas.List.{length-set, get_or-set_other}
 use Rattle.go_board.specs.declared.points.Point.{Point}
 use Rattle.go_board.specs.declared.board.liberty.RowStones.{RowStones}
 use Rattle.go_board.specs.Point.{IsOn, DifferByOne, AreAdjacent}
 use Rattle.go_board.specs.inner.Rows.{has_bit, is_set, IsPart, HasBeside, IsRowClosed, IsTaken, Grows, IsInOrBeside}
-use Rattle.go_board.specs.inner.Linked.{HasLiberty, IsLiberty, IsLinked}
+use Rattle.go_board.specs.inner.Linked.{HasLiberty}
 use Rattle.go_board.specs.inner.Fill.{IsFilledBut}
 use Rattle.go_board.specs.inner.Glance.{IsRowAt}
-use Rattle.go_board.proofs.NeighbourLemmas.{DifferByOne-sym}
-use Rattle.go_board.proofs.GrowLemmas.{Grows-none}
-use Rattle.go_board.proofs.FillLemmas.{closed_still}
-use Rattle.go_board.proofs.WordLemmas.{has_bit-or, has_bit-and, has_bit-left, from_left, has_bit-right, has_bit-zero}
+use Rattle.go_board.proofs.PointLemmas.{DifferByOne-sym}
+use Rattle.go_board.proofs.GrowLemmas.{set_there, set_elsewhere, Grows-none, closed_still}
+use Rattle.go_board.proofs.WordLemmas.{has_bit-or, has_bit-and, has_bit-left, from_left, has_bit-right, has_bit-zero, column_below}
 use Rattle.go_board.proofs.SweepLemmas.{lowest_left}
 
 -- the columns of two rows and those beside the columns of the row between them
 abbrev pub beside_columns : ℕ → ℕ → ℕ → ℕ
 beside_columns above here below = bit_or (bit_or (bit_or above below) (here * 2 ^ 1 % 2 ^ 64)) (here / 2 ^ 1)
 
-pub beside-from : (above here below col : ℕ) → has_bit (beside_columns above here below) col ≡ true → IsInOrBeside above here below col
-beside-from above here below col is =
+pub beside_from : (above here below col : ℕ) → has_bit (beside_columns above here below) col ≡ true → IsInOrBeside above here below col
+beside_from above here below col is =
     elim (or_cases _ _ (sym (has_bit-or (bit_or (bit_or above below) (here * 2 ^ 1 % 2 ^ 64)) (here / 2 ^ 1) col) ∙ is)) [
       | inr right ↦ inr (inr (suc col, inl (omega arith), sym (has_bit-right here col) ∙ right))
       | inl rest ↦
@@ -32,23 +32,8 @@ beside-from above here below col is =
           ]
     ]
 
-pub beside-to : (above here below col : ℕ) → col < 64 → IsInOrBeside above here below col → has_bit (beside_columns above here below) col ≡ true
-beside-to above here below col low is =
-    has_bit-or (bit_or (bit_or above below) (here * 2 ^ 1 % 2 ^ 64)) (here / 2 ^ 1) col
-    ∙ (elim is [
-      | inl up ↦
-          or_left _ _
-          (has_bit-or (bit_or above below) (here * 2 ^ 1 % 2 ^ 64) col ∙ or_left _ _ (has_bit-or above below col ∙ or_left _ _ up))
-      | inr (inl down) ↦
-          or_left _ _
-          (has_bit-or (bit_or above below) (here * 2 ^ 1 % 2 ^ 64) col ∙ or_left _ _ (has_bit-or above below col ∙ or_right _ _ down))
-      | inr (inr (d, inl next, there)) ↦
-          or_right _ _ (has_bit-right here col ∙ ap (has_bit here) (omega arith) ∙ there)
-      | inr (inr (d, inr next, there)) ↦
-          or_left _ _
-          (has_bit-or (bit_or above below) (here * 2 ^ 1 % 2 ^ 64) col
-          ∙ or_right _ _ (ap (has_bit (here * 2 ^ 1 % 2 ^ 64)) (sym next) ∙ has_bit-left here d (omega arith) ∙ there))
-    ])
+pub beside_to : (above here below col : ℕ) → col < 64 → IsInOrBeside above here below col → has_bit (beside_columns above here below) col ≡ true
+beside_to above here below col low is = grind (arith, common_steps, has_bit-left, has_bit-or, has_bit-right, or_left, or_right)
 
 -- a column that two sets have in common
 pub common_column : (a b : ℕ) → a < 2 ^ 64 → bit_and a b ≢ 0 → (col : ℕ) × (has_bit a col ≡ true) × (has_bit b col ≡ true)
@@ -57,28 +42,29 @@ common_column a b low some =
     let both = and_parts _ _ (sym (has_bit-and a b (trailing_zeros w64 (bit_and a b))) ∙ lowest.0) in
     (trailing_zeros w64 (bit_and a b), both.0, both.1)
 
+-- where a word has no column with a liberty, none of its stones has one
+pub none_lives : (own others : List ℕ) (row word alive : ℕ) → word < 2 ^ 64 → ((stone : Point) → stone.row ≡ row → stone.col < 64 → HasLiberty own others stone → has_bit alive stone.col ≡ true) → bit_and word alive ≡ 0 → (stone : Point) → stone.row ≡ row → has_bit word stone.col ≡ true → ¬ (HasLiberty own others stone)
+none_lives own others row word alive low to none stone at there free =
+    false≢true
+    (sym (ap (λ w. has_bit w stone.col) none ∙ has_bit-zero stone.col) ∙ has_bit-and word alive stone.col
+    ∙ and_from _ _ there (to stone at (column_below 64 word stone.col low there) free))
+
 -- with no row set no point is
 pub none_in_front : (n m : ℕ) (words : List ℕ) (p : Point) → words ≡ replicate m 0 → is_set (take n words) p ≡ false
-none_in_front n m words p is = ap (λ ws. is_set (take n ws) p) is ∙ ap (λ w. has_bit w p.col) (zeros n m p.row) ∙ has_bit-zero p.col
-  where
-    zeros : (n m r : ℕ) → ◌≡◌ {A = ℕ} (get_or (take n (replicate m 0)) r 0) 0
-    zeros zero m r = refl
-    zeros (suc n) zero r = refl
-    zeros (suc n) (suc m) zero = refl
-    zeros (suc n) (suc m) (suc r) = zeros n m r
+none_in_front n m words p is = grind (arith, common_steps, has_bit-zero, suc, zero)
 
 -- the points around a row that have no stone
 module _ (own others : List ℕ) (row : ℕ) (above here below : RowStones) (is_above : IsRowAt own others row 1 above) (is_here : IsRowAt own others row 2 here) (is_below : IsRowAt own others row 3 below) where
   pub free_beside : (col : ℕ) → IsInOrBeside above.free here.free below.free col → HasLiberty own others (record { col = col; row = row })
   free_beside col (inl up) =
       let f = is_above.are_free col up in
-      (f.0, (f.2, f.3, f.4), inl (f.1.0, inl (omega (arith, f.1.1))))
+      (f.0, f.2, inl (f.1.0, inl (omega (arith, f.1.1))))
   free_beside col (inr (inl down)) =
       let f = is_below.are_free col down in
-      (f.0, (f.2, f.3, f.4), inl (f.1.0, inr (omega (arith, f.1.1))))
+      (f.0, f.2, inl (f.1.0, inr (omega (arith, f.1.1))))
   free_beside col (inr (inr (d, differ, there))) =
       let f = is_here.are_free d there in
-      (f.0, (f.2, f.3, f.4), inr (omega (arith, f.1.1), subst (λ n. DifferByOne n col) (sym f.1.0) (DifferByOne-sym col d differ)))
+      (f.0, f.2, inr (omega (arith, f.1.1), subst (λ n. DifferByOne n col) (sym f.1.0) (DifferByOne-sym col d differ)))
 
 -- the free columns of a row around another one
 abbrev pub HasFree : List ℕ → List ℕ → ℕ → ℕ → ℕ → Type 0
@@ -93,66 +79,24 @@ open_beside own others row above here below is_above is_here is_below p q at on 
 open_beside own others row above here below is_above is_here is_below p q at on (inr (rows, differ)) not_own not_other =
     inr (inr (p.col, DifferByOne-sym p.col q.col differ, is_here p (omega (arith, rows, at)) on not_own not_other))
 
-module _ (own others : List ℕ) (from : Point) where
-  -- a stone joined to the first one in its row that has a liberty
-  pub IsLiberty-joined : (word row : ℕ) → row ≡ from.row → IsPart (has_bit word) (has_bit (slice_index own from.row)) → ((k : ℕ) → has_bit word k ≡ true → IsLinked (is_set own) from (record { col = k; row = from.row })) → (alive : ℕ) → ((k : ℕ) → has_bit alive k ≡ true → HasLiberty own others (record { col = k; row = row })) → ((k : ℕ) × (has_bit word k ≡ true) × (has_bit alive k ≡ true)) → (p : Point) × IsLiberty own others from p
-  IsLiberty-joined word row at within linked alive has (k, joined, lives) = (
-    record { col = k; row = from.row },
-    record {
-      own_stone = within k joined;
-      linked = linked k joined;
-      liberty = subst (λ r. HasLiberty own others (record { col = k; row = r })) at (has k lives);
-    },
-  )
+-- at first the group is some stones of one row, and has all stones of its row beside them
+module _ (own old : List ℕ) (row word : ℕ) (none : (p : Point) → is_set old p ≡ false) (within_row : row < length old) where
+  abbrev first : List ℕ
+  first = set old row word
 
-  -- at first the group is some stones of one row, and has all stones of its row beside them
-  module _ (old first : List ℕ) (word : ℕ) (none : (p : Point) → is_set old p ≡ false) (within_row : from.row < length old) (first_is : first ≡ set old from.row word) where
-    row_of_first : slice_index first from.row ≡ word
-    row_of_first = ap (λ rows. slice_index rows from.row) first_is ∙ get_or-set_same old from.row word 0 within_row
+  pub of_first : (k : ℕ) → has_bit word k ≡ true → has_bit (slice_index (set old row word) row) k ≡ true
+  of_first k is = set_there old row word within_row (record { col = k; row = row }) refl ∙ is
 
-    pub in_first : (p : Point) → is_set first p ≡ true → (p.row ≡ from.row) × (has_bit word p.col ≡ true)
-    in_first p is =
-        elim (cases_eq p.row from.row) [
-          | inl row ↦
-              (row, ap (λ w. has_bit w p.col) (sym row_of_first) ∙ ap (λ r. has_bit (slice_index first r) p.col) (sym row) ∙ is)
-          | inr other ↦
-              absurd (false≢true
-              (sym (ap (λ rows. is_set rows p) first_is ∙ ap (λ w. has_bit w p.col) (get_or-set_other old from.row p.row word 0 other) ∙ none p) ∙ is))
-        ]
+  pub in_first : (p : Point) → is_set (set old row word) p ≡ true → (p.row ≡ row) × (has_bit word p.col ≡ true)
+  in_first p is = grind (arith, common_steps, set_elsewhere, set_there)
 
-    pub of_first : (k : ℕ) → has_bit word k ≡ true → has_bit (slice_index first from.row) k ≡ true
-    of_first k is = ap (λ w. has_bit w k) row_of_first ∙ is
+  module _ (part : IsPart (has_bit word) (has_bit (slice_index own row))) (shut : HasBeside (has_bit (slice_index own row)) (has_bit word)) where
+    row_closed : IsRowClosed (is_set own) (is_set first) row
+    row_closed p q same (inl (cols, differ)) own_p is = absurd (omega (arith, differ, same, (in_first q is).0))
+    row_closed p q same (inr (rows, differ)) own_p is =
+        ap (λ r. has_bit (slice_index first r) p.col) same
+        ∙ of_first p.col (shut p.col q.col differ (ap (λ r. has_bit (slice_index own r) p.col) (sym same) ∙ own_p) (in_first q is).1)
 
-    module _ (part : IsPart (has_bit word) (has_bit (slice_index own from.row))) (shut : HasBeside (has_bit (slice_index own from.row)) (has_bit word)) where
-      row_closed : IsRowClosed (is_set own) (is_set first) from.row
-      row_closed p q row (inl (cols, differ)) own_p is =
-          absurd (omega (arith, differ, row, (in_first q is).0))
-      row_closed p q row (inr (rows, differ)) own_p is =
-          ap (λ r. has_bit (slice_index first r) p.col) row
-          ∙ of_first p.col (shut p.col q.col differ (ap (λ r. has_bit (slice_index own r) p.col) (sym row) ∙ own_p) (in_first q is).1)
-
-      -- all rows but those that wait are closed
-      pub first_filled : (waiting : ℕ) → length old ≡ length own → ((r : ℕ) → has_bit waiting r ≡ true → r < length own) → ((r : ℕ) → DifferByOne r from.row → r < length own → has_bit waiting r ≡ false → IsTaken own first r (slice_index first from.row)) → IsFilledBut own first first waiting
-      first_filled waiting long rows_in taken = record {
-        all = ap (λ (l : List ℕ). length l) first_is ∙ length-set old from.row word ∙ long;
-        grows = Grows-none own first (λ p is. (let w = in_first p is in ap (λ r. has_bit (slice_index own r) p.col) w.0 ∙ part p.col w.1));
-        rows_in = rows_in;
-        closed = λ r below none_waits.
-            elim (cases_eq r from.row) [
-              | inl same ↦ subst (IsRowClosed (is_set own) (is_set first)) (sym same) row_closed
-              | inr other ↦
-                  closed_still own old first from.row r (λ p is. absurd (false≢true (sym (none p) ∙ is)))
-                  (λ k elsewhere. ap (λ l. slice_index l k) first_is ∙ get_or-set_other old from.row k word 0 elsewhere)
-                  other
-                  (λ p q at adjacent own_p is. absurd (false≢true (sym (none q) ∙ is)))
-                  (λ differ. taken r differ below none_waits)
-            ];
-      }
-
-  -- a stone of the group that has a liberty
-  pub IsLiberty-in : (first group : List ℕ) (q : Point) → ((x : Point) → is_set first x ≡ true → IsLinked (is_set own) from x) → Grows (is_set own) (is_set first) (is_set group) → is_set group q ≡ true → HasLiberty own others q → IsLiberty own others from q
-  IsLiberty-in first group q linked grows is liberty = record {
-    own_stone = grows.within q is;
-    linked = λ set closed has. grows.least set closed (λ x there. linked x there set closed has) q is;
-    liberty = liberty;
-  }
+    -- all rows but those that wait are closed
+    pub first_filled : (waiting : ℕ) → length old ≡ length own → ((r : ℕ) → has_bit waiting r ≡ true → r < length own) → ((r : ℕ) → DifferByOne r row → r < length own → has_bit waiting r ≡ false → IsTaken own (set old row word) r (slice_index (set old row word) row)) → IsFilledBut own (set old row word) (set old row word) waiting (length own)
+    first_filled waiting long rows_in taken = grind (arith, common_steps, closed_still, get_or-set_other, in_first, length-set, row_closed, slice_index)

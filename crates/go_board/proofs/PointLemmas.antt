@@ -1,5 +1,6 @@
 -- Points, their indices in a list that goes row by row, and tests on the points of a grid.
 use Rattle.std.proofs.Common.{◌≡◌, ◌≢◌, ◌↔◌, Some, slice_get, subst, ℕ, zero, suc, ◌+◌, ◌*◌, ◌<◌, ◌⊎◌, Bool, true, List, [], ◌∷◌, map, take, length, get_or, refl, sym, ap, ◌∙◌, arith, Decides, inl, inr}
+use Rattle.std.proofs.lemmas.Grind.{common_steps}
 use Rattle.std.specs.List.{list_any, Contains}
 use Rattle.std.proofs.lemmas.Nat.{mul-add-lt, mod-mul-add, div-mul-add, rows}
 use Rattle.std.proofs.lemmas.List.{get_or-map, ext_get_or, length-map, take_more}
@@ -10,7 +11,7 @@ use Rattle.std.proofs.lemmas.List.Folds.{list_any_at}
 use Rattle.std.proofs.lemmas.Bool.{cases_eq}
 use Rattle.std.proofs.lemmas.Bool.Decides.{Decides-eqb, Decides-and, Decides-or, Decides-by_or}
 use Rattle.go_board.specs.declared.points.Point.{Point}
-use Rattle.go_board.specs.Point.{IsOn, AreAdjacent, are_adjacent, index_of, point_at, points}
+use Rattle.go_board.specs.Point.{IsOn, AreAdjacent, are_adjacent, index_of, point_at, points, DifferByOne}
 
 -- the upper left corner
 abbrev pub origin : Point
@@ -113,23 +114,21 @@ Decides-some_point side test P each = (
 )
 
 pub Decides-are_adjacent : (p q : Point) → Decides (are_adjacent p q) (AreAdjacent p q)
-Decides-are_adjacent p q =
-    Decides-or _ _ (Decides-and _ _ (Decides-eqb _ _) (Decides-or _ _ (Decides-eqb _ _) (Decides-eqb _ _)))
-    (Decides-and _ _ (Decides-eqb _ _) (Decides-or _ _ (Decides-eqb _ _) (Decides-eqb _ _)))
+Decides-are_adjacent p q = grind (arith, common_steps, Decides-and, Decides-eqb, Decides-or)
 
 -- two points are one or not
 pub same_or_not : (p q : Point) → (p ≡ q) ⊎ (p ≢ q)
-same_or_not p q =
-    elim (cases_eq p.col q.col) [
-      | inl col ↦
-          elim (cases_eq p.row q.row) [
-            | inl row ↦ inl (one_point p q col row)
-            | inr other ↦ inr (λ e. other (ap (λ r. r.row) e))
-          ]
-      | inr other ↦ inr (λ e. other (ap (λ r. r.col) e))
-    ]
+same_or_not p q = grind (arith, common_steps, one_point)
 
 -- a point at an index of a list that goes row by row; after its end, only the index is known
 pub record IsAt (side index : ℕ) (p : Point) : Type 0 where
   pub at_index : index_of side p ≡ index
   pub in_columns : index < side * side → p.col < side
+
+pub DifferByOne-sym : (a b : ℕ) → DifferByOne a b → DifferByOne b a
+DifferByOne-sym a b (inl e) = inr e
+DifferByOne-sym a b (inr e) = inl e
+
+pub AreAdjacent-sym : (p q : Point) → AreAdjacent p q → AreAdjacent q p
+AreAdjacent-sym p q (inl (e, d)) = inl (sym e, DifferByOne-sym _ _ d)
+AreAdjacent-sym p q (inr (e, d)) = inr (sym e, DifferByOne-sym _ _ d)

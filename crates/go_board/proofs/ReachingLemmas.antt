@@ -1,5 +1,6 @@
 -- The function `reaches` and the paths: they agree at each point of the grid.
 use Rattle.std.proofs.Common.{◌≡◌, ◌⊎◌, inl, inr, ℕ, zero, suc, ◌+◌, ◌*◌, ◌<◌, Bool, true, false, List, [], ◌∷◌, length, get_or, refl, sym, ap, subst, ◌∙◌, arith, Decides, count_by, cond}
+use Rattle.std.proofs.lemmas.Grind.{common_steps}
 use Rattle.std.proofs.lemmas.List.Sums.{count_by-le-length, sum_by-cons}
 use Rattle.std.proofs.lemmas.Bool.Decides.{Decides-and, Decides-or, Decides-at, Decides-like}
 use Rattle.go_board.specs.declared.stones.Cell.{Cell}
@@ -153,12 +154,7 @@ module _ (g : Grid) (k : Cell) where
 
   settled : reaching_within g k (suc (g.side * g.side)) ≡ reaching_within g k (g.side * g.side)
   unfolding Settles
-  settled =
-      let all = g.side * g.side in
-      elim (settles all) [
-        | inl done ↦ done
-        | inr many ↦ absurd (omega (arith, count_by-le-length (λ b. b) (marks_after (suc all)), length-marks_after (suc all)))
-      ]
+  settled = grind (arith, common_steps, count_by-le-length, length-marks_after, marks_after, settles, suc)
 
   from_colour : (n : ℕ) (p : Point) → cell_at g p ≡ k → Within g k n p
   unfolding Within
@@ -183,7 +179,4 @@ module _ (g : Grid) (k : Cell) where
 -- the function `reaches` and the paths agree
 pub Decides-reaches : (g : Grid) (k : Cell) (p : Point) → IsOn g.side p → Decides (reaches g k p) (Reaches g k p)
 unfolding reaches
-Decides-reaches g k p on =
-    Decides-like _ (Reaches-Within g k (g.side * g.side) p on)
-    (λ way. Within-all g k (length way.0) p on (Within-Leads g (cell_at g p) k p way.0 way.1))
-    (Decides-reaching_within g k (g.side * g.side) p on)
+Decides-reaches g k p on = grind (arith, common_steps, Decides-like, Decides-reaching_within, Reaches-Within, Within-Leads, Within-all)

@@ -1,8 +1,8 @@
 -- Rows of words that have the points of a grid with certain cells, and those that reach a colour through them.
 use Rattle.std.proofs.Common.{◌≡◌, ◌≢◌, ◌⊎◌, inl, inr, ℕ, ◌+◌, ◌-◌, ◌*◌, ◌^◌, ◌%◌, ◌<◌, ◌==◌, ◌||◌, ◌&&◌, Bool, true, false, not, List, [], ◌∷◌, length, get_or, set, slice_index, bit_and, bit_or, w64, refl, sym, ap, ◌∙◌, arith, subst}
+use Rattle.std.proofs.lemmas.Grind.{common_steps}
 use Rattle.std.proofs.lemmas.Bool.{or_cases, or_left, or_right, and_parts, and_from, false≢true, cases_lt, cases_eq}
 use Rattle.std.specs.Int.{bit_not}
-use Rattle.std.proofs.Math.Bool.{or_self}
 use Rattle.std.proofs.Math.Nat.{mod-eq_of_lt}
 use Rattle.std.proofs.lemmas.Nat.{pow_below}
 use Rattle.std.proofs.lemmas.List.{get_or-set_same, get_or-set_other}
@@ -15,37 +15,33 @@ use Rattle.go_board.specs.declared.stones.Colour.TheVariants.{Black as BlackPlay
 use Rattle.go_board.specs.Colour.{opponent, stone_of, same_cell}
 use Rattle.go_board.specs.Point.{IsOn, AreAdjacent}
 use Rattle.go_board.specs.Grid.{Grid, cell_at}
-use Rattle.go_board.specs.Reaching.{Leads, Reaches, reaches}
+use Rattle.go_board.specs.Reaching.{Leads, reaches}
 use Rattle.go_board.specs.inner.Rows.{has_bit, is_set, IsAmong, IsClosed, Grows}
 use Rattle.go_board.specs.inner.Regions.{is_either, AreRowsOf, IsDifference, reaches_through_own}
 use Rattle.go_board.proofs.GridLemmas.{Decides-same_cell}
 use Rattle.go_board.proofs.GrowLemmas.{row_below}
 use Rattle.go_board.proofs.WordLemmas.{has_bit-and, has_bit-without, bit_at-gone}
-use Rattle.go_board.proofs.ReachingLemmas.{Decides-reaches}
+use Rattle.go_board.proofs.ReachingLemmas.{Decides-reaches, path_by_step}
 
 -- a word with one bit set
-pub has_bit-set_there : (word col : ℕ) (b : Bool) → b ≡ true → col < 64 → has_bit (bit_or word (1 * 2 ^ col % 2 ^ 64)) col ≡ (has_bit word col || b)
-has_bit-set_there word col b is low =
+pub set_bit_there : (word col : ℕ) (b : Bool) → b ≡ true → col < 64 → has_bit (bit_or word (1 * 2 ^ col % 2 ^ 64)) col ≡ (has_bit word col || b)
+set_bit_there word col b is low =
     ap (λ n. n == 1) (bit_at_set_same w64 word col low) ∙ sym (or_right (has_bit word col) b is)
 
-pub has_bit-set_elsewhere : (word col : ℕ) → col < 64 → (k : ℕ) → k ≢ col → has_bit (bit_or word (1 * 2 ^ col % 2 ^ 64)) k ≡ has_bit word k
-has_bit-set_elsewhere word col low k other = ap (λ n. n == 1) (bit_at_set_other w64 word col low k other)
+pub set_bit_elsewhere : (word col : ℕ) → col < 64 → (k : ℕ) → k ≢ col → has_bit (bit_or word (1 * 2 ^ col % 2 ^ 64)) k ≡ has_bit word k
+set_bit_elsewhere word col low k other = ap (λ n. n == 1) (bit_at_set_other w64 word col low k other)
 
 -- the columns of a row that aren't in a set
 mask_is : (side : ℕ) → side < 64 → 1 * 2 ^ side % 2 ^ 64 - 1 ≡ 2 ^ side - 2 ^ 0
-mask_is side small =
-    let less : 2 ^ side < 2 ^ 64 = pow_below side 64 small in
-    let one : 1 * 2 ^ side ≡ 2 ^ side = omega arith in
-    let unit : 2 ^ 0 ≡ 1 = omega arith in
-    ap (λ n. n % 2 ^ 64 - 1) one ∙ ap (λ n. n - 1) (mod-eq_of_lt less) ∙ ap (λ n. 2 ^ side - n) (sym unit)
+mask_is side small = grind (arith, common_steps, mod-eq_of_lt, pow_below)
 
-pub others-within : (word side col : ℕ) → word < 2 ^ 64 → side < 64 → col < side → has_bit (bit_and (1 * 2 ^ side % 2 ^ 64 - 1) (bit_not w64 word)) col ≡ not (has_bit word col)
-others-within word side col low small below =
+pub others_within : (word side col : ℕ) → word < 2 ^ 64 → side < 64 → col < side → has_bit (bit_and (1 * 2 ^ side % 2 ^ 64 - 1) (bit_not w64 word)) col ≡ not (has_bit word col)
+others_within word side col low small below =
     let inside : has_bit (1 * 2 ^ side % 2 ^ 64 - 1) col ≡ true = ap (λ n. has_bit n col) (mask_is side small) ∙ ap (λ n. n == 1) (bit_at_mask_inside 0 side col (omega arith) below) in
     has_bit-without (1 * 2 ^ side % 2 ^ 64 - 1) word col low (omega (arith, below, small)) ∙ ap (λ b. b && not (has_bit word col)) inside
 
-pub others-off : (word side col : ℕ) → side < 64 → has_bit (bit_and (1 * 2 ^ side % 2 ^ 64 - 1) (bit_not w64 word)) col ≡ true → col < side
-others-off word side col small is =
+pub others_off : (word side col : ℕ) → side < 64 → has_bit (bit_and (1 * 2 ^ side % 2 ^ 64 - 1) (bit_not w64 word)) col ≡ true → col < side
+others_off word side col small is =
     elim (cases_lt col side) [
       | inl below ↦ below
       | inr past ↦
@@ -55,11 +51,7 @@ others-off word side col small is =
 
 -- what holds of each row that is written, once one more is
 pub written_more : (P : ℕ → ℕ → Type 0) (rows : List ℕ) (row word : ℕ) → row < length rows → ((r : ℕ) → r < row → P r (slice_index rows r)) → P row word → (r : ℕ) → r < row + 1 → P r (slice_index (set rows row word) r)
-written_more P rows row word within before here r below =
-    elim (cases_eq r row) [
-      | inl same ↦ subst (λ k. P k (slice_index (set rows row word) k)) (sym same) (subst (P row) (sym (get_or-set_same rows row word 0 within)) here)
-      | inr other ↦ subst (P r) (sym (get_or-set_other rows row r word 0 other)) (before r (omega (arith, below, other)))
-    ]
+written_more P rows row word within before here r below = grind (arith, common_steps, get_or-set_other, get_or-set_same, slice_index)
 
 -- the columns of a row that aren't in a set
 abbrev pub AreOthers : ℕ → ℕ → ℕ → Type 0
@@ -75,12 +67,7 @@ AreRowsOf-others rows others long each = record {
 }
 
 pub IsDifference-all : (rows others left : List ℕ) → length left ≡ length rows → ((r : ℕ) → get_or others r 0 < 2 ^ 64) → ((r : ℕ) → r < length rows → slice_index left r ≡ bit_and (slice_index rows r) (bit_not w64 (slice_index others r))) → IsDifference rows others left
-IsDifference-all rows others left long low each = record {
-  on = λ p row col. ap (λ w. has_bit w p.col) (each p.row row) ∙ has_bit-without (get_or rows p.row 0) (get_or others p.row 0) p.col (low p.row) col;
-  off = λ p is.
-      let word = ap (λ w. has_bit w p.col) (each p.row (rw (← long) (row_below left p is))) in
-      (and_parts _ _ (sym (has_bit-and (get_or rows p.row 0) (bit_not w64 (get_or others p.row 0)) p.col) ∙ sym word ∙ is)).0;
-}
+IsDifference-all rows others left long low each = grind (arith, common_steps, and_parts, has_bit-and, has_bit-without, row_below)
 
 -- a word with no bit set
 pub row_zero : (rows : List ℕ) (row : ℕ) → ((p : Point) → is_set rows p ≡ false) → slice_index rows row ≡ 0
@@ -104,9 +91,7 @@ same_bools false true there back = back refl
 same_bools false false there back = refl
 
 either_is : (c one other : Cell) → is_either c one other ≡ true → (c ≡ one) ⊎ (c ≡ other)
-either_is c one other is =
-    elim (or_cases _ _ is)
-    [ inl first ↦ inl ((Decides-same_cell c one).0 first) | inr second ↦ inr ((Decides-same_cell c other).0 second) ]
+either_is c one other is = grind (arith, common_steps, Decides-same_cell, or_cases)
 
 pub either_first : (c one other : Cell) → c ≡ one → is_either c one other ≡ true
 either_first c one other is = or_left _ _ ((Decides-same_cell c one).1 is)
@@ -114,70 +99,44 @@ either_first c one other is = or_left _ _ ((Decides-same_cell c one).1 is)
 either_second : (c one other : Cell) → c ≡ other → is_either c one other ≡ true
 either_second c one other is = or_right _ _ ((Decides-same_cell c other).1 is)
 
--- a colour's points, and the points that haven't the other colour
-module _ (g : Grid) (k : Colour) (rows others region : List ℕ) (is_own : AreRowsOf g.side (λ p. same_cell (cell_at g p) (stone_of k)) rows) (is_other : AreRowsOf g.side (λ p. same_cell (cell_at g p) (stone_of (opponent k))) others) (all : length others ≡ g.side) (is_room : AreRowsOf (length others) (λ p. not (is_set others p)) region) where
-  pub seed_is : AreRowsOf g.side (λ p. is_either (cell_at g p) (stone_of k) (stone_of k)) rows
-  seed_is = AreRowsOf-same g.side _ _ rows (λ p on. sym (or_self (same_cell (cell_at g p) (stone_of k)))) is_own
+-- the points that haven't the other player's stones
+pub region_is : (g : Grid) (k : Colour) (others region : List ℕ) → AreRowsOf g.side (λ p. same_cell (cell_at g p) (stone_of (opponent k))) others → length others ≡ g.side → AreRowsOf (length others) (λ p. not (is_set others p)) region → AreRowsOf g.side (λ p. is_either (cell_at g p) Empty (stone_of k)) region
+region_is g k others region is_other all is_room = grind (arith, common_steps, AreRowsOf-same, not_other)
 
-  pub region_is : AreRowsOf g.side (λ p. is_either (cell_at g p) Empty (stone_of k)) region
-  region_is =
-      AreRowsOf-same g.side _ _ region (λ p on. ap not (is_other.on p on) ∙ not_other k (cell_at g p))
-      (subst (λ n. AreRowsOf n (λ p. not (is_set others p)) region) all is_room)
-
-module _ (g : Grid) (own wanted : Cell) (region seed result : List ℕ) (is_room : AreRowsOf g.side (λ p. is_either (cell_at g p) own wanted) region) (is_seed : AreRowsOf g.side (λ p. is_either (cell_at g p) wanted wanted) seed) (grows : Grows (is_set region) (is_set seed) (is_set result)) (closed : IsClosed (is_set region) (is_set result)) where
-  -- those of the region that reach the colour
-  reaching_in : Point → Bool
-  reaching_in p = is_set region p && reaches g wanted p
-
-  step_back : (p q : Point) → IsOn g.side p → IsOn g.side q → AreAdjacent p q → (cell_at g p ≡ own) ⊎ (cell_at g p ≡ wanted) → (cell_at g q ≡ own) ⊎ (cell_at g q ≡ wanted) → Reaches g wanted q → Reaches g wanted p
-  step_back p q on at adjacent (inr goal) cell way = ([], (on, goal))
-  step_back p q on at adjacent (inl own_p) (inr goal) way = (q ∷ [], (on, refl, adjacent, (at, goal)))
-  step_back p q on at adjacent (inl own_p) (inl own_q) way =
-      (q ∷ way.0, (on, refl, adjacent, subst (λ k. Leads g k wanted q way.0) (own_q ∙ sym own_p) way.1))
-
-  reaching_closed : IsClosed (is_set region) reaching_in
-  unfolding reaching_in
-  reaching_closed =
-      λ p q adjacent there is.
-      let both = and_parts _ _ is in
+module _ (g : Grid) (own wanted : Cell) (region seed : List ℕ) (is_room : AreRowsOf g.side (λ p. is_either (cell_at g p) own wanted) region) (is_seed : AreRowsOf g.side (λ p. same_cell (cell_at g p) wanted) seed) where
+  -- a point of the region beside one that reaches the colour reaches it, too
+  pub reaching_closed : (p q : Point) → AreAdjacent p q → is_set region p ≡ true → is_set region q ≡ true → reaches g wanted q ≡ true → reaches g wanted p ≡ true
+  reaching_closed p q adjacent there near is =
       let on = is_room.off p there in
-      let at = is_room.off q both.0 in
-      let cell_p = either_is _ own wanted (sym (is_room.on p on) ∙ there) in
-      let cell_q = either_is _ own wanted (sym (is_room.on q at) ∙ both.0) in
-      and_from _ _ there
-      ((Decides-reaches g wanted p on).1 (step_back p q on at adjacent cell_p cell_q ((Decides-reaches g wanted q at).0 both.1)))
+      let at = is_room.off q near in
+      let way = (Decides-reaches g wanted q at).0 is in
+      (Decides-reaches g wanted p on).1
+      (elim (either_is _ own wanted (sym (is_room.on p on) ∙ there)) [
+        | inr goal ↦ ([], (on, goal))
+        | inl own_p ↦
+            path_by_step g wanted p q on adjacent at
+            (elim (either_is _ own wanted (sym (is_room.on q at) ∙ near)) [ inl own_q ↦ inl (own_q ∙ sym own_p) | inr goal ↦ inr goal ]) way
+      ])
 
-  seed_reaches : IsAmong (is_set seed) reaching_in
-  unfolding reaching_in
-  seed_reaches =
-      λ p is.
-      let on = is_seed.off p is in
-      let goal : cell_at g p ≡ wanted =
-      elim (either_is _ wanted wanted (sym (is_seed.on p on) ∙ is)) [ inl e ↦ e | inr e ↦ e ] in
-      and_from _ _ (is_room.on p on ∙ either_second _ own wanted goal) ((Decides-reaches g wanted p on).1 ([], (on, goal)))
+  pub seed_reaches : (p : Point) → is_set seed p ≡ true → (is_set region p ≡ true) × (reaches g wanted p ≡ true)
+  seed_reaches p is = grind (arith, common_steps, Decides-reaches, Decides-same_cell, either_second)
 
-  goal_in : (p : Point) → IsOn g.side p → cell_at g p ≡ wanted → is_set result p ≡ true
-  goal_in p on goal = grows.kept p (is_seed.on p on ∙ either_first _ wanted wanted goal)
+  -- what a filling adds reaches the colour
+  pub filled_reaches : (result : List ℕ) → Grows (is_set region) (is_set seed) (is_set result) → (p : Point) → is_set result p ≡ true → reaches g wanted p ≡ true
+  filled_reaches result grows p is =
+      (and_parts _ _
+      (grows.least (λ q. is_set region q && reaches g wanted q)
+      (λ q r adjacent there in_it. let both = and_parts _ _ in_it in and_from _ _ there (reaching_closed q r adjacent there both.0 both.1))
+      (λ q there. let both = seed_reaches q there in and_from _ _ both.0 both.1) p is)).1
 
-  along : (p : Point) (path : List Point) → Leads g own wanted p path → is_set result p ≡ true
-  along p [] way = goal_in p way.0 way.1
-  along p (q ∷ path) way =
-      closed p q way.2 (is_room.on p way.0 ∙ either_first _ own wanted way.1) (along q path way.3)
+  module _ (result : List ℕ) (within : IsAmong (is_set result) (is_set region)) (kept : IsAmong (is_set seed) (is_set result)) (closed : IsClosed (is_set region) (is_set result)) (only : (p : Point) → is_set result p ≡ true → reaches g wanted p ≡ true) where
+    goal_in : (p : Point) → IsOn g.side p → cell_at g p ≡ wanted → is_set result p ≡ true
+    goal_in p on goal = kept p (is_seed.on p on ∙ (Decides-same_cell _ _).1 goal)
 
-  pub AreRowsOf-filled : AreRowsOf g.side (reaches_through_own g own wanted) result
-  unfolding reaching_in
-  AreRowsOf-filled = record {
-    on = λ p on.
-        same_bools _ _
-        (λ is.
-        let both = and_parts _ _ (grows.least reaching_in reaching_closed seed_reaches p is) in
-        and_from _ _ (sym (is_room.on p on) ∙ both.0) both.1)
-        (λ is.
-        let both = and_parts _ _ is in
-        let way = (Decides-reaches g wanted p on).0 both.1 in
-        elim (either_is _ own wanted both.0) [
-          | inl own_p ↦ along p way.0 (subst (λ k. Leads g k wanted p way.0) own_p way.1)
-          | inr goal ↦ goal_in p on goal
-        ]);
-    off = λ p is. is_room.off p (grows.within p is);
-  }
+    along : (p : Point) (path : List Point) → Leads g own wanted p path → is_set result p ≡ true
+    along p [] way = goal_in p way.0 way.1
+    along p (q ∷ path) way =
+        closed p q way.2 (is_room.on p way.0 ∙ either_first _ own wanted way.1) (along q path way.3)
+
+    pub AreRowsOf-filled : AreRowsOf g.side (reaches_through_own g own wanted) result
+    AreRowsOf-filled = grind (arith, common_steps, Decides-reaches, along, and_from, and_parts, either_is, goal_in, same_bools)

@@ -1,5 +1,6 @@
 -- Clearing, stones that don't reach empty, and the points that count for a player, by paths.
-use Rattle.std.proofs.Common.{◌≡◌, ◌≢◌, ◌*◌, Bool, true, false, not, ◌&&◌, cond, length, refl, Decides}
+use Rattle.std.proofs.Common.{◌≡◌, ◌≢◌, ◌*◌, Bool, true, false, not, ◌&&◌, cond, length, refl, Decides, arith}
+use Rattle.std.proofs.lemmas.Grind.{common_steps}
 use Rattle.std.proofs.lemmas.Bool.{false_from_ne_true}
 use Rattle.std.proofs.lemmas.Bool.Decides.{Decides-and, Decides-or, Decides-not, Decides-like}
 use Rattle.go_board.specs.declared.stones.Cell.{Cell}
@@ -67,9 +68,6 @@ Decides-all_three : {P Q R : Type 0} (x y z : Bool) → Decides x P → Decides 
 Decides-all_three x y z p q r =
     Decides-like _ (λ w. (w.0, w.1.0, w.1.1)) (λ w. (w.0, (w.1, w.2))) (Decides-and _ _ p (Decides-and _ _ q r))
 
-pub Decides-counts_for : (g : Grid) (k : Colour) (p : Point) → IsOn g.side p → Decides (counts_for g k p) (CountsFor g k p)
+pub decides_counts_for : (g : Grid) (k : Colour) (p : Point) → IsOn g.side p → Decides (counts_for g k p) (CountsFor g k p)
 unfolding counts_for
-Decides-counts_for g k p on =
-    Decides-or _ _ (Decides-same_cell _ _)
-    (Decides-all_three _ _ _ (Decides-same_cell _ _) (Decides-reaches g (stone_of k) p on)
-    (Decides-not _ (Decides-reaches g (stone_of (opponent k)) p on)))
+decides_counts_for g k p on = grind (arith, common_steps, Decides-all_three, Decides-not, Decides-or, Decides-reaches, Decides-same_cell)

@@ -1,5 +1,6 @@
 -- Grids on which stones reach empty: clearing them changes nothing, and after a move all do.
-use Rattle.std.proofs.Common.{◌≡◌, ◌≢◌, ◌⊎◌, inl, inr, ◌*◌, false, List, [], ◌∷◌, length, refl, sym, ◌∙◌, ℕ}
+use Rattle.std.proofs.Common.{◌≡◌, ◌≢◌, ◌⊎◌, inl, inr, ◌*◌, false, List, [], ◌∷◌, length, refl, sym, ◌∙◌, ℕ, arith}
+use Rattle.std.proofs.lemmas.Grind.{common_steps}
 use Rattle.std.proofs.lemmas.Bool.{cases_Bool, true≢false}
 use Rattle.std.proofs.lemmas.Bool.Decides.{not_from_Decides}
 use Rattle.go_board.specs.declared.stones.Cell.{Cell}
@@ -52,15 +53,7 @@ reaches_after_clear g k p way =
 
 -- a stone that clearing leaves was there before, and it reached empty if it has the colour
 left_stone : (g : Grid) (k d : Colour) (p : Point) → IsOn g.side p → cell_at (clear g k) p ≡ stone_of d → cell_at g p ≡ stone_of d
-left_stone g k d p on left =
-    elim (coloured_or_not (cell_at g p) (stone_of k)) [
-      | inl own ↦
-          elim (reaches_or_not g Empty p on) [
-            | inl way ↦ sym (kept g k p on way) ∙ sym (cell_at-clear g k p on) ∙ left
-            | inr shut ↦ absurd (stone_of≢Empty d (sym left ∙ cell_at-clear g k p on ∙ emptied g k p on own shut))
-          ]
-      | inr other ↦ sym (others_kept g k p other) ∙ sym (cell_at-clear g k p on) ∙ left
-    ]
+left_stone g k d p on left = grind (arith, common_steps, cell_at-clear, coloured_or_not, emptied, kept, others_kept, reaches_or_not, stone_of≢Empty)
 
 left_reaches : (g : Grid) (k : Colour) (p : Point) → IsOn g.side p → cell_at (clear g k) p ≡ stone_of k → Reaches g Empty p
 left_reaches g k p on left =
@@ -90,13 +83,7 @@ stone_reaches g k own others p on Empty is stone = absurd (stone refl)
 
 -- every stone reaches empty where those of a player and of her opponent do
 pub both_reach : (g : Grid) (k : Colour) → AllReach g k → AllReach g (opponent k) → has_unreaching g ≡ false
-both_reach g k own others =
-    elim (cases_Bool (has_unreaching g)) [
-      | inl some ↦
-          let w = (Decides-has_unreaching g).0 some in
-          absurd (w.3 (stone_reaches g k own others w.0 w.1 (cell_at g w.0) refl w.2))
-      | inr none ↦ none
-    ]
+both_reach g k own others = grind (arith, common_steps, Decides-has_unreaching, stone_reaches)
 
 -- after a move every stone reaches empty, however the grid was before
 pub settled_by_play : (g : Grid) (k : Colour) (p : Point) → has_unreaching (play g k p) ≡ false
@@ -119,13 +106,7 @@ AllReach-settled g k settled =
 
 -- nothing stands on an empty grid
 pub settled-empty_grid : (side : ℕ) → has_unreaching (empty_grid side) ≡ false
-settled-empty_grid side =
-    elim (cases_Bool (has_unreaching (empty_grid side))) [
-      | inl some ↦
-          let w = (Decides-has_unreaching (empty_grid side)).0 some in
-          absurd (w.2 (get_or-replicate_default (side * side) (index_of side w.0) Empty))
-      | inr none ↦ none
-    ]
+settled-empty_grid side = grind (arith, common_steps, Decides-has_unreaching, get_or-replicate_default)
 
 -- a move leaves the side
 pub side_play : (g : Grid) (k : Colour) (p : Point) → (play g k p).side ≡ g.side

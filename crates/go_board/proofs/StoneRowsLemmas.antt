@@ -1,12 +1,13 @@
 -- The rows of the stones of a board: the grid that they make, and points of a row coloured anew.
 use Rattle.std.proofs.Common.{◌≡◌, ◌≢◌, ◌↔◌, inl, inr, ℕ, ◌*◌, ◌<◌, ◌≤◌, ◌^◌, ◌%◌, ◌==◌, ◌&&◌, ◌||◌, Bool, true, false, not, cond, List, length, get_or, set, take, replicate, bit_and, bit_or, w64, refl, sym, ap, ◌∙◌, arith, subst}
+use Rattle.std.proofs.lemmas.Grind.{common_steps}
 use Rattle.std.specs.Int.{bit_at, bit_not}
 use Rattle.std.proofs.Math.Bool.{or-true, and-true, and-false}
 use Rattle.std.proofs.lemmas.Bool.{and_parts, cases_Bool, cases_lt, false≢true}
 use Rattle.std.proofs.lemmas.Bool.Decides.{Decides-eqb}
 use Rattle.std.proofs.lemmas.Nat.{mod_below, pow_pos}
-use Rattle.std.proofs.lemmas.Nat.Bits.{bit_at_above, same_from_bits}
-use Rattle.std.proofs.lemmas.List.{ext_get_or, get_or-take, get_or-set_same, get_or-set_other, length-set, length-take-le, length-replicate}
+use Rattle.std.proofs.lemmas.Nat.Bits.{same_from_bits}
+use Rattle.std.proofs.lemmas.List.{ext_get_or, get_or-take, length-set, length-take-le, length-replicate}
 use Rattle.go_board.specs.declared.stones.Cell.{Cell}
 use Rattle.go_board.specs.declared.stones.Cell.TheVariants.{Black, White, Empty}
 use Rattle.go_board.specs.declared.points.Point.{Point}
@@ -15,10 +16,10 @@ use Rattle.go_board.specs.Point.{IsOn, index_of}
 use Rattle.go_board.specs.Grid.{Grid, cell_at, with_cell, empty_grid}
 use Rattle.go_board.specs.inner.Rows.{has_bit, is_set}
 use Rattle.go_board.specs.inner.Regions.{AreRowsOf, AreStones, grid_with, stone_in, with_columns, with_row}
-use Rattle.go_board.proofs.WordLemmas.{has_bit-zero, has_bit-and, has_bit-or, has_bit-without, bit_at-there, bit_at-gone}
-use Rattle.go_board.proofs.GrowLemmas.{row_below}
-use Rattle.go_board.proofs.RowLemmas.{is_set-none}
-use Rattle.go_board.proofs.RegionLemmas.{has_bit-set_there, has_bit-set_elsewhere, same_bools}
+use Rattle.go_board.proofs.WordLemmas.{has_bit-zero, has_bit-or, has_bit-less, bit_at-there, bit_at-gone}
+use Rattle.go_board.proofs.GrowLemmas.{row_below, set_there, set_elsewhere}
+use Rattle.go_board.proofs.SearchLemmas.{is_set-none}
+use Rattle.go_board.proofs.RegionLemmas.{set_bit_there, set_bit_elsewhere, same_bools}
 use Rattle.go_board.proofs.PointLemmas.{one_point, same_or_not}
 use Rattle.go_board.proofs.GridLemmas.{get_or-replicate_default, cell_at-grid_of, length-grid_of, cell_at-with_cell, cell_at-with_cell_elsewhere}
 use Rattle.go_board.proofs.GroupLemmas.{grid_of-cells, same_colours}
@@ -63,11 +64,7 @@ all_cells side black white g is = sym (ap (λ (h : Grid). length h.cells) is) �
 
 -- rows of one grid are the same, and grids with the same rows
 pub bit_same : (x y c : ℕ) → has_bit x c ≡ has_bit y c → bit_at x c ≡ bit_at y c
-bit_same x y c e =
-    elim (cases_Bool (has_bit x c)) [
-      | inl there ↦ bit_at-there x c there ∙ sym (bit_at-there y c (sym e ∙ there))
-      | inr gone ↦ bit_at-gone x c gone ∙ sym (bit_at-gone y c (sym e ∙ gone))
-    ]
+bit_same x y c e = grind (arith, common_steps, bit_at-gone, bit_at-there)
 
 rows_one : (side : ℕ) (test : Point → Bool) (a b : List ℕ) → length a ≡ length b → AreRowsOf side test a → AreRowsOf side test b → a ≡ b
 rows_one side test a b long one two =
@@ -109,31 +106,17 @@ same_rows n side other a b c d g h all sizes is_g is_h first second =
       λ e. same_words side a b c d first (subst (λ m. AreStones m c d) (sym sizes) second) (is_g ∙ e ∙ sym grid),
     )
 
+-- the words of one colour with one row set
+is_set-row : (words : List ℕ) (row word : ℕ) → row < length words → (q : Point) → is_set (set words row word) q ≡ cond (q.row == row) (has_bit word q.col) (is_set words q)
+is_set-row words row word within q = grind (arith, common_steps, Decides-eqb, set_elsewhere, set_there)
+
 -- the words of one kind of stone after points of a row were coloured
 is_set-coloured : (words : List ℕ) (row columns word : ℕ) (c k : Cell) → row < length words → ((col : ℕ) → has_bit word col ≡ cond (has_bit columns col) (same_cell c k) (has_bit (get_or words row 0) col)) → (q : Point) → is_set (set words row word) q ≡ cond ((q.row == row) && has_bit columns q.col) (same_cell c k) (is_set words q)
-is_set-coloured words row columns word c k within is q =
-    elim (cases_Bool (q.row == row)) [
-      | inl same ↦
-          let e = (Decides-eqb q.row row).0 same in
-          ap (λ r. has_bit (get_or (set words row word) r 0) q.col) e
-          ∙ ap (λ w. has_bit w q.col) (get_or-set_same words row word 0 within)
-          ∙ is q.col
-          ∙ ap (λ r. cond (has_bit columns q.col) (same_cell c k) (has_bit (get_or words r 0) q.col)) (sym e)
-          ∙ ap (λ b. cond (b && has_bit columns q.col) (same_cell c k) (is_set words q)) (sym same)
-      | inr apart ↦
-          ap (λ w. has_bit w q.col) (get_or-set_other words row q.row word 0 (λ e. false≢true (sym apart ∙ (Decides-eqb q.row row).1 e)))
-          ∙ ap (λ b. cond (b && has_bit columns q.col) (same_cell c k) (is_set words q)) (sym apart)
-    ]
+is_set-coloured words row columns word c k within is q = grind (arith, common_steps, Decides-eqb, is_set-row)
 
 chosen : (t : Bool) (c : Cell) (b w : Bool) → cond (cond t (same_cell c Black) b) Black (cond (cond t (same_cell c White) w) White Empty) ≡ cond t c (cond b Black (cond w White Empty))
 chosen true c b w = stone_is c
 chosen false c b w = refl
-
-not_both : (t : Bool) (c : Cell) (b w : Bool) → (b ≡ true → w ≡ false) → cond t (same_cell c Black) b ≡ true → cond t (same_cell c White) w ≡ false
-not_both true Black b w apart is = refl
-not_both true White b w apart is = absurd (false≢true is)
-not_both true Empty b w apart is = absurd (false≢true is)
-not_both false c b w apart is = apart is
 
 -- a board after points of a row were coloured
 module _ (side : ℕ) (black white : List ℕ) (row columns : ℕ) (c : Cell) (b w : ℕ) (are : AreStones side black white) (below : row < side) (within : (col : ℕ) → has_bit columns col ≡ true → col < side) (in_black : (col : ℕ) → has_bit b col ≡ cond (has_bit columns col) (same_cell c Black) (has_bit (get_or black row 0) col)) (in_white : (col : ℕ) → has_bit w col ≡ cond (has_bit columns col) (same_cell c White) (has_bit (get_or white row 0) col)) where
@@ -146,23 +129,6 @@ module _ (side : ℕ) (black white : List ℕ) (row columns : ℕ) (c : Cell) (b
   is_white : (q : Point) → is_set (set white row w) q ≡ cond (turned q) (same_cell c White) (is_set white q)
   is_white = is_set-coloured white row columns w c White (omega (arith, are.few, are.white_rows)) in_white
 
-  still_on : (q : Point) (x old : Bool) → (old ≡ true → IsOn side q) → cond (turned q) x old ≡ true → IsOn side q
-  still_on q x old on is =
-      elim (cases_Bool (turned q)) [
-        | inl there ↦ let both = and_parts (q.row == row) (has_bit columns q.col) there in (within q.col both.1, omega (arith, below, (Decides-eqb q.row row).0 both.0))
-        | inr elsewhere ↦ on (sym (ap (λ t. cond t x old) elsewhere) ∙ is)
-      ]
-
-  pub AreStones-coloured : AreStones side (set black row b) (set white row w)
-  AreStones-coloured = record {
-    few = are.few;
-    black_rows = length-set black row b ∙ are.black_rows;
-    white_rows = length-set white row w ∙ are.white_rows;
-    black_on = λ q is. still_on q (same_cell c Black) (is_set black q) (are.black_on q) (sym (is_black q) ∙ is);
-    white_on = λ q is. still_on q (same_cell c White) (is_set white q) (are.white_on q) (sym (is_white q) ∙ is);
-    apart = λ q is. is_white q ∙ not_both (turned q) c (is_set black q) (is_set white q) (are.apart q) (sym (is_black q) ∙ is);
-  }
-
   pub grid-coloured : grid_with side (set black row b) (set white row w) ≡ with_columns (grid_with side black white) row columns c
   unfolding with_columns
   grid-coloured =
@@ -172,31 +138,6 @@ module _ (side : ℕ) (black white : List ℕ) (row columns : ℕ) (c : Cell) (b
       ∙ ap (λ x. cond (cond (turned q) (same_cell c Black) (is_set black q)) Black (cond x White Empty)) (is_white q)
       ∙ chosen (turned q) c (is_set black q) (is_set white q)
       ∙ ap (λ x. cond (turned q) c x) (sym (cell_at-grid_of side (stone_in black white) q on)))
-
--- the words of one colour with one row set
-is_set-row : (words : List ℕ) (row word : ℕ) → row < length words → (q : Point) → is_set (set words row word) q ≡ cond (q.row == row) (has_bit word q.col) (is_set words q)
-is_set-row words row word within q =
-    elim (cases_Bool (q.row == row)) [
-      | inl same ↦
-          ap (λ r. has_bit (get_or (set words row word) r 0) q.col) ((Decides-eqb q.row row).0 same)
-          ∙ ap (λ w. has_bit w q.col) (get_or-set_same words row word 0 within)
-          ∙ ap (λ b. cond b (has_bit word q.col) (is_set words q)) (sym same)
-      | inr apart ↦
-          ap (λ w. has_bit w q.col) (get_or-set_other words row q.row word 0 (λ e. false≢true (sym apart ∙ (Decides-eqb q.row row).1 e)))
-          ∙ ap (λ b. cond b (has_bit word q.col) (is_set words q)) (sym apart)
-    ]
-
-row_on : (side : ℕ) (words : List ℕ) (row word : ℕ) → row < length words → row < side → ((col : ℕ) → has_bit word col ≡ true → col < side) → ((q : Point) → is_set words q ≡ true → IsOn side q) → (q : Point) → is_set (set words row word) q ≡ true → IsOn side q
-row_on side words row word within below here elsewhere q is =
-    elim (cases_Bool (q.row == row)) [
-      | inl same ↦ (here q.col (sym (is_set-row words row word within q ∙ ap (λ b. cond b (has_bit word q.col) (is_set words q)) same) ∙ is), omega (arith, below, (Decides-eqb q.row row).0 same))
-      | inr apart ↦ elsewhere q (sym (is_set-row words row word within q ∙ ap (λ b. cond b (has_bit word q.col) (is_set words q)) apart) ∙ is)
-    ]
-
-one_stone : (b all w : Bool) → b ≡ (all && not w) → b ≡ true → w ≡ false
-one_stone b all false is there = refl
-one_stone b true true is there = absurd (false≢true (sym is ∙ there))
-one_stone b false true is there = absurd (false≢true (sym is ∙ there))
 
 row_stone : (e b w x y : Bool) → cond (cond e (b && not w) x) Black (cond (cond e w y) White Empty) ≡ cond e (cond w White (cond b Black Empty)) (cond x Black (cond y White Empty))
 row_stone false b w x y = refl
@@ -212,25 +153,6 @@ module _ (side : ℕ) (black white : List ℕ) (row all b w : ℕ) (are : AreSto
 
   in_white_rows : row < length white
   in_white_rows = omega (arith, below, are.few, are.white_rows)
-
-  pub AreStones-row : AreStones side (set black row b) (set white row w)
-  AreStones-row = record {
-    few = are.few;
-    black_rows = length-set black row b ∙ are.black_rows;
-    white_rows = length-set white row w ∙ are.white_rows;
-    black_on = row_on side black row b in_black_rows below (λ col is. black_in col (off col is)) are.black_on;
-    white_on = row_on side white row w in_white_rows below white_in are.white_on;
-    apart = λ q is.
-        elim (cases_Bool (q.row == row)) [
-          | inl same ↦
-              let there : has_bit b q.col ≡ true = sym (is_set-row black row b in_black_rows q ∙ ap (λ e. cond e (has_bit b q.col) (is_set black q)) same) ∙ is in
-              is_set-row white row w in_white_rows q ∙ ap (λ e. cond e (has_bit w q.col) (is_set white q)) same
-              ∙ one_stone (has_bit b q.col) (has_bit all q.col) (has_bit w q.col) (rest q.col (omega (arith, black_in q.col (off q.col there), are.few))) there
-          | inr other ↦
-              is_set-row white row w in_white_rows q ∙ ap (λ e. cond e (has_bit w q.col) (is_set white q)) other
-              ∙ are.apart q (sym (is_set-row black row b in_black_rows q ∙ ap (λ e. cond e (has_bit b q.col) (is_set black q)) other) ∙ is)
-        ];
-  }
 
   pub grid-row : grid_with side (set black row b) (set white row w) ≡ with_row (grid_with side black white) row all w
   unfolding with_row
@@ -274,29 +196,10 @@ one_coloured g p row columns c on all at there elsewhere =
 
 -- a word with some columns as they are to be
 pub columns_set : (word columns c : ℕ) → has_bit (bit_or word columns) c ≡ cond (has_bit columns c) true (has_bit word c)
-columns_set word columns c = has_bit-or word columns c ∙ either (has_bit word c) (has_bit columns c)
-  where
-    either : (a b : Bool) → (a || b) ≡ cond b true a
-    either true true = refl
-    either true false = refl
-    either false true = refl
-    either false false = refl
+columns_set word columns c = grind (arith, common_steps, has_bit-or)
 
 pub columns_cleared : (word columns c : ℕ) → word < 2 ^ 64 → columns < 2 ^ 64 → has_bit (bit_and word (bit_not w64 columns)) c ≡ cond (has_bit columns c) false (has_bit word c)
-columns_cleared word columns c low low_columns =
-    elim (cases_lt c 64) [
-      | inl inside ↦ has_bit-without word columns c low_columns inside ∙ without (has_bit word c) (has_bit columns c)
-      | inr past ↦
-          let none : has_bit word c ≡ false = ap (λ n. n == 1) (bit_at_above word 64 c low past) in
-          let no_column : has_bit columns c ≡ false = ap (λ n. n == 1) (bit_at_above columns 64 c low_columns past) in
-          has_bit-and word (bit_not w64 columns) c ∙ ap (λ x. x && has_bit (bit_not w64 columns) c) none ∙ sym none ∙ ap (λ b. cond b false (has_bit word c)) (sym no_column)
-    ]
-  where
-    without : (a b : Bool) → (a && not b) ≡ cond b false a
-    without true true = refl
-    without true false = refl
-    without false true = refl
-    without false false = refl
+columns_cleared word columns c low low_columns = grind (arith, common_steps, has_bit-less)
 
 -- a word without the bit of a column
 abbrev bit_of : ℕ → ℕ
@@ -306,24 +209,18 @@ small : (col : ℕ) → bit_of col < 2 ^ 64
 small col = mod_below (1 * 2 ^ col) (2 ^ 64) (pow_pos 64)
 
 bit_there : (col : ℕ) → col < 64 → has_bit (bit_of col) col ≡ true
-bit_there col low = has_bit-set_there 0 col true refl low ∙ or-true (has_bit 0 col)
+bit_there col low = set_bit_there 0 col true refl low ∙ or-true (has_bit 0 col)
 
 bit_elsewhere : (col : ℕ) → col < 64 → (k : ℕ) → k ≢ col → has_bit (bit_of col) k ≡ false
-bit_elsewhere col low k other = has_bit-set_elsewhere 0 col low k other ∙ has_bit-zero k
+bit_elsewhere col low k other = set_bit_elsewhere 0 col low k other ∙ has_bit-zero k
 
-pub without_there : (word col : ℕ) → col < 64 → has_bit (bit_and word (bit_not w64 (bit_of col))) col ≡ false
-without_there word col low =
-    has_bit-without word (bit_of col) col (small col) low ∙ ap (λ x. has_bit word col && not x) (bit_there col low) ∙ and-false (has_bit word col)
+pub without_there : (word col : ℕ) → word < 2 ^ 64 → col < 64 → has_bit (bit_and word (bit_not w64 (bit_of col))) col ≡ false
+without_there word col fits low =
+    has_bit-less word (bit_of col) col fits (small col) ∙ ap (λ x. has_bit word col && not x) (bit_there col low) ∙ and-false (has_bit word col)
 
 pub without_elsewhere : (word col : ℕ) → word < 2 ^ 64 → col < 64 → (k : ℕ) → k ≢ col → has_bit (bit_and word (bit_not w64 (bit_of col))) k ≡ has_bit word k
 without_elsewhere word col fits low k other =
-    elim (cases_lt k 64) [
-      | inl inside ↦
-          has_bit-without word (bit_of col) k (small col) inside ∙ ap (λ x. has_bit word k && not x) (bit_elsewhere col low k other) ∙ and-true (has_bit word k)
-      | inr past ↦
-          let none : has_bit word k ≡ false = ap (λ n. n == 1) (bit_at_above word 64 k fits past) in
-          has_bit-and word (bit_not w64 (bit_of col)) k ∙ ap (λ x. x && has_bit (bit_not w64 (bit_of col)) k) none ∙ sym none
-    ]
+    has_bit-less word (bit_of col) k fits (small col) ∙ ap (λ x. has_bit word k && not x) (bit_elsewhere col low k other) ∙ and-true (has_bit word k)
 
 -- a board on which nothing stands
 pub AreStones-none : (side : ℕ) (black white : List ℕ) → side ≤ 52 → black ≡ replicate 52 0 → white ≡ replicate 52 0 → AreStones side black white × (grid_with side black white ≡ empty_grid side)

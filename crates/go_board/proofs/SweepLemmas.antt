@@ -1,5 +1,6 @@
 -- Grids coloured row by row, and cleared ones.
 use Rattle.std.proofs.Common.{◌≡◌, ◌≢◌, ℕ, ◌+◌, ◌*◌, ◌^◌, ◌<◌, ◌≤◌, ◌==◌, ◌&&◌, Bool, cond, w64, true, false, nat_lt, List, length, refl, sym, ap, subst, ◌∙◌, arith, inl, inr, IsTrue}
+use Rattle.std.proofs.lemmas.Grind.{common_steps}
 use Rattle.std.specs.Int.{trailing_zeros}
 use Rattle.std.proofs.Math.Bool.{and-false}
 use Rattle.std.proofs.lemmas.Nat.Bits.{bit_at-trailing_zeros}
@@ -48,11 +49,7 @@ module _ (columns left next : ℕ) (some : left ≢ 0) (low : columns < 2 ^ 64) 
   set = (lowest_left columns left some low part).0
 
   next_within : IsPart (has_bit next) (has_bit left)
-  next_within = λ k is.
-      elim (cases_eq k lowest) [
-        | inl same ↦ ap (has_bit left) same ∙ set
-        | inr other ↦ sym (elsewhere k other) ∙ is
-      ]
+  next_within = grind (arith, common_steps)
 
   pub next_smaller : next < left
   next_smaller =
@@ -72,18 +69,10 @@ merged false column test before next cell old same done apart = rw (apart refl) 
 
 module _ (g : Grid) (test : Point → Bool) (cell : Cell) (row : ℕ) where
   pub painted_none : length g.cells ≡ g.side * g.side → ((p : Point) → test p ≡ true → row ≤ p.row) → painted g test cell row ≡ g
-  painted_none all from =
-      grid_of-cells g _ all
-      (λ p on.
-      ap (λ b. cond b cell (cell_at g p))
-      (false_from_ne_true _ (λ is. let both = and_parts (nat_lt p.row row) (test p) is in omega (arith, (Decides-ltb p.row row).0 both.0, from p both.1))))
+  painted_none all from = grind (arith, common_steps, Decides-ltb, and_parts, false_from_ne_true, grid_of-cells, nat_lt)
 
   turn : (columns : ℕ) (p : Point) → (p.row ≡ row → has_bit columns p.col ≡ test p) → cond ((p.row == row) && has_bit columns p.col) cell (cond (nat_lt p.row row && test p) cell (cell_at g p)) ≡ cond (nat_lt p.row (row + 1) && test p) cell (cell_at g p)
-  turn columns p is =
-      merged (p.row == row) (has_bit columns p.col) (test p) (nat_lt p.row row) (nat_lt p.row (row + 1)) cell (cell_at g p)
-      (λ here. is ((Decides-eqb p.row row).0 here))
-      (λ here. let at = (Decides-eqb p.row row).0 here in (Decides-ltb p.row (row + 1)).1 (omega (arith, at)))
-      (λ apart. grind (arith, nat_tests))
+  turn columns p is = grind (arith, common_steps, Decides-eqb, Decides-ltb, merged, nat_lt, nat_tests)
 
   pub painted_more : (columns : ℕ) → ((p : Point) → p.row ≡ row → has_bit columns p.col ≡ test p) → with_columns (painted g test cell row) row columns cell ≡ painted g test cell (row + 1)
   unfolding with_columns
@@ -93,27 +82,11 @@ module _ (g : Grid) (test : Point → Bool) (cell : Cell) (row : ℕ) where
       ap (λ x. cond ((p.row == row) && has_bit columns p.col) cell x) (cell_at-grid_of g.side _ p on) ∙ turn columns p (is p))
 
   pub painted_same : (columns : ℕ) → columns ≡ 0 → ((p : Point) → p.row ≡ row → has_bit columns p.col ≡ test p) → painted g test cell row ≡ painted g test cell (row + 1)
-  painted_same columns zero is =
-      same_colours g.side _ _
-      (λ p on.
-      let none : has_bit columns p.col ≡ false = ap (λ w. has_bit w p.col) zero ∙ has_bit-zero p.col in
-      sym (ap (λ b. cond b cell (cond (nat_lt p.row row && test p) cell (cell_at g p))) (ap (λ b. (p.row == row) && b) none ∙ and-false (p.row == row)))
-      ∙ turn columns p (is p))
+  painted_same columns zero is = grind (arith, common_steps, and-false, has_bit-zero, nat_lt, same_colours, turn)
 
   pub painted_all : ((p : Point) → test p ≡ true → p.row < row) → painted g test cell row ≡ grid_of g.side (λ p. cond (test p) cell (cell_at g p))
-  painted_all below =
-      same_colours g.side _ _
-      (λ p on.
-      ap (λ b. cond b cell (cell_at g p))
-      (same_bools _ _ (λ is. (and_parts (nat_lt p.row row) (test p) is).1) (λ is. and_from _ _ ((Decides-ltb p.row row).1 (below p is)) is)))
+  painted_all below = grind (arith, common_steps, Decides-ltb, and_from, and_parts, nat_lt, same_bools, same_colours)
 
 -- the points of all rows emptied
 pub painted_empty : (g : Grid) (rows : List ℕ) (row : ℕ) → length g.cells ≡ g.side * g.side → length rows ≤ row → IsWithout g (painted g (is_set rows) Empty row) (λ p. is_set rows p ≡ true)
-painted_empty g rows row all past =
-    subst (λ h. IsWithout g h (λ p. is_set rows p ≡ true)) (sym (painted_all g (is_set rows) Empty row (λ p is. let below = row_below rows p is in omega (arith, below, past))))
-    (record {
-      same_side = refl;
-      all = length-grid_of g.side _ ∙ sym all;
-      emptied = λ p on gone. cell_at-grid_of g.side _ p on ∙ ap (λ b. cond b Empty (cell_at g p)) gone;
-      kept = λ p on left. cell_at-grid_of g.side _ p on ∙ ap (λ b. cond b Empty (cell_at g p)) (false_from_ne_true _ left);
-    })
+painted_empty g rows row all past = grind (arith, common_steps, cell_at-grid_of, false_from_ne_true, length-grid_of, painted_all, row_below)

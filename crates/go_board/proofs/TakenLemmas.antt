@@ -1,5 +1,7 @@
--- What a stone takes off, as rows: playing it is putting it on its point and emptying these.
-use Rattle.std.proofs.Common.{◌≡◌, ◌⊎◌, inl, inr, ◌*◌, ◌+◌, ◌<◌, ◌≤◌, ◌||◌, true, false, ℕ, List, [], length, slice_index, slice_set, bit_or, refl, sym, ap, subst, ◌∙◌, arith}
+-- A move on a grid where every stone reaches empty: taking off the groups without a liberty beside the stone, or else its own where that
+-- has none, is the whole move. What is taken off, as rows.
+use Rattle.std.proofs.Common.{◌≡◌, ◌⊎◌, inl, inr, ◌*◌, ◌+◌, ◌<◌, ◌≤◌, ◌||◌, true, false, ℕ, List, [], length, slice_index, slice_set, bit_or, refl, sym, ap, subst, ◌∙◌, arith, ◌≢◌, Bool, ◌∷◌, IsTrue}
+use Rattle.std.proofs.lemmas.Grind.{common_steps}
 use Rattle.std.proofs.Math.Bool.{or-false}
 use Rattle.std.proofs.lemmas.Bool.{cases_Bool, cases_lt, or_cases, or_left, or_right, false≢true}
 use Rattle.std.proofs.lemmas.List.{length-set, get_or_past, get_or-set_other}
@@ -7,44 +9,206 @@ use Rattle.go_board.specs.declared.stones.Cell.{Cell}
 use Rattle.go_board.specs.declared.stones.Cell.TheVariants.{Empty}
 use Rattle.go_board.specs.declared.stones.Colour.{Colour}
 use Rattle.go_board.specs.declared.points.Point.{Point}
-use Rattle.go_board.specs.Colour.{stone_of}
-use Rattle.go_board.specs.Point.{IsOn, index_of}
+use Rattle.go_board.specs.Colour.{stone_of, opponent}
+use Rattle.go_board.specs.Point.{IsOn, index_of, AreAdjacent}
 use Rattle.go_board.specs.Grid.{Grid, cell_at, with_cell}
-use Rattle.go_board.specs.Clearing.{play, has_unreaching}
+use Rattle.go_board.specs.Clearing.{play, has_unreaching, clear}
 use Rattle.go_board.specs.inner.Rows.{has_bit, is_set, IsAmong}
-use Rattle.go_board.specs.inner.Groups.{AreShutGroups, IsTakenOrReaches, IsWithout, AllLive, TakesOff}
-use Rattle.go_board.proofs.PointLemmas.{same_or_not}
+use Rattle.go_board.specs.inner.Groups.{AreShutGroups, IsTakenOrReaches, IsWithout, AllLive, TakesOff, IsWithoutLiberty, AllReach, ReachBeside, AreTakenOrReachBeside}
+use Rattle.go_board.specs.declared.stones.Colour.TheVariants.{Black, White}
+use Rattle.go_board.specs.Reaching.{Leads, Reaches}
+use Rattle.go_board.proofs.PointLemmas.{same_or_not, AreAdjacent-sym}
 use Rattle.go_board.proofs.GridLemmas.{cell_at-with_cell, cell_at-with_cell_elsewhere}
-use Rattle.go_board.proofs.MoveLemmas.{IsWithoutLiberty-none, takes_off_own}
 use Rattle.go_board.proofs.ChangesLemmas.{one_colouring}
 use Rattle.go_board.proofs.RegionLemmas.{written_more}
 use Rattle.go_board.proofs.WordLemmas.{has_bit-or, has_bit-zero}
+use Rattle.go_board.proofs.ReachingLemmas.{Leads-on, Leads-next, path_by_step}
+use Rattle.go_board.proofs.RuleLemmas.{side-clear, length-clear, cell_at-clear, emptied, kept, others_kept}
+use Rattle.go_board.proofs.GroupLemmas.{coloured_or_not, stone_of≢Empty}
+use Rattle.go_board.proofs.SettledLemmas.{reaches_or_not, clear-AllReach, AllReach-settled}
+
+opponent_differs : (k : Colour) → stone_of k ≢ stone_of (opponent k)
+opponent_differs Black = λ e. cc
+opponent_differs White = λ e. cc
+
+-- with no point there is no group
+pub IsWithoutLiberty-none : (g : Grid) (k : Colour) (test : Point → Bool) → ((p : Point) → test p ≡ false) → IsWithoutLiberty g k test
+IsWithoutLiberty-none g k test none = grind (arith, common_steps)
+
+-- no path leads from a group without a liberty to an empty point
+group_shut : (g : Grid) (k : Colour) (test : Point → Bool) → IsWithoutLiberty g k test → (path : List Point) (p : Point) → IsOn g.side p → test p ≡ true → Leads g (stone_of k) Empty p path → ⊥
+group_shut g k test group [] p on there way = stone_of≢Empty k (sym (group.stones p on there) ∙ way.1)
+group_shut g k test group (q ∷ path) p on there way =
+    let next = Leads-on g (stone_of k) Empty q path way.3 in
+    elim (Leads-next g (stone_of k) Empty q path way.3) [
+      | inl own ↦ group_shut g k test group path q next (group.whole p q on next way.2 there own) way.3
+      | inr free ↦ group.shut p q on next way.2 there free
+    ]
+
+-- After a point p of g was coloured and some points were emptied, which gives h: each stone of a colour is in one of some groups
+-- without a liberty or reaches empty, if that holds of the stones beside p and of the one on p.
+module _ (g : Grid) (cells : List Cell) (p : Point) (k : Colour) (gone : Point → Bool) (group : IsWithoutLiberty (record g { cells = cells }) k gone) (fewer : (r : Point) → IsOn g.side r → r ≢ p → (cell_at (record g { cells = cells }) r ≡ Empty) ⊎ (cell_at (record g { cells = cells }) r ≡ cell_at g r)) (beside : (q : Point) → IsOn g.side q → AreAdjacent p q → cell_at (record g { cells = cells }) q ≡ stone_of k → (gone q ≡ true) ⊎ Reaches (record g { cells = cells }) Empty q) (there : cell_at (record g { cells = cells }) p ≡ stone_of k → (gone p ≡ true) ⊎ Reaches (record g { cells = cells }) Empty p) (reach : AllReach g k) where
+  h : Grid
+  h = record g { cells = cells }
+
+  step_to_empty : (q r : Point) → IsOn g.side q → AreAdjacent q r → IsOn g.side r → cell_at h r ≡ Empty → Reaches h Empty q
+  unfolding h
+  step_to_empty q r on next at free = (r ∷ [], (on, refl, next, (at, free)))
+
+  at_point : (q : Point) → q ≡ p → cell_at h q ≡ stone_of k → (gone q ≡ true) ⊎ Reaches h Empty q
+  unfolding h
+  at_point q same own = subst (λ r. (gone r ≡ true) ⊎ Reaches h Empty r) (sym same) (there (subst (λ r. cell_at h r ≡ stone_of k) same own))
+
+  follow : (path : List Point) (q : Point) → Leads g (stone_of k) Empty q path → cell_at h q ≡ stone_of k → (gone q ≡ true) ⊎ Reaches h Empty q
+  unfolding h
+  follow [] q way own =
+      elim (same_or_not q p) [
+        | inl same ↦ at_point q same own
+        | inr other ↦
+            elim (fewer q way.0 other) [
+              | inl free ↦ absurd (stone_of≢Empty k (sym own ∙ free))
+              | inr same ↦ absurd (stone_of≢Empty k (sym own ∙ same ∙ way.1))
+            ]
+      ]
+  follow (r ∷ path) q way own =
+      let at : IsOn g.side r = Leads-on g (stone_of k) Empty r path way.3 in
+      elim (same_or_not r p) [
+        | inl same ↦ beside q way.0 (AreAdjacent-sym q p (subst (λ s. AreAdjacent q s) same way.2)) own
+        | inr other ↦
+            elim (fewer r at other) [
+              | inl free ↦ inr (step_to_empty q r way.0 way.2 at free)
+              | inr kept_r ↦
+                  elim (Leads-next g (stone_of k) Empty r path way.3) [
+                    | inr free ↦ inr (step_to_empty q r way.0 way.2 at (kept_r ∙ free))
+                    | inl stone ↦
+                        elim (follow path r way.3 (kept_r ∙ stone)) [
+                          | inl taken ↦ inl (group.whole r q at way.0 (AreAdjacent-sym q r way.2) taken own)
+                          | inr on ↦ inr (path_by_step h Empty q r way.0 way.2 at (inl (kept_r ∙ stone ∙ sym own)) on)
+                        ]
+                  ]
+            ]
+      ]
+
+  pub gone_or_reaches : (q : Point) → IsOn g.side q → cell_at (record g { cells = cells }) q ≡ stone_of k → (gone q ≡ true) ⊎ Reaches (record g { cells = cells }) Empty q
+  unfolding h
+  gone_or_reaches q on own =
+      elim (same_or_not q p) [
+        | inl same ↦ at_point q same own
+        | inr other ↦
+            elim (fewer q on other) [
+              | inl free ↦ absurd (stone_of≢Empty k (sym own ∙ free))
+              | inr kept_q ↦
+                  let stone = sym kept_q ∙ own in
+                  let way = reach q on stone in
+                  follow way.0 q (subst (λ c. Leads g c Empty q way.0) stone way.1) own
+            ]
+      ]
+
+  pub AllReach-after : ((q : Point) → gone q ≡ false) → AllReach (record g { cells = cells }) k
+  unfolding h
+  AllReach-after none =
+      λ q on own. elim (gone_or_reaches q on own) [ inl is ↦ absurd (false≢true (sym (none q) ∙ is)) | inr way ↦ way ]
+
+  -- so clearing the colour takes off exactly these groups
+  pub clear_without : length cells ≡ g.side * g.side → IsWithout (record g { cells = cells }) (clear (record g { cells = cells }) k) (λ q. IsTrue (gone q))
+  unfolding h
+  clear_without all = grind (arith, common_steps, cell_at-clear, coloured_or_not, emptied, gone_or_reaches, group_shut, h, kept, length-clear, others_kept, side-clear)
+
+-- A stone is played on a grid where every stone reaches empty.
+module _ (g : Grid) (p : Point) (k : Colour) (on : IsOn g.side p) (all : length g.cells ≡ g.side * g.side) (settled : has_unreaching g ≡ false) (rows : List ℕ) where
+  abbrev placed : Grid
+  placed = with_cell g p (stone_of k)
+
+  long : length placed.cells ≡ g.side * g.side
+  long = length-set g.cells (index_of g.side p) (stone_of k) ∙ all
+
+  stone_there : cell_at placed p ≡ stone_of k
+  stone_there = cell_at-with_cell g p (stone_of k) on all
+
+  others_kept_there : (r : Point) → IsOn g.side r → r ≢ p → cell_at placed r ≡ cell_at g r
+  others_kept_there r at other = cell_at-with_cell_elsewhere g p r (stone_of k) on at other
+
+  not_opponent : cell_at placed p ≡ stone_of (opponent k) → ⊥
+  not_opponent e = opponent_differs k (sym stone_there ∙ e)
+
+  -- the opponent's stones reach empty if those beside the stone do
+  opponent_reaches : ReachBeside placed (opponent k) p → AllReach placed (opponent k)
+  opponent_reaches around =
+      AllReach-after g placed.cells p (opponent k) (λ _. false) (IsWithoutLiberty-none placed (opponent k) (λ _. false) (λ _. refl)) (λ r at other. inr (others_kept_there r at other))
+      (λ q at next stone. inr (around q at next stone)) (λ e. absurd (not_opponent e)) (AllReach-settled g (opponent k) settled) (λ _. refl)
+
+  -- where a group of the opponent is taken off, one beside the stone is, and so the stone reaches empty
+  reaches_taken : (left : Grid) → AreShutGroups placed (opponent k) rows → AreTakenOrReachBeside placed (opponent k) p rows → IsWithout placed left (λ q. IsTrue (is_set rows q)) → left.side ≡ g.side → ¬ ((q : Point) → is_set rows q ≡ false) → Reaches left Empty p
+  reaches_taken left are beside is side some =
+      elim (reaches_or_not left Empty p (subst (λ n. IsOn n p) (sym side) on)) [
+        | inl way ↦ way
+        | inr shut ↦
+            let others = opponent_reaches
+            (λ q at next stone.
+            elim (beside q at next stone) [
+              | inl taken ↦ absurd (shut (q ∷ [], (subst (λ n. IsOn n p) (sym side) on, refl, next, (subst (λ n. IsOn n q) (sym side) at, is.emptied q at taken))))
+              | inr way ↦ way
+            ]) in
+            absurd (some
+            (λ q.
+            elim (cases_Bool (is_set rows q)) [
+              | inl taken ↦
+                  let at = are.on_grid q taken in
+                  let stone = are.shut.stones q at taken in
+                  let way = others q at stone in
+                  absurd (group_shut placed (opponent k) (is_set rows) are.shut way.0 q at taken (subst (λ c. Leads placed c Empty q way.0) stone way.1))
+              | inr out ↦ out
+            ]))
+      ]
+
+  -- the opponent's groups beside the stone are taken off, if there are any
+  pub takes_off_beside : AreShutGroups (with_cell g p (stone_of k)) (opponent k) rows → AreTakenOrReachBeside (with_cell g p (stone_of k)) (opponent k) p rows → ¬ ((q : Point) → is_set rows q ≡ false) → TakesOff g k p rows
+  unfolding clear play
+  takes_off_beside are beside some =
+      let left = clear placed (opponent k) in
+      let is = clear_without g placed.cells p (opponent k) (is_set rows) are.shut (λ r at other. inr (others_kept_there r at other)) beside (λ e. absurd (not_opponent e)) (AllReach-settled g (opponent k) settled) long in
+      let stays : cell_at left p ≡ stone_of k = is.kept p on (λ taken. not_opponent (are.shut.stones p on taken)) ∙ stone_there in
+      let way = reaches_taken left are beside is refl some in
+      let reach : AllReach left k =
+      AllReach-after g left.cells p k (λ _. false) (IsWithoutLiberty-none left k (λ _. false) (λ _. refl))
+      (λ r at other.
+      elim (cases_Bool (is_set rows r)) [
+        | inl taken ↦ inl (is.emptied r at taken)
+        | inr none ↦ inr (is.kept r at (λ taken. false≢true (sym none ∙ taken)) ∙ others_kept_there r at other)
+      ])
+      (λ q at next stone. inr (path_by_step left Empty q p at (AreAdjacent-sym p q next) on (inl (stays ∙ sym stone)) way))
+      (λ _. inr way) (AllReach-settled g k settled) (λ _. refl) in
+      record {
+        few = omega (arith, are.all);
+        on_grid = are.on_grid;
+        played = subst (λ x. IsWithout placed x (λ q. IsTrue (is_set rows q))) (sym (clear-AllReach left k (length-clear placed (opponent k)) reach)) is;
+      }
+
+  -- and else the stone's own group, if it has no liberty
+  pub takes_off_own : length rows ≤ g.side → ((q : Point) → is_set rows q ≡ true → IsOn g.side q) → IsWithoutLiberty (with_cell g p (stone_of k)) k (is_set rows) → ReachBeside (with_cell g p (stone_of k)) (opponent k) p → IsTakenOrReaches (with_cell g p (stone_of k)) k rows p → TakesOff g k p rows
+  unfolding clear play
+  takes_off_own few on_grid shut around there =
+      let others = opponent_reaches around in
+      let is = clear_without g placed.cells p k (is_set rows) shut (λ r at other. inr (others_kept_there r at other))
+      (λ q at next stone.
+      elim (there stone_there) [
+        | inl taken ↦ inl (shut.whole p q on at next taken stone)
+        | inr way ↦ inr (path_by_step placed Empty q p at (AreAdjacent-sym p q next) on (inl (stone_there ∙ sym stone)) way)
+      ])
+      there (AllReach-settled g k settled) long in
+      record {
+        few = few;
+        on_grid = on_grid;
+        played = subst (λ x. IsWithout placed (clear x k) (λ q. IsTrue (is_set rows q))) (sym (clear-AllReach placed (opponent k) long others)) is;
+      }
 
 -- no group
 pub AreShutGroups-none : (g : Grid) (k : Colour) (rows : List ℕ) → length rows ≡ g.side → ((p : Point) → is_set rows p ≡ false) → AreShutGroups g k rows
-AreShutGroups-none g k rows all none = record {
-  all = all;
-  on_grid = λ p is. absurd (false≢true (sym (none p) ∙ is));
-  shut = IsWithoutLiberty-none g k (is_set rows) none;
-}
+AreShutGroups-none g k rows all none = grind (arith, common_steps)
 
 -- some groups, and others
 pub AreShutGroups-both : (g : Grid) (k : Colour) (a b c : List ℕ) → AreShutGroups g k a → AreShutGroups g k b → length c ≡ length a → ((p : Point) → is_set c p ≡ (is_set a p || is_set b p)) → AreShutGroups g k c
-AreShutGroups-both g k a b c one two long both = record {
-  all = long ∙ one.all;
-  on_grid = λ p is. elim (part p is) [ inl x ↦ one.on_grid p x | inr y ↦ two.on_grid p y ];
-  shut = record {
-    stones = λ p on is. elim (part p is) [ inl x ↦ one.shut.stones p on x | inr y ↦ two.shut.stones p on y ];
-    shut = λ p q on at next is. elim (part p is) [ inl x ↦ one.shut.shut p q on at next x | inr y ↦ two.shut.shut p q on at next y ];
-    whole = λ p q on at next is own. both q ∙ (elim (part p is) [
-      | inl x ↦ or_left _ _ (one.shut.whole p q on at next x own)
-      | inr y ↦ or_right _ _ (two.shut.whole p q on at next y own)
-    ]);
-  };
-}
-  where
-    part : (p : Point) → is_set c p ≡ true → (is_set a p ≡ true) ⊎ (is_set b p ≡ true)
-    part p is = or_cases _ _ (sym (both p) ∙ is)
+AreShutGroups-both g k a b c one two long both = grind (arith, common_steps, or_cases, or_left, or_right)
 
 -- a stone that is in some rows is in others that have these
 pub taken_still : (g : Grid) (k : Colour) (a b : List ℕ) (p : Point) → IsAmong (is_set a) (is_set b) → IsTakenOrReaches g k a p → IsTakenOrReaches g k b p
@@ -85,25 +249,11 @@ added_all old rows new each p =
 
 -- one grid without the points of a set is the other grid without them
 pub same_without : (g h i : Grid) (rows : List ℕ) → length g.cells ≡ g.side * g.side → IsWithout g h (λ p. is_set rows p ≡ true) → IsWithout g i (λ p. is_set rows p ≡ true) → h ≡ i
-same_without g h i rows all one two =
-    one_colouring h i (one.same_side ∙ sym two.same_side) (one.all ∙ all ∙ ap (λ n. n * n) (sym one.same_side)) (two.all ∙ all ∙ ap (λ n. n * n) (sym two.same_side))
-    (λ p at.
-    let on = subst (λ n. IsOn n p) one.same_side at in
-    elim (cases_Bool (is_set rows p)) [
-      | inl gone ↦ one.emptied p on gone ∙ sym (two.emptied p on gone)
-      | inr left ↦
-          let stays : ¬ (is_set rows p ≡ true) = λ gone. false≢true (sym left ∙ gone) in
-          one.kept p on stays ∙ sym (two.kept p on stays)
-    ])
+same_without g h i rows all one two = grind (arith, common_steps, one_colouring)
 
 -- with no point to be emptied a grid stays
 without-none : (g : Grid) (rows : List ℕ) → length rows ≡ 0 → IsWithout g g (λ p. is_set rows p ≡ true)
-without-none g rows none = record {
-  same_side = refl;
-  all = refl;
-  emptied = λ p on is. absurd (false≢true (sym (ap (λ w. has_bit w p.col) (get_or_past rows p.row 0 (omega (arith, none))) ∙ has_bit-zero p.col) ∙ is));
-  kept = λ p on left. refl;
-}
+without-none g rows none = grind (arith, common_steps, get_or_past, has_bit-zero)
 
 -- where all live, the stone is the whole move
 pub takes_nothing : (g : Grid) (p : Point) (k : Colour) → IsOn g.side p → length g.cells ≡ g.side * g.side → has_unreaching g ≡ false → AllLive (with_cell g p (stone_of k)) k p → TakesOff g k p []

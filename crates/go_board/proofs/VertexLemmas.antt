@@ -23,9 +23,9 @@ column_of-letter col below =
     ∙ get_or-range_with_len 0 25 col 0 below
     ∙ omega arith
 
-pub vertex_of-injective : (side : ℕ) (p q : Point) → side ≤ 25 → IsOn side p → IsOn side q → vertex_of p side ≡ vertex_of q side → p ≡ q
+pub vertex_of_injective : (side : ℕ) (p q : Point) → side ≤ 25 → IsOn side p → IsOn side q → vertex_of p side ≡ vertex_of q side → p ≡ q
 unfolding vertex_of
-vertex_of-injective side p q letters hp hq same =
+vertex_of_injective side p q letters hp hq same =
     let row : side - p.row ≡ side - q.row = ap (λ (v : Vertex). v.row) same in
     let letter : slice_index column_letters p.col ≡ slice_index column_letters q.col = ap (λ (v : Vertex). v.letter) same in
     let rows : p.row ≡ q.row = omega arith in

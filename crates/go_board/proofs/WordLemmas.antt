@@ -1,7 +1,8 @@
 -- Words as sets of columns: what the operations on words make of their bits.
 use Rattle.std.proofs.Common.{◌≡◌, ◌≢◌, ◌⊎◌, inl, inr, ℕ, zero, suc, ◌+◌, ◌-◌, ◌*◌, ◌/◌, ◌%◌, ◌^◌, ◌<◌, ◌≤◌, ◌==◌, ◌||◌, ◌&&◌, min, max, Bool, true, false, not, bit_and, bit_or, w64, refl, sym, ap, ◌∙◌, arith, subst}
+use Rattle.std.proofs.lemmas.Grind.{common_steps}
 use Rattle.std.specs.Int.{bit_at, bit_not}
-use Rattle.std.proofs.lemmas.Bool.{not-false, false≢true, cases_lt, cases_eq, eqb-true, eqb-false}
+use Rattle.std.proofs.lemmas.Bool.{not-false, false_from_ne_true, false≢true, cases_lt, cases_eq, eqb-true, eqb-false}
 use Rattle.std.proofs.lemmas.Nat.{le_or_l, and_mask, mod_below, pow_pos}
 use Rattle.std.proofs.lemmas.Nat.Bits.{bit_at_and, bit_at_or, bit_at_not, bit_at-lt, bit_at-suc, bit_at-zero, bit_at_above, bit_at_ones, bit_at_cat_high, bit_at_cat_low, same_from_bits}
 use Rattle.go_board.specs.inner.Rows.{has_bit, IsPart}
@@ -23,9 +24,7 @@ test_min : (x y : ℕ) → x < 2 → y < 2 → (min x y == 1) ≡ ((x == 1) && (
 test_min = by_bits (λ x y. (min x y == 1) ≡ ((x == 1) && (y == 1))) refl refl refl refl
 
 max_part : (x y : ℕ) → x < 2 → y < 2 → ((x == 1) ≡ true → (y == 1) ≡ true) → max x y ≡ y
-max_part =
-    by_bits (λ x y. ((x == 1) ≡ true → (y == 1) ≡ true) → max x y ≡ y)
-    (λ part. refl) (λ part. refl) (λ part. absurd (false≢true (part refl))) (λ part. refl)
+max_part = grind (arith, common_steps, by_bits)
 
 pub has_bit-or : (a b c : ℕ) → has_bit (bit_or a b) c ≡ (has_bit a c || has_bit b c)
 has_bit-or a b c = ap (λ n. n == 1) (bit_at_or a b c) ∙ test_max (bit_at a c) (bit_at b c) (bit_at-lt a c) (bit_at-lt b c)
@@ -42,6 +41,20 @@ has_bit-without word other c low column =
     ap (λ n. n == 1)
     (bit_at_and word (bit_not w64 other) c ∙ ap (λ b. min (bit_at word c) b) (bit_at_not w64 other c low column))
     ∙ test_without (bit_at word c) (bit_at other c) (bit_at-lt word c) (bit_at-lt other c)
+
+-- the same in every column, of words
+pub has_bit-less : (word other c : ℕ) → word < 2 ^ 64 → other < 2 ^ 64 → has_bit (bit_and word (bit_not w64 other)) c ≡ (has_bit word c && not (has_bit other c))
+has_bit-less word other c low few =
+    elim (cases_lt c 64) [
+      | inl inside ↦ has_bit-without word other c few inside
+      | inr past ↦
+          let none = ap (λ n. n == 1) (bit_at_above word 64 c low past) in
+          has_bit-and word _ c ∙ ap (λ b. b && has_bit (bit_not w64 other) c) none ∙ sym (ap (λ b. b && not (has_bit other c)) none)
+    ]
+
+-- what isn't in a set isn't in a part of it
+pub not_in_part : (some all : ℕ → Bool) (k : ℕ) → IsPart some all → all k ≡ false → some k ≡ false
+not_in_part some all k part none = false_from_ne_true (some k) (λ is. false≢true (sym none ∙ part k is))
 
 -- where nothing of the one is left without the other, what is in the one is in the other
 pub in_the_other : (x y : Bool) → x ≡ true → (x && not y) ≡ false → y ≡ true
@@ -60,11 +73,7 @@ has_bit-zero c = ap (λ n. n == 1) (bit_at-zero c)
 
 -- a column of a word of k bits is below k
 pub column_below : (k a c : ℕ) → a < 2 ^ k → has_bit a c ≡ true → c < k
-column_below k a c low is =
-    elim (cases_lt c k) [
-      | inl below ↦ below
-      | inr above ↦ absurd (false≢true (sym (ap (λ n. n == 1) (bit_at_above a k c low above)) ∙ is))
-    ]
+column_below k a c low is = grind (arith, common_steps, bit_at_above)
 
 min_one : (x : ℕ) → x < 2 → min x 1 ≡ x
 min_one zero h = refl
@@ -89,9 +98,7 @@ has_bit-left a c low =
     ∙ ap (λ x. x == 1) (ap (λ n. bit_at n (c + 1)) (omega arith) ∙ bit_at_cat_high a 1 0 (c + 1) (omega arith) (omega arith) ∙ ap (bit_at a) (omega arith))
 
 has_bit-left_first : (a : ℕ) → has_bit (a * 2 ^ 1 % 2 ^ 64) 0 ≡ false
-has_bit-left_first a =
-    has_bit-low (a * 2 ^ 1) 0 (omega arith)
-    ∙ ap (λ x. x == 1) (ap (λ n. bit_at n 0) (omega arith) ∙ bit_at_cat_low a 1 0 0 (omega arith) ∙ bit_at-zero 0)
+has_bit-left_first a = grind (arith, common_steps, bit_at-zero, bit_at_cat_low, has_bit-low)
 
 pub from_left : (a c : ℕ) → has_bit (a * 2 ^ 1 % 2 ^ 64) c ≡ true → (d : ℕ) × (d + 1 ≡ c) × (has_bit a d ≡ true)
 from_left a zero is = absurd (false≢true (sym (has_bit-left_first a) ∙ is))
@@ -109,8 +116,3 @@ le_from_part a b part =
     (same_from_bits (bit_or a b) b
     (λ i. bit_at_or a b i ∙ max_part (bit_at a i) (bit_at b i) (bit_at-lt a i) (bit_at-lt b i) (part i)))
     (le_or_l a b)
-
--- a word with a column more
-module _ (word next col : ℕ) (there : has_bit next col ≡ (has_bit word col || true)) (elsewhere : (k : ℕ) → k ≢ col → has_bit next k ≡ has_bit word k) where
-  pub from_more : (k : ℕ) → has_bit next k ≡ true → (has_bit word k ≡ true) ⊎ (k ≡ col)
-  from_more k is = elim (cases_eq k col) [ inl same ↦ inr same | inr other ↦ inl (sym (elsewhere k other) ∙ is) ]

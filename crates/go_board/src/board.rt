@@ -104,8 +104,8 @@ impl Board {
         ensures off { (col : ℕ) → IsTrue (has_bit result col) → col < self.now.side }
     {
         match colour {
-            Colour::Black => self.black[usize::from(row)],
-            Colour::White => self.white[usize::from(row)],
+            Colour::Black => self.rows_of(Colour::Black)[usize::from(row)],
+            Colour::White => self.rows_of(Colour::White)[usize::from(row)],
         }
     }
 
@@ -162,8 +162,8 @@ impl Board {
         ensures { IsTrue result → (col : ℕ) → col < self.now.side
             → cell_at self.now (record { col = col; row = row }) ≡ cell_at other.now (record { col = col; row = row }) }
     {
-        let row = usize::from(row);
-        self.black[row] == other.black[row] && self.white[row] == other.white[row]
+        self.columns_of(row, Colour::Black) == other.columns_of(row, Colour::Black)
+            && self.columns_of(row, Colour::White) == other.columns_of(row, Colour::White)
     }
 
     /// A board with the same side and the same colouring.
@@ -202,6 +202,7 @@ impl Board {
 
     /// Clears a colour (Tromp-Taylor): captures its groups without a liberty. Empties all points of the colour that don't reach empty,
     /// each tested on the board as it was.
+    #[tactic(auto, using(crate::proofs::SweepLemmas::without_shut, crate::proofs::StoneRowsLemmas::all_cells))]
     pub fn clear(&mut self, colour: Colour)
         ensures value { self.new ≡ clear self.old colour }
         ensures side { self.new.side ≡ self.old.side }
@@ -249,6 +250,7 @@ impl Board {
     }
 
     /// Whether some stone doesn't reach empty. A setup can leave such a stone.
+    #[tactic(auto, using(crate::proofs::LibertyLemmas::unreaching_is))]
     pub fn has_unreaching(&self) -> bool
         ensures { result ≡ has_unreaching self.now }
     {

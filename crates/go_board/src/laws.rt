@@ -72,6 +72,7 @@ pub fn clearing()
 {}
 
 /// A score counts exactly the points of the player's colour, and the empty points that reach her colour and not the other's.
+#[tactic(auto, using(crate::proofs::RuleLemmas::decides_counts_for))]
 pub fn scoring()
     ensures { (grid : Grid) (colour : Colour) (point : Point) → IsOn grid.side point
         → (IsTrue (counts_for grid colour point) ↔ CountsFor grid colour point) }
@@ -89,6 +90,7 @@ pub fn moving()
 {}
 
 /// Different points have different vertices.
+#[tactic(auto, using(crate::proofs::VertexLemmas::vertex_of_injective))]
 pub fn naming()
     ensures { (side : ℕ) (point other : Point) → side ≤ MAX_VERTEX_SIDE → IsOn side point → IsOn side other
         → vertex_of point side ≡ vertex_of other side → point ≡ other }

@@ -21,9 +21,9 @@ pub record IsRowGrown (region old new : List ℕ) (row : ℕ) : Type 0 where
   pub unchanged : slice_index new row ≡ slice_index old row → new ≡ old
   pub fuller : slice_index new row ≢ slice_index old row → lacking new < lacking old
 
--- `rows` was filled from `first` within `region`. Each row is closed, except for some that wait.
-pub record IsFilledBut (region first rows : List ℕ) (waiting : ℕ) : Type 0 where
+-- `rows` was filled from `first` within `region`. Each of the first `count` rows is closed, except for some that wait.
+pub record IsFilledBut (region first rows : List ℕ) (waiting count : ℕ) : Type 0 where
   pub all : length rows ≡ length region
   pub grows : Grows (is_set region) (is_set first) (is_set rows)
   pub rows_in : (row : ℕ) → IsTrue (has_bit waiting row) → row < length region
-  pub closed : (row : ℕ) → row < length region → has_bit waiting row ≡ false → IsRowClosed (is_set region) (is_set rows) row
+  pub closed : (row : ℕ) → row < count → has_bit waiting row ≡ false → IsRowClosed (is_set region) (is_set rows) row

@@ -1,14 +1,11 @@
--- What the words of bits around a point say about a stone there. The rows around the point are counted from the second row above
--- it: 0 and 1 are above it, 2 is its own, 3 and 4 are below it.
-use Rattle.std.specs.Prelude.{◌≡◌, ℕ, ◌+◌, false, IsTrue, List, length}
+-- What the words of bits around a point say about a player's stone that is put there, and about the stones beside it. The rows around
+-- the point are counted from the second row above it: 0 and 1 are above it, 2 is its own, 3 and 4 are below it.
+use Rattle.std.specs.Prelude.{◌≡◌, ◌≢◌, ◌⊎◌, ℕ, ◌+◌, IsTrue, List}
 use Rattle.go_board.specs.declared.points.Point.{Point}
 use Rattle.go_board.specs.declared.board.liberty.RowStones.{RowStones}
-use Rattle.go_board.specs.declared.stones.Colour.{Colour}
-use Rattle.go_board.specs.Colour.{opponent, stone_of, same_cell}
-use Rattle.go_board.specs.Point.{IsOn, DifferByOne}
-use Rattle.go_board.specs.Grid.{Grid, cell_at, with_cell}
-use Rattle.go_board.specs.inner.Groups.{ReachesIfStone}
-use Rattle.go_board.specs.inner.Regions.{AreRowsOf}
+use Rattle.go_board.specs.declared.quick.glance.Around.{Around}
+use Rattle.go_board.specs.Point.{AreAdjacent, DifferByOne}
+use Rattle.go_board.specs.inner.Linked.{IsFree}
 use Rattle.go_board.specs.inner.Rows.{has_bit, is_set}
 
 -- the point is in the column `col` and in the row with this index around the row `middle`
@@ -18,29 +15,55 @@ IsInRowAround middle index col point = (point.col ≡ col) × (point.row + 2 ≡
 -- what is known of the columns of the row with this index around the row `middle`
 pub record IsRowAt (own others : List ℕ) (middle index : ℕ) (row : RowStones) : Type 0 where
   pub are_free : (col : ℕ) → IsTrue (has_bit row.free col)
-      → (point : Point) × IsInRowAround middle index col point × IsOn (length own) point
-      × (is_set own point ≡ false) × (is_set others point ≡ false)
+      → (point : Point) × IsInRowAround middle index col point × IsFree own others point
   pub are_own : (col : ℕ) → IsTrue (has_bit row.own col)
       → (point : Point) × IsInRowAround middle index col point × IsTrue (is_set own point)
   pub has_others : (point : Point) → point.row + 2 ≡ middle + index → IsTrue (is_set others point)
       → IsTrue (has_bit row.others point.col)
 
--- `What` holds of each grid and player whose stones and whose opponent's stones these are, after the player's stone is put on the point
-abbrev pub Shows : List ℕ → List ℕ → Point → (Grid → Colour → Type 0) → Type 0
-Shows own others point What =
-    (grid : Grid) (colour : Colour) → grid.side ≡ length own
-    → AreRowsOf grid.side (λ p. same_cell (cell_at grid p) (stone_of colour)) own
-    → AreRowsOf grid.side (λ p. same_cell (cell_at grid p) (stone_of (opponent colour))) others
-    → What (with_cell grid point (stone_of colour)) colour
+-- each column of the word is that of a free point in the row with this index around the point's row, and not of the point itself
+abbrev pub AreFree : List ℕ → List ℕ → Point → ℕ → ℕ → Type 0
+AreFree own others point index word =
+    (col : ℕ) → IsTrue (has_bit word col) → (free : Point) × IsInRowAround point.row index col free × IsFree own others free × (free ≢ point)
 
--- the stones of a colour to the left and right of a point reach empty
-abbrev pub ReachAlong : Grid → Colour → Point → Type 0
-ReachAlong grid colour point =
-    (neighbour : Point) → IsOn grid.side neighbour → (point.row ≡ neighbour.row) × DifferByOne point.col neighbour.col
-    → ReachesIfStone grid colour neighbour
+-- once a stone is put on `point`, a free point is still beside the point `stone`
+abbrev pub StaysOpen : List ℕ → List ℕ → Point → Point → Type 0
+StaysOpen own others point stone = (free : Point) × IsFree own others free × (free ≢ point) × AreAdjacent stone free
 
--- the stones of a colour above and below a point reach empty
-abbrev pub ReachAcross : Grid → Colour → Point → Type 0
-ReachAcross grid colour point =
-    (neighbour : Point) → IsOn grid.side neighbour → (point.col ≡ neighbour.col) × DifferByOne point.row neighbour.row
-    → ReachesIfStone grid colour neighbour
+-- a player's stone on the point has a liberty, by itself or by a stone beside it
+abbrev pub Lives : List ℕ → List ℕ → Point → Type 0
+Lives own others point =
+    StaysOpen own others point point
+    ⊎ ((friend : Point) × IsTrue (is_set own friend) × AreAdjacent point friend × StaysOpen own others point friend)
+
+-- the opponent's stones to the left and right of the point keep a liberty
+abbrev pub LeavesAlong : List ℕ → List ℕ → Point → Type 0
+LeavesAlong own others point =
+    (stone : Point) → IsTrue (is_set others stone) → (point.row ≡ stone.row) × DifferByOne point.col stone.col → StaysOpen own others point stone
+
+-- the opponent's stones above and below the point keep a liberty
+abbrev pub LeavesAcross : List ℕ → List ℕ → Point → Type 0
+LeavesAcross own others point =
+    (stone : Point) → IsTrue (is_set others stone) → (point.col ≡ stone.col) × DifferByOne point.row stone.row → StaysOpen own others point stone
+
+-- a player's stone on the point lives, and so do the opponent's stones beside it
+pub record LeavesAllAlive (own others : List ℕ) (point : Point) : Type 0 where
+  pub lives : Lives own others point
+  pub along : LeavesAlong own others point
+  pub across : LeavesAcross own others point
+
+-- what a look at the rows around the point shows
+pub record IsSeenAround (own others : List ℕ) (point : Point) (around : Around) : Type 0 where
+  pub free : around.free ≢ 0 → Lives own others point
+  pub alive : around.alive ≢ 0 → Lives own others point
+  pub along : around.along ≡ 0 → LeavesAlong own others point
+  pub across : around.across ≡ 0 → LeavesAcross own others point
+
+-- a look at the row with the index `index + 1` around the point's row, in columns beside the point; `above` and `below` are free columns
+-- of the rows before and after it
+pub record IsLookedAt (own others : List ℕ) (point : Point) (index columns above : ℕ) (row : RowStones) (below : ℕ) : Type 0 where
+  pub stones : IsRowAt own others point.row (index + 1) row
+  pub beside : (near : Point) → near.row + 2 ≡ point.row + (index + 1) → IsTrue (has_bit columns near.col) → AreAdjacent point near
+  pub free_above : AreFree own others point index above
+  pub free_here : AreFree own others point (index + 1) row.free
+  pub free_below : AreFree own others point (index + 2) below

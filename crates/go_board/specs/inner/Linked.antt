@@ -1,5 +1,5 @@
 -- The group of a stone, as sets of points: the stones of its colour that are linked to it, and their liberties.
-use Rattle.std.specs.Prelude.{◌≡◌, ℕ, Bool, false, IsTrue, List, length, slice_index}
+use Rattle.std.specs.Prelude.{◌≡◌, ◌||◌, ℕ, Bool, false, IsTrue, IsFalse, List, length, slice_index}
 use Rattle.go_board.specs.declared.points.Point.{Point}
 use Rattle.go_board.specs.Point.{IsOn, AreAdjacent}
 use Rattle.go_board.specs.inner.Rows.{has_bit, is_set, AreOfOneBoard, HasBeside, IsAmong, IsClosed, IsPart}
@@ -37,7 +37,20 @@ pub record IsLiberty (own others : List ℕ) (from stone : Point) : Type 0 where
 
 -- the group of the stone on a point, in which no stone has a liberty
 pub record IsShutIn (own others : List ℕ) (from : Point) (group : List ℕ) : Type 0 where
+  pub all : length group ≡ length own
   pub within : IsAmong (is_set group) (is_set own)
   pub start : IsTrue (is_set group from)
   pub closed : IsClosed (is_set own) (is_set group)
   pub shut : (stone : Point) → IsTrue (is_set group stone) → ¬ (HasLiberty own others stone)
+
+-- the stones in the row of the stone on `from` that are linked to it within the row; none of them has a liberty
+pub record IsShutRow (own others : List ℕ) (from : Point) (joined : ℕ) : Type 0 where
+  pub stone : IsStone own others from
+  pub linked : IsJoined own from joined
+  pub shut : (col : ℕ) → IsTrue (has_bit joined col) → ¬ (HasLiberty own others (record { col = col; row = from.row }))
+
+-- The group of the stone on `from` was added to the rows if it has no liberty. `added` tells whether it was.
+pub record AddsIfShut (own others : List ℕ) (from : Point) (old new : List ℕ) (added : Bool) : Type 0 where
+  pub lives : IsFalse added → (new ≡ old) × ((stone : Point) × IsLiberty own others from stone)
+  pub shut : IsTrue added → (group : List ℕ) × IsShutIn own others from group × (length new ≡ length old)
+      × ((point : Point) → is_set new point ≡ (is_set old point || is_set group point))

@@ -28,7 +28,8 @@ pub(crate) fn grow_lowest(rows: &mut [u64], region: &[u64], waiting: u64) -> (us
     requires within { IsWithin rows.old region.now }
     requires wait { SomeWait waiting (length region.now) }
     ensures row { result.0 < length rows.new }
-    ensures filled { (first : List ℕ) → IsFilledBut region.now first rows.old waiting → IsFilledBut region.now first rows.new result.1 }
+    ensures filled { (first : List ℕ) → IsFilledBut region.now first rows.old waiting (length region.now)
+        → IsFilledBut region.now first rows.new result.1 (length region.now) }
     ensures others { (other : ℕ) → other ≢ result.0 → (slice_index rows.new other ≡ slice_index rows.old other)
         × (IsTrue (has_bit waiting other) → IsTrue (has_bit result.1 other)) }
     ensures less { lacking rows.new * 2 ^ 64 + result.1 < lacking rows.old * 2 ^ 64 + waiting }
@@ -36,25 +37,26 @@ pub(crate) fn grow_lowest(rows: &mut [u64], region: &[u64], waiting: u64) -> (us
     let row = waiting.trailing_zeros() as usize;
     let left = without_column(waiting, row);
     let old = rows[row];
-    grow_row(rows, region, row);
+    let above = row_above(rows, row);
+    grow_row(rows, region, row, above);
     if rows[row] == old {
         return (row, left);
     }
     (row, with_rows_lacking(left, rows, region, row))
 }
 
-/// Grows each row (`grow_row_below`), from the first row to the last.
+/// Grows each row (`grow_row`), from the first row to the last.
 /// Returns the rows that can take a point from the row below them.
 fn grow_down(rows: &mut [u64], region: &[u64]) -> u64
     requires { IsWithin rows.old region.now }
-    ensures { IsFilledBut region.now rows.old rows.new result }
+    ensures { IsFilledBut region.now rows.old rows.new result (length region.now) }
 {
     // the row above, and what it lacks of the region, stay at hand for the row below it
     let mut above = 0;
     let mut lacking = 0;
     let mut waiting_above = 0;
     'rows: for row in 0..rows.len() {
-        grow_row_below(rows, region, row, above);
+        grow_row(rows, region, row, above);
         above = rows[row];
         waiting_above = with_column(waiting_above, row, lacking & above != 0);
         lacking = region[row] & !above;
@@ -72,39 +74,36 @@ pub(crate) fn with_rows_lacking(waiting: u64, rows: &[u64], region: &[u64], row:
     ensures taken { (r : ℕ) → DifferByOne r row → r < length rows.now → has_bit result r ≡ false
         → IsTaken region.now rows.now r (slice_index rows.now row) }
 {
-    let up = if row > 0 {
-        with_column(waiting, row - 1, lacks(rows, region, row - 1, rows[row]))
+    let word = rows[row];
+    let above = with_row_lacking(waiting, rows, region, row.wrapping_sub(1), row > 0, word);
+    with_row_lacking(above, rows, region, row + 1, row + 1 < rows.len(), word)
+}
+
+/// The rows that wait, and `row` if the board has it (`there`) and it can take a point from the columns of `word`.
+fn with_row_lacking(
+    waiting: u64,
+    rows: &[u64],
+    region: &[u64],
+    row: usize,
+    there: bool,
+    word: u64,
+) -> u64
+    requires same { length region.now ≡ length rows.now }
+    requires few { length rows.now < 64 }
+    requires there { IsTrue there → row < length rows.now }
+    ensures kept { IsPart (has_bit waiting) (has_bit result) }
+    ensures from { (r : ℕ) → IsTrue (has_bit result r) → IsTrue (has_bit waiting r) ⊎ (r < length rows.now) }
+    ensures taken { IsTrue there → has_bit result row ≡ false → IsTaken region.now rows.now row word }
+{
+    if there {
+        with_column(waiting, row, region[row] & !rows[row] & word != 0)
     } else {
         waiting
-    };
-    if row + 1 < rows.len() {
-        with_column(up, row + 1, lacks(rows, region, row + 1, rows[row]))
-    } else {
-        up
     }
 }
 
-/// Whether some column of `word` is in the region's row, but not yet in the set's row.
-fn lacks(rows: &[u64], region: &[u64], row: usize, word: u64) -> bool
-    requires same { length region.now ≡ length rows.now }
-    requires row { row < length rows.now }
-    ensures { result ≡ false → IsTaken region.now rows.now row word }
-{
-    word & region[row] & !rows[row] != 0
-}
-
-/// Adds the points of a row that are in the region and beside points of the set.
-fn grow_row(rows: &mut [u64], region: &[u64], row: usize)
-    requires within { IsWithin rows.old region.now }
-    requires row { row < length rows.old }
-    ensures { IsRowGrown region.now rows.old rows.new row }
-{
-    let above = row_above(rows, row);
-    grow_row_below(rows, region, row, above);
-}
-
-/// Grows a row (`grow_row`); `above` is the row above it.
-fn grow_row_below(rows: &mut [u64], region: &[u64], row: usize, above: u64)
+/// Adds the points of a row that are in the region and beside points of the set. `above` is the row above it.
+fn grow_row(rows: &mut [u64], region: &[u64], row: usize, above: u64)
     requires within { IsWithin rows.old region.now }
     requires row { row < length rows.old }
     requires above { above ≡ row_above rows.old row }

@@ -34,6 +34,7 @@ pub(crate) fn columns_with_liberty(own: &[u64], others: &[u64], row: usize) -> u
 }
 
 /// The columns of a row whose points are beside a point of a set. The set is given by its columns above, in and below the row.
+#[tactic(auto, using(crate::proofs::LinkedLemmas::beside_from, crate::proofs::LinkedLemmas::beside_to))]
 pub(crate) fn columns_beside(above: u64, here: u64, below: u64) -> u64
     ensures from { (col : ℕ) → IsTrue (has_bit result col) → IsInOrBeside above here below col }
     ensures to { (col : ℕ) → col < 64 → IsInOrBeside above here below col → IsTrue (has_bit result col) }

@@ -16,9 +16,6 @@ use crate::board::liberty::columns_with_liberty;
 use crate::size::MAX_ROWS;
 use crate::stones::Colour;
 
-/// The most rows of a small board. Its sets take few words, which are quick to clear.
-pub(crate) const FEW_ROWS: usize = 32;
-
 impl Board {
     /// Writes to `area` the points of a colour, and the empty points that reach it.
     pub(crate) fn area_of(&self, colour: Colour, area: &mut [u64])
@@ -46,6 +43,7 @@ impl Board {
     }
 
     /// Whether all stones of a colour reach empty.
+    #[tactic(auto, using(crate::proofs::LibertyLemmas::reach_where_none_shut, crate::proofs::LibertyLemmas::none_shut))]
     pub(crate) fn all_reach(&self, colour: Colour) -> bool
         ensures { IsTrue result ↔ AllReach self.now colour }
     {
@@ -110,6 +108,7 @@ fn other_points(rows: &[u64], others: &mut [u64])
 }
 
 /// The columns of a row that aren't in `word`. The row has `side` columns.
+#[tactic(auto, using(crate::proofs::RegionLemmas::others_within, crate::proofs::RegionLemmas::others_off))]
 pub(crate) fn other_columns(word: u64, side: usize) -> u64
     requires { side < 64 }
     ensures within { (col : ℕ) → col < side → has_bit result col ≡ not (has_bit word col) }
@@ -135,6 +134,7 @@ pub(crate) fn columns_left(all: u64, word: u64) -> u64
 }
 
 /// The word, with the bit of a column set if `set` is true.
+#[tactic(auto, using(crate::proofs::RegionLemmas::set_bit_there, crate::proofs::RegionLemmas::set_bit_elsewhere))]
 pub(crate) fn with_column(word: u64, col: usize, set: bool) -> u64
     requires { col < 64 }
     ensures there { has_bit result col ≡ (has_bit word col || set) }

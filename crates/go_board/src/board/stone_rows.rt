@@ -43,6 +43,7 @@ pub(crate) fn with_columns(word: u64, columns: u64, cell: Cell, stone: Cell) -> 
 }
 
 /// The word without the bit of a column.
+#[tactic(auto, using(crate::proofs::StoneRowsLemmas::without_there, crate::proofs::StoneRowsLemmas::without_elsewhere))]
 pub(crate) fn without_column(word: u64, col: usize) -> u64
     requires { col < 64 }
     ensures there { has_bit result col ≡ false }

@@ -12,11 +12,14 @@ ghost use Rattle.go_board.specs.inner.Halves.{low_halves, high_halves, AreOnSmal
 
 use crate::board::Board;
 use crate::board::fill::fill;
-use crate::board::regions::{FEW_ROWS, other_columns};
+use crate::board::regions::other_columns;
 use crate::stones::Colour;
 
 /// The number of columns of half a word. A board with fewer leaves an empty column between the halves.
 pub(crate) const HALF: u8 = 32;
+
+/// The most rows of such a board. Its sets take few words, which are quick to clear.
+const FEW_ROWS: usize = HALF as usize;
 
 /// A word's low half is its rest by this divisor, and its high half is the quotient.
 const HALVES: u64 = 1 << HALF;

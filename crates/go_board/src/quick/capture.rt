@@ -11,9 +11,8 @@ ghost use Rattle.go_board.specs.inner.Groups.{AddsGroup, AddsShut, AreShutGroups
 ghost use Rattle.go_board.specs.inner.Rows.{is_set, HasNoPoint};
 
 use crate::board::Board;
-use crate::board::regions::{FEW_ROWS, no_rows};
 use crate::points::Point;
-use crate::quick::group::{has_liberty, lives_by_row};
+use crate::quick::group::add_if_shut;
 use crate::stones::{Cell, Colour};
 
 impl Board {
@@ -64,49 +63,12 @@ impl Board {
         ensures { AddsGroup self.now colour point shut.old shut.new result }
     {
         self.has_all_cells();
-        // most groups live by a stone in the same row, and this needs no rows to be cleared
-        if lives_by_row(self.rows_of(colour), self.rows_of(colour.opponent()), point) {
-            return false;
-        }
-        self.find_shut_around(colour, point, shut)
-    }
-
-    /// The same as `find_shut`, for a group that may have a liberty only in other rows.
-    #[inline(never)]
-    fn find_shut_around(&self, colour: Colour, point: Point, shut: &mut [u64]) -> bool
-        requires { IsAsked self.now colour point shut.old }
-        ensures { AddsGroup self.now colour point shut.old shut.new result }
-    {
-        self.has_all_cells();
-        let side = usize::from(self.size().side());
-        if side <= FEW_ROWS {
-            let mut words = [0; FEW_ROWS];
-            return self.find_shut_in(colour, point, &mut words[..side], shut);
-        }
-        let mut words = no_rows();
-        self.find_shut_in(colour, point, &mut words[..side], shut)
-    }
-
-    /// The same as `find_shut`. `group` must be empty, and has the group afterwards, or a part of it.
-    fn find_shut_in(
-        &self,
-        colour: Colour,
-        point: Point,
-        group: &mut [u64],
-        shut: &mut [u64],
-    ) -> bool
-        requires asked { IsAsked self.now colour point shut.old }
-        requires none { HasNoPoint self.now.side group.old }
-        ensures { AddsGroup self.now colour point shut.old shut.new result }
-    {
-        self.has_all_cells();
-        let own = self.rows_of(colour);
-        let others = self.rows_of(colour.opponent());
-        if has_liberty(own, others, point, group) {
-            return false;
-        }
-        add_points(group, shut);
-        true
+        add_if_shut(
+            self.rows_of(colour),
+            self.rows_of(colour.opponent()),
+            point,
+            shut,
+        )
     }
 
     /// Whether a point is on the board and has a stone of a colour.

@@ -1,17 +1,13 @@
 //! A glance at the rows around a stone. It shows of most stones that they take nothing off: no capture, and no suicide. Of the others it
 //! shows nothing.
 
-ghost use Rattle.std.specs.Prelude.{◌≡◌, ◌≢◌, ◌⊎◌, ◌+◌, false, ℕ, ◌<◌, ◌≤◌, IsTrue, List, [], length};
+ghost use Rattle.std.specs.Prelude.{◌≡◌, ◌≢◌, ◌+◌, false, ℕ, ◌<◌, IsTrue, List, [], length};
 ghost use Rattle.go_board.specs.declared.points.Point.{Point};
-ghost use Rattle.go_board.specs.declared.stones.Colour.{Colour};
-ghost use Rattle.go_board.specs.Colour.{opponent, same_cell, stone_of};
 ghost use Rattle.go_board.specs.Point.{IsOn};
-ghost use Rattle.go_board.specs.Grid.{Grid, cell_at, with_cell};
 ghost use Rattle.go_board.specs.Clearing.{has_unreaching};
-ghost use Rattle.go_board.specs.inner.Glance.{IsRowAt, Shows, ReachAlong, ReachAcross};
-ghost use Rattle.go_board.specs.inner.Groups.{AllLive, ReachesIfStone, TakesOff};
-ghost use Rattle.go_board.specs.inner.Regions.{AreRowsOf};
-ghost use Rattle.go_board.specs.inner.Rows.{has_bit, AreOfOneBoard, IsInOrBeside};
+ghost use Rattle.go_board.specs.inner.Glance.{AreFree, IsLookedAt, IsSeenAround, LeavesAcross, LeavesAllAlive, Lives, StaysOpen};
+ghost use Rattle.go_board.specs.inner.Groups.{TakesOff};
+ghost use Rattle.go_board.specs.inner.Rows.{has_bit, is_set, AreOfOneBoard};
 
 use crate::board::Board;
 use crate::board::fill::{row_above, row_below};
@@ -31,12 +27,12 @@ impl Board {
         self.has_all_cells();
         let own = self.rows_of(colour);
         let others = self.rows_of(colour.opponent());
-        stands_apart(own, others, point) || leaves_all_alive(own, others, point)
+        leaves_all_alive(own, others, point)
     }
 }
 
-/// Some columns of a row. Those of `free` are free. In those of `alive` the player's stone finds a liberty.
-/// In those of `shut` an opponent's stone has no empty point beside it.
+/// Some columns of a row. Those of `free` are free. In those of `alive` the player's stone finds a liberty. In those of `shut` an
+/// opponent's stone has no empty point beside it.
 #[derive(Clone, Copy)]
 struct Look {
     free: u64,
@@ -44,12 +40,14 @@ struct Look {
     shut: u64,
 }
 
-/// What three rows show of a player's stone on a point. `free` has the columns with a free point beside the stone. `along` has those
-/// in the stone's row with a stone of the opponent beside it that has no empty point beside itself. `across` isn't 0 if these rows show no
-/// empty point beside a stone of the opponent above or below it.
+/// What the rows around a player's stone show. `free` isn't 0 if they show a liberty of the stone itself, and `alive` isn't 0 if they show
+/// one of the stone or of a stone beside it.
+/// `along` is 0 if they show an empty point beside each stone of the opponent to its left and right, and `across` is 0 if they show one
+/// beside each stone of the opponent above and below it.
 #[derive(Clone, Copy)]
 struct Around {
     free: u64,
+    alive: u64,
     along: u64,
     across: u64,
 }
@@ -59,7 +57,7 @@ struct Around {
 fn stands_apart(own: &[u64], others: &[u64], point: Point) -> bool
     requires rows { AreOfOneBoard own.now others.now }
     requires on_board { IsOn (length own.now) point }
-    ensures { Shows own.now others.now point (λ after colour. IsTrue result → AllLive after colour point) }
+    ensures { IsTrue result → LeavesAllAlive own.now others.now point }
 {
     let row = usize::from(point.row);
     let stone = with_column(0, usize::from(point.col), true);
@@ -72,25 +70,69 @@ fn stands_apart(own: &[u64], others: &[u64], point: Point) -> bool
 
 /// Whether a glance at the rows around a point shows two things about a player's stone there. The stone has a liberty, by itself or
 /// by a stone beside it. And each stone of the opponent beside it still has an empty point beside itself. Usually three rows show this.
+#[tactic(auto, using(crate::proofs::GlanceLemmas::none_free))]
 fn leaves_all_alive(own: &[u64], others: &[u64], point: Point) -> bool
     requires rows { AreOfOneBoard own.now others.now }
     requires on_board { IsOn (length own.now) point }
-    ensures { Shows own.now others.now point (λ after colour. IsTrue result → AllLive after colour point) }
+    ensures { IsTrue result → LeavesAllAlive own.now others.now point }
 {
-    let around = look_around(own, others, point);
-    if around.free == 0 {
-        return lives_by_friends(own, others, point);
+    if stands_apart(own, others, point) {
+        return true;
     }
-    around.along == 0 && (around.across == 0 || leaves_liberty_across(own, others, point))
+    let near = look_around(own, others, point, 0, 0);
+    if near.free == 0 {
+        return five_rows_show_alive(own, others, point);
+    }
+    if near.along != 0 {
+        return false;
+    }
+    near.across == 0 || five_rows_leave_across(own, others, point)
 }
 
-/// Looks at the three rows around a player's stone on a point.
-fn look_around(own: &[u64], others: &[u64], point: Point) -> Around
+/// The same as `leaves_all_alive`, by five rows. It is for a stone without a free point beside it, which may live by a stone beside it.
+#[inline(never)]
+fn five_rows_show_alive(own: &[u64], others: &[u64], point: Point) -> bool
     requires rows { AreOfOneBoard own.now others.now }
     requires on_board { IsOn (length own.now) point }
-    ensures free { Shows own.now others.now point (λ after colour. result.free ≢ 0 → ReachesIfStone after colour point) }
-    ensures along { Shows own.now others.now point (λ after colour. result.along ≡ 0 → ReachAlong after (opponent colour) point) }
-    ensures across { Shows own.now others.now point (λ after colour. result.across ≡ 0 → ReachAcross after (opponent colour) point) }
+    ensures { IsTrue result → LeavesAllAlive own.now others.now point }
+{
+    let around = look_at_five_rows(own, others, point);
+    around.alive != 0 && around.along | around.across == 0
+}
+
+/// Whether five rows show that each stone of the opponent just above or below a point still has an empty point beside itself, once a
+/// player's stone is on the point.
+#[inline(never)]
+fn five_rows_leave_across(own: &[u64], others: &[u64], point: Point) -> bool
+    requires rows { AreOfOneBoard own.now others.now }
+    requires on_board { IsOn (length own.now) point }
+    ensures { IsTrue result → LeavesAcross own.now others.now point }
+{
+    look_at_five_rows(own, others, point).across == 0
+}
+
+/// Looks at the two rows above a player's stone on a point, its own row, and the two rows below it.
+#[inline(always)]
+fn look_at_five_rows(own: &[u64], others: &[u64], point: Point) -> Around
+    requires rows { AreOfOneBoard own.now others.now }
+    requires on_board { IsOn (length own.now) point }
+    ensures { IsSeenAround own.now others.now point result }
+{
+    let middle = usize::from(point.row);
+    let all = all_columns(own.len());
+    let first = row_at(own, others, all, middle, 0);
+    let last = row_at(own, others, all, middle, 4);
+    look_around(own, others, point, first.free, last.free)
+}
+
+/// Looks at the three rows around a player's stone on a point. `first` and `last` are free columns of the rows before and after them.
+#[inline(always)]
+fn look_around(own: &[u64], others: &[u64], point: Point, first: u64, last: u64) -> Around
+    requires rows { AreOfOneBoard own.now others.now }
+    requires on_board { IsOn (length own.now) point }
+    requires first { AreFree own.now others.now point 0 first }
+    requires last { AreFree own.now others.now point 4 last }
+    ensures { IsSeenAround own.now others.now point result }
 {
     let col = usize::from(point.col);
     let middle = usize::from(point.row);
@@ -100,68 +142,25 @@ fn look_around(own: &[u64], others: &[u64], point: Point) -> Around
     here.free = without_column(here.free, col);
     let below = row_at(own, others, all, middle, 3);
     let stone = with_column(0, col, true);
-    let up = look_at_row(stone, 0, above, 0);
+    let up = look_at_row(stone, first, above, 0);
     let along = look_at_row(columns_beside(0, stone, 0), above.free, here, below.free);
-    let down = look_at_row(stone, 0, below, 0);
+    let down = look_at_row(stone, 0, below, last);
     Around {
         free: up.free | along.free | down.free,
+        alive: up.alive | along.alive | down.alive,
         along: along.shut,
         across: up.shut | down.shut,
     }
 }
 
-/// Whether the two rows above a point and the two below it show that each stone of the opponent just above or below the point still has
-/// an empty point beside itself, once a player's stone is on the point.
-#[inline(never)]
-fn leaves_liberty_across(own: &[u64], others: &[u64], point: Point) -> bool
-    requires rows { AreOfOneBoard own.now others.now }
-    requires on_board { IsOn (length own.now) point }
-    ensures { Shows own.now others.now point (λ after colour. IsTrue result → ReachAcross after (opponent colour) point) }
-{
-    let middle = usize::from(point.row);
-    let all = all_columns(own.len());
-    let first = row_at(own, others, all, middle, 0);
-    let above = row_at(own, others, all, middle, 1);
-    let below = row_at(own, others, all, middle, 3);
-    let last = row_at(own, others, all, middle, 4);
-    let stone = with_column(0, usize::from(point.col), true);
-    let up = look_at_row(stone, first.free, above, 0);
-    let down = look_at_row(stone, 0, below, last.free);
-    up.shut | down.shut == 0
-}
-
-/// The same as `leaves_all_alive`, by five rows. It is for a stone without a free point beside it, which may live by a stone beside it.
-#[inline(never)]
-fn lives_by_friends(own: &[u64], others: &[u64], point: Point) -> bool
-    requires rows { AreOfOneBoard own.now others.now }
-    requires on_board { IsOn (length own.now) point }
-    ensures { Shows own.now others.now point (λ after colour. IsTrue result → AllLive after colour point) }
-{
-    let col = usize::from(point.col);
-    let middle = usize::from(point.row);
-    let all = all_columns(own.len());
-    let first = row_at(own, others, all, middle, 0);
-    let above = row_at(own, others, all, middle, 1);
-    let mut here = row_at(own, others, all, middle, 2);
-    here.free = without_column(here.free, col);
-    let below = row_at(own, others, all, middle, 3);
-    let last = row_at(own, others, all, middle, 4);
-    let stone = with_column(0, col, true);
-    let up = look_at_row(stone, first.free, above, here.free);
-    let along = look_at_row(columns_beside(0, stone, 0), above.free, here, below.free);
-    let down = look_at_row(stone, here.free, below, last.free);
-    let alive = up.alive | along.alive | down.alive;
-    let shut = up.shut | along.shut | down.shut;
-    alive != 0 && shut == 0
-}
-
 /// Looks at the points in some columns of a row. `above` and `below` are the free columns of the rows above and below this row.
 fn look_at_row(columns: u64, above: u64, row: RowStones, below: u64) -> Look
-    ensures free { (col : ℕ) → IsTrue (has_bit result.free col) → IsTrue (has_bit columns col) × IsTrue (has_bit row.free col) }
-    ensures alive { (col : ℕ) → IsTrue (has_bit result.alive col) → IsTrue (has_bit columns col)
-        × (IsTrue (has_bit row.free col) ⊎ (IsTrue (has_bit row.own col) × IsInOrBeside above row.free below col)) }
-    ensures shut { (col : ℕ) → has_bit result.shut col ≡ false → IsTrue (has_bit columns col)
-        → IsTrue (has_bit row.others col) → IsInOrBeside above row.free below col }
+    ensures free { (own others : List ℕ) (point : Point) (i : ℕ) → IsLookedAt own others point i columns above row below
+        → result.free ≢ 0 → Lives own others point }
+    ensures alive { (own others : List ℕ) (point : Point) (i : ℕ) → IsLookedAt own others point i columns above row below
+        → result.alive ≢ 0 → Lives own others point }
+    ensures shut { (own others : List ℕ) (point stone : Point) (i : ℕ) → IsLookedAt own others point i columns above row below
+        → result.shut ≡ 0 → stone.row + 2 ≡ point.row + (i + 1) → IsTrue (has_bit columns stone.col) → IsTrue (is_set others stone) → StaysOpen own others point stone }
 {
     let open = columns_beside(above, row.free, below);
     Look {

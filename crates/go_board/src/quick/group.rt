@@ -1,29 +1,66 @@
-//! Whether the group of a stone has a liberty. The group is found row by row, and only as far as it takes to find a liberty.
+//! The group of a stone, and whether it has a liberty. The group is found row by row, and only as far as it takes to find a liberty.
 
-ghost use Rattle.std.specs.Prelude.{◌<◌, IsTrue, IsFalse, length};
+ghost use Rattle.std.specs.Prelude.{◌<◌, ◌≤◌, ℕ, IsTrue, IsFalse, length};
 ghost use Rattle.go_board.specs.declared.points.Point.{Point};
 ghost use Rattle.go_board.specs.inner.Rows.{is_set, HasNoPoint};
-ghost use Rattle.go_board.specs.inner.Linked.{IsJoined, IsLiberty, IsShutIn, IsStone};
+ghost use Rattle.go_board.specs.inner.Linked.{AddsIfShut, IsJoined, IsLiberty, IsShutIn, IsShutRow, IsStone};
 
 use crate::board::fill::{grow_lowest, widened, with_rows_lacking};
 use crate::board::liberty::columns_with_liberty;
-use crate::board::regions::with_column;
+use crate::board::regions::{no_rows, with_column};
 use crate::points::Point;
+use crate::quick::capture::add_points;
+use crate::size::MAX_ROWS;
 
-/// Whether the group of the stone on `from` has a liberty: an empty point beside it. `own` has the stones of its colour, `others`
-/// those of the other colour. `group` must be empty. It grows row by row, from the stones joined in one row, until one of its stones has a
-/// liberty. If no stone has one, `group` becomes the whole group.
-pub(crate) fn has_liberty(own: &[u64], others: &[u64], from: Point, group: &mut [u64]) -> bool
+/// Adds the group of the stone on `from` to `shut` if it has no liberty: no empty point beside it. Returns whether that is so. `own` has
+/// the stones of its colour, `others` those of the other colour.
+pub(crate) fn add_if_shut(own: &[u64], others: &[u64], from: Point, shut: &mut [u64]) -> bool
     requires stone { IsStone own.now others.now from }
+    requires few { length own.now ≤ MAX_ROWS }
+    requires shut { length own.now ≤ length shut.old }
+    ensures { AddsIfShut own.now others.now from shut.old shut.new result }
+{
+    // most groups live by a stone in the same row, and this needs no rows to be cleared
+    let joined = joined_in_row(own, from);
+    if joined & columns_with_liberty(own, others, usize::from(from.row)) != 0 {
+        return false;
+    }
+    add_if_shut_beyond(own, others, from, joined, shut)
+}
+
+/// The same as `add_if_shut`, for a group that may have a liberty only in other rows. `joined` has its stones in the row of `from`.
+#[inline(never)]
+fn add_if_shut_beyond(
+    own: &[u64],
+    others: &[u64],
+    from: Point,
+    joined: u64,
+    shut: &mut [u64],
+) -> bool
+    requires row { IsShutRow own.now others.now from joined }
+    requires few { length own.now ≤ MAX_ROWS }
+    requires shut { length own.now ≤ length shut.old }
+    ensures { AddsIfShut own.now others.now from shut.old shut.new result }
+{
+    let mut words = no_rows();
+    let group = &mut words[..own.len()];
+    if has_liberty(own, others, from, joined, group) {
+        return false;
+    }
+    add_points(group, shut);
+    true
+}
+
+/// Whether the group of the stone on `from` has a liberty. `joined` has its stones in the row of `from`, and none of these has one.
+/// `group` must be empty. It grows from these row by row, until one of its stones has a liberty. If no stone has one, `group` becomes the
+/// whole group.
+fn has_liberty(own: &[u64], others: &[u64], from: Point, joined: u64, group: &mut [u64]) -> bool
+    requires row { IsShutRow own.now others.now from joined }
     requires none { HasNoPoint (length own.now) group.old }
     ensures lives { IsTrue result → (p : Point) × IsLiberty own.now others.now from p }
     ensures shut { IsFalse result → IsShutIn own.now others.now from group.new }
 {
     let first = usize::from(from.row);
-    let joined = joined_in_row(own, from);
-    if joined & columns_with_liberty(own, others, first) != 0 {
-        return true;
-    }
     group[first] = joined;
     let mut waiting = with_rows_lacking(0, group, own, first);
     'rows: while waiting != 0 {
@@ -35,16 +72,6 @@ pub(crate) fn has_liberty(own: &[u64], others: &[u64], from: Point, group: &mut 
         waiting = left;
     }
     false
-}
-
-/// Whether the stone on `from` has a liberty, or a stone of its row that no gap divides from it. Then its group lives, and no
-/// other row of the group is looked at.
-pub(crate) fn lives_by_row(own: &[u64], others: &[u64], from: Point) -> bool
-    requires { IsStone own.now others.now from }
-    ensures { IsTrue result → (p : Point) × IsLiberty own.now others.now from p }
-{
-    let row = usize::from(from.row);
-    joined_in_row(own, from) & columns_with_liberty(own, others, row) != 0
 }
 
 /// The columns of the stones in a stone's row that no gap divides from it, and its own column.

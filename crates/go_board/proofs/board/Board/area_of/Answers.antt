@@ -3,8 +3,8 @@ use Rattle.go_board.specs.declared.stones.Cell.TheVariants.{Empty}
 use Rattle.go_board.specs.Colour.{same_cell, stone_of}
 use Rattle.go_board.specs.Grid.{cell_at}
 use Rattle.go_board.specs.inner.Regions.{AreRowsOf}
-use Rattle.go_board.proofs.StoneGroupLemmas.{rows_of_opponent}
-use Rattle.go_board.proofs.RegionLemmas.{seed_is, region_is, AreRowsOf-filled}
+use Rattle.go_board.proofs.LibertyLemmas.{rows_of_opponent}
+use Rattle.go_board.proofs.RegionLemmas.{region_is, filled_reaches, AreRowsOf-filled}
 use Rattle.go_board.proofs.board.Board.area_of.Goals as goal
 
 pub returns-clause-are : goal.returns-clause-are
@@ -17,7 +17,6 @@ returns-clause-are c =
     let others = c.rows_of-2.result.now in
     let other = rows_of_opponent g k c.opponent.result others c.opponent.ensures c.rows_of-2.ensures.are in
     let region = c.other_points.new.others in
-    AreRowsOf-filled g Empty (stone_of k) region area c.fill.new.rows
-    (region_is g k area others region own other c.rows_of-2.ensures.rows c.other_points.ensures)
-    (seed_is g k area others region own other c.rows_of-2.ensures.rows c.other_points.ensures)
-    c.fill.ensures.grows c.fill.ensures.closed
+    let room = region_is g k others region other c.rows_of-2.ensures.rows c.other_points.ensures in
+    AreRowsOf-filled g Empty (stone_of k) region area room own c.fill.new.rows c.fill.ensures.grows.within c.fill.ensures.grows.kept c.fill.ensures.closed
+    (filled_reaches g Empty (stone_of k) region area room own c.fill.new.rows c.fill.ensures.grows)

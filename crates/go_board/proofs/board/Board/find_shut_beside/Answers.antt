@@ -1,9 +1,9 @@
-use Rattle.std.proofs.Common.{◌≡◌, ◌||◌, Bool, false, ◌∙◌, inl, inr, sym, subst, arith}
+use Rattle.std.proofs.Common.{◌≡◌, ◌∙◌, inl, inr, sym, subst, arith}
 use Rattle.std.specs.List.{Contains}
 use Rattle.std.proofs.lemmas.List.{take_all}
 use Rattle.go_board.specs.Point.{IsOn}
 use Rattle.go_board.specs.inner.Groups.{IsTakenOrReaches}
-use Rattle.std.proofs.lemmas.Bool.{cases_Bool, or_cases, or_left, or_right, false≢true}
+use Rattle.std.proofs.lemmas.Bool.{or_cases, or_parts, false≢true}
 use Rattle.go_board.specs.declared.points.Point.{Point}
 use Rattle.go_board.specs.Colour.{stone_of}
 use Rattle.go_board.specs.Grid.{cell_at}
@@ -11,13 +11,6 @@ use Rattle.go_board.proofs.PointLemmas.{Contains-take_more}
 use Rattle.go_board.proofs.TakenLemmas.{taken_still}
 use Rattle.go_board.proofs.board.Board.find_shut_beside.Goals as goal
 use Rattle.go_board.proofs.board.Board.find_shut_beside.Goals.{then-has_stone, else-has_stone}
-
--- where neither holds, each fails
-or_neither : (a b : Bool) → (a || b) ≡ false → (a ≡ false) × (b ≡ false)
-or_neither a b none = (
-  elim (cases_Bool a) as (λ _. a ≡ false) [ inl holds ↦ absurd (false≢true (sym none ∙ or_left a b holds)) | inr fails ↦ fails ],
-  elim (cases_Bool b) as (λ _. b ≡ false) [ inl holds ↦ absurd (false≢true (sym none ∙ or_right a b holds)) | inr fails ↦ fails ],
-)
 
 pub loop-at-preserved : goal.loop-at-preserved
 loop-at-preserved c =
@@ -34,7 +27,7 @@ loop-at-preserved c =
               shut = now.adds.shut;
               kept = λ q is. now.adds.kept q (before.adds.kept q is);
               none = λ fails.
-                  let neither = or_neither _ _ (sym w.some-is ∙ fails) in
+                  let neither = or_parts _ _ (sym w.some-is ∙ fails) in
                   now.adds.none neither.1 ∙ before.adds.none neither.0;
               some = λ holds.
                   elim (or_cases _ _ (sym w.some-is ∙ holds)) [

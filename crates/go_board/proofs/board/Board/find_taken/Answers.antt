@@ -8,8 +8,7 @@ use Rattle.go_board.specs.Grid.{Grid, cell_at, with_cell}
 use Rattle.go_board.proofs.GridLemmas.{cell_at-with_cell}
 use Rattle.go_board.specs.Clearing.{has_unreaching}
 use Rattle.go_board.specs.inner.Groups.{AreShutGroups, AreTakenOrReachBeside, IsTakenOrReaches, TakesOff}
-use Rattle.go_board.proofs.TakenLemmas.{AreShutGroups-none, taken_away}
-use Rattle.go_board.proofs.MoveLemmas.{takes_off_beside, takes_off_own}
+use Rattle.go_board.proofs.TakenLemmas.{AreShutGroups-none, taken_away, takes_off_beside, takes_off_own}
 use Rattle.go_board.proofs.board.Board.find_taken.Goals as goal
 use Rattle.go_board.proofs.board.Board.find_taken.Goals.{then-not-some, else-not-some}
 

@@ -1,7 +1,7 @@
 use Rattle.std.proofs.Common.{◌≤◌, length, ◌∙◌, arith}
 use Rattle.go_board.specs.declared.stones.Cell.TheVariants.{Black as BlackCell, White as WhiteCell}
 use Rattle.go_board.specs.declared.stones.Colour.TheVariants.{Black, White}
-use Rattle.go_board.proofs.StoneGroupLemmas.{rows_of_colour}
+use Rattle.go_board.proofs.LibertyLemmas.{rows_of_colour}
 use Rattle.go_board.proofs.StoneRowsLemmas.{rows_front, black_front, white_front}
 use Rattle.go_board.proofs.board.Board.rows_of.Goals as goal
 

@@ -6,7 +6,7 @@ use Rattle.go_board.specs.Point.{IsOn}
 use Rattle.go_board.specs.inner.Regions.{AreRowsOf, count_apart, reaches_through_own}
 use Rattle.go_board.specs.inner.Halves.{low_halves, high_halves}
 use Rattle.go_board.proofs.CountLemmas.{score_by_rows}
-use Rattle.go_board.proofs.AreaHalvesLemmas.{stones_within, area_low, area_high}
+use Rattle.go_board.proofs.HalvesLemmas.{stones_within, areas}
 use Rattle.go_board.proofs.board.Board.score_in_halves.Goals as goal
 use Rattle.go_board.proofs.board.Board.score_in_halves.Goals.{After-fill}
 
@@ -26,31 +26,24 @@ module _ (c : After-fill) where
   pub long : length c.fill.new.rows ≡ c.args.self.now.side
   long = search rules
 
-  pub low : AreRowsOf c.args.self.now.side (reaches_through_own c.args.self.now Empty (stone_of Black)) (low_halves c.fill.new.rows)
-  low =
+  pub are : AreRowsOf c.args.self.now.side (reaches_through_own c.args.self.now Empty (stone_of Black)) (low_halves c.fill.new.rows)
+      × AreRowsOf c.args.self.now.side (reaches_through_own c.args.self.now Empty (stone_of White)) (high_halves c.fill.new.rows)
+  are =
       let black = c.rows_of in
       let white = c.rows_of-2 in
-      area_low c.args.self.now black.result.now white.result.now c.pair_rows.new.areas c.pair_rows.new.region c.requires
-      black.ensures.are white.ensures.are black.ensures.rows white.ensures.rows c.pair_rows.ensures.areas c.pair_rows.ensures.region
-      c.fill.new.rows c.fill.ensures.grows c.fill.ensures.closed
-
-  pub high : AreRowsOf c.args.self.now.side (reaches_through_own c.args.self.now Empty (stone_of White)) (high_halves c.fill.new.rows)
-  high =
-      let black = c.rows_of in
-      let white = c.rows_of-2 in
-      area_high c.args.self.now black.result.now white.result.now c.pair_rows.new.areas c.pair_rows.new.region c.requires
+      areas c.args.self.now black.result.now white.result.now c.pair_rows.new.areas c.pair_rows.new.region c.requires
       black.ensures.are white.ensures.are black.ensures.rows white.ensures.rows c.pair_rows.ensures.areas c.pair_rows.ensures.region
       c.fill.new.rows c.fill.ensures.grows c.fill.ensures.closed
 
 pub count_halves-requires-clause-black_on : goal.count_halves-requires-clause-black_on
 count_halves-requires-clause-black_on c = λ p is.
     let w = (goal.at.count_halves-requires-clause-black_on c).After-fill in
-    subst (λ n. IsOn n p) (sym (long w)) ((low w).off p is)
+    subst (λ n. IsOn n p) (sym (long w)) ((are w).0.off p is)
 
 pub count_halves-requires-clause-white_on : goal.count_halves-requires-clause-white_on
 count_halves-requires-clause-white_on c = λ p is.
     let w = (goal.at.count_halves-requires-clause-white_on c).After-fill in
-    subst (λ n. IsOn n p) (sym (long w)) ((high w).off p is)
+    subst (λ n. IsOn n p) (sym (long w)) ((are w).1.off p is)
 
 pub returns-clause-black : goal.returns-clause-black
 returns-clause-black c =
@@ -58,7 +51,7 @@ returns-clause-black c =
     let rows = c.fill.new.rows in
     c.count_halves.ensures.black
     ∙ ap (λ n. count_apart n (low_halves rows) (high_halves rows)) (long w)
-    ∙ score_by_rows c.args.self.now Black (low_halves rows) (high_halves rows) (low w) (high w)
+    ∙ score_by_rows c.args.self.now Black (low_halves rows) (high_halves rows) (are w).0 (are w).1
 
 pub returns-clause-white : goal.returns-clause-white
 returns-clause-white c =
@@ -66,4 +59,4 @@ returns-clause-white c =
     let rows = c.fill.new.rows in
     c.count_halves.ensures.white
     ∙ ap (λ n. count_apart n (high_halves rows) (low_halves rows)) (long w)
-    ∙ score_by_rows c.args.self.now White (high_halves rows) (low_halves rows) (high w) (low w)
+    ∙ score_by_rows c.args.self.now White (high_halves rows) (low_halves rows) (are w).1 (are w).0

@@ -1,6 +1,5 @@
 use Rattle.std.proofs.Common.{◌≤◌, arith}
-use Rattle.go_board.proofs.StoneGroupLemmas.{rows_of_opponent}
-use Rattle.go_board.proofs.LibertyLemmas.{Grows-first, IsClosed-full, shut_left}
+use Rattle.go_board.proofs.LibertyLemmas.{Grows-first, IsClosed-full, shut_left, rows_of_opponent}
 use Rattle.go_board.proofs.board.Board.shut_stones.Goals as goal
 
 pub returns-then-is_none-clause-shut : goal.returns-then-is_none-clause-shut

@@ -1,20 +1,15 @@
-use Rattle.std.proofs.Common.{sym}
-use Rattle.go_board.proofs.StoneGroupLemmas.{rows_of_opponent}
+use Rattle.go_board.proofs.LibertyLemmas.{rows_of_opponent}
+use Rattle.go_board.proofs.GlanceLemmas.{all_live}
 use Rattle.go_board.proofs.TakenLemmas.{takes_nothing}
 use Rattle.go_board.proofs.board.Board.takes_nothing_at_a_glance.Goals as goal
 
-pub returns-then-stands_apart : goal.returns-then-stands_apart
-returns-then-stands_apart c = λ live.
+pub returns : goal.returns
+returns c = λ live.
     let g = c.args.self.now in
     let k = c.args.colour in
-    takes_nothing g c.args.point k c.requires.on_board c.has_all_cells.ensures.all c.requires.settled
-    (c.stands_apart.ensures g k (sym c.rows_of-own.ensures.rows) c.rows_of-own.ensures.are
-    (rows_of_opponent g k c.opponent.result c.rows_of-others.result.now c.opponent.ensures c.rows_of-others.ensures.are) c.if-stands_apart.true)
-
-pub returns-else-stands_apart : goal.returns-else-stands_apart
-returns-else-stands_apart c = λ live.
-    let g = c.args.self.now in
-    let k = c.args.colour in
-    takes_nothing g c.args.point k c.requires.on_board c.has_all_cells.ensures.all c.requires.settled
-    (c.leaves_all_alive.ensures g k (sym c.rows_of-own.ensures.rows) c.rows_of-own.ensures.are
-    (rows_of_opponent g k c.opponent.result c.rows_of-others.result.now c.opponent.ensures c.rows_of-others.ensures.are) live)
+    let p = c.args.point in
+    let own = c.rows_of-own in
+    let others = c.rows_of-others in
+    takes_nothing g p k c.requires.on_board c.has_all_cells.ensures.all c.requires.settled
+    (all_live g k p own.result.now others.result.now own.ensures.rows c.requires.on_board own.ensures.are
+    (rows_of_opponent g k c.opponent.result others.result.now c.opponent.ensures others.ensures.are) (c.leaves_all_alive.ensures live))

@@ -1,4 +1,4 @@
-use Rattle.go_board.proofs.FillLemmas.{IsClosed-all}
+use Rattle.go_board.proofs.GrowLemmas.{IsClosed-all}
 use Rattle.go_board.proofs.board.fill.fill.Goals as goal
 
 pub rows-preserved : goal.rows-preserved

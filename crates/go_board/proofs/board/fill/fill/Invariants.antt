@@ -1,11 +1,11 @@
 -- The rows are filled, but for those that wait; a row that grew lacks less.
-use Rattle.std.proofs.Common.{◌+◌, ◌*◌, ◌^◌}
+use Rattle.std.proofs.Common.{◌+◌, ◌*◌, ◌^◌, length}
 use Rattle.go_board.specs.inner.Rows.{lacking}
 use Rattle.go_board.specs.inner.Fill.{IsFilledBut}
 use Rattle.go_board.proofs.board.fill.fill.Given as goal
 
 abbrev pub invariant-rows : goal.invariant-rows
-invariant-rows l = IsFilledBut l.region l.fn.rows l.rows l.waiting
+invariant-rows l = IsFilledBut l.region l.fn.rows l.rows l.waiting (length l.region)
 
 abbrev pub decreases-rows : goal.decreases-rows
 decreases-rows l = lacking l.rows * 2 ^ 64 + l.waiting

@@ -1,6 +1,6 @@
 use Rattle.std.proofs.Common.{◌∙◌, refl, arith}
 use Rattle.go_board.proofs.RegionLemmas.{written_more}
-use Rattle.go_board.proofs.BesideLemmas.{AreAlive, AreAlive-row, HaveLiberty-all}
+use Rattle.go_board.proofs.LibertyLemmas.{AreAlive, AreAlive-row, HaveLiberty-all}
 use Rattle.go_board.proofs.board.regions.stones_with_liberty.Goals as goal
 
 pub loop-row-preserved : goal.loop-row-preserved

@@ -1,5 +1,5 @@
 use Rattle.std.proofs.Common.{ℕ, ◌<◌, slice_index}
-use Rattle.go_board.proofs.BesideLemmas.{AreAlive}
+use Rattle.go_board.proofs.LibertyLemmas.{AreAlive}
 use Rattle.go_board.proofs.board.regions.stones_with_liberty.Given as goal
 
 abbrev pub invariant-loop-row : goal.invariant-loop-row

@@ -1,7 +1,7 @@
 use Rattle.std.proofs.Common.{ap, subst, ◌∙◌, sym}
 use Rattle.go_board.specs.Point.{IsOn}
 use Rattle.go_board.specs.Marking.{is_marked}
-use Rattle.go_board.proofs.RowLemmas.{rows-has}
+use Rattle.go_board.proofs.SearchLemmas.{rows-has}
 use Rattle.go_board.proofs.marks.Marks.has.Goals as goal
 
 pub returns : goal.returns

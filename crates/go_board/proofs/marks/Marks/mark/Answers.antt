@@ -3,7 +3,7 @@ use Rattle.go_board.specs.Point.{IsOn}
 use Rattle.go_board.specs.Marking.{marking_of}
 use Rattle.go_board.specs.inner.Rows.{is_set}
 use Rattle.go_board.specs.inner.Search.{with_mark}
-use Rattle.go_board.proofs.RowLemmas.{rows-with_bit}
+use Rattle.go_board.proofs.SearchLemmas.{rows-with_bit}
 use Rattle.go_board.proofs.marks.Marks.mark.Goals as goal
 
 pub returns : goal.returns

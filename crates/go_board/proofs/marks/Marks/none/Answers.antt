@@ -1,5 +1,5 @@
 use Rattle.go_board.specs.declared.size.TheConstants.{MAX_ROWS}
-use Rattle.go_board.proofs.RowLemmas.{rows-none}
+use Rattle.go_board.proofs.SearchLemmas.{rows-none}
 use Rattle.go_board.proofs.marks.Marks.none.Goals as goal
 
 pub returns : goal.returns

@@ -1,6 +1,6 @@
 use Rattle.std.proofs.Common.{◌∙◌, sym, subst, length, slice_index, arith}
 use Rattle.go_board.proofs.RegionLemmas.{AreOthers, written_more}
-use Rattle.go_board.proofs.AreaHalvesLemmas.{fits_half, IsPair, IsPairOfOthers, others_paired_all}
+use Rattle.go_board.proofs.HalvesLemmas.{fits_half, IsPair, IsPairOfOthers, others_paired_all}
 use Rattle.go_board.proofs.quick.both_areas.pair_rows.Goals as goal
 
 pub paired-requires-clause-low : goal.paired-requires-clause-low

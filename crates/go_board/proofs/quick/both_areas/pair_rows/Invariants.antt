@@ -1,5 +1,5 @@
 use Rattle.std.proofs.Common.{ℕ, ◌<◌, slice_index}
-use Rattle.go_board.proofs.AreaHalvesLemmas.{IsPair, IsPairOfOthers}
+use Rattle.go_board.proofs.HalvesLemmas.{IsPair, IsPairOfOthers}
 use Rattle.go_board.proofs.quick.both_areas.pair_rows.Given as goal
 
 abbrev pub invariant-rows : goal.invariant-rows

@@ -1,21 +1,22 @@
-use Rattle.std.proofs.Common.{inl, inr, arith, rules, ◌<◌, ◌^◌, sym, ◌∙◌}
-use Rattle.std.proofs.lemmas.Bool.{and_parts}
-use Rattle.go_board.proofs.WordLemmas.{has_bit-and}
-use Rattle.go_board.proofs.GlanceLemmas.{either_from, without_from}
+use Rattle.std.proofs.Common.{◌<◌, ◌^◌, arith, bit_and, bit_or, rules}
+use Rattle.std.proofs.lemmas.Nat.{and_le_l}
+use Rattle.go_board.proofs.GlanceLemmas.{some_bit, free_there, lives_there, left_there}
 use Rattle.go_board.proofs.quick.glance.look_at_row.Goals as goal
 
 pub returns-clause-free : goal.returns-clause-free
-returns-clause-free c = λ col is. and_parts _ _ (sym (has_bit-and c.args.columns c.args.row.free col) ∙ is)
+returns-clause-free c = λ own others p i is some.
+    let found = some_bit (bit_and c.args.columns c.args.row.free) (omega (arith, c.ranges.columns.fits, and_le_l c.args.columns c.args.row.free)) some in
+    free_there own others p i c.args.columns c.args.above c.args.row c.args.below is c.columns_beside-open.result c.columns_beside-open.ensures.from found.0 found.1
 
 pub returns-clause-alive : goal.returns-clause-alive
-returns-clause-alive c = λ col is.
-    let told = either_from c.args.columns c.args.row.free c.args.row.own c.columns_beside-open.result col is in (
-      told.0,
-      elim told.1 [ inl free ↦ inl free | inr both ↦ inr (both.0, c.columns_beside-open.ensures.from col both.1) ],
-    )
+returns-clause-alive c = λ own others p i is some.
+    let row = c.args.row in
+    let word = bit_or row.free (bit_and row.own c.columns_beside-open.result) in
+    let found = some_bit (bit_and c.args.columns word) (omega (arith, c.ranges.columns.fits, and_le_l c.args.columns word)) some in
+    lives_there own others p i c.args.columns c.args.above row c.args.below is c.columns_beside-open.result c.columns_beside-open.ensures.from found.0 found.1
 
 pub returns-clause-shut : goal.returns-clause-shut
-returns-clause-shut c = λ col none there other.
-    let low : c.columns_beside-open.result < 2 ^ 64 = search rules in
-    c.columns_beside-open.ensures.from col
-    (without_from c.args.columns c.args.row.others c.columns_beside-open.result col (omega (arith, c.ranges.columns.fits)) low none there other)
+returns-clause-shut c = λ own others p q i is.
+    let few : c.columns_beside-open.result < 2 ^ 64 = search rules in
+    left_there own others p i c.args.columns c.args.above c.args.row c.args.below is c.columns_beside-open.result c.columns_beside-open.ensures.from q
+    (omega (arith, c.ranges.columns.fits)) few

@@ -1,5 +1,5 @@
 -- The group is filled, but for rows that wait. No stone on the others has a liberty.
-use Rattle.std.proofs.Common.{◌≡◌, ◌+◌, ◌*◌, ◌^◌, false, IsTrue}
+use Rattle.std.proofs.Common.{◌≡◌, ◌+◌, ◌*◌, ◌^◌, false, IsTrue, length}
 use Rattle.go_board.specs.declared.points.Point.{Point}
 use Rattle.go_board.specs.inner.Rows.{has_bit, is_set, lacking}
 use Rattle.go_board.specs.inner.Fill.{IsFilledBut}
@@ -10,7 +10,7 @@ abbrev pub invariant-rows : goal.invariant-rows
 invariant-rows l = record {
   linked : (p : Point) → IsTrue (is_set l.initial.group p) → IsLinked (is_set l.own) l.fn.from p;
   start : IsTrue (is_set l.initial.group l.fn.from);
-  filled : IsFilledBut l.own l.initial.group l.group l.waiting;
+  filled : IsFilledBut l.own l.initial.group l.group l.waiting (length l.own);
   shut : (q : Point) → has_bit l.waiting q.row ≡ false → IsTrue (is_set l.group q) → ¬ (HasLiberty l.own l.others q);
 }
 

@@ -4,7 +4,7 @@ use Rattle.std.proofs.lemmas.Bool.{and_parts}
 use Rattle.go_board.specs.inner.Rows.{has_bit, row_above}
 use Rattle.go_board.proofs.WordLemmas.{has_bit-and, le_from_part}
 use Rattle.go_board.proofs.GrowLemmas.{Grows-row, IsRowClosed-row, lacking-more}
-use Rattle.go_board.proofs.board.fill.grow_row_below.Goals as goal
+use Rattle.go_board.proofs.board.fill.grow_row.Goals as goal
 
 pub widened-requires : goal.widened-requires
 widened-requires c = λ col is. (and_parts _ _ (sym (has_bit-and _ _ col) ∙ is)).1
