@@ -1,6 +1,6 @@
 -- The value of digits: at one more digit, and how large it is.
 use Rattle.std.proofs.lemmas.Grind.{common_steps}
-use Rattle.std.proofs.Common.{◌≡◌, ℕ, suc, ◌+◌, ◌-◌, ◌*◌, ◌^◌, ◌<◌, ◌≤◌, true, ◌&&◌, List, [], ◌∷◌, ◌++◌, length, take, get_or, ap, ◌∙◌, arith, length-append}
+use Rattle.std.proofs.Common.{◌≡◌, ℕ, suc, ◌+◌, ◌-◌, ◌*◌, ◌^◌, ◌<◌, ◌≤◌, true, ◌&&◌, List, [], ◌∷◌, ◌++◌, length, take, get_or, ap, ◌∙◌, arith, length-append, rules}
 use Rattle.std.proofs.Math.Bool.{and-true}
 use Rattle.std.proofs.Math.Nat.{pow-suc, mul-le-mul_right, pow-le-pow_right}
 use Rattle.std.proofs.lemmas.List.{take_more, length-take-le}
@@ -28,10 +28,7 @@ decimal_value-lt : (ds : List ℕ) → list_all is_digit ds ≡ true → decimal
 decimal_value-lt [] h = omega arith
 decimal_value-lt (d ∷ ds) h =
     let rest : list_all is_digit ds ≡ true = grind arith in
-    let small : d - 48 ≤ 9 = grind arith in
-    let k = decimal_value-lt ds rest in
-    let m = mul-le-mul_right (10 ^ length ds) small in
-    omega (arith, pow-suc 10 (length ds))
+    search (rules, mul-le-mul_right, pow-suc, (decimal_value-lt ds rest))
 
 -- at most n digits
 pub decimal_value-take : (ds : List ℕ) (i n : ℕ) → i ≤ length ds → i ≤ n → list_all is_digit (take i ds) ≡ true → decimal_value (take i ds) < 10 ^ n
