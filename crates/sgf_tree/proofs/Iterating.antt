@@ -79,17 +79,10 @@ module _ (s : List ℕ) (k : ℕ) (run : IsSpan is_white_space s 0 k) where
   pub past-white : ArePropertiesIn s → (properties_in s ≡ properties_in (drop k s)) × ArePropertiesIn (drop k s)
   past-white held = let past = held-past held white-run in (past.0, past.1)
 
-  -- whole values stand in front, one at least
-  record IsPropertyHeld (u : List ℕ) : Type 0 where
-    pub first : List ℕ
-    pub more : List (List ℕ)
-    pub rest : List ℕ
-    pub spelled : ArePropValues (first ∷ more) u rest
-    pub ends : NoValueFollows rest
-
   -- a property there, whose identifier ends at `end`, and whose values r is left after
   record IsPropertyAt (end : ℕ) (r : List ℕ) : Type 0 where
-    pub held : IsPropertyHeld (drop end s)
+    pub held : AreValuesIn (drop end s)
+    pub some : 0 < length held.values
     pub left : ArePropertiesIn r
     pub is : properties_in s ≡ property_from (name_in (slice_range s k end)) (values_in (drop end s)) ∷ properties_in r
     pub one : Property
@@ -115,7 +108,8 @@ module _ (s : List ℕ) (k : ℕ) (run : IsSpan is_white_space s 0 k) where
           let p_is : property_from (name_in (slice_range s k end)) (values_in (drop end s)) ≡ record { name = b ∷ name; first = v; more = vs } =
           ap (λ n. property_from n (values_in (drop end s))) name_is ∙ ap (property_from (b ∷ name)) (ap values_in values_at ∙ parts.2) in
           record {
-            held = record { first = v; more = vs; rest = m; spelled = all; ends = ends-values are ends };
+            held = record { values = v ∷ vs; rest = m; spelled = all; ends = ends-values are ends };
+            some = omega arith;
             left = record { properties = ps; rest = q; spelled = left; ends = ends };
             is =
                 properties-in (properties (property w h l first more) are) ends
@@ -170,17 +164,16 @@ pub record IsNextProperty (s : List ℕ) (k end : ℕ) (v m r : List ℕ) : Type
 module _ (s : List ℕ) (k : ℕ) (run : IsSpan is_white_space s 0 k) (held : ArePropertiesIn s) (lt : k < length s) (capital : IsTrue (is_upper (get_or s k 0))) (end : ℕ) (letters : IsSpan is_letter s k end) where
   -- it has one
   pub value-there : ¬ IsNoPropValue (drop end s)
-  value-there none = there (property-at s k run end (drop end s) held lt capital letters (record { values = []; spelled = no_value; none_left = none })).held.spelled
+  value-there none = let at = property-at s k run end (drop end s) held lt capital letters (record { values = []; spelled = no_value; none_left = none }) in there at.some at.held.spelled
     where
-      there : {v r : List ℕ} {vs : List (List ℕ)} → ¬ ArePropValues (v ∷ vs) (drop end s) r
-      there {v} (value {t} first more) = none v t first
+      there : {r : List ℕ} {vs : List (List ℕ)} → 0 < length vs → ¬ ArePropValues vs (drop end s) r
+      there some no_value = absurd (omega arith)
+      there some (value {v} {t} first more) = none v t first
 
   pub next-property : (v m r : List ℕ) → IsPropValue v (drop end s) m → IsPastValues m r → IsNextProperty s k end v m r
   next-property v m r first past =
       let at = property-at s k run end r held lt capital letters (record { values = v ∷ past.values; spelled = value first past.spelled; none_left = past.none_left }) in
-      let own = at.held in
-      let all : AreValuesIn (drop end s) = record { values = own.first ∷ own.more; rest = own.rest; spelled = own.spelled; ends = own.ends } in
-      let step = next-value all first in
+      let step = next-value at.held first in
       record {
         more = step.1;
         left = at.left;
