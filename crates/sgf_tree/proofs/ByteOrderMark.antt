@@ -19,9 +19,9 @@ nothing = record { closed = no_games; unclosed = [] }
 
 module _ (t : List ℕ) where
   -- no mark
-  pub mark-none : (0 < length t → get_or t 0 0 ≢ 239) → IsMarkRead t 0
+  pub mark_none : (0 < length t → get_or t 0 0 ≢ 239) → IsMarkRead t 0
   unfolding next_state accepted
-  mark-none other = search (rules, run-take-none, ne_eqb)
+  mark_none other = search (rules, run-take-none, ne_eqb)
 
   first-reached : 0 < length t → get_or t 0 0 ≡ 239 → ComesTo t 1 first_of_mark
   unfolding next_state
@@ -32,9 +32,9 @@ module _ (t : List ℕ) where
   second-reached lt e f = run-take-step t 1 first_of_mark second_of_mark (first-reached (omega arith) e) lt (rw f)
 
   -- the whole mark
-  pub mark-read : 2 < length t → get_or t 0 0 ≡ 239 → get_or t 1 0 ≡ 187 → get_or t 2 0 ≡ 191 → IsMarkRead t 3
+  pub mark_read : 2 < length t → get_or t 0 0 ≡ 239 → get_or t 1 0 ≡ 187 → get_or t 2 0 ≡ 191 → IsMarkRead t 3
   unfolding next_state
-  mark-read lt e f g =
+  mark_read lt e f g =
       record {
         within = omega arith;
         state = after_game nothing;
@@ -44,13 +44,13 @@ module _ (t : List ℕ) where
       }
 
   -- a part of it
-  pub first-faulty : 0 < length t → get_or t 0 0 ≡ 239 → (1 < length t → get_or t 1 0 ≢ 187) → IsFaultyAt t 1
+  pub first_faulty : 0 < length t → get_or t 0 0 ≡ 239 → (1 < length t → get_or t 1 0 ≢ 187) → IsFaultyAt t 1
   unfolding next_state accepted
-  first-faulty lt e other = stops-faulty t 1 first_of_mark (omega arith) (first-reached lt e) refl (λ h. rw (ne_eqb (get_or t 1 0) 187 (other h)))
+  first_faulty lt e other = stops-faulty t 1 first_of_mark (omega arith) (first-reached lt e) refl (λ h. rw (ne_eqb (get_or t 1 0) 187 (other h)))
 
-  pub second-faulty : 1 < length t → get_or t 0 0 ≡ 239 → get_or t 1 0 ≡ 187 → (2 < length t → get_or t 2 0 ≢ 191) → IsFaultyAt t 2
+  pub second_faulty : 1 < length t → get_or t 0 0 ≡ 239 → get_or t 1 0 ≡ 187 → (2 < length t → get_or t 2 0 ≢ 191) → IsFaultyAt t 2
   unfolding next_state accepted
-  second-faulty lt e f other = stops-faulty t 2 second_of_mark (omega arith) (second-reached lt e f) refl (λ h. rw (ne_eqb (get_or t 2 0) 191 (other h)))
+  second_faulty lt e f other = stops-faulty t 2 second_of_mark (omega arith) (second-reached lt e f) refl (λ h. rw (ne_eqb (get_or t 2 0) 191 (other h)))
 
   -- the white space before the first game
   pub games_begin : (mark at : ℕ) → IsMarkRead t mark → IsSpan is_white_space t mark at → StandsBetween t at nothing

@@ -18,11 +18,11 @@ decimal_value-append_digit (x ∷ ds) d =
     in
     omega (arith, ap (λ p. (x - 48) * p) size)
 
-pub decimal_value-more : (ds : List ℕ) (i : ℕ) → i < length ds → decimal_value (take (i + 1) ds) ≡ 10 * decimal_value (take i ds) + (get_or ds i 0 - 48)
-decimal_value-more ds i h = grind (arith, common_steps, take_more, decimal_value-append_digit)
+pub decimal_value_more : (ds : List ℕ) (i : ℕ) → i < length ds → decimal_value (take (i + 1) ds) ≡ 10 * decimal_value (take i ds) + (get_or ds i 0 - 48)
+decimal_value_more ds i h = grind (arith, common_steps, take_more, decimal_value-append_digit)
 
-pub digits-more : (ds : List ℕ) (i : ℕ) → i < length ds → list_all is_digit (take (i + 1) ds) ≡ (list_all is_digit (take i ds) && is_digit (get_or ds i 0))
-digits-more ds i h = grind (arith, common_steps, take_more, list_all-append, and-true)
+pub digits_more : (ds : List ℕ) (i : ℕ) → i < length ds → list_all is_digit (take (i + 1) ds) ≡ (list_all is_digit (take i ds) && is_digit (get_or ds i 0))
+digits_more ds i h = grind (arith, common_steps, take_more, list_all-append, and-true)
 
 decimal_value-lt : (ds : List ℕ) → list_all is_digit ds ≡ true → decimal_value ds < 10 ^ length ds
 decimal_value-lt [] h = omega arith
@@ -31,5 +31,5 @@ decimal_value-lt (d ∷ ds) h =
     search (rules, mul-le-mul_right, pow-suc, (decimal_value-lt ds rest))
 
 -- at most n digits
-pub decimal_value-take : (ds : List ℕ) (i n : ℕ) → i ≤ length ds → i ≤ n → list_all is_digit (take i ds) ≡ true → decimal_value (take i ds) < 10 ^ n
-decimal_value-take ds i n h k a = grind (arith, common_steps, decimal_value-lt, length-take-le, pow-le-pow_right)
+pub decimal_value_take : (ds : List ℕ) (i n : ℕ) → i ≤ length ds → i ≤ n → list_all is_digit (take i ds) ≡ true → decimal_value (take i ds) < 10 ^ n
+decimal_value_take ds i n h k a = grind (arith, common_steps, decimal_value-lt, length-take-le, pow-le-pow_right)

@@ -1,6 +1,7 @@
 -- What is left after a thing is an end of what was left before it.
 use Rattle.std.proofs.lemmas.Grind.{common_steps}
-use Rattle.std.proofs.Common.{◌≡◌, ℕ, zero, suc, ◌-◌, ◌≤◌, List, [], ◌∷◌, length, drop, arith}
+use Rattle.std.proofs.Common.{◌≡◌, ℕ, ◌+◌, ◌-◌, ◌≤◌, List, ◌∷◌, length, drop, sym, ap, ◌∙◌, arith}
+use Rattle.std.proofs.lemmas.List.{drop-drop}
 use Rattle.sgf_tree.specs.Tree.{Property, Node, Games}
 use Rattle.sgf_tree.specs.RawValue.{IsValue, no_unit, plain, escaped}
 use Rattle.sgf_tree.specs.Spelling.{WhiteSpace, no_white_space, white_space, Letters, no_letter, upper, lower, IsPropValue, prop_value, ArePropValues, no_value, value, IsProperty, property, AreProperties, no_property, properties, IsNode, node, AreNodes, no_node, nodes, AreGames, no_game, games, ByteOrderMark, no_byte_order_mark, byte_order_mark}
@@ -15,14 +16,8 @@ module _ {t : List ℕ} where
   end-drop all = let e : length t - length t ≡ 0 = omega arith in (omega arith, rw e)
   end-drop {s} (tail {b} e) =
       let h = end-drop e in
-      let n : length t - length s ≡ suc (length t - length (b ∷ s)) = omega (arith, h.0) in
-      (omega (arith, h.0), rw n (dropped t (length t - length (b ∷ s)) h.1))
-    where
-      dropped : {c : ℕ} {r : List ℕ} (u : List ℕ) (k : ℕ) → drop k u ≡ c ∷ r → drop (suc k) u ≡ r
-      dropped [] zero q = absurd (cc)
-      dropped [] (suc k) q = absurd (cc)
-      dropped (x ∷ u) zero q = cc
-      dropped (x ∷ u) (suc k) q = dropped u k q
+      let n : length t - length s ≡ length t - length (b ∷ s) + 1 = omega (arith, h.0) in
+      (omega (arith, h.0), rw n (sym (drop-drop 1 (length t - length (b ∷ s)) t) ∙ ap (drop 1) h.1))
 
   pub end-WhiteSpace : {s r : List ℕ} → WhiteSpace s r → IsEnd t s → IsEnd t r
   end-WhiteSpace no_white_space e = e

@@ -51,11 +51,11 @@ module _ (t : List ℕ) (start close : ℕ) (bracket : get_or t (start + 2) 0 �
 
 -- such properties, one after another
 module _ (names : List (List ℕ)) (t : List ℕ) where
-  pub others-none : (at : ℕ) → at ≤ length t → AreOtherProperties names t at at
-  others-none at le = record { within = le; properties = []; spelled = no_property; named = All-nil (λ (property : Property). IsOtherName names property.name) }
+  pub others_none : (at : ℕ) → at ≤ length t → AreOtherProperties names t at at
+  others_none at le = record { within = le; properties = []; spelled = no_property; named = All-nil (λ (property : Property). IsOtherName names property.name) }
 
-  pub others-more : (at mid end : ℕ) → AreOtherProperties names t at mid → IsOtherProperty names t mid end → AreOtherProperties names t at end
-  others-more at mid end before one =
+  pub others_more : (at mid end : ℕ) → AreOtherProperties names t at mid → IsOtherProperty names t mid end → AreOtherProperties names t at end
+  others_more at mid end before one =
       record {
         within = one.within;
         properties = before.properties ++ one.property ∷ [];
@@ -64,12 +64,12 @@ module _ (names : List (List ℕ)) (t : List ℕ) where
       }
 
   -- the last one, right before the end of the node
-  pub others-end : (at end : ℕ) → AreOtherProperties names t at end → EndsNode t end → AreOthers names t at end
-  others-end at end all ends = grind (arith, common_steps, nothing-skipped)
+  pub others_end : (at end : ℕ) → AreOtherProperties names t at end → EndsNode t end → AreOthers names t at end
+  others_end at end all ends = grind (arith, common_steps, nothing-skipped)
 
   -- none after a move that is a node by itself
   pub others-nothing : EndsNode t 6 → AreOthers names t 6 6
-  others-nothing ends = others-end 6 6 (others-none 6 (omega (arith, ends.within))) ends
+  others-nothing ends = others_end 6 6 (others_none 6 (omega (arith, ends.within))) ends
 
 -- the properties of the node
 module _ (names : List (List ℕ)) (s : List ℕ) (next : ℕ) (is : IsLedNode names s next) where

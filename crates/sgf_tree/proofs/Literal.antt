@@ -24,10 +24,6 @@ text_of-literals (x ∷ xs) s h =
     let rest : list_all is_literal xs ≡ true = grind arith in
     text_of-literal x (xs ++ s) first ∙ ap (λ t. x ∷ t) (text_of-literals xs s rest)
 
-text_of-take_literals : (xs : List ℕ) (i : ℕ) → list_all is_literal (take i xs) ≡ true → text_of xs ≡ take i xs ++ text_of (drop i xs)
-text_of-take_literals xs i h =
-    ap text_of (sym (take-append-drop i xs)) ∙ text_of-literals (take i xs) (drop i xs) h
-
 -- bytes that are literal one by one are so together
 all-literal : (xs : List ℕ) (n : ℕ) → n ≤ length xs → AreLiterals xs 0 n → list_all is_literal (take n xs) ≡ true
 all-literal xs zero within each = refl
@@ -36,5 +32,5 @@ all-literal (x ∷ xs) (suc n) within each =
     let first : is_literal x ≡ true = each 0 (omega arith) (omega arith) in
     search (rules, (all-literal xs n (omega arith) (λ i low high. each (suc i) (omega arith) (omega arith))))
 
-pub text_of-literals_before : (xs : List ℕ) (n : ℕ) → n ≤ length xs → AreLiterals xs 0 n → text_of xs ≡ take n xs ++ text_of (drop n xs)
-text_of-literals_before xs n within each = text_of-take_literals xs n (all-literal xs n within each)
+pub text_of_literals_before : (xs : List ℕ) (n : ℕ) → n ≤ length xs → AreLiterals xs 0 n → text_of xs ≡ take n xs ++ text_of (drop n xs)
+text_of_literals_before xs n within each = ap text_of (sym (take-append-drop n xs)) ∙ text_of-literals (take n xs) (drop n xs) (all-literal xs n within each)

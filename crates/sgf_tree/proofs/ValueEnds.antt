@@ -56,12 +56,12 @@ span-at : (t : List ℕ) (end i : ℕ) → end ≤ i → i < length t → get_or
 span-at t end i le lt = grind (arith, common_steps, get_or-take, get_or-drop)
 
 -- the search for `]` finds the next one
-pub bracket-found : (t : List ℕ) (at further : ℕ) → at ≤ length t
+pub bracket_found : (t : List ℕ) (at further : ℕ) → at ≤ length t
     → IsFirstByte (is_byte 93) (slice_range t at (length t)) (Some further) → IsNextBracket t at (at + further)
-bracket-found t at further le found = search (rules, length-take, length-drop, span-at, eqb-true, eq-eqb)
+bracket_found t at further le found = search (rules, length-take, length-drop, span-at, eqb-true, eq-eqb)
 
-pub bracket-none : (t : List ℕ) (at : ℕ) → at ≤ length t → IsFirstByte (is_byte 93) (slice_range t at (length t)) None → HasNoBracket t at (length t)
-bracket-none t at le none = search (rules, length-take, length-drop, eq-eqb, span-at)
+pub bracket_none : (t : List ℕ) (at : ℕ) → at ≤ length t → IsFirstByte (is_byte 93) (slice_range t at (length t)) None → HasNoBracket t at (length t)
+bracket_none t at le none = search (rules, length-take, length-drop, eq-eqb, span-at)
 
 -- the machine over the units of a value
 run-units : {v s r : List ℕ} (at : ℕ) (n : Started) (name : List ℕ) (before : List (List ℕ)) (so_far : List ℕ) → IsValue v s r
