@@ -1,5 +1,5 @@
 -- What the machine accepts, the text spells.
-use Rattle.std.proofs.Common.{◌≡◌, ℕ, ◌+◌, List, [], ◌∷◌, ◌++◌, length, Some, sym, subst, append-nil, arith}
+use Rattle.std.proofs.Common.{◌≡◌, ℕ, ◌+◌, List, [], ◌∷◌, ◌++◌, length, Some, sym, subst, append-nil, arith, rules}
 use Rattle.std.proofs.lemmas.Option.{none-some, same_Some, option_and_then_some}
 use Rattle.sgf_tree.specs.Tree.{Games, no_games, game}
 use Rattle.sgf_tree.specs.Spelling.{no_white_space, no_game, Spells, spells}
@@ -10,7 +10,7 @@ use Rattle.sgf_tree.proofs.Prepending.{prepend}
 
 module _ (whole : ℕ) (c : Games) where
   -- a text that is taken to a state, before one that completes that state
-  pub prepend-run : (at : ℕ) (z y : MachineState) (t r : List ℕ) → at + length (t ++ r) ≡ whole → run at z t ≡ Some y
+  prepend-run : (at : ℕ) (z y : MachineState) (t r : List ℕ) → at + length (t ++ r) ≡ whole → run at z t ≡ Some y
       → Completes whole c y r → Completes whole c z (t ++ r)
   unfolding run
   prepend-run at z y [] r e h k = subst (λ x. Completes whole c x r) (sym (same_Some z y h)) k
@@ -26,22 +26,16 @@ module _ (whole : ℕ) (c : Games) where
 
   accepted-completes : (z : MachineState) → accepted z ≡ Some c → Completes whole c z []
   unfolding accepted
-  accepted-completes (after_game k) e = whole-rest k.closed k.unclosed e
-  accepted-completes _ e = absurd (none-some c e)
+  accepted-completes z h = search (rules, whole-rest, none-some)
 
 -- a text that completes the start spells the collection
-pub completes-spells : (c : Games) (t : List ℕ) → Completes (length t) c start t → Spells c t
+completes-spells : (c : Games) (t : List ℕ) → Completes (length t) c start t → Spells c t
 completes-spells c t (s, m, ends no_game w e) = absurd (none-some c e)
 completes-spells c t (s, m, ends {others = game f n b h} are w e) =
     subst (λ x. Spells x t) (same_Some (game f n b h) c e) (spells m are w)
-
--- a text that is taken to a state, and completed from there
-pub completed-spells : (c : Games) (t r : List ℕ) (z : MachineState) → run 0 start t ≡ Some z → Completes (length (t ++ r)) c z r
-    → Spells c (t ++ r)
-completed-spells c t r z h k = completes-spells c (t ++ r) (prepend-run (length (t ++ r)) c 0 start z t r (omega arith) h k)
 
 pub accepted-spelled : (c : Games) (t : List ℕ) → collection_of t ≡ Some c → Spells c t
 unfolding collection_of
 accepted-spelled c t e =
     option_and_then_some accepted (run 0 start t) c e (λ z h a.
-    subst (Spells c) (append-nil t) (completed-spells c t [] z h (accepted-completes (length (t ++ [])) c z a)))
+    subst (Spells c) (append-nil t) (completes-spells c (t ++ []) (prepend-run (length (t ++ [])) c 0 start z t [] (omega arith) h (accepted-completes (length (t ++ [])) c z a))))

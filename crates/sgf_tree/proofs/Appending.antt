@@ -80,9 +80,9 @@ AreGames-after_white : {whole : ℕ} {first : Node} {more : List Node} {below af
     → AreGames whole (game first more below after) s r
 AreGames-after_white w (games v n ns g x h) = games (white-join w v) n ns g x h
 
-pub Spells-append : (c d : Games) (t u : List ℕ) → Spells c t → Spells d u → ¬ BeginsWithByteOrderMark u → Spells (joined c (raised (length t) d)) (t ++ u)
-Spells-append c d t u (spells m g w) (spells byte_order_mark h v) unmarked = absurd (unmarked refl)
-Spells-append c d t u (spells {first} {more} {below} {after} {s = s} {r = r} m g w) (spells {first = first'} {more = more'} {below = below'} {after = after'} {r = r'} no_byte_order_mark h v) unmarked =
+pub spells_append : (c d : Games) (t u : List ℕ) → Spells c t → Spells d u → ¬ BeginsWithByteOrderMark u → Spells (joined c (raised (length t) d)) (t ++ u)
+spells_append c d t u (spells m g w) (spells byte_order_mark h v) unmarked = absurd (unmarked refl)
+spells_append c d t u (spells {first} {more} {below} {after} {s = s} {r = r} m g w) (spells {first = first'} {more = more'} {below = below'} {after = after'} {r = r'} no_byte_order_mark h v) unmarked =
     let whole : length t + length u ≡ length (t ++ u) = sym (length-append t u) in
     let later = AreGames-after_white (WhiteSpace-before u w) (AreGames-raised (length t) h) in
     let both = AreGames-joined (AreGames-before u g) later in

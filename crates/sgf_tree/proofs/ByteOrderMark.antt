@@ -17,14 +17,11 @@ use Rattle.sgf_tree.proofs.ValueEnds.{stops-faulty}
 abbrev nothing : Stack
 nothing = record { closed = no_games; unclosed = [] }
 
-between-white : (b : ℕ) → is_white_space b ≡ true → between_games nothing b ≡ Some (after_game nothing)
-between-white b h = rw h
-
 module _ (t : List ℕ) where
   -- no mark
-  pub mark-none : (0 < length t → get_or t 0 0 ≢ 239) → IsMarkRead t 0
+  pub mark_none : (0 < length t → get_or t 0 0 ≢ 239) → IsMarkRead t 0
   unfolding next_state accepted
-  mark-none other = search (rules, run-take-none, ne_eqb)
+  mark_none other = search (rules, run-take-none, ne_eqb)
 
   first-reached : 0 < length t → get_or t 0 0 ≡ 239 → ComesTo t 1 first_of_mark
   unfolding next_state
@@ -35,9 +32,9 @@ module _ (t : List ℕ) where
   second-reached lt e f = run-take-step t 1 first_of_mark second_of_mark (first-reached (omega arith) e) lt (rw f)
 
   -- the whole mark
-  pub mark-read : 2 < length t → get_or t 0 0 ≡ 239 → get_or t 1 0 ≡ 187 → get_or t 2 0 ≡ 191 → IsMarkRead t 3
+  pub mark_read : 2 < length t → get_or t 0 0 ≡ 239 → get_or t 1 0 ≡ 187 → get_or t 2 0 ≡ 191 → IsMarkRead t 3
   unfolding next_state
-  mark-read lt e f g =
+  mark_read lt e f g =
       record {
         within = omega arith;
         state = after_game nothing;
@@ -47,23 +44,23 @@ module _ (t : List ℕ) where
       }
 
   -- a part of it
-  pub first-faulty : 0 < length t → get_or t 0 0 ≡ 239 → (1 < length t → get_or t 1 0 ≢ 187) → IsFaultyAt t 1
+  pub first_faulty : 0 < length t → get_or t 0 0 ≡ 239 → (1 < length t → get_or t 1 0 ≢ 187) → IsFaultyAt t 1
   unfolding next_state accepted
-  first-faulty lt e other = stops-faulty t 1 first_of_mark (omega arith) (first-reached lt e) refl (λ h. rw (ne_eqb (get_or t 1 0) 187 (other h)))
+  first_faulty lt e other = stops-faulty t 1 first_of_mark (omega arith) (first-reached lt e) refl (λ h. rw (ne_eqb (get_or t 1 0) 187 (other h)))
 
-  pub second-faulty : 1 < length t → get_or t 0 0 ≡ 239 → get_or t 1 0 ≡ 187 → (2 < length t → get_or t 2 0 ≢ 191) → IsFaultyAt t 2
+  pub second_faulty : 1 < length t → get_or t 0 0 ≡ 239 → get_or t 1 0 ≡ 187 → (2 < length t → get_or t 2 0 ≢ 191) → IsFaultyAt t 2
   unfolding next_state accepted
-  second-faulty lt e f other = stops-faulty t 2 second_of_mark (omega arith) (second-reached lt e f) refl (λ h. rw (ne_eqb (get_or t 2 0) 191 (other h)))
+  second_faulty lt e f other = stops-faulty t 2 second_of_mark (omega arith) (second-reached lt e f) refl (λ h. rw (ne_eqb (get_or t 2 0) 191 (other h)))
 
   -- the white space before the first game
-  pub games-begin : (mark at : ℕ) → IsMarkRead t mark → IsSpan is_white_space t mark at → StandsBetween t at nothing
-  games-begin mark at read white =
+  pub games_begin : (mark at : ℕ) → IsMarkRead t mark → IsSpan is_white_space t mark at → StandsBetween t at nothing
+  games_begin mark at read white =
       let low : mark ≤ at = white.rises in
       elim (cases_lt mark at) [
         | inl lt ↦
             let short : mark < length t = omega (arith, white.within) in
             let first : ComesTo t (mark + 1) (after_game nothing) =
-            run-take-step t mark read.state (after_game nothing) read.reached short (read.next short ∙ between-white (get_or t mark 0) (white.passing mark (omega arith) lt)) in
+            run-take-step t mark read.state (after_game nothing) read.reached short (read.next short ∙ (let space = white.passing mark (omega arith) lt in rw space)) in
             record {
               state = after_game nothing;
               reached = run-white t (mark + 1) at (after_game nothing) (stays-after_game nothing) (omega arith) white.within (λ i lo hi. white.passing i (omega arith) hi) first;
@@ -71,14 +68,5 @@ module _ (t : List ℕ) where
               end = refl;
               not_white_space = white.stops;
             }
-        | inr ge ↦
-            let same : mark ≡ at = omega arith in
-            record {
-              state = read.state;
-              reached = subst (λ i. ComesTo t i read.state) same read.reached;
-              next =
-                  subst (λ i. i < length t → next_state i read.state (get_or t i 0) ≡ between_games nothing (get_or t i 0)) same read.next;
-              end = read.end;
-              not_white_space = white.stops;
-            }
+        | inr ge ↦ search rules
       ]

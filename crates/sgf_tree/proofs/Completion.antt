@@ -1,5 +1,5 @@
 -- A text completes a state to a collection: what the state has read and what the text spells make the collection.
-use Rattle.std.proofs.Common.{◌≡◌, ℕ, ◌+◌, true, List, [], ◌∷◌, ◌++◌, length, Some, refl, ap, append_assoc, append-nil}
+use Rattle.std.proofs.Common.{◌≡◌, ℕ, ◌+◌, true, List, [], ◌∷◌, ◌++◌, length, Some, refl, ap, append_assoc, append-nil, rules}
 use Rattle.sgf_tree.specs.Tree.{Property, Node, Games, no_games, game}
 use Rattle.sgf_tree.specs.RawValue.{IsValue}
 use Rattle.sgf_tree.specs.Spelling.{WhiteSpace, Letters, ArePropValues, AreProperties, AreNodes, AreGames, ByteOrderMark}
@@ -26,16 +26,13 @@ followed_assoc (game f m i h) b c = ap (game f m i) (followed_assoc h b c)
 
 pub closed-in : (closed : Games) (g : OpenGame) (gs : List OpenGame)
     → close_in closed (g ∷ gs) ≡ Some (after_game (add_games closed gs (whole_game g)))
-closed-in closed g [] = refl
-closed-in closed g (h ∷ gs) = refl
+closed-in closed g gs = search rules
 
 pub nodes-none : (gs : List OpenGame) → add_nodes gs [] ≡ gs
-nodes-none [] = refl
-nodes-none (g ∷ gs) = rw append-nil
+nodes-none gs = search (rules, append-nil)
 
 pub nodes-more : (gs : List OpenGame) (n : Node) (ns : List Node) → add_nodes (add_node gs n) ns ≡ add_nodes gs (n ∷ ns)
-nodes-more [] n ns = refl
-nodes-more (g ∷ gs) n ns = rw append_assoc
+nodes-more gs n ns = search (rules, append_assoc)
 
 -- a property with more values
 abbrev pub with_values : Property → List (List ℕ) → Property

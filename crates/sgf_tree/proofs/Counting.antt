@@ -1,6 +1,6 @@
 -- What a tally of games counts.
 use Rattle.std.proofs.lemmas.Grind.{common_steps}
-use Rattle.std.proofs.Common.{◌≡◌, ℕ, ◌+◌, ◌≤◌, false, cond, List, [], ◌∷◌, length, Some, refl, arith}
+use Rattle.std.proofs.Common.{◌≡◌, ℕ, ◌+◌, ◌≤◌, false, cond, List, [], ◌∷◌, length, Some, refl, arith, rules}
 use Rattle.std.proofs.Math.Dec.{eqb}
 use Rattle.sgf_tree.specs.Tree.{Games, no_games, game, joined, node_count, leaf_count}
 use Rattle.sgf_tree.specs.inner.Machine.{OpenGame, Stack, after_game, whole_game, close}
@@ -18,8 +18,7 @@ leaf_count-followed (game first more (game first' more' below' after') after) b 
 leaf_count-least : (a : Games) → leaf_count a ≤ node_count a
 leaf_count-least no_games = omega arith
 leaf_count-least (game first more no_games after) = omega (arith, leaf_count-least after)
-leaf_count-least (game first more (game first' more' below' after') after) =
-    omega (arith, leaf_count-least (game first' more' below' after'), leaf_count-least after)
+leaf_count-least (game first more (game first' more' below' after') after) = search (rules, (leaf_count-least (game first' more' below' after')), (leaf_count-least after))
 
 open_leaves-least : (closed : Games) (gs : List OpenGame) → open_leaves closed gs ≤ open_count closed gs
 open_leaves-least closed [] = leaf_count-least closed
@@ -44,12 +43,10 @@ module _ (closed : Games) (g : OpenGame) where
   after gs = add_games closed gs (whole_game g)
 
   open_leaves-closed : (gs : List OpenGame) → open_leaves (after gs).closed (after gs).unclosed ≡ open_leaves closed (g ∷ gs) + cond (are_none g.below) 1 0
-  open_leaves-closed [] = omega (arith, leaf_count-followed closed (whole_game g), leaves-whole g)
-  open_leaves-closed (h ∷ hs) = omega (arith, leaf_count-followed h.below (whole_game g), leaves-whole g)
+  open_leaves-closed gs = search (rules, leaf_count-followed, leaves-whole)
 
   bare-closed : (gs : List OpenGame) → is_bare (after gs).unclosed ≡ false
-  bare-closed [] = refl
-  bare-closed (h ∷ hs) = joined-some h.below g
+  bare-closed gs = search (rules, joined-some)
 
 -- the tally of a game that ends
 module _ (tally : Tally) (depth one_game one_leaf : ℕ) where
@@ -58,8 +55,5 @@ module _ (tally : Tally) (depth one_game one_leaf : ℕ) where
       IsTallyOf k tally → length k.unclosed ≡ depth + 1 → one_game ≡ cond (eqb depth 0) 1 0 → one_leaf ≡ cond tally.is_bare 1 0
       → IsTallyOf next (record { games = tally.games + one_game; nodes = tally.nodes; leaves = tally.leaves + one_leaf; is_bare = false })
 
-  each-closed : (closed : Games) (g : OpenGame) (gs : List OpenGame) → Counts (record { closed = closed; unclosed = g ∷ gs }) (after closed g gs)
-  each-closed closed g gs counts is_open is_game is_leaf = grind (arith, common_steps, game_count-closed, open_count-closed, open_leaves-closed, bare-closed)
-
   pub tally-closed : (k next : Stack) → close k ≡ Some (after_game next) → Counts k next
-  tally-closed = game-ends Counts each-closed
+  tally-closed = game-ends Counts (λ closed g gs counts is_open is_game is_leaf. grind (arith, common_steps, game_count-closed, open_count-closed, open_leaves-closed, bare-closed))

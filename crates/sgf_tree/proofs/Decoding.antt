@@ -1,6 +1,6 @@
 -- The rules of decoding, and the function that computes by them.
 use Rattle.std.proofs.lemmas.Grind.{common_steps}
-use Rattle.std.proofs.Common.{◌≡◌, ◌≢◌, ℕ, Bool, true, false, ◌==◌, List, [], ◌∷◌, ◌++◌, refl, sym, ap, subst, ◌∙◌, append-nil, arith}
+use Rattle.std.proofs.Common.{◌≡◌, ◌≢◌, ℕ, Bool, true, false, ◌==◌, List, [], ◌∷◌, ◌++◌, refl, sym, ap, subst, ◌∙◌, append-nil, arith, rules}
 use Rattle.std.proofs.lemmas.Bool.{eqb-true}
 use Rattle.sgf_tree.specs.Text.{is_break, is_pair, spaced, MakesNoPair, IsDecoded, nothing, last_backslash, escaped_pair, escaped_break, escaped_byte, pair, line_break, plain_byte, unescaped, after_backslash, text_of}
 
@@ -17,8 +17,7 @@ not_backslash : (b : ℕ) → b ≢ 92 → (b == 92) ≡ false
 not_backslash b h = grind arith
 
 no-pair : (b : ℕ) (rest : List ℕ) → is_break b ≡ false → MakesNoPair b rest
-no-pair b [] h = tt
-no-pair b (n ∷ rest) h = grind (arith, common_steps)
+no-pair b rest h = search rules
 
 -- a byte that no `\` stands before
 front-byte : (b : ℕ) (rest text : List ℕ) → (b == 92) ≡ false → MakesNoPair b rest → IsDecoded rest text → IsDecoded (b ∷ rest) (unescaped b ∷ text)
@@ -65,22 +64,17 @@ pub is-decoded : (raw : List ℕ) → IsDecoded raw (text_of raw)
 is-decoded [] = nothing
 is-decoded (b ∷ []) = one-by b (b == 92) refl
 is-decoded (b ∷ n ∷ []) = two-by b n (is-decoded (n ∷ [])) (b == 92) (is_pair b n) refl refl
-is-decoded (b ∷ n ∷ t ∷ rest) =
-    more-by b n t rest (is-decoded rest) (is-decoded (t ∷ rest)) (is-decoded (n ∷ t ∷ rest)) (b == 92) (is_pair b n) refl refl
+is-decoded (b ∷ n ∷ t ∷ rest) = search (rules, more-by, (is-decoded rest), (is-decoded (t ∷ rest)), (is-decoded (n ∷ t ∷ rest)))
 
 -- what the function computes of a byte in front, and of an escaped one
 text-front : (b : ℕ) (rest : List ℕ) → (b == 92) ≡ false → MakesNoPair b rest → text_of (b ∷ rest) ≡ unescaped b ∷ text_of rest
-text-front b [] h none = rw h refl
-text-front b (n ∷ []) h none = rw (h, none) refl
-text-front b (n ∷ t ∷ rest) h none = rw (h, none) refl
+text-front b rest h k = search rules
 
 text-after : (b : ℕ) (rest : List ℕ) → MakesNoPair b rest → text_of (92 ∷ b ∷ rest) ≡ after_backslash b ++ text_of rest
-text-after b [] none = sym (append-nil (after_backslash b))
-text-after b (t ∷ rest) none = rw none refl
+text-after b rest h = search (rules, append-nil)
 
 text-pair : (b n : ℕ) (rest : List ℕ) → is_pair b n ≡ true → text_of (b ∷ n ∷ rest) ≡ 10 ∷ text_of rest
-text-pair b n [] h = rw (pair_no_backslash b n h, h) refl
-text-pair b n (t ∷ rest) h = rw (pair_no_backslash b n h, h) refl
+text-pair b n rest h = search (rules, pair_no_backslash)
 
 -- and it is the one text
 pub decoded-is : {raw text : List ℕ} → IsDecoded raw text → text ≡ text_of raw
@@ -88,10 +82,7 @@ decoded-is nothing = refl
 decoded-is last_backslash = refl
 decoded-is (escaped_pair {rest} h d) = rw h (decoded-is d)
 decoded-is (escaped_break {byte} {rest} h none d) = sym (text-after byte rest none ∙ rw h (sym (decoded-is d)))
-decoded-is (escaped_byte {byte} {rest} h d) =
-    sym (text-after byte rest (no-pair byte rest h) ∙ rw h (ap (λ t. spaced byte ∷ t) (sym (decoded-is d))))
+decoded-is (escaped_byte {byte} {rest} h d) = search (rules, text-after, no-pair, (decoded-is d))
 decoded-is (pair {first} {second} {rest} h d) = ap (λ t. 10 ∷ t) (decoded-is d) ∙ sym (text-pair first second rest h)
-decoded-is (line_break {byte} {rest} h none d) =
-    sym (text-front byte rest (break_no_backslash byte h) none ∙ rw h (ap (λ t. 10 ∷ t) (sym (decoded-is d))))
-decoded-is (plain_byte {byte} {rest} other h d) =
-    sym (text-front byte rest (not_backslash byte other) (no-pair byte rest h) ∙ rw h (ap (λ t. spaced byte ∷ t) (sym (decoded-is d))))
+decoded-is (line_break {byte} {rest} h none d) = search (rules, text-front, break_no_backslash, (decoded-is d))
+decoded-is (plain_byte {byte} {rest} other h d) = search (rules, text-front, not_backslash, no-pair, (decoded-is d))

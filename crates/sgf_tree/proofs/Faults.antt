@@ -1,14 +1,14 @@
 -- The machine refuses a byte exactly where a text stops being the front of a text of the grammar.
 use Rattle.std.proofs.lemmas.Grind.{common_steps}
-use Rattle.std.proofs.Common.{◌≡◌, ℕ, ◌+◌, ◌<◌, ◌≤◌, List, ◌++◌, length, get_or, take, Some, None, sym, ◌∙◌, ⊎_elim, arith, take-take, take_all, length-append}
+use Rattle.std.proofs.Common.{◌≡◌, ℕ, ◌+◌, ◌<◌, ◌≤◌, List, ◌++◌, length, get_or, take, Some, None, option_and_then, ap, sym, ◌∙◌, ⊎_elim, arith, take-take, take_all}
 use Rattle.std.proofs.lemmas.Bool.{cases_lt}
 use Rattle.std.proofs.lemmas.Option.{none-some, option_and_then_some}
 use Rattle.sgf_tree.specs.Tree.{Games}
 use Rattle.sgf_tree.specs.Spelling.{Spells}
 use Rattle.sgf_tree.specs.FirstFault.{BeginsCollection, IsFirstFault}
 use Rattle.sgf_tree.specs.inner.Machine.{MachineState, start, next_state, run, accepted, collection_of}
-use Rattle.sgf_tree.proofs.Run.{run-append, run-front, run-take-refused, refused-front, collection-run, collection-refused}
-use Rattle.sgf_tree.proofs.AcceptedSpelled.{completed-spells}
+use Rattle.sgf_tree.proofs.Run.{run-append, run-through, run-front, run-take-more, refused-front, collection-run}
+use Rattle.sgf_tree.proofs.AcceptedSpelled.{accepted-spelled}
 use Rattle.sgf_tree.proofs.Completable.{reached, complete}
 use Rattle.sgf_tree.proofs.SpelledAccepted.{spelled-accepted}
 
@@ -23,10 +23,10 @@ begins-runs t (more, c, all, h) = grind (arith, common_steps, spelled-runs, opti
 
 -- a text that is taken to a state is such a front
 pub runs-begins : (t : List ℕ) (z : MachineState) → run 0 start t ≡ Some z → BeginsCollection t
+unfolding collection_of
 runs-begins t z h =
     let (more, all, k) = complete z (reached 0 start z t h tt) in
-    let (c, f) = k (length (t ++ more)) (length t) (sym (length-append t more)) in
-    (more, c, all, completed-spells c t more z h f)
+    let (c, f) = k (0 + length t) in (more, c, all, accepted-spelled c (t ++ more) (ap (option_and_then accepted) (run-through 0 start z t more h) ∙ f))
 
 -- a front that is refused begins no text, nor does a longer one
 begins-below : (t : List ℕ) (at : ℕ) → run 0 start (take (at + 1) t) ≡ None → (n : ℕ) → BeginsCollection (take n t) → n ≤ at
@@ -40,14 +40,15 @@ begins-below t at h n b = ⊎_elim (λ lt. absurd (longer lt)) (λ le. le) (case
 
 pub refused-fault : (t : List ℕ) (at : ℕ) (z : MachineState) → at < length t → run 0 start (take at t) ≡ Some z
     → next_state at z (get_or t at 0) ≡ None → IsFirstFault t at × ((c : Games) → Spells c t → ⊥)
+unfolding collection_of
 refused-fault t at z lt h s =
-    let r : run 0 start (take (at + 1) t) ≡ None = run-take-refused t at z h lt s in (
+    let r : run 0 start (take (at + 1) t) ≡ None = run-take-more t at z lt h ∙ s in (
       record {
         within = omega arith;
         begins = runs-begins (take at t) z h;
         greatest = λ n _ b. begins-below t at r n b;
       },
-      λ c i. none-some c (sym (collection-refused t (refused-front (at + 1) t r)) ∙ spelled-accepted c t i),
+      λ c i. none-some c (sym (ap (option_and_then accepted) (refused-front (at + 1) t r)) ∙ spelled-accepted c t i),
     )
 
 pub ended-fault : (t : List ℕ) (z : MachineState) → run 0 start t ≡ Some z → accepted z ≡ None

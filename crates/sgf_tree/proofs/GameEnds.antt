@@ -1,6 +1,6 @@
 -- A game that ends: how many games and nodes there are then.
 use Rattle.std.proofs.lemmas.Grind.{common_steps}
-use Rattle.std.proofs.Common.{◌≡◌, ℕ, ◌+◌, ◌≤◌, Bool, true, false, cond, List, [], ◌∷◌, length, Some, refl, arith, ne_eqb}
+use Rattle.std.proofs.Common.{◌≡◌, ℕ, ◌+◌, ◌≤◌, Bool, true, false, cond, List, [], ◌∷◌, length, Some, refl, arith, ne_eqb, rules}
 use Rattle.std.proofs.Math.Dec.{eqb}
 use Rattle.sgf_tree.specs.Tree.{Games, no_games, game, game_count, node_count}
 use Rattle.sgf_tree.specs.inner.Machine.{OpenGame, Stack, after_game, whole_game, close}
@@ -10,12 +10,10 @@ use Rattle.sgf_tree.proofs.Stacks.{node_count-followed, game_count-followed}
 
 -- the number that a test was cast to
 pub cast-to : (b : Bool) (n : ℕ) → (b ≡ true → ◌≡◌ {A = ℕ} n 1) → (b ≡ false → ◌≡◌ {A = ℕ} n 0) → n ≡ cond b 1 0
-cast-to true n one none = one refl
-cast-to false n one none = none refl
+cast-to b n h k = search rules
 
 pub at_most_1 : (b : Bool) → cond b 1 0 ≤ 1
-at_most_1 true = omega arith
-at_most_1 false = omega arith
+at_most_1 b = search rules
 
 -- what holds of each game that ends holds of the stack before and the stack after a `)`
 pub game-ends : (P : Stack → Stack → Type 0)
@@ -38,11 +36,9 @@ fewer-games closed (g ∷ gs) depth is_open = omega (arith, open_games-least clo
 
 module _ (closed : Games) (g : OpenGame) where
   pub open_count-closed : (gs : List OpenGame) → open_count (add_games closed gs (whole_game g)).closed (add_games closed gs (whole_game g)).unclosed ≡ open_count closed (g ∷ gs)
-  open_count-closed [] = omega (arith, node_count-followed closed (whole_game g))
-  open_count-closed (h ∷ hs) = omega (arith, node_count-followed h.below (whole_game g))
+  open_count-closed gs = search (rules, node_count-followed)
 
   -- one game more, if no other is open
   pub game_count-closed : (gs : List OpenGame) (depth : ℕ) → length (g ∷ gs) ≡ depth + 1
       → game_count (add_games closed gs (whole_game g)).closed ≡ game_count closed + cond (eqb depth 0) 1 0
-  game_count-closed [] depth is_open = grind (arith, common_steps, game_count-followed)
-  game_count-closed (h ∷ hs) depth is_open = grind (arith, common_steps, ne_eqb)
+  game_count-closed gs depth h = search (rules, game_count-followed, ne_eqb)

@@ -10,7 +10,8 @@ use Rattle.sgf_tree.specs.Spelling.{is_white_space, is_upper, WhiteSpace, no_whi
 use Rattle.sgf_tree.specs.inner.NodeText.{is_letter, left_after, front, values_in, property_from, name_in, properties_in, NoValueFollows, NoPropertyFollows, AreValuesIn, ArePropertiesIn, IsNoPropValue, IsPastValues}
 use Rattle.sgf_tree.specs.inner.Progress.{IsSpan, SpellsValue, SpellsNoValue}
 use Rattle.sgf_tree.proofs.Classes.{upper-not_white_space}
-use Rattle.sgf_tree.proofs.NodeTexts.{white-same, white-none, white-join, prop-same, ends-value, past-same, white-left, values-in, ends-values, property-is, properties-in, count-values, count-properties}
+use Rattle.sgf_tree.proofs.ValueEnds.{drop-span}
+use Rattle.sgf_tree.proofs.NodeTexts.{white-same, white-none, white-join, white-past, prop-same, ends-value, past-same, white-left, values-in, ends-values, property-is, properties-in, count-values, count-properties}
 
 module _ (test : ℕ → Bool) where
   run-tail : (b : ℕ) (s : List ℕ) (k : ℕ) → IsSpan test (b ∷ s) 0 (suc k) → IsSpan test s 0 k
@@ -41,6 +42,21 @@ module _ (test : ℕ → Bool) where
 pub byte-at : (s : List ℕ) (k : ℕ) → k < length s → drop k s ≡ get_or s k 0 ∷ drop (k + 1) s
 byte-at s k lt = rw (add-one, drop-cons s k 0)
 
+-- properties in front stand after white space that is passed over
+properties-past : {ps : List Property} {r s m : List ℕ} → AreProperties ps r m → WhiteSpace r s → (n : List ℕ) × AreProperties ps s n × WhiteSpace m n
+properties-past {s = s} no_property w = (s, no_property, w)
+properties-past {m = m} (properties (property {b} v h l x vs) are) w =
+    (m, properties (property (white-past w v (upper-not_white_space b h)) h l x vs) are, no_white_space)
+
+pub held-past : {r s : List ℕ} (held : ArePropertiesIn r) → WhiteSpace r s → (properties_in r ≡ properties_in s) × (after : ArePropertiesIn s) × WhiteSpace held.rest after.rest
+held-past held w =
+    let past = properties-past held.spelled w in
+    let ends : NoPropertyFollows past.0 = λ b u v. held.ends b u (white-join past.2 v) in (
+      properties-in held.spelled held.ends ∙ sym (properties-in past.1 ends),
+      record { properties = held.properties; rest = past.0; spelled = past.1; ends = ends },
+      past.2,
+    )
+
 module _ (s : List ℕ) (k : ℕ) (run : IsSpan is_white_space s 0 k) where
   white-run : WhiteSpace s (drop k s)
   white-run = subst (WhiteSpace s) (run-front is_white_space s k run).1 (white-left s)
@@ -61,37 +77,12 @@ module _ (s : List ℕ) (k : ℕ) (run : IsSpan is_white_space s 0 k) where
 
   -- the properties in front stand after the white space
   pub past-white : ArePropertiesIn s → (properties_in s ≡ properties_in (drop k s)) × ArePropertiesIn (drop k s)
-  past-white held = past held.properties held.rest held.spelled held.ends
-    where
-      both : (ps : List Property) (r : List ℕ) → AreProperties ps s r → NoPropertyFollows r → AreProperties ps (drop k s) r → NoPropertyFollows r → (properties_in s ≡ properties_in (drop k s)) × ArePropertiesIn (drop k s)
-      both ps r are ends after ends_after =
-          (properties-in are ends ∙ sym (properties-in after ends_after), record { properties = ps; rest = r; spelled = after; ends = ends_after })
-
-      past : (ps : List Property) (r : List ℕ) → AreProperties ps s r → NoPropertyFollows r → (properties_in s ≡ properties_in (drop k s)) × ArePropertiesIn (drop k s)
-      past [] r no_property ends =
-          let ends_after : NoPropertyFollows (drop k s) = λ b t w. ends b t (white-join white-run w) in
-          (properties-in no_property ends ∙ sym (properties-in no_property ends_after), record { properties = []; rest = drop k s; spelled = no_property; ends = ends_after })
-      past (p ∷ ps) r (properties {t = m} (property {b} {t = t} w h l v vs) are) ends =
-          elim (cases_lt k (length s)) [
-            | inl lt ↦
-                let same = white-same (white-to lt) w (run.stops lt) (upper-not_white_space b h) in
-                let here : drop k s ≡ b ∷ t = byte-at s k lt ∙ ap (λ c. c ∷ drop (k + 1) s) same.0 ∙ ap (λ x. b ∷ x) same.1 in
-                let starts : WhiteSpace (drop k s) (b ∷ t) = subst (λ x. WhiteSpace x (b ∷ t)) (sym here) no_white_space in
-                both (p ∷ ps) r (properties (property w h l v vs) are) ends (properties (property starts h l v vs) are) ends
-            | inr le ↦ absurd (white-none (white-all le) w (upper-not_white_space b h))
-          ]
-
-  -- whole values stand in front, one at least
-  record IsPropertyHeld (u : List ℕ) : Type 0 where
-    pub first : List ℕ
-    pub more : List (List ℕ)
-    pub rest : List ℕ
-    pub spelled : ArePropValues (first ∷ more) u rest
-    pub ends : NoValueFollows rest
+  past-white held = let past = held-past held white-run in (past.0, past.1)
 
   -- a property there, whose identifier ends at `end`, and whose values r is left after
   record IsPropertyAt (end : ℕ) (r : List ℕ) : Type 0 where
-    pub held : IsPropertyHeld (drop end s)
+    pub held : AreValuesIn (drop end s)
+    pub some : 0 < length held.values
     pub left : ArePropertiesIn r
     pub is : properties_in s ≡ property_from (name_in (slice_range s k end)) (values_in (drop end s)) ∷ properties_in r
     pub one : Property
@@ -108,10 +99,7 @@ module _ (s : List ℕ) (k : ℕ) (run : IsSpan is_white_space s 0 k) where
           let here : drop k s ≡ b ∷ t = byte-at s k lt ∙ ap (λ c. c ∷ drop (k + 1) s) same.0 ∙ ap (λ x. b ∷ x) same.1 in
           let identifier = run-front is_letter (drop k s) (end - k) (run-drop is_letter s k end letters) in
           let parts = property-is {b = b} h l first more (ends-values are ends) in
-          let rises : k ≤ end = letters.rises in
-          let to : k + (end - k) ≡ end = omega arith in
-          let values_at : drop end s ≡ u =
-          sym (drop-drop (end - k) k s ∙ ap (λ i. drop i s) to) ∙ sym identifier.1 ∙ ap (left_after is_letter) here ∙ parts.0 in
+          let values_at : drop end s ≡ u = sym (drop-span s k end letters.rises) ∙ sym identifier.1 ∙ ap (left_after is_letter) here ∙ parts.0 in
           let name_is : name_in (slice_range s k end) ≡ b ∷ name =
           ap (filter is_upper) (sym identifier.0 ∙ ap (front is_letter) here) ∙ parts.1 in
           let all : ArePropValues (v ∷ vs) (drop end s) m = subst (λ x. ArePropValues (v ∷ vs) x m) (sym values_at) (value first more) in
@@ -120,7 +108,8 @@ module _ (s : List ℕ) (k : ℕ) (run : IsSpan is_white_space s 0 k) where
           let p_is : property_from (name_in (slice_range s k end)) (values_in (drop end s)) ≡ record { name = b ∷ name; first = v; more = vs } =
           ap (λ n. property_from n (values_in (drop end s))) name_is ∙ ap (property_from (b ∷ name)) (ap values_in values_at ∙ parts.2) in
           record {
-            held = record { first = v; more = vs; rest = m; spelled = all; ends = ends-values are ends };
+            held = record { values = v ∷ vs; rest = m; spelled = all; ends = ends-values are ends };
+            some = omega arith;
             left = record { properties = ps; rest = q; spelled = left; ends = ends };
             is =
                 properties-in (properties (property w h l first more) are) ends
@@ -133,10 +122,7 @@ module _ (s : List ℕ) (k : ℕ) (run : IsSpan is_white_space s 0 k) where
 -- a value further on, after white space from one offset to another
 module _ (t : List ℕ) (from k : ℕ) (run : IsSpan is_white_space t from k) where
   pub white-between : WhiteSpace (drop from t) (drop k t)
-  white-between =
-      let rises : from ≤ k = run.rises in
-      let e : from + (k - from) ≡ k = omega arith in
-      subst (WhiteSpace (drop from t)) (drop-drop (k - from) from t ∙ ap (λ i. drop i t) e) (white-run (drop from t) (k - from) (run-drop is_white_space t from k run))
+  white-between = subst (WhiteSpace (drop from t)) (drop-span t from k run.rises) (white-run (drop from t) (k - from) (run-drop is_white_space t from k run))
 
   pub white-up-to : k < length t → WhiteSpace (drop from t) (get_or t k 0 ∷ drop (k + 1) t)
   white-up-to lt = subst (WhiteSpace (drop from t)) (byte-at t k lt) white-between
@@ -178,17 +164,16 @@ pub record IsNextProperty (s : List ℕ) (k end : ℕ) (v m r : List ℕ) : Type
 module _ (s : List ℕ) (k : ℕ) (run : IsSpan is_white_space s 0 k) (held : ArePropertiesIn s) (lt : k < length s) (capital : IsTrue (is_upper (get_or s k 0))) (end : ℕ) (letters : IsSpan is_letter s k end) where
   -- it has one
   pub value-there : ¬ IsNoPropValue (drop end s)
-  value-there none = there (property-at s k run end (drop end s) held lt capital letters (record { values = []; spelled = no_value; none_left = none })).held.spelled
+  value-there none = let at = property-at s k run end (drop end s) held lt capital letters (record { values = []; spelled = no_value; none_left = none }) in there at.some at.held.spelled
     where
-      there : {v r : List ℕ} {vs : List (List ℕ)} → ¬ ArePropValues (v ∷ vs) (drop end s) r
-      there {v} (value {t} first more) = none v t first
+      there : {r : List ℕ} {vs : List (List ℕ)} → 0 < length vs → ¬ ArePropValues vs (drop end s) r
+      there some no_value = absurd (omega arith)
+      there some (value {v} {t} first more) = none v t first
 
   pub next-property : (v m r : List ℕ) → IsPropValue v (drop end s) m → IsPastValues m r → IsNextProperty s k end v m r
   next-property v m r first past =
       let at = property-at s k run end r held lt capital letters (record { values = v ∷ past.values; spelled = value first past.spelled; none_left = past.none_left }) in
-      let own = at.held in
-      let all : AreValuesIn (drop end s) = record { values = own.first ∷ own.more; rest = own.rest; spelled = own.spelled; ends = own.ends } in
-      let step = next-value all first in
+      let step = next-value at.held first in
       record {
         more = step.1;
         left = at.left;

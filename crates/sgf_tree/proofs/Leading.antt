@@ -10,15 +10,15 @@ use Rattle.sgf_tree.specs.Spelling.{is_upper, WhiteSpace, no_white_space, no_let
 use Rattle.sgf_tree.specs.inner.Lead.{IsOtherProperty, AreOtherProperties, AreOthers, IsLedNode, IsEmptyNode}
 use Rattle.sgf_tree.specs.inner.Machine.{games_in}
 use Rattle.sgf_tree.specs.inner.NodeText.{properties_in, node_in}
-use Rattle.sgf_tree.specs.inner.Progress.{IsValueEnd, EndsNode}
-use Rattle.sgf_tree.specs.inner.Walking.{nodes_between, AreEnded, IsWalk}
+use Rattle.sgf_tree.specs.inner.Progress.{IsValueEnd, EndsNode, IsNodeEnd}
+use Rattle.sgf_tree.specs.inner.Walking.{nodes_between, IsWalk}
 use Rattle.sgf_tree.proofs.Classes.{between-not_upper}
 use Rattle.sgf_tree.proofs.Iterating.{byte-at, white-between}
 use Rattle.sgf_tree.proofs.LoneNodes.{lone, spelled, ends-node}
 use Rattle.sgf_tree.proofs.NodeEnds.{nothing-skipped}
 use Rattle.sgf_tree.proofs.NodeTexts.{properties-in}
 use Rattle.sgf_tree.proofs.Spans.{empty-span}
-use Rattle.sgf_tree.proofs.Walking.{IsClosed, closed-ended, ended-held, ended-follows, ended-after, IsNextAt, next-begins, walk-on}
+use Rattle.sgf_tree.proofs.Walking.{past-node}
 use Rattle.sgf_tree.proofs.WrittenParts.{properties-more}
 
 -- a name of two capitals, and a value
@@ -51,11 +51,11 @@ module _ (t : List ℕ) (start close : ℕ) (bracket : get_or t (start + 2) 0 �
 
 -- such properties, one after another
 module _ (names : List (List ℕ)) (t : List ℕ) where
-  pub others-none : (at : ℕ) → at ≤ length t → AreOtherProperties names t at at
-  others-none at le = record { within = le; properties = []; spelled = no_property; named = All-nil (λ (property : Property). IsOtherName names property.name) }
+  pub others_none : (at : ℕ) → at ≤ length t → AreOtherProperties names t at at
+  others_none at le = record { within = le; properties = []; spelled = no_property; named = All-nil (λ (property : Property). IsOtherName names property.name) }
 
-  pub others-more : (at mid end : ℕ) → AreOtherProperties names t at mid → IsOtherProperty names t mid end → AreOtherProperties names t at end
-  others-more at mid end before one =
+  pub others_more : (at mid end : ℕ) → AreOtherProperties names t at mid → IsOtherProperty names t mid end → AreOtherProperties names t at end
+  others_more at mid end before one =
       record {
         within = one.within;
         properties = before.properties ++ one.property ∷ [];
@@ -64,12 +64,12 @@ module _ (names : List (List ℕ)) (t : List ℕ) where
       }
 
   -- the last one, right before the end of the node
-  pub others-end : (at end : ℕ) → AreOtherProperties names t at end → EndsNode t end → AreOthers names t at end
-  others-end at end all ends = grind (arith, common_steps, nothing-skipped)
+  pub others_end : (at end : ℕ) → AreOtherProperties names t at end → EndsNode t end → AreOthers names t at end
+  others_end at end all ends = grind (arith, common_steps, nothing-skipped)
 
   -- none after a move that is a node by itself
   pub others-nothing : EndsNode t 6 → AreOthers names t 6 6
-  others-nothing ends = others-end 6 6 (others-none 6 (omega (arith, ends.within))) ends
+  others-nothing ends = others_end 6 6 (others_none 6 (omega (arith, ends.within))) ends
 
 -- the properties of the node
 module _ (names : List (List ℕ)) (s : List ℕ) (next : ℕ) (is : IsLedNode names s next) where
@@ -82,68 +82,16 @@ module _ (names : List (List ℕ)) (s : List ℕ) (next : ℕ) (is : IsLedNode n
   pub led-properties : IsLedBy names (lone s is.front) (properties_in (drop 1 s))
   led-properties = search (rules, properties-in, all-spelled, ends-node)
 
--- where they end, in a text in which the node is at `at`
-module _ (names : List (List ℕ)) (t : List ℕ) (at next : ℕ) (is : IsLedNode names (drop at t) next) where
-  abbrev there : List ℕ
-  there = drop at t
+-- a walk goes on past it, and past a node without properties, in a text in which the node is at `at`
+module _ (t : List ℕ) (at number end : ℕ) (w : IsWalk t at number end) (more : number < end) where
+  abbrev Passed : ℕ → Type 0
+  Passed next =
+      (nodes_between (games_in t) number end ≡ node_in t at ∷ nodes_between (games_in t) (number + 1) end) × IsWalk t (at + next) (number + 1) end × (properties_in (drop (at + next) t) ≡ [])
 
-  last : get_or there next 0 ≡ get_or t (at + next) 0
-  last = get_or-drop at t next 0
+  pub led-next : (names : List (List ℕ)) (next : ℕ) → IsLedNode names (drop at t) next → Passed next
+  led-next names next is = past-node t at number end w more is.others.end next is.begins (all-spelled names (drop at t) next is) is.others.ends
 
-  inside : at + next < length t
-  inside = omega (arith, is.others.ends.inside, length-drop at t)
-
-  pub led-begins : (at < length t) × (get_or t at 0 ≡ 59)
-  led-begins = grind (arith, common_steps, inside, get_or-drop)
-
-  pub led-closed : IsClosed t (at + next)
-  led-closed = grind (arith, common_steps, inside, last, between-not_upper)
-
-  pub led-on : (to : ℕ) → AreEnded t (at + next) to → AreEnded t (at + 1) to
-  led-on to =
-      ended-after t (at + 1) (at + next) to
-      (subst (λ s. AreProperties (all names there next is) s (drop is.others.end there)) (drop-drop 1 at t) (all-spelled names there next is))
-      (subst (WhiteSpace (drop is.others.end there)) (drop-drop next at t) (white-between there is.others.end next is.others.ends.white_space))
-
-  -- so a walk goes on past it
-  module _ (number end : ℕ) (w : IsWalk t at number end) (more : number < end) where
-    here : IsNextAt t at number end w more
-    here = next-begins t at number end w more led-begins.1 led-begins.0
-
-    pub led-over : IsWalk t (at + next) (number + 1) end
-    led-over =
-        let ended = closed-ended t (at + next) led-closed in
-        walk-on t at number end w more here.place (at + next)
-        (empty-span t (at + next) (omega (arith, inside)) led-closed.stops)
-        (ended-held t (at + next) (at + next) ended) led-on
-
-    pub led-next : (nodes_between (games_in t) number end ≡ node_in t at ∷ nodes_between (games_in t) (number + 1) end) × (properties_in (drop (at + next) t) ≡ [])
-    led-next = (here.nodes, properties-in no_property (ended-follows t (at + next) (at + next) (closed-ended t (at + next) led-closed)))
-
--- past a node without properties
-module _ (t : List ℕ) (at : ℕ) (is : IsEmptyNode (drop at t)) (number end : ℕ) (w : IsWalk t at number end) (more : number < end) where
-  after-byte : get_or (drop at t) 1 0 ≡ get_or t (at + 1) 0
-  after-byte = get_or-drop at t 1 0
-
-  room : at + 1 < length t
-  room = omega (arith, is.ends.within, length-drop at t)
-
-  empty-closed : IsClosed t (at + 1)
-  empty-closed = grind (arith, common_steps, room, nothing-skipped, after-byte, between-not_upper)
-
-  there-empty : IsNextAt t at number end w more
-  there-empty =
-      let none : at + 0 ≡ at = omega arith in
-      next-begins t at number end w more (ap (λ i. get_or t i 0) (sym none) ∙ sym (get_or-drop at t 0 0) ∙ is.begins) (omega (arith, room))
-
-  pub empty-over : IsWalk t (at + 1) (number + 1) end
-  empty-over =
-      walk-on t at number end w more there-empty.place (at + 1) (nothing-skipped t (at + 1) room (omega (arith, is.ends.above, after-byte)))
-      (ended-held t (at + 1) (at + 1) (closed-ended t (at + 1) empty-closed)) (λ next ended. ended)
-
-  none-left : properties_in (drop (at + 1) t) ≡ []
-  none-left = properties-in no_property (ended-follows t (at + 1) (at + 1) (closed-ended t (at + 1) empty-closed))
-
-  pub empty-next : (nodes_between (games_in t) number end ≡ node_in t at ∷ nodes_between (games_in t) (number + 1) end) × (properties_in (drop 1 (drop at t)) ≡ [])
-      × (properties_in (drop (at + 1) t) ≡ [])
-  empty-next = (there-empty.nodes, ap properties_in (drop-drop 1 at t) ∙ none-left, none-left)
+  pub empty-next : IsEmptyNode (drop at t) → Passed 1 × (properties_in (drop 1 (drop at t)) ≡ [])
+  empty-next is =
+      let ended : IsNodeEnd (drop at t) 1 1 = record { white_space = nothing-skipped (drop at t) 1 is.ends.within is.ends.above; inside = is.ends.within; below = is.ends.below } in
+      (past-node t at number end w more 1 1 is.begins no_property ended, properties-in no_property (ends-node (drop at t) 1 1 ended))

@@ -1,4 +1,4 @@
-pub mod Shrinks
+pub mod Ends
 pub mod Rises
 pub mod PlacedBytes
 pub mod PlacesRise

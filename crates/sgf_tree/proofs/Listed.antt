@@ -1,11 +1,14 @@
 -- The listing of sequences: games side by side, one more open game, and a game that ends.
 use Rattle.std.proofs.lemmas.Grind.{common_steps}
-use Rattle.std.proofs.Common.{◌≡◌, ℕ, ◌+◌, ◌≤◌, List, [], ◌∷◌, ◌++◌, length, Option, Some, None, refl, arith, append_assoc, append-nil, length-append}
+use Rattle.std.proofs.Common.{◌≡◌, ℕ, ◌+◌, ◌≤◌, List, [], ◌∷◌, ◌++◌, length, Option, Some, None, refl, arith, append_assoc, append-nil, length-append, rules}
 use Rattle.sgf_tree.specs.Tree.{Games, no_games, game, joined, game_count, node_count}
 use Rattle.sgf_tree.specs.inner.Machine.{OpenGame, whole_game}
 use Rattle.sgf_tree.specs.inner.GamesRead.{open_count, lasts, open_lasts}
 use Rattle.sgf_tree.specs.inner.Listing.{Listed, listed, open_list}
 use Rattle.sgf_tree.proofs.Completion.{add_games}
+use Rattle.sgf_tree.proofs.ListedNodes.{length-listed, starts-rise}
+use Rattle.sgf_tree.proofs.Rises.{rises-count}
+use Rattle.sgf_tree.proofs.Starts.{starts_from, length-lasts}
 
 -- the sequences of games, and then of further ones
 pub listed-joined : (index number : ℕ) (outer : Option ℕ) (ordinal : ℕ) (a b : Games)
@@ -19,20 +22,12 @@ listed-joined index number outer ordinal (game first more below after) b =
 
 -- there are no more sequences than nodes
 listed-least : (index number : ℕ) (outer : Option ℕ) (ordinal : ℕ) (a : Games) → length (listed index number outer ordinal a) ≤ node_count a
-listed-least index number outer ordinal no_games = omega arith
-listed-least index number outer ordinal (game first more below after) =
-    let next : ℕ = number + 1 + length more in
-    let inner : List Listed = listed (index + 1) next (Some index) 1 below in
-    grind (arith, common_steps, length-append, (listed-least (index + 1) next (Some index) 1 below), (listed-least (index + 1 + length inner) (next + node_count below) outer (ordinal + 1) after))
+listed-least index number outer ordinal a =
+    omega (arith, length-listed index number outer ordinal a, rises-count number (number + node_count a) (starts_from number a) (starts-rise number a))
 
 -- for each of them the last node below it is kept
 lasts-listed : (at index number : ℕ) (outer : Option ℕ) (ordinal : ℕ) (a : Games) → length (lasts at a) ≡ length (listed index number outer ordinal a)
-lasts-listed at index number outer ordinal no_games = refl
-lasts-listed at index number outer ordinal (game first more below after) =
-    let next : ℕ = number + 1 + length more in
-    let inner : List Listed = listed (index + 1) next (Some index) 1 below in
-    let at_next : ℕ = at + 1 + length more in
-    grind (arith, common_steps, length-append, (lasts-listed at_next (index + 1) next (Some index) 1 below), (lasts-listed (at_next + node_count below) (index + 1 + length inner) (next + node_count below) outer (ordinal + 1) after))
+lasts-listed at index number outer ordinal a = omega (arith, length-lasts at number a, length-listed index number outer ordinal a)
 
 module _ (closed : Games) where
   -- the sequences of some open games, in their order
@@ -47,8 +42,7 @@ module _ (closed : Games) where
 
   pub open_list-least : (gs : List OpenGame) → length (open_list closed gs).sequences ≤ open_count closed gs
   open_list-least [] = listed-least 0 0 None 1 closed
-  open_list-least (g ∷ gs) =
-      grind (arith, common_steps, length-append, listed-least, (open_list-least gs))
+  open_list-least (g ∷ gs) = search (rules, length-append, listed-least, (open_list-least gs))
 
   pub open_list-nodes : (gs : List OpenGame) → (open_list closed gs).nodes ≡ open_count closed gs
   open_list-nodes [] = refl
@@ -56,8 +50,7 @@ module _ (closed : Games) where
 
   pub open_lasts-listed : (gs : List OpenGame) → length (open_lasts closed gs) ≡ length (open_list closed gs).sequences
   open_lasts-listed [] = lasts-listed 0 0 0 None 1 closed
-  open_lasts-listed (g ∷ gs) =
-      grind (arith, common_steps, length-append, lasts-listed, (open_lasts-listed gs))
+  open_lasts-listed (g ∷ gs) = search (rules, length-append, lasts-listed, (open_lasts-listed gs))
 
   -- a game that ends is listed as the open game was, and the game around it is innermost then
   module _ (g : OpenGame) where
@@ -68,9 +61,7 @@ module _ (closed : Games) where
     alone index number outer ordinal = grind (arith, common_steps, append-nil)
 
     pub list-closed : (gs : List OpenGame) → (open_list (add_games closed gs (whole_game g)).closed (add_games closed gs (whole_game g)).unclosed).sequences ≡ (open_list closed (g ∷ gs)).sequences
-    list-closed [] = grind (arith, common_steps, listed-joined, alone)
-    list-closed (h ∷ hs) = grind (arith, common_steps, length-append, listed-joined, alone, append_assoc)
+    list-closed gs = search (rules, listed-joined, alone, length-append, append_assoc)
 
     pub innermost-closed : (gs : List OpenGame) → (open_list (add_games closed gs (whole_game g)).closed (add_games closed gs (whole_game g)).unclosed).innermost ≡ (open_list closed gs).innermost
-    innermost-closed [] = refl
-    innermost-closed (h ∷ hs) = refl
+    innermost-closed gs = search rules

@@ -1,6 +1,6 @@
 -- Where the listed sequences stand among the ordered nodes.
 use Rattle.std.proofs.lemmas.Grind.{common_steps}
-use Rattle.std.proofs.Common.{◌≡◌, ℕ, zero, suc, ◌+◌, ◌-◌, ◌<◌, ◌⊎◌, inl, inr, true, List, [], ◌∷◌, ◌++◌, length, map, get_or, slice_get, Option, Some, refl, sym, ap, subst, ◌∙◌, arith, append_assoc, length-append}
+use Rattle.std.proofs.Common.{◌≡◌, ℕ, zero, suc, ◌+◌, ◌-◌, ◌<◌, ◌⊎◌, inl, inr, true, List, [], ◌∷◌, ◌++◌, length, map, get_or, slice_get, Option, Some, refl, sym, ap, subst, ◌∙◌, arith, append_assoc, length-append, rules}
 use Rattle.std.proofs.lemmas.Bool.{cases_lt, lt-ltb, le-ltb}
 use Rattle.std.proofs.lemmas.List.{map-append, get_or-append-add, length-map}
 use Rattle.sgf_tree.specs.Tree.{Node, Games, no_games, game, node_count}
@@ -8,7 +8,7 @@ use Rattle.sgf_tree.specs.FileOrder.{OrderedNode, further_nodes, nodes_from, gam
 use Rattle.sgf_tree.specs.inner.Listing.{Listed, listed}
 use Rattle.sgf_tree.proofs.Lists.{slice_get-left, slice_get-right}
 use Rattle.sgf_tree.proofs.Rises.{Rises, rises-low, rises-append}
-use Rattle.sgf_tree.proofs.OrderedNodes.{length-further_nodes, length-nodes_from}
+use Rattle.sgf_tree.proofs.OrderedNodes.{length-further_nodes, length-nodes_from, game-first, game-after}
 use Rattle.sgf_tree.proofs.Starts.{starts_from, first-start}
 use Rattle.sgf_tree.proofs.LastBelow.{get_or-joined}
 
@@ -30,6 +30,9 @@ starts-listed index at outer ordinal (game first more below after) =
     let next : ℕ = at + 1 + length more in
     let inner : List Listed = listed (index + 1) next (Some index) 1 below in
     grind (arith, common_steps, map-append, starts_from, (starts-listed (index + 1) next (Some index) 1 below), (starts-listed (index + 1 + length inner) (next + node_count below) outer (ordinal + 1) after))
+
+pub length-listed : (index at : ℕ) (outer : Option ℕ) (ordinal : ℕ) (g : Games) → length (listed index at outer ordinal g) ≡ length (starts_from at g)
+length-listed index at outer ordinal g = omega (arith, length-map (listed index at outer ordinal g) number_of, ap length (starts-listed index at outer ordinal g))
 
 -- they rise
 pub starts-rise : (at : ℕ) (g : Games) → Rises at (starts_from at g) (at + node_count g)
@@ -55,7 +58,7 @@ ends-listed index at outer ordinal (game first more below after) (suc i) end s a
     let under : List ℕ = starts_from next below in
     let past : List ℕ = starts_from (next + node_count below) after in
     let e : next ≡ at + length more + 1 = omega arith in
-    let count : length inner ≡ length under = sym (length-map inner number_of) ∙ ap length (starts-listed (index + 1) next (Some index) 1 below) in
+    let count : length inner ≡ length under = length-listed (index + 1) next (Some index) 1 below in
     rw (← e) (elim (cases_lt i (length inner)) [
       | inl lt ↦
           get_or-joined under past (suc i) end (next + node_count below) (omega (arith, count, lt)) (first-start (next + node_count below) end after (omega (arith, all)))
@@ -67,13 +70,6 @@ ends-listed index at outer ordinal (game first more below after) (suc i) end s a
           ap (λ m. get_or (under ++ past) m end) j ∙ get_or-append-add under past (suc k) end
           ∙ ends-listed (index + 1 + length inner) (next + node_count below) outer (ordinal + 1) after k end s (omega (arith, all)) (sym (slice_get-right inner later i k at_k) ∙ h)
     ])
-
--- the first node of a game, and one of the games after it
-game-first : (first : Node) (more : List Node) (below after : Games) → game_of (game first more below after) 0 ≡ 1
-game-first first more below after = rw (lt-ltb 0 (1 + length more + node_count below) (omega arith)) refl
-
-game-after : (first : Node) (more : List Node) (below after : Games) (m k : ℕ) → m ≡ 1 + length more + node_count below + k → game_of (game first more below after) m ≡ 1 + game_of after k
-game-after first more below after m k e = grind (arith, common_steps, le-ltb)
 
 regroup : {A : Type 0} (own b o a n : List A) → (own ++ (b ++ (o ++ a))) ++ n ≡ (own ++ b) ++ (o ++ (a ++ n))
 regroup own b o a n = grind (arith, common_steps, append_assoc)
@@ -102,23 +98,6 @@ pub record IsListedAt (index at : ℕ) (outer parent : Option ℕ) (ordinal : �
   pub number_is : s.number ≡ at + length before
   pub goes_on : BeginsGame outer parent ordinal (length before) g s own ⊎ GoesOnFrom index (listed index at outer ordinal g) i s own
 
--- the first game's own sequence
-first-listed : (index at : ℕ) (outer parent : Option ℕ) (ordinal : ℕ) (first : Node) (more : List Node) (below after : Games)
-    → IsListedAt index at outer parent ordinal (game first more below after) 0 (record { first = first; more = more; number = at; outer = outer; ordinal = ordinal })
-first-listed index at outer parent ordinal first more below after =
-    let last : ℕ = at + length more in
-    let own : List OrderedNode = record { node = first; parent = parent; opens = true } ∷ further_nodes at more in
-    let under : List OrderedNode = nodes_from (last + 1) (Some last) below in
-    let next : List OrderedNode = nodes_from (last + 1 + node_count below) parent after in
-    record {
-      own = parent;
-      before = [];
-      after = under ++ next;
-      split = append_assoc own under next;
-      number_is = omega arith;
-      goes_on = inl (record { outer_is = refl; parent_is = refl; ordinal_is = omega (arith, game-first first more below after) });
-    }
-
 module _ (index at : ℕ) (outer parent : Option ℕ) (ordinal : ℕ) (first : Node) (more : List Node) (below after : Games) where
   abbrev next : ℕ
   next = at + 1 + length more
@@ -135,6 +114,17 @@ module _ (index at : ℕ) (outer parent : Option ℕ) (ordinal : ℕ) (first : N
   -- the game's nodes, those of the games below it, and those of the games after it
   nodes-split : nodes_from at parent (game first more below after) ≡ (own_nodes ++ nodes_from next (Some (at + length more)) below) ++ nodes_from (next + node_count below) parent after
   nodes-split = grind (arith, common_steps)
+
+  -- the game's own sequence
+  first-listed : IsListedAt index at outer parent ordinal (game first more below after) 0 (record { first = first; more = more; number = at; outer = outer; ordinal = ordinal })
+  first-listed = record {
+    own = parent;
+    before = [];
+    after = nodes_from next (Some (at + length more)) below ++ nodes_from (next + node_count below) parent after;
+    split = nodes-split ∙ append_assoc own_nodes (nodes_from next (Some (at + length more)) below) (nodes_from (next + node_count below) parent after);
+    number_is = omega arith;
+    goes_on = inl (record { outer_is = refl; parent_is = refl; ordinal_is = omega (arith, game-first first more below after 0 (omega arith)) });
+  }
 
   -- a sequence below the game
   below-listed : (i : ℕ) (s : Listed) → i < length inner → IsListedAt (index + 1) next (Some index) (Some (at + length more)) 1 below i s
@@ -160,14 +150,7 @@ module _ (index at : ℕ) (outer parent : Option ℕ) (ordinal : ℕ) (first : N
               }
           | inr from ↦
               let z : index + 1 + from.other ≡ index + suc from.other = omega arith in
-              record {
-                other = suc from.other;
-                sequence = from.sequence;
-                before = omega (arith, from.before);
-                is = slice_get-left inner later from.other (omega (arith, from.before, lt)) ∙ from.is;
-                outer_is = from.outer_is ∙ ap Some z;
-                parent_is = from.parent_is;
-              }
+              search (rules, slice_get-left)
         ]);
       }
 
@@ -185,22 +168,10 @@ module _ (index at : ℕ) (outer parent : Option ℕ) (ordinal : ℕ) (first : N
         split = nodes-split ∙ ap (λ rs. (own_nodes ++ under) ++ rs) w.split ∙ sym (append_assoc (own_nodes ++ under) w.before (own_ordered s w.own ++ w.after));
         number_is = omega (arith, w.number_is, places);
         goes_on = elim w.goes_on [
-          | inl begins ↦
-              inl (record {
-                outer_is = begins.outer_is;
-                parent_is = begins.parent_is;
-                ordinal_is = omega (arith, begins.ordinal_is, game-after first more below after (length ((own_nodes ++ under) ++ w.before)) (length w.before) places);
-              })
+          | inl begins ↦ search (rules, game-after)
           | inr from ↦
               let z : index + 1 + length inner + from.other ≡ index + suc (length inner + from.other) = omega arith in
-              inr (record {
-                other = suc (length inner + from.other);
-                sequence = from.sequence;
-                before = omega (arith, from.before, at_k);
-                is = slice_get-right inner later (length inner + from.other) from.other refl ∙ from.is;
-                outer_is = from.outer_is ∙ ap Some z;
-                parent_is = from.parent_is;
-              })
+              search (rules, slice_get-right)
         ];
       }
 
@@ -213,12 +184,9 @@ listed-at index at outer parent ordinal (game first more below after) (suc i) s 
     let inner : List Listed = listed (index + 1) next (Some index) 1 below in
     let later : List Listed = listed (index + 1 + length inner) (next + node_count below) outer (ordinal + 1) after in
     elim (cases_lt i (length inner)) [
-      | inl lt ↦
-          below-listed index at outer parent ordinal first more below after i s lt
-          (listed-at (index + 1) next (Some index) (Some (at + length more)) 1 below i s (sym (slice_get-left inner later i lt) ∙ h))
+      | inl lt ↦ search (rules, below-listed, slice_get-left, (listed-at (index + 1) next (Some index) (Some (at + length more)) 1 below i s (sym (slice_get-left inner later i lt) ∙ h)))
       | inr le ↦
           let k : ℕ = i - length inner in
           let at_k : i ≡ length inner + k = omega (arith, le) in
-          after-listed index at outer parent ordinal first more below after i k s at_k
-          (listed-at (index + 1 + length inner) (next + node_count below) outer parent (ordinal + 1) after k s (sym (slice_get-right inner later i k at_k) ∙ h))
+          search (rules, after-listed, slice_get-right, (listed-at (index + 1 + length inner) (next + node_count below) outer parent (ordinal + 1) after k s (sym (slice_get-right inner later i k at_k) ∙ h)))
     ]

@@ -1,5 +1,5 @@
 -- An element of two lists joined.
-use Rattle.std.proofs.Common.{◌≡◌, ℕ, zero, suc, ◌+◌, ◌<◌, ◌⊎◌, inl, inr, List, [], ◌∷◌, ◌++◌, length, slice_get, Some, refl, ap, arith}
+use Rattle.std.proofs.Common.{◌≡◌, ℕ, zero, suc, ◌+◌, ◌<◌, ◌⊎◌, inl, inr, List, [], ◌∷◌, ◌++◌, length, slice_get, Some, refl, ap, arith, rules}
 
 -- an element of the first of two lists
 pub slice_get-left : {A : Type 0} (xs ys : List A) (i : ℕ) → i < length xs → slice_get (xs ++ ys) i ≡ slice_get xs i
@@ -18,5 +18,4 @@ pub slice_get-pushed : {A : Type 0} (xs : List A) (y x : A) (i : ℕ) → slice_
 slice_get-pushed [] y x zero h = inr (refl, cc)
 slice_get-pushed [] y x (suc i) h = absurd (cc)
 slice_get-pushed (z ∷ xs) y x zero h = inl h
-slice_get-pushed (z ∷ xs) y x (suc i) h =
-    elim (slice_get-pushed xs y x i h) [ inl k ↦ inl k | inr k ↦ inr (ap suc k.0, k.1) ]
+slice_get-pushed (z ∷ xs) y x (suc i) h = search (rules, (slice_get-pushed xs y x i h))

@@ -1,5 +1,5 @@
 -- The bytes that stand for themselves, whatever follows.
-use Rattle.std.proofs.Common.{◌≡◌, ℕ, zero, suc, ◌≤◌, true, false, ◌==◌, List, [], ◌∷◌, ◌++◌, length, take, drop, refl, ap, sym, ◌∙◌, arith}
+use Rattle.std.proofs.Common.{◌≡◌, ℕ, zero, suc, ◌≤◌, true, false, ◌==◌, List, [], ◌∷◌, ◌++◌, length, take, drop, refl, ap, sym, ◌∙◌, arith, rules}
 use Rattle.std.proofs.lemmas.List.{take-append-drop}
 use Rattle.std.specs.List.{list_all}
 use Rattle.sgf_tree.specs.Text.{text_of, is_pair, unescaped}
@@ -15,9 +15,7 @@ unescaped-literal : (a : ℕ) → is_literal a ≡ true → unescaped a ≡ a
 unescaped-literal a h = grind arith
 
 text_of-literal : (a : ℕ) (s : List ℕ) → is_literal a ≡ true → text_of (a ∷ s) ≡ a ∷ text_of s
-text_of-literal a [] h = rw (not_backslash a h, unescaped-literal a h) refl
-text_of-literal a (b ∷ []) h = rw (not_backslash a h, not_of_pair a b h, unescaped-literal a h) refl
-text_of-literal a (b ∷ c ∷ s) h = rw (not_backslash a h, not_of_pair a b h, unescaped-literal a h) refl
+text_of-literal a s h = search (rules, not_backslash, unescaped-literal, not_of_pair)
 
 text_of-literals : (xs s : List ℕ) → list_all is_literal xs ≡ true → text_of (xs ++ s) ≡ xs ++ text_of s
 text_of-literals [] s h = refl
@@ -26,18 +24,13 @@ text_of-literals (x ∷ xs) s h =
     let rest : list_all is_literal xs ≡ true = grind arith in
     text_of-literal x (xs ++ s) first ∙ ap (λ t. x ∷ t) (text_of-literals xs s rest)
 
-text_of-take_literals : (xs : List ℕ) (i : ℕ) → list_all is_literal (take i xs) ≡ true → text_of xs ≡ take i xs ++ text_of (drop i xs)
-text_of-take_literals xs i h =
-    ap text_of (sym (take-append-drop i xs)) ∙ text_of-literals (take i xs) (drop i xs) h
-
 -- bytes that are literal one by one are so together
 all-literal : (xs : List ℕ) (n : ℕ) → n ≤ length xs → AreLiterals xs 0 n → list_all is_literal (take n xs) ≡ true
 all-literal xs zero within each = refl
 all-literal [] (suc n) within each = absurd (omega arith)
 all-literal (x ∷ xs) (suc n) within each =
     let first : is_literal x ≡ true = each 0 (omega arith) (omega arith) in
-    let rest : list_all is_literal (take n xs) ≡ true = all-literal xs n (omega arith) (λ i low high. each (suc i) (omega arith) (omega arith)) in
-    rw (first, rest) refl
+    search (rules, (all-literal xs n (omega arith) (λ i low high. each (suc i) (omega arith) (omega arith))))
 
-pub text_of-literals_before : (xs : List ℕ) (n : ℕ) → n ≤ length xs → AreLiterals xs 0 n → text_of xs ≡ take n xs ++ text_of (drop n xs)
-text_of-literals_before xs n within each = text_of-take_literals xs n (all-literal xs n within each)
+pub text_of_literals_before : (xs : List ℕ) (n : ℕ) → n ≤ length xs → AreLiterals xs 0 n → text_of xs ≡ take n xs ++ text_of (drop n xs)
+text_of_literals_before xs n within each = ap text_of (sym (take-append-drop n xs)) ∙ text_of-literals (take n xs) (drop n xs) (all-literal xs n within each)

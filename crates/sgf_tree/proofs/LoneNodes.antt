@@ -4,7 +4,7 @@ use Rattle.std.proofs.Common.{◌≡◌, ◌≢◌, ℕ, false, IsTrue, List, �
 use Rattle.sgf_tree.specs.Tree.{Property, lone_property}
 use Rattle.sgf_tree.specs.RawValue.{no_unit, plain}
 use Rattle.sgf_tree.specs.Spelling.{is_upper, no_white_space, no_letter, prop_value, no_value, IsProperty, property}
-use Rattle.sgf_tree.specs.inner.NodeText.{properties_in, NoPropertyFollows, ArePropertiesIn}
+use Rattle.sgf_tree.specs.inner.NodeText.{properties_in, NoValueFollows, NoPropertyFollows, ArePropertiesIn}
 use Rattle.sgf_tree.specs.inner.Progress.{is_plain, IsNodeEnd, IsMove, IsLoneFront}
 use Rattle.sgf_tree.proofs.Classes.{between-not_upper, white-not_bracket, white-not_upper}
 use Rattle.sgf_tree.proofs.Iterating.{byte-at}
@@ -31,24 +31,22 @@ module _ (s : List ℕ) (is : IsMove s 1) where
   here : drop 1 s ≡ letter ∷ 91 ∷ get_or s 3 0 ∷ get_or s 4 0 ∷ 93 ∷ rest
   here = grind (arith, common_steps, byte-at, value-here)
 
-  first-plain : IsTrue (is_plain (get_or s 3 0))
-  first-plain = is.value.plain.passing 3 (omega arith) (omega arith)
-
-  second-plain : IsTrue (is_plain (get_or s 4 0))
-  second-plain = is.value.plain.passing 4 (omega arith) (omega arith)
-
   -- the property in front
   abbrev pub lone : Property
   lone = lone_property (get_or s 1 0) (slice_range s 3 5)
 
   pub spelled : IsProperty lone (drop 1 s) rest
   spelled =
-      let (p, q) = plain-other (get_or s 3 0) first-plain in
-      let (u, v) = plain-other (get_or s 4 0) second-plain in
+      let (p, q) = plain-other (get_or s 3 0) (is.value.plain.passing 3 (omega arith) (omega arith)) in
+      let (u, v) = plain-other (get_or s 4 0) (is.value.plain.passing 4 (omega arith) (omega arith)) in
       subst (λ t. IsProperty lone t rest) (sym here)
       (subst (λ v. IsProperty (lone_property letter v) (letter ∷ 91 ∷ get_or s 3 0 ∷ get_or s 4 0 ∷ 93 ∷ rest) rest) (ap (take 2) (sym value-here))
       (property no_white_space is.capital no_letter (prop_value no_white_space (plain p q (plain u v no_unit))) no_value))
 
+-- no value follows the first property of a node
+pub lone-ends : (s : List ℕ) → IsLoneFront s → NoValueFollows (drop 6 s)
+lone-ends s is = ends-at s 6 is.ends.next is.ends.white_space is.ends.other
+
 -- the first property of a node, and what is left
 pub front-left : (s : List ℕ) (is : IsLoneFront s) → ArePropertiesIn (drop 1 s) → (properties_in (drop 1 s) ≡ lone s is.front ∷ properties_in (drop 6 s)) × ArePropertiesIn (drop 6 s)
-front-left s is held = left-after held (spelled s is.front) (ends-at s 6 is.ends.next is.ends.white_space is.ends.other)
+front-left s is held = left-after held (spelled s is.front) (lone-ends s is)

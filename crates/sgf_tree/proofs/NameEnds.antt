@@ -1,6 +1,6 @@
 -- How the name of a property is read, up to the `[` after it.
 use Rattle.std.proofs.lemmas.Grind.{common_steps}
-use Rattle.std.proofs.Common.{◌≡◌, ◌≢◌, ℕ, ◌+◌, ◌<◌, ◌≤◌, false, inl, inr, IsTrue, List, [], ◌∷◌, ◌++◌, length, get_or, slice_range, Some, None, refl, ap, subst, ◌∙◌, arith, if◌then◌else◌, ne_eqb, get_or-drop, length-drop}
+use Rattle.std.proofs.Common.{◌≡◌, ◌≢◌, ℕ, ◌+◌, ◌<◌, ◌≤◌, false, inl, inr, IsTrue, List, [], ◌∷◌, ◌++◌, length, get_or, slice_range, Some, None, refl, ap, subst, ◌∙◌, arith, if◌then◌else◌, ne_eqb, get_or-drop, length-drop, rules}
 use Rattle.std.proofs.lemmas.Bool.{cases_lt, or_cases, or_parts, or_left, false≢true}
 use Rattle.std.proofs.lemmas.List.{take_more}
 use Rattle.std.proofs.lemmas.List.Elements.{filter-append}
@@ -34,12 +34,7 @@ name-reached t start end n lt capital letters h =
     let b : ℕ = get_or t start 0 in
     let longer : start < end = name-longer t start end lt capital letters in
     let parts : slice_range t start end ≡ (b ∷ []) ++ slice_range t (start + 1) end = name-begins t start end lt capital letters in
-    let name : name_in (slice_range t start end) ≡ (b ∷ []) ++ name_in (slice_range t (start + 1) end) =
-    ap name_in parts ∙ filter-append is_upper (b ∷ []) (slice_range t (start + 1) end)
-    ∙ ap (λ c. (if c then b ∷ [] else []) ++ name_in (slice_range t (start + 1) end)) capital in
-    rw name
-    (run-letters t (start + 1) end n (b ∷ []) (omega arith) letters.within
-    (λ i low high. or_cases (is_upper (get_or t i 0)) (is_lower (get_or t i 0)) (letters.passing i (omega arith) high)) h)
+    search (rules, filter-append, run-letters, or_cases)
 
 -- the state after a name and the white space there
 pub record StandsAfterName (t : List ℕ) (at : ℕ) (n : Started) (name : List ℕ) : Type 0 where
@@ -87,20 +82,15 @@ name-after t start end at n inside capital letters white begins =
 pub name-faulty : (t : List ℕ) (at : ℕ) (n : Started) (name : List ℕ) → StandsAfterName t at n name → at ≤ length t → (at < length t → get_or t at 0 ≢ 91) → IsFaultyAt t at
 name-faulty t at n name after le other = stops-faulty t at after.state le after.reached after.unaccepted (λ lt. after.refused lt (other lt))
 
--- the `[`
-name-value : (t : List ℕ) (at : ℕ) (n : Started) (name : List ℕ) → StandsAfterName t at n name → at < length t → get_or t at 0 ≡ 91 → ComesTo t (at + 1) (in_value n name [] [])
-name-value t at n name after lt e = run-take-step t at after.state (in_value n name [] []) after.reached lt (rw e after.bracket)
-
 pub name-read : (t : List ℕ) (start end at : ℕ) → start < length t → IsTrue (is_upper (get_or t start 0)) → IsSpan is_letter t start end → IsSpan is_white_space t end at
     → IsBracket t at → IsNameRead t start at
 name-read t start end at inside capital letters white stands =
     record {
       rises = omega (arith, white.rises, name-longer t start end inside capital letters);
       stands = stands;
-      reached = λ n h. (
-        name_in (slice_range t start end),
-        name-value t at n (name_in (slice_range t start end)) (name-after t start end at n inside capital letters white h) stands.within stands.bracket,
-      );
+      reached = λ n h.
+          let after = name-after t start end at n inside capital letters white h in
+          (name_in (slice_range t start end), run-take-step t at after.state (in_value n (name_in (slice_range t start end)) [] []) after.reached stands.within (rw stands.bracket after.bracket));
     }
 
 -- no white space stands before a `[` that is there

@@ -1,5 +1,5 @@
 -- Sixteen bytes that are tested at once, and the mask of those that pass.
-use Rattle.std.proofs.Common.{◌≡◌, ℕ, ◌+◌, ◌<◌, ◌≤◌, Bool, true, false, cond, List, map, length, get_or, inl, inr, sym, ap, ◌∙◌, arith, w64}
+use Rattle.std.proofs.Common.{◌≡◌, ℕ, ◌+◌, ◌<◌, ◌≤◌, Bool, true, false, cond, List, map, length, get_or, inl, inr, sym, ap, ◌∙◌, arith, w64, rules}
 use Rattle.std.proofs.lemmas.Bool.{cases_lt}
 use Rattle.std.proofs.lemmas.List.{length-map}
 use Rattle.std.proofs.lemmas.Nat.Bits.{bit_at-trailing_zeros}
@@ -17,9 +17,6 @@ module _ (test : ℕ → Bool) (t : List ℕ) (at : ℕ) (room : at + 16 ≤ len
   abbrev pub bits : ℕ
   bits = mask_l (map test bytes)
 
-  pub no-bits : bits ≡ 0 → (i : ℕ) → at ≤ i → i < at + 16 → test (get_or t i 0) ≡ false
-  no-bits none i low high = none_from_empty_mask test t at 16 0 room none i low high
-
   -- the first byte that passes
   pub record IsLowest (r : ℕ) : Type 0 where
     pub short : r < 16
@@ -35,9 +32,7 @@ module _ (test : ℕ → Bool) (t : List ℕ) (at : ℕ) (room : at + 16 ≤ len
       let short : r < 16 =
       elim (cases_lt r 16) [
         | inl lt ↦ lt
-        | inr past ↦
-            let none : ◌≡◌ {A = ℕ} 1 0 = sym bit.1 ∙ bit_mask_l (map test bytes) r ∙ ap (λ b. cond b 1 0) (get_or-eq_default (map test bytes) false (omega arith)) in
-            absurd (omega arith)
+        | inr past ↦ search (rules, bit_mask_l, get_or-eq_default)
       ] in
       record {
         short = short;

@@ -1,7 +1,7 @@
 -- The first `]` of sixteen bytes, by the mask of those that are one.
-use Rattle.std.proofs.Common.{◌≡◌, ◌≢◌, ℕ, ◌+◌, ◌^◌, ◌%◌, ◌<◌, ◌≤◌, false, cond, eqb, List, map, replicate, length, get_or, sym, subst, ◌∙◌, arith, w8}
+use Rattle.std.proofs.Common.{◌≡◌, ◌≢◌, ℕ, ◌+◌, ◌^◌, ◌%◌, ◌<◌, ◌≤◌, false, cond, eqb, List, map, replicate, length, get_or, sym, subst, ◌∙◌, arith, w8, rules}
 use Rattle.std.proofs.lemmas.Bool.{eqb-true, eq-eqb, false≢true}
-use Rattle.std.proofs.lemmas.Simd.{length-chunk, bitmask_splat}
+use Rattle.std.proofs.lemmas.Simd.{length-chunk, bitmask_splat, none_from_empty_mask}
 use Rattle.std.specs.Int.Count.{count_trailing_zeros}
 use Rattle.std.specs.Simd.Lanes.{chunk, zip2, mask_l, top}
 use Rattle.sgf_tree.specs.inner.Progress.{HasNoBracket, IsNextBracket}
@@ -21,18 +21,11 @@ module _ (t : List ℕ) (at : ℕ) (room : at + 16 ≤ length t) where
   found-bits : found ≡ bits
   found-bits = bitmask_splat w8 eqb (chunk at 16 t) 16 93 (length-chunk at 16 t room) (omega arith)
 
-  pub none-found : found ≡ 0 → HasNoBracket t at (at + 16)
-  none-found none i low high = not-bracket (get_or t i 0) (NearBits.no-bits (λ x. eqb x 93) t at room (sym found-bits ∙ none) i low high)
+  pub none_found : found ≡ 0 → HasNoBracket t at (at + 16)
+  none_found none i low high = not-bracket (get_or t i 0) (none_from_empty_mask (λ x. eqb x 93) t at 16 0 room (sym found-bits ∙ none) i low high)
 
-  pub lowest-found : found ≢ 0 → IsNextBracket t at (at + count_trailing_zeros 64 found)
-  lowest-found some =
+  pub lowest_found : found ≢ 0 → IsNextBracket t at (at + count_trailing_zeros 64 found)
+  lowest_found some =
       let r : ℕ = count_trailing_zeros 64 bits in
       let lowest = NearBits.lowest-bit (λ x. eqb x 93) t at room (omega (arith, found-bits, some)) in
-      let short : r < 16 = lowest.short in
-      subst (λ m. IsNextBracket t at (at + count_trailing_zeros 64 m)) (sym found-bits)
-      (record {
-        rises = omega arith;
-        within = omega arith;
-        bracket = eqb-true (get_or t (at + r) 0) 93 lowest.stops;
-        before = λ i low high. not-bracket (get_or t i 0) (lowest.before i low high);
-      })
+      search (rules, found-bits, eqb-true, not-bracket)

@@ -28,19 +28,16 @@ NoBracket (Some p) b = b ≢ 91
 -- an upper-case letter begins the next property
 name-begins : (at : ℕ) (done : Started) (last : Option Property) (b : ℕ) → IsTrue (is_upper b) → next_state at (state_of done last) b ≡ Some (in_name (finished done last) (b ∷ []))
 unfolding next_state
-name-begins at done None b h = rw (upper-not_white_space b h, h)
-name-begins at done (Some p) b h = rw (upper-not_white_space b h, upper-not_bracket b h, h)
+name-begins at done last b h = search (rules, upper-not_white_space, upper-not_bracket)
 
 -- another byte ends the node
 node-ends : (at : ℕ) (done : Started) (last : Option Property) (b : ℕ) → is_white_space b ≡ false → is_upper b ≡ false → NoBracket last b → next_state at (state_of done last) b ≡ after_node at (ended (finished done last)) b
 unfolding next_state
-node-ends at done None b white upper other = rw (white, upper)
-node-ends at done (Some p) b white upper other = rw (white, ne_eqb b 91 other, upper)
+node-ends at done last b h k w = search (rules, ne_eqb)
 
 node-unaccepted : (done : Started) (last : Option Property) → accepted (state_of done last) ≡ None
 unfolding accepted
-node-unaccepted done None = refl
-node-unaccepted done (Some p) = refl
+node-unaccepted done last = search rules
 
 module _ (t : List ℕ) where
   -- the machine stands in a node that is `whole` so far, and not before white space

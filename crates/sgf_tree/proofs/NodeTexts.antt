@@ -1,6 +1,6 @@
 -- What stands at the front of a text, by its functions and by the grammar.
 use Rattle.std.proofs.lemmas.Grind.{common_steps}
-use Rattle.std.proofs.Common.{◌≡◌, ℕ, zero, suc, ◌+◌, ◌<◌, ◌≤◌, Bool, true, false, ◌==◌, if◌then◌else◌, IsTrue, List, [], ◌∷◌, length, filter, refl, sym, ap, subst, ◌∙◌, inl, inr, arith, ne_eqb}
+use Rattle.std.proofs.Common.{◌≡◌, ℕ, zero, suc, ◌+◌, ◌<◌, ◌≤◌, Bool, true, false, ◌==◌, if◌then◌else◌, IsTrue, List, [], ◌∷◌, length, filter, refl, sym, ap, subst, ◌∙◌, inl, inr, arith, ne_eqb, rules}
 use Rattle.std.proofs.lemmas.Bool.{false≢true, or_right}
 use Rattle.sgf_tree.specs.Tree.{Property}
 use Rattle.sgf_tree.specs.RawValue.{IsValue, no_unit, plain, escaped}
@@ -8,7 +8,7 @@ use Rattle.sgf_tree.specs.Spelling.{is_white_space, is_upper, WhiteSpace, no_whi
 use Rattle.sgf_tree.specs.inner.NodeText.{is_letter, left_after, front, raw_value, after_raw_value, by_front, values_up_to, after_values_up_to, values_in, property_from, name_in, properties_up_to, properties_in, NoValueFollows, NoPropertyFollows, IsNoPropValue}
 use Rattle.sgf_tree.proofs.Classes.{upper-not_white_space, upper-not_bracket, white-not_upper, white-not_lower, lower-not_upper}
 use Rattle.sgf_tree.proofs.NodesSpelled.{white-byte}
-use Rattle.sgf_tree.proofs.Shrinks.{shrinks-WhiteSpace, shrinks-Letters, shrinks-IsValue, shrinks-ArePropValues}
+use Rattle.sgf_tree.proofs.Ends.{all, tail, end-drop, end-WhiteSpace, end-Letters, end-IsValue, end-IsPropValue, end-ArePropValues}
 use Rattle.sgf_tree.proofs.ValueSpelled.{value-same}
 
 -- white space ends before one byte
@@ -26,6 +26,12 @@ pub white-none : {s t : List ℕ} {b : ℕ} → WhiteSpace s [] → WhiteSpace s
 white-none no_white_space v h = elim v [ ]
 white-none (white_space l w) no_white_space h = false≢true (sym h ∙ l)
 white-none (white_space l w) (white_space m v) h = white-none w v h
+
+-- white space that is passed over leaves what stands after all of it
+pub white-past : {r s u : List ℕ} {b : ℕ} → WhiteSpace r s → WhiteSpace r (b ∷ u) → is_white_space b ≡ false → WhiteSpace s (b ∷ u)
+white-past no_white_space v h = v
+white-past (white_space k w) no_white_space h = absurd (false≢true (sym h ∙ k))
+white-past (white_space k w) (white_space l v) h = white-past w v h
 
 -- a value in front has one form and one end
 pub prop-same : {u v s q r : List ℕ} → IsPropValue u s q → IsPropValue v s r → (u ≡ v) × (q ≡ r)
@@ -59,31 +65,25 @@ white-left (b ∷ s) = white-step b s (left_after is_white_space s) (is_white_sp
 -- letters end before white space and a `[`
 stop-letters : {u x : List ℕ} → WhiteSpace u (91 ∷ x) → (left_after is_letter u ≡ u) × (front is_letter u ≡ [])
 unfolding left_after front
-stop-letters no_white_space = (refl, refl)
-stop-letters (white_space {b} h w) = (rw (white-not_upper b h, white-not_lower b h), rw (white-not_upper b h, white-not_lower b h))
+stop-letters h = search (rules, white-not_upper, white-not_lower)
 
 over-letters : {name s u x : List ℕ} → Letters name s u → WhiteSpace u (91 ∷ x) → (left_after is_letter s ≡ u) × (filter is_upper (front is_letter s) ≡ name)
 unfolding left_after front
 over-letters no_letter w = let h = stop-letters w in (h.0, ap (filter is_upper) h.1)
-over-letters (upper {b} h l) w =
-    let k = over-letters l w in (rw h k.0, rw (h, h) (ap (λ n. b ∷ n) k.1))
-over-letters (lower {b} h l) w =
-    grind (arith, common_steps, or_right, lower-not_upper, (over-letters l w))
+over-letters (upper {b} h l) w = search (rules, (over-letters l w))
+over-letters (lower {b} h l) w = search (rules, or_right, lower-not_upper, (over-letters l w))
 
 value-parts : {v s r : List ℕ} → IsValue v s (93 ∷ r) → (raw_value s ≡ v) × (after_raw_value s ≡ r)
 unfolding raw_value after_raw_value
 value-parts {r = []} no_unit = (refl, refl)
 value-parts {r = b ∷ r} no_unit = (refl, refl)
 value-parts {s = b ∷ []} (plain x y h) = elim h [ ]
-value-parts {s = b ∷ c ∷ s} (plain x y h) =
-    let k = value-parts h in
-    (rw (ne_eqb b 93 x, ne_eqb b 92 y) (ap (λ u. b ∷ u) k.0), rw (ne_eqb b 93 x, ne_eqb b 92 y) k.1)
+value-parts {s = b ∷ c ∷ s} (plain x y h) = search (rules, ne_eqb, (value-parts h))
 value-parts (escaped {b} h) = let k = value-parts h in (ap (λ u. 92 ∷ b ∷ u) k.0, k.1)
 
 -- no value in front
 none-front : {A : Type 0} (f : ℕ → List ℕ → A) (none : A) (s l : List ℕ) → WhiteSpace s l → NoValueFollows s → by_front (λ b t. if b == 91 then f b t else none) none l ≡ none
-none-front f none s [] w ends = refl
-none-front f none s (b ∷ t) w ends = rw (ne_eqb b 91 (ends b t w))
+none-front f none s l h k = search (rules, ne_eqb)
 
 values-are : {vs : List (List ℕ)} {s r : List ℕ} (n : ℕ) → ArePropValues vs s r → NoValueFollows r → length vs ≤ n → (values_up_to n s ≡ vs) × (after_values_up_to n s ≡ r)
 unfolding values_up_to after_values_up_to
@@ -93,13 +93,10 @@ values-are {s = s} (suc n) no_value ends le = (
   none-front (λ b t. raw_value t ∷ values_up_to n (after_raw_value t)) [] s (left_after is_white_space s) (white-left s) ends,
   none-front (λ b t. after_values_up_to n (after_raw_value t)) s s (left_after is_white_space s) (white-left s) ends,
 )
-values-are (suc n) (value (prop_value {value = v} {t} w h) vs) ends le =
-    let parts = value-parts h in
-    let rest = values-are n vs ends (omega arith) in
-    (rw (left-white w refl, parts.0, parts.1) (ap (λ us. v ∷ us) rest.0), rw (left-white w refl, parts.1) rest.1)
+values-are (suc n) (value (prop_value {value = v} {t} w h) vs) ends le = search (rules, value-parts, left-white, (values-are n vs ends (omega arith)))
 
 pub shorter-value : {v s r : List ℕ} → IsPropValue v s r → length r < length s
-shorter-value (prop_value w h) = let a = shrinks-WhiteSpace w in let b = shrinks-IsValue h in omega arith
+shorter-value (prop_value w h) = omega (arith, (end-drop (end-IsValue h (tail (end-WhiteSpace w all)))).0)
 
 pub count-values : {vs : List (List ℕ)} {s r : List ℕ} → ArePropValues vs s r → length vs + length r ≤ length s
 count-values no_value = omega arith
@@ -123,8 +120,7 @@ abbrev pub NoNameFollows : List ℕ → Type 0
 NoNameFollows s = (b : ℕ) (t : List ℕ) → WhiteSpace s (b ∷ t) → is_upper b ≡ false
 
 none-upper : {A : Type 0} (f : ℕ → List ℕ → A) (none : A) (s l : List ℕ) → WhiteSpace s l → NoNameFollows s → by_front (λ b t. if is_upper b then f b t else none) none l ≡ none
-none-upper f none s [] w ends = refl
-none-upper f none s (b ∷ t) w ends = rw (ends b t w)
+none-upper f none s l h k = search rules
 
 -- the first property
 pub property-is : {b : ℕ} {name t u : List ℕ} {v : List ℕ} {vs : List (List ℕ)} {w r : List ℕ} → IsTrue (is_upper b) → Letters name t u → IsPropValue v u w → ArePropValues vs w r → NoValueFollows r
@@ -132,11 +128,11 @@ pub property-is : {b : ℕ} {name t u : List ℕ} {v : List ℕ} {vs : List (Lis
 unfolding left_after front
 property-is {b} h l (prop_value x k) vs ends =
     let letters = over-letters l x in
-    let all = value (prop_value x k) vs in (
+    let held = value (prop_value x k) vs in (
       rw h letters.0,
       rw (h, h) (ap (λ n. b ∷ n) letters.1),
-      values-in all ends,
-      (values-are _ all ends (omega (arith, count-values all, shrinks-Letters l))).1,
+      values-in held ends,
+      (values-are _ held ends (omega (arith, count-values held, (end-drop (end-Letters l all)).0))).1,
     )
 
 properties-are : {ps : List Property} {s r : List ℕ} (n : ℕ) → AreProperties ps s r → NoPropertyFollows r → length ps ≤ n → properties_up_to n s ≡ ps
@@ -151,7 +147,7 @@ properties-are (suc n) (properties (property {b} {name} {v} {vs = vs} w h l firs
     rw (left-white w (upper-not_white_space b h), h, is.0, is.1, is.2, is.3) (ap (λ qs. p ∷ qs) (properties-are n ps ends (omega arith)))
 
 shorter-property : {p : Property} {s r : List ℕ} → IsProperty p s r → length r < length s
-shorter-property (property w h l v vs) = grind (arith, common_steps, shrinks-WhiteSpace, shrinks-Letters, shorter-value, shrinks-ArePropValues)
+shorter-property (property w h l v vs) = omega (arith, (end-drop (end-WhiteSpace w all)).0, (end-drop (end-ArePropValues vs (end-IsPropValue v (end-Letters l all)))).0)
 
 pub count-properties : {ps : List Property} {s r : List ℕ} → AreProperties ps s r → length ps + length r ≤ length s
 count-properties no_property = omega arith

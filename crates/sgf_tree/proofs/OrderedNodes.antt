@@ -1,6 +1,6 @@
 -- Laws on the ordered nodes of a collection: where parents stand, and in which game.
 use Rattle.std.proofs.lemmas.Grind.{common_steps}
-use Rattle.std.proofs.Common.{◌≡◌, ℕ, zero, suc, ◌+◌, ◌-◌, ◌<◌, ◌≤◌, ◌⊎◌, inl, inr, true, if◌then◌else◌, nat_lt, List, [], ◌∷◌, ◌++◌, length, slice_get, Option, Some, None, option_map, refl, sym, ap, ◌∙◌, arith, length-append}
+use Rattle.std.proofs.Common.{◌≡◌, ℕ, zero, suc, ◌+◌, ◌-◌, ◌<◌, ◌≤◌, ◌⊎◌, inl, inr, true, if◌then◌else◌, nat_lt, List, [], ◌∷◌, ◌++◌, length, slice_get, Option, Some, None, option_map, refl, sym, ap, ◌∙◌, arith, length-append, rules}
 use Rattle.std.proofs.lemmas.Bool.{cases_lt, lt-ltb, le-ltb}
 use Rattle.sgf_tree.specs.Tree.{Node, Games, no_games, game, node_count}
 use Rattle.sgf_tree.specs.FileOrder.{OrderedNode, further_nodes, nodes_from, ordered_nodes, parent_at, game_of}
@@ -16,7 +16,7 @@ parent_in-left xs ys i h = ap (option_map (λ (r : OrderedNode). r.parent)) (sli
 pub parent_in-right : (xs ys : List OrderedNode) (i k : ℕ) → i ≡ length xs + k → parent_in (xs ++ ys) i ≡ parent_in ys k
 parent_in-right xs ys i k h = ap (option_map (λ (r : OrderedNode). r.parent)) (slice_get-right xs ys i k h)
 
-parent_in-within : (rs : List OrderedNode) (j : ℕ) (p : Option ℕ) → parent_in rs j ≡ Some p → j < length rs
+pub parent_in-within : (rs : List OrderedNode) (j : ℕ) (p : Option ℕ) → parent_in rs j ≡ Some p → j < length rs
 parent_in-within [] j p h = absurd (cc)
 parent_in-within (r ∷ rs) zero p h = omega arith
 parent_in-within (r ∷ rs) (suc j) p h = omega (arith, parent_in-within rs j p h)
@@ -34,8 +34,7 @@ length-nodes_from at parent (game first more below after) =
 pub parent_in-further : (last : ℕ) (ns : List Node) (j : ℕ) → j < length ns → parent_in (further_nodes last ns) j ≡ Some (Some (last + j))
 parent_in-further last [] j h = absurd (omega arith)
 parent_in-further last (n ∷ ns) zero h = let e : last + 0 ≡ last = omega arith in rw e
-parent_in-further last (n ∷ ns) (suc j) h =
-    let e : (last + 1) + j ≡ last + suc j = omega arith in rw (← e) (parent_in-further (last + 1) ns j (omega arith))
+parent_in-further last (n ∷ ns) (suc j) h = search (rules, (parent_in-further (last + 1) ns j (omega arith)))
 
 -- the first of some games has the parent of them all
 parent_in-first : (at : ℕ) (parent : Option ℕ) (g : Games) → 0 < length (nodes_from at parent g) → parent_in (nodes_from at parent g) 0 ≡ Some parent
@@ -61,8 +60,7 @@ within-last at last xs ys j k i e some f same first = grind (arith, common_steps
 -- the game's own nodes: the first has the parent of the game, each further one the node before it
 own-within : (at : ℕ) (parent : Option ℕ) (first : OrderedNode) (more : List Node) (j i : ℕ) → first.parent ≡ parent → j < suc (length more) → parent_in (first ∷ further_nodes at more) j ≡ Some (Some i)
     → (parent ≡ Some i) ⊎ IsParentWithin at (first ∷ further_nodes at more) j i
-own-within at parent first more zero i e lt h = inl (cc)
-own-within at parent first more (suc j) i e lt h = grind (arith, common_steps, parent_in-further)
+own-within at parent first more j i h k w = search (rules, parent_in-further)
 
 -- what holds within each of two lists of ordered nodes holds within both
 joined-within : (at start : ℕ) (xs ys : List OrderedNode) (j i : ℕ) (P : Type 0) → start ≡ at + length xs → parent_in (xs ++ ys) j ≡ Some (Some i)
@@ -71,8 +69,7 @@ joined-within : (at start : ℕ) (xs ys : List OrderedNode) (j i : ℕ) (P : Typ
     → P ⊎ IsParentWithin at (xs ++ ys) j i
 joined-within at start xs ys j i P e h left right =
     elim (cases_lt j (length xs)) [
-      | inl lt ↦
-          elim (left lt (sym (parent_in-left xs ys j lt) ∙ h)) [ inl p ↦ inl p | inr w ↦ inr (within-left at xs ys j i w) ]
+      | inl lt ↦ search (rules, parent_in-left, within-left)
       | inr le ↦
           let same : j ≡ length xs + (j - length xs) = omega arith in
           right (j - length xs) same (sym (parent_in-right xs ys j (j - length xs) same) ∙ h)
@@ -124,12 +121,12 @@ next-child c j i h =
 pub length-ordered_nodes : (c : Games) → length (ordered_nodes c) ≡ node_count c
 length-ordered_nodes c = length-nodes_from 0 None c
 
--- the two are in the first game, or both are in the games after it
-game_of-first : (size : ℕ) (after : Games) (a b : ℕ) → a < size → b < size → (if nat_lt a size then 1 else 1 + game_of after (a - size)) ≡ (if nat_lt b size then 1 else 1 + game_of after (b - size))
-game_of-first size after a b p q = rw (lt-ltb a size p, lt-ltb b size q)
+-- a node of the first game, and one of the games after it
+pub game-first : (first : Node) (more : List Node) (below after : Games) (m : ℕ) → m < 1 + length more + node_count below → game_of (game first more below after) m ≡ 1
+game-first first more below after m lt = rw (lt-ltb m (1 + length more + node_count below) lt) refl
 
-game_of-after : (size : ℕ) (after : Games) (a b : ℕ) → size ≤ a → size ≤ b → game_of after (a - size) ≡ game_of after (b - size) → (if nat_lt a size then 1 else 1 + game_of after (a - size)) ≡ (if nat_lt b size then 1 else 1 + game_of after (b - size))
-game_of-after size after a b p q e = rw (le-ltb a size p, le-ltb b size q, e)
+pub game-after : (first : Node) (more : List Node) (below after : Games) (m k : ℕ) → m ≡ 1 + length more + node_count below + k → game_of (game first more below after) m ≡ 1 + game_of after k
+game-after first more below after m k e = grind (arith, common_steps, le-ltb)
 
 game_of-from : (at : ℕ) (g : Games) (j i : ℕ) → parent_in (nodes_from at None g) j ≡ Some (Some i) → game_of g (i - at) ≡ game_of g j
 game_of-from at no_games j i h = refl
@@ -143,10 +140,7 @@ game_of-from at (game first more below after) j i h =
       | inl lt ↦
           elim (parent-within at None (game first more below after) j i h) [
             | inl p ↦ absurd (cc)
-            | inr w ↦
-                let from : at ≤ i = w.from in
-                let before : i < at + j = w.before in
-                game_of-first size after (i - at) j (omega arith) lt
+            | inr w ↦ game-first first more below after (i - at) (omega (arith, w.from, w.before)) ∙ sym (game-first first more below after j lt)
           ]
       | inr le ↦
           let k : ℕ = j - size in
@@ -154,9 +148,8 @@ game_of-from at (game first more below after) j i h =
           elim (parent-within start None after k i in_after) [
             | inl p ↦ absurd (cc)
             | inr w ↦
-                let from : start ≤ i = w.from in
-                let same : (i - at) - size ≡ i - start = omega arith in
-                game_of-after size after (i - at) j (omega arith) le (rw same (game_of-from start after k i in_after))
+                game-after first more below after (i - at) (i - start) (omega (arith, w.from)) ∙ ap (λ n. 1 + n) (game_of-from start after k i in_after)
+                ∙ sym (game-after first more below after j k (omega arith))
           ]
     ]
 

@@ -1,6 +1,6 @@
 -- Sixteen bytes, all compared at once: bit i tells whether byte i is at most so much above the least one of its place.
 use Rattle.std.proofs.lemmas.Grind.{common_steps}
-use Rattle.std.proofs.Common.{◌≡◌, ◌∙◌, ℕ, ◌+◌, ◌-◌, ◌/◌, ◌%◌, ◌^◌, ◌<◌, ◌≤◌, Bool, true, false, cond, List, map, length, get_or, inl, inr, refl, sym, ap, arith, le-leb, leb-true, w8, w64}
+use Rattle.std.proofs.Common.{◌≡◌, ◌∙◌, ℕ, ◌+◌, ◌-◌, ◌/◌, ◌%◌, ◌^◌, ◌<◌, ◌≤◌, Bool, true, false, cond, List, map, length, get_or, inl, inr, refl, sym, ap, arith, le-leb, leb-true, w8, w64, rules}
 use Rattle.std.proofs.Math.Dec.{leb}
 use Rattle.std.proofs.Math.ListN.{get_or-eq_default}
 use Rattle.std.proofs.lemmas.Bool.{cases_lt, false≢true}
@@ -14,12 +14,10 @@ abbrev pub above : ℕ → ℕ → ℕ
 above byte other = (byte + (256 - other)) % 256
 
 is-set : (b : Bool) → ◌≡◌ {A = ℕ} (cond b 1 0) 1 → b ≡ true
-is-set true e = refl
-is-set false e = absurd (omega arith)
+is-set b h = search rules
 
 is-clear : (b : Bool) → ◌≡◌ {A = ℕ} (cond b 1 0) 0 → b ≡ false
-is-clear true e = absurd (omega arith)
-is-clear false e = refl
+is-clear b h = search rules
 
 module _ (least most : List ℕ) (wide : length least ≡ 16) (wide' : length most ≡ 16) (t : List ℕ) (at : ℕ) (room : at + 16 ≤ length t) where
   abbrev distances : List ℕ
@@ -69,11 +67,4 @@ module _ (least most : List ℕ) (wide : length least ≡ 16) (wide' : length mo
   first-in-place some =
       let r : ℕ = count_trailing_zeros 64 bits in
       let zeros = bit_at-trailing_zeros w64 bits some (omega arith) in
-      let short : r < 16 =
-      elim (cases_lt r 16) [
-        | inl lt ↦ lt
-        | inr past ↦
-            let none : ◌≡◌ {A = ℕ} 1 0 = sym zeros.1 ∙ bit r ∙ ap (λ b. cond b 1 0) (get_or-eq_default lanes false (omega (arith, past, lanes-long))) in
-            absurd (omega arith)
-      ] in
-      record { short = short; set = zeros.1; before = zeros.2 }
+      search (rules, cases_lt, bit, get_or-eq_default, lanes-long)

@@ -9,8 +9,8 @@ use Rattle.sgf_tree.specs.inner.Placing.{ordered_places}
 use Rattle.sgf_tree.proofs.OrderedNodes.{length-ordered_nodes}
 
 module _ (g : Games) (places : List ℕ) (kept : places ≡ ordered_places (ordered_nodes g)) where
-  pub places-count : length places ≡ node_count g
-  places-count = ap length kept ∙ length-map (ordered_nodes g) (λ (r : OrderedNode). r.node.place) ∙ length-ordered_nodes g
+  pub places_count : length places ≡ node_count g
+  places_count = ap length kept ∙ length-map (ordered_nodes g) (λ (r : OrderedNode). r.node.place) ∙ length-ordered_nodes g
 
-  pub place-kept : (i p : ℕ) → i < node_count g → p ≡ get_or places i p → place_at g i ≡ Some p
-  place-kept i p lt here = grind (arith, common_steps, slice_get-map, slice_get_read, places-count)
+  pub place_kept : (i p : ℕ) → i < node_count g → p ≡ get_or places i p → place_at g i ≡ Some p
+  place_kept i p lt here = grind (arith, common_steps, slice_get-map, slice_get_read, places_count)

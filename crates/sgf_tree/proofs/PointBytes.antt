@@ -28,21 +28,17 @@ module _ (t : List ℕ) (at : ℕ) (room : at + 16 ≤ length t) (fits : (i : �
 
     point : (i : ℕ) → i < 4 → IsPoint t (at + 4 * i)
     point zero lt =
-        let same : at + 4 * 0 ≡ at = omega arith in
-        rw same (point-from t at fits (omega arith) (there 0 at (omega arith) (omega arith) refl) (there 1 (at + 1) refl (omega arith) refl)
-        (there 2 (at + 2) refl (omega arith) refl) (there 3 (at + 3) refl (omega arith) refl))
+        point-from t (at + 4 * 0) fits (omega arith) (there 0 (at + 4 * 0) (omega arith) (omega arith) refl) (there 1 (at + 4 * 0 + 1) (omega arith) (omega arith) refl)
+        (there 2 (at + 4 * 0 + 2) (omega arith) (omega arith) refl) (there 3 (at + 4 * 0 + 3) (omega arith) (omega arith) refl)
     point (suc zero) lt =
-        let same : at + 4 * 1 ≡ at + 4 = omega arith in
-        rw same (point-from t (at + 4) fits (omega arith) (there 4 (at + 4) refl (omega arith) refl) (there 5 (at + 4 + 1) (omega arith) (omega arith) refl)
-        (there 6 (at + 4 + 2) (omega arith) (omega arith) refl) (there 7 (at + 4 + 3) (omega arith) (omega arith) refl))
+        point-from t (at + 4 * 1) fits (omega arith) (there 4 (at + 4 * 1) (omega arith) (omega arith) refl) (there 5 (at + 4 * 1 + 1) (omega arith) (omega arith) refl)
+        (there 6 (at + 4 * 1 + 2) (omega arith) (omega arith) refl) (there 7 (at + 4 * 1 + 3) (omega arith) (omega arith) refl)
     point (suc (suc zero)) lt =
-        let same : at + 4 * 2 ≡ at + 8 = omega arith in
-        rw same (point-from t (at + 8) fits (omega arith) (there 8 (at + 8) refl (omega arith) refl) (there 9 (at + 8 + 1) (omega arith) (omega arith) refl)
-        (there 10 (at + 8 + 2) (omega arith) (omega arith) refl) (there 11 (at + 8 + 3) (omega arith) (omega arith) refl))
+        point-from t (at + 4 * 2) fits (omega arith) (there 8 (at + 4 * 2) (omega arith) (omega arith) refl) (there 9 (at + 4 * 2 + 1) (omega arith) (omega arith) refl)
+        (there 10 (at + 4 * 2 + 2) (omega arith) (omega arith) refl) (there 11 (at + 4 * 2 + 3) (omega arith) (omega arith) refl)
     point (suc (suc (suc zero))) lt =
-        let same : at + 4 * 3 ≡ at + 12 = omega arith in
-        rw same (point-from t (at + 12) fits (omega arith) (there 12 (at + 12) refl (omega arith) refl) (there 13 (at + 12 + 1) (omega arith) (omega arith) refl)
-        (there 14 (at + 12 + 2) (omega arith) (omega arith) refl) (there 15 (at + 12 + 3) (omega arith) (omega arith) refl))
+        point-from t (at + 4 * 3) fits (omega arith) (there 12 (at + 4 * 3) (omega arith) (omega arith) refl) (there 13 (at + 4 * 3 + 1) (omega arith) (omega arith) refl)
+        (there 14 (at + 4 * 3 + 2) (omega arith) (omega arith) refl) (there 15 (at + 4 * 3 + 3) (omega arith) (omega arith) refl)
     point (suc (suc (suc (suc i)))) lt = absurd (omega arith)
 
     pub four-points : ArePoints t at (at + 16)

@@ -50,7 +50,7 @@ module _ (whole : ℕ) (c : Games) where
   between k t opens_game r = opened-rest k t r
   between k t (closes_game {y} e) r = close-rest k.closed k.unclosed t y e r
 
-  pub bare : (k : Stack) (t : List ℕ) → Rest whole c k.closed k.unclosed t → After_node whole c k t
+  bare : (k : Stack) (t : List ℕ) → Rest whole c k.closed k.unclosed t → After_node whole c k t
   bare k t r = ([], t, no_node, rw nodes-none r)
 
   after : (at : ℕ) (k : Stack) {b : ℕ} {y : MachineState} (t : List ℕ) → at + length (b ∷ t) ≡ whole → AfterNode at k b y → Completes whole c y t
@@ -60,7 +60,7 @@ module _ (whole : ℕ) (c : Games) where
   after at k t e opens_below r = bare k (40 ∷ t) (opened-rest k t r)
   after at k t e (closes_nodes {y} h) r = bare k (41 ∷ t) (close-rest k.closed k.unclosed t y h r)
 
-  pub after-bare : (n : Started) (t : List ℕ) → After_node whole c (ended n) t → In_node whole c n t
+  after-bare : (n : Started) (t : List ℕ) → After_node whole c (ended n) t → In_node whole c n t
   after-bare n t r = ([], t, no_property, rw append-nil r)
 
   named : (n : Started) (b : ℕ) (t : List ℕ) → IsTrue (is_upper b) → In_name whole c n (b ∷ []) t → In_node whole c n (b ∷ t)
@@ -71,7 +71,7 @@ module _ (whole : ℕ) (c : Games) where
     rw append_assoc at r,
   )
 
-  pub value-bare : (n : Started) (p : Property) (t : List ℕ) → In_node whole c (with_property n p) t → After_value whole c n p t
+  value-bare : (n : Started) (p : Property) (t : List ℕ) → In_node whole c (with_property n p) t → After_value whole c n p t
   value-bare n p t r = ([], t, no_value, rw append-nil r)
 
   name-bare : (n : Started) (name : List ℕ) (t : List ℕ) → After_name whole c n name t → In_name whole c n name t

@@ -1,6 +1,6 @@
 -- How the machine reads the parts of a text, up to the properties of a node.
 use Rattle.std.proofs.lemmas.Grind.{common_steps}
-use Rattle.std.proofs.Common.{◌≡◌, ℕ, ◌+◌, ◌-◌, Bool, List, [], ◌∷◌, ◌++◌, length, Option, Some, None, option_and_then, refl, ap, ◌∙◌, append_assoc, append-nil, arith, ne_eqb}
+use Rattle.std.proofs.Common.{◌≡◌, ℕ, ◌+◌, ◌-◌, Bool, List, [], ◌∷◌, ◌++◌, length, Option, Some, None, option_and_then, refl, ap, ◌∙◌, append_assoc, append-nil, arith, ne_eqb, rules}
 use Rattle.sgf_tree.specs.Tree.{Property, values}
 use Rattle.sgf_tree.specs.RawValue.{IsValue, no_unit, plain, escaped}
 use Rattle.sgf_tree.specs.Spelling.{WhiteSpace, no_white_space, white_space, Letters, no_letter, upper, lower, prop_value, ArePropValues, no_value, value}
@@ -51,8 +51,7 @@ module _ (whole : ℕ) where
       → read whole (in_value n name before so_far) t ≡ read whole (in_value n name before (so_far ++ v)) r
   unfolding next_state
   over-units n name before so_far no_unit = rw append-nil
-  over-units n name before so_far (plain {b} {s} x y u) =
-      grind (arith, common_steps, one-byte, ne_eqb, append_assoc, (over-units n name before (so_far ++ b ∷ []) u))
+  over-units n name before so_far (plain {b} {s} x y u) = search (rules, one-byte, ne_eqb, append_assoc, (over-units n name before (so_far ++ b ∷ []) u))
   over-units n name before so_far (escaped {b} {s} u) =
       one-byte (in_value n name before so_far) (after_escape n name before so_far) 92 (b ∷ s) (λ at. refl)
       ∙ one-byte (after_escape n name before so_far) (in_value n name before (so_far ++ 92 ∷ b ∷ [])) b s (λ at. refl)
@@ -80,11 +79,8 @@ module _ (whole : ℕ) where
       → read whole (in_name n name) t ≡ read whole (in_name n (name ++ more)) r
   unfolding next_state
   over-letters n name no_letter = rw append-nil
-  over-letters n name (upper {b} {s} h l) =
-      one-byte (in_name n name) (in_name n (name ++ b ∷ [])) b s (λ at. rw h)
-      ∙ rw append_assoc at (over-letters n (name ++ b ∷ []) l)
-  over-letters n name (lower {b} {s} h l) =
-      one-byte (in_name n name) (in_name n name) b s (λ at. rw (lower-not_upper b h, h)) ∙ over-letters n name l
+  over-letters n name (upper {b} {s} h l) = search (rules, one-byte, append_assoc, (over-letters n (name ++ b ∷ []) l))
+  over-letters n name (lower {b} {s} h l) = search (rules, one-byte, lower-not_upper, (over-letters n name l))
 
   -- after a name, up to the first value
   pub to-value : {s t : List ℕ} (n : Started) (name : List ℕ) → WhiteSpace s (91 ∷ t)

@@ -24,16 +24,14 @@ rises-ends low high (p ∷ ps) r = let k = rises-ends (p + 1) high ps r.1 in ome
 pub rises-get : (low high : ℕ) (ps : List ℕ) (i p : ℕ) → Rises low ps high → slice_get ps i ≡ Some p → (low ≤ p) × (p < high)
 rises-get low high [] i p r e = cc
 rises-get low high (q ∷ ps) zero p r e = grind (arith, common_steps, rises-ends)
-rises-get low high (q ∷ ps) (suc i) p r e =
-    let k = rises-get (q + 1) high ps i p r.1 e in (omega arith, omega arith)
+rises-get low high (q ∷ ps) (suc i) p r e = search (rules, (rises-get (q + 1) high ps i p r.1 e))
 
 pub rises-pair : (low high : ℕ) (ps : List ℕ) (i j p q : ℕ) → Rises low ps high → i < j → slice_get ps i ≡ Some p → slice_get ps j ≡ Some q → p < q
 rises-pair low high [] i j p q r h e f = cc
 rises-pair low high (x ∷ ps) zero zero p q r h e f = omega arith
 rises-pair low high (x ∷ ps) zero (suc j) p q r h e f = grind (arith, common_steps, rises-get)
 rises-pair low high (x ∷ ps) (suc i) zero p q r h e f = omega arith
-rises-pair low high (x ∷ ps) (suc i) (suc j) p q r h e f =
-    rises-pair (x + 1) high ps i j p q r.1 (omega arith) e f
+rises-pair low high (x ∷ ps) (suc i) (suc j) p q r h e f = search (rules, (rises-pair (x + 1) high ps i j p q r.1 (omega arith) e f))
 
 -- a number is at most a later one
 pub rises-most : (low high : ℕ) (ps : List ℕ) (i j : ℕ) → Rises low ps high → i ≤ j → j < length ps → get_or ps i 0 ≤ get_or ps j 0

@@ -1,6 +1,6 @@
 -- How the machine goes over one text and then another, and over one byte more.
 use Rattle.std.proofs.lemmas.Grind.{common_steps}
-use Rattle.std.proofs.Common.{◌≡◌, ℕ, ◌+◌, ◌-◌, ◌<◌, ◌≤◌, List, [], ◌∷◌, ◌++◌, length, get_or, take, drop, slice_range, Option, Some, None, option_and_then, refl, sym, ap, ◌∙◌, add-zero, arith}
+use Rattle.std.proofs.Common.{◌≡◌, ℕ, ◌+◌, ◌-◌, ◌<◌, ◌≤◌, List, [], ◌∷◌, ◌++◌, length, get_or, take, drop, slice_range, Option, Some, None, option_and_then, refl, sym, ap, ◌∙◌, add-zero, arith, rules}
 use Rattle.std.proofs.Math.Seq.{take-add}
 use Rattle.std.proofs.lemmas.List.{take_more, length-take-le, take-append-drop}
 use Rattle.std.proofs.lemmas.Option.{option_and_then_some}
@@ -12,8 +12,7 @@ then_run : (at : ℕ) (x : ℕ) (a b : List ℕ)
     → (o : Option MachineState)
     → option_and_then (λ next. run (at + 1) next (a ++ b)) o
     ≡ option_and_then (λ next. run (at + length (x ∷ a)) next b) (option_and_then (λ next. run (at + 1) next a) o)
-then_run at x a b ih None = refl
-then_run at x a b ih (Some y) = grind (arith, common_steps)
+then_run at x a b h o = search rules
 
 -- the machine goes over a, and then over b from where it stands
 pub run-append : (at : ℕ) (z : MachineState) (a b : List ℕ)
@@ -30,11 +29,6 @@ run-through at z y a b h = run-append at z a b ∙ ap (option_and_then (λ next.
 pub run-one : (at : ℕ) (z : MachineState) (b : ℕ) → run at z (b ∷ []) ≡ next_state at z b
 unfolding run
 run-one at z b = grind (arith, common_steps, option_and_then)
-
--- no byte
-pub run-none : (at : ℕ) (z : MachineState) → run at z [] ≡ Some z
-unfolding run
-run-none at z = refl
 
 -- a run of a text is one of its front, and then of what is after it
 pub run-cut : (n : ℕ) (t : List ℕ)
@@ -53,23 +47,18 @@ pub run-take-step : (t : List ℕ) (at : ℕ) (z y : MachineState) → run 0 sta
     → next_state at z (get_or t at 0) ≡ Some y → run 0 start (take (at + 1) t) ≡ Some y
 run-take-step t at z y h lt s = run-take-more t at z lt h ∙ s
 
--- the byte at an offset is refused
-pub run-take-refused : (t : List ℕ) (at : ℕ) (z : MachineState) → run 0 start (take at t) ≡ Some z → at < length t
-    → next_state at z (get_or t at 0) ≡ None → run 0 start (take (at + 1) t) ≡ None
-run-take-refused t at z h lt s = run-take-more t at z lt h ∙ s
-
 -- the bytes between two offsets are taken
 pub run-take-span : (t : List ℕ) (at end : ℕ) (z y : MachineState) → at ≤ end → end ≤ length t → run 0 start (take at t) ≡ Some z → run at z (slice_range t at end) ≡ Some y
     → run 0 start (take end t) ≡ Some y
 run-take-span t at end z y low within h s =
     let e : 0 + length (take at t) ≡ at = omega (arith, length-take-le at t) in
     let f : at + (end - at) ≡ end = omega arith in
-    ap (run 0 start) (ap (λ i. take i t) (sym f) ∙ take-add at (end - at) t) ∙ run-through 0 start z (take at t) (slice_range t at end) h
-    ∙ ap (λ i. run i z (slice_range t at end)) e ∙ s
+    search (rules, take-add, run-through)
 
 -- no byte has been read
 pub run-take-none : (t : List ℕ) → run 0 start (take 0 t) ≡ Some start
-run-take-none t = run-none 0 start
+unfolding run
+run-take-none t = refl
 
 -- a text that is refused stays so
 pub refused-front : (n : ℕ) (t : List ℕ) → run 0 start (take n t) ≡ None → run 0 start t ≡ None
@@ -85,8 +74,3 @@ run-front n t z h =
 pub collection-run : (t : List ℕ) (z : MachineState) → run 0 start t ≡ Some z → collection_of t ≡ accepted z
 unfolding collection_of
 collection-run t z h = ap (option_and_then accepted) h
-
--- a text that is refused has none
-pub collection-refused : (t : List ℕ) → run 0 start t ≡ None → collection_of t ≡ None
-unfolding collection_of
-collection-refused t h = ap (option_and_then accepted) h

@@ -70,9 +70,7 @@ module _ (t : List ℕ) (at : ℕ) (room : at + 16 ≤ length t) (fits : (i : �
               let k : ℕ = i - at in
               let same : at + k ≡ i = omega arith in
               let place = value-place k (omega arith) (omega arith) in
-              let far : get_or most k 0 < above (get_or t (at + k) 0) (get_or least k 0) = passes k (omega arith) (lowest.before k (omega arith)) in
-              let far' : 1 < above (get_or t (at + k) 0) 92 = subst (λ l. 1 < above (get_or t (at + k) 0) l) place.0 (subst (λ m. m < above (get_or t (at + k) 0) (get_or least k 0)) place.1 far) in
-              subst (λ j. IsTrue (is_plain (get_or t j 0))) same (plain-byte (get_or t (at + k) 0) (fits (at + k)) far');
+              grind (arith, common_steps, passes, plain-byte);
         };
         within = omega arith;
         end = bracket;

@@ -1,5 +1,5 @@
 -- The machine over a span of a text, by the offsets of its bytes: white space, letters, the plain bytes of a value.
-use Rattle.std.proofs.Common.{false, ◌≡◌, ℕ, zero, suc, ◌+◌, ◌-◌, ◌<◌, ◌≤◌, ◌⊎◌, IsTrue, List, [], ◌∷◌, ◌++◌, length, get_or, take, drop, slice_range, filter, Some, ap, ◌∙◌, subst, inl, inr, add-zero, append_assoc, append-nil, get_or-drop, length-drop, arith}
+use Rattle.std.proofs.Common.{false, ◌≡◌, ℕ, zero, suc, ◌+◌, ◌-◌, ◌<◌, ◌≤◌, ◌⊎◌, IsTrue, List, [], ◌∷◌, ◌++◌, length, get_or, take, drop, slice_range, filter, Some, ap, ◌∙◌, subst, inl, inr, add-zero, append_assoc, append-nil, get_or-drop, length-drop, arith, rules}
 use Rattle.std.proofs.lemmas.List.{take_more}
 use Rattle.std.proofs.lemmas.List.Elements.{filter-append}
 use Rattle.sgf_tree.specs.Spelling.{is_white_space, is_upper, is_lower}
@@ -13,8 +13,7 @@ use Rattle.sgf_tree.proofs.Skipping.{Stays}
 one-letter : (at : ℕ) (n : Started) (name : List ℕ) (b : ℕ) → IsTrue (is_upper b) ⊎ IsTrue (is_lower b)
     → next_state at (in_name n name) b ≡ Some (in_name n (name ++ filter is_upper (b ∷ [])))
 unfolding next_state
-one-letter at n name b (inl h) = rw h
-one-letter at n name b (inr h) = rw (lower-not_upper b h, h, append-nil)
+one-letter at n name b h = search (rules, lower-not_upper, append-nil)
 
 module _ (t : List ℕ) where
   -- each byte of the span takes the state of its offset to the next one's
@@ -23,8 +22,7 @@ module _ (t : List ℕ) where
   run-bytes at to zero f within s h le = rw add-zero h
   run-bytes at to (suc n) f within s h le =
       let e : at + suc n ≡ at + n + 1 = omega arith in
-      rw e (run-take-step t (at + n) (f (at + n)) (f (at + n + 1)) (run-bytes at to n f within s h (omega arith)) (omega arith)
-      (s (at + n) (omega arith) (omega arith)))
+      search (rules, run-take-step, (run-bytes at to n f within s h (omega arith)))
 
   pub run-span : (at to : ℕ) (f : ℕ → MachineState) → at ≤ to → to ≤ length t
       → ((i : ℕ) → at ≤ i → i < to → next_state i (f i) (get_or t i 0) ≡ Some (f (i + 1)))
@@ -52,8 +50,7 @@ module _ (t : List ℕ) where
   span-more at i le lt =
       let e : i + 1 - at ≡ (i - at) + 1 = omega arith in
       let f : at + (i - at) ≡ i = omega arith in
-      let short : i - at < length (drop at t) = rw length-drop (omega arith) in
-      rw e (take_more (drop at t) (i - at) 0 short ∙ ap (λ b. take (i - at) (drop at t) ++ b ∷ []) (get_or-drop at t (i - at) 0 ∙ ap (λ k. get_or t k 0) f))
+      search (rules, length-drop, take_more, get_or-drop)
 
   -- letters, of which the upper-case ones go on the name
   pub run-letters : (at to : ℕ) (n : Started) (name : List ℕ) → at ≤ to → to ≤ length t

@@ -1,5 +1,5 @@
 -- What a text spells, the machine accepts; so a text spells one collection at most.
-use Rattle.std.proofs.Common.{◌≡◌, ℕ, List, [], ◌∷◌, length, Some, option_and_then, refl, sym, ap, ◌∙◌}
+use Rattle.std.proofs.Common.{◌≡◌, ℕ, List, [], ◌∷◌, length, Some, option_and_then, refl, sym, ap, ◌∙◌, rules}
 use Rattle.std.proofs.lemmas.Option.{same_Some}
 use Rattle.sgf_tree.specs.Tree.{Games, no_games, game}
 use Rattle.sgf_tree.specs.Spelling.{WhiteSpace, no_white_space, white_space, games, ByteOrderMark, no_byte_order_mark, byte_order_mark, Spells, spells}
@@ -39,8 +39,7 @@ spelled-read c t (spells {first} {more} {below} {after} m (games w n ns bs last 
 
 pub spelled-accepted : (c : Games) (t : List ℕ) → Spells c t → collection_of t ≡ Some c
 unfolding collection_of accepted
-spelled-accepted c t (spells {first} {more} {below} {after} m are end) =
-    ap (option_and_then accepted) (run-whole t ∙ spelled-read (game first more below after) t (spells m are end))
+spelled-accepted c t h = search (rules, option_and_then, run-whole, spelled-read)
 
-pub one-collection : (c d : Games) (t : List ℕ) → Spells c t → Spells d t → c ≡ d
-one-collection c d t h i = same_Some c d (sym (spelled-accepted c t h) ∙ spelled-accepted d t i)
+pub one_collection : (c d : Games) (t : List ℕ) → Spells c t → Spells d t → c ≡ d
+one_collection c d t h i = same_Some c d (sym (spelled-accepted c t h) ∙ spelled-accepted d t i)

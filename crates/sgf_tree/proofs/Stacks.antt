@@ -1,6 +1,6 @@
 -- The ordered nodes of whole and open games: games side by side, and a game that ends.
 use Rattle.std.proofs.lemmas.Grind.{common_steps}
-use Rattle.std.proofs.Common.{◌≡◌, ℕ, ◌+◌, List, [], ◌∷◌, ◌++◌, length, Option, None, arith, append_assoc, append-nil, length-append}
+use Rattle.std.proofs.Common.{◌≡◌, ℕ, ◌+◌, List, [], ◌∷◌, ◌++◌, length, Option, None, arith, append_assoc, append-nil, length-append, rules}
 use Rattle.sgf_tree.specs.Tree.{Games, no_games, game, joined, game_count, node_count}
 use Rattle.sgf_tree.specs.FileOrder.{nodes_from}
 use Rattle.sgf_tree.specs.inner.Machine.{OpenGame, whole_game}
@@ -44,8 +44,7 @@ own_nodes-whole at parent g = append-nil (own_nodes at parent g)
 
 -- the end of a game leaves the ordered nodes as they are
 pub open_nodes-closed : (closed : Games) (g : OpenGame) (gs : List OpenGame) → open_nodes (add_games closed gs (whole_game g)).closed (add_games closed gs (whole_game g)).unclosed ≡ open_nodes closed (g ∷ gs)
-open_nodes-closed closed g [] = grind (arith, common_steps, ordered-followed, own_nodes-whole)
-open_nodes-closed closed g (h ∷ hs) = grind (arith, common_steps, ordered-followed, own_nodes-whole, append_assoc)
+open_nodes-closed closed g gs = search (rules, ordered-followed, own_nodes-whole, append_assoc)
 
 lasts-whole : (at : ℕ) (g : OpenGame) → lasts at (whole_game g) ≡ (at + length g.more + node_count g.below) ∷ lasts (at + 1 + length g.more) g.below
 lasts-whole at g = append-nil ((at + length g.more + node_count g.below) ∷ lasts (at + 1 + length g.more) g.below)
@@ -54,5 +53,4 @@ lasts-whole at g = append-nil ((at + length g.more + node_count g.below) ∷ las
 pub open_lasts-closed : (closed : Games) (g : OpenGame) (gs : List OpenGame)
     → open_lasts (add_games closed gs (whole_game g)).closed (add_games closed gs (whole_game g)).unclosed
     ≡ open_lasts closed gs ++ (open_count closed gs + length g.more + node_count g.below) ∷ lasts (open_count closed gs + 1 + length g.more) g.below
-open_lasts-closed closed g [] = grind (arith, common_steps, lasts-followed, lasts-whole)
-open_lasts-closed closed g (h ∷ hs) = grind (arith, common_steps, lasts-followed, lasts-whole, append_assoc)
+open_lasts-closed closed g gs = search (rules, lasts-followed, lasts-whole, append_assoc)

@@ -1,6 +1,6 @@
 -- Where the sequences of games begin.
 use Rattle.std.proofs.lemmas.Grind.{common_steps}
-use Rattle.std.proofs.Common.{◌≡◌, ℕ, ◌+◌, List, [], ◌∷◌, ◌++◌, None, length, get_or, Option, Some, refl, arith, length-append}
+use Rattle.std.proofs.Common.{◌≡◌, ℕ, ◌+◌, List, [], ◌∷◌, ◌++◌, None, length, get_or, Option, Some, refl, arith, length-append, rules}
 use Rattle.sgf_tree.specs.Tree.{Node, Games, no_games, game, node_count}
 use Rattle.sgf_tree.specs.FileOrder.{OrderedNode, further_nodes, nodes_from, opening_numbers, sequence_starts}
 use Rattle.sgf_tree.specs.inner.GamesRead.{lasts}
@@ -13,8 +13,7 @@ starts_from at (game first more below after) =
 
 opening-append : (n : ℕ) (rs qs : List OrderedNode) → opening_numbers n (rs ++ qs) ≡ opening_numbers n rs ++ opening_numbers (n + length rs) qs
 opening-append n [] qs = let e : n + 0 ≡ n = omega arith in rw e
-opening-append n (r ∷ rs) qs =
-    grind (arith, common_steps, (opening-append (n + 1) rs qs))
+opening-append n (r ∷ rs) qs = search (rules, (opening-append (n + 1) rs qs))
 
 further-opens : (n last : ℕ) (ns : List Node) → opening_numbers n (further_nodes last ns) ≡ []
 further-opens n last [] = refl

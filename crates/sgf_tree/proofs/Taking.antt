@@ -1,6 +1,6 @@
 -- Taking the elements of a list off its front, one after another.
 use Rattle.std.proofs.lemmas.Grind.{common_steps}
-use Rattle.std.proofs.Common.{◌≡◌, ℕ, ◌<◌, List, [], ◌∷◌, ◌++◌, map, length, slice_get, Option, Some, None, ap, ◌∙◌, arith, length-append}
+use Rattle.std.proofs.Common.{◌≡◌, ℕ, ◌<◌, List, [], ◌∷◌, ◌++◌, map, length, slice_get, Option, Some, None, ap, ◌∙◌, arith, length-append, rules}
 use Rattle.std.proofs.Math.Seq.{get_or-append_seam}
 use Rattle.std.proofs.lemmas.List.{length-map}
 use Rattle.std.proofs.lemmas.Option.{slice_get-get_or}
@@ -20,5 +20,4 @@ module _ {A B : Type 0} (f : B → A) where
 
   -- the element after so many is the one of that number
   pub taken-at : (s : List A) (n : ℕ) (r : Option B) (u : List A) (x : B) → SkipsThenYields (YieldsFirstBy f (λ (l : List A). l)) s n r u → r ≡ Some x → slice_get s n ≡ Some (f x)
-  taken-at s n None u x ran is = absurd (cc)
-  taken-at s n (Some y) u x (xs, (t, went, step), count) is = grind (arith, common_steps, came, length-map, after-front)
+  taken-at s n r u x h k = search (rules, came, length-map, after-front)

@@ -1,5 +1,5 @@
 -- The machine's steps as a relation: one constructor for each way that a byte takes a state to the next one.
-use Rattle.std.proofs.Common.{arith}
+use Rattle.std.proofs.Common.{arith, rules}
 use Rattle.std.proofs.lemmas.Grind.{common_steps}
 use Rattle.std.proofs.Common.{◌≡◌, ◌≢◌, ℕ, Bool, true, false, ◌==◌, if◌then◌else◌, IsTrue, List, [], ◌∷◌, ◌++◌, Option, Some, None, refl, subst, eqb-true}
 use Rattle.std.proofs.lemmas.Bool.{eqb-false}
@@ -59,8 +59,7 @@ pub data IsTransition (at : ℕ) : MachineState → ℕ → MachineState → Typ
 -- a choice by a test
 by_test : (P : MachineState → Type 0) (test : Bool) (x : MachineState) (o : Option MachineState) (y : MachineState)
     → (if test then Some x else o) ≡ Some y → (test ≡ true → P x) → (test ≡ false → o ≡ Some y → P y) → P y
-by_test P true x o y e passes otherwise = subst P (same_Some x y e) (passes refl)
-by_test P false x o y e passes otherwise = otherwise refl e
+by_test P test x o y h k w = search (rules, same_Some)
 
 -- a choice by the byte
 by_byte : (P : ℕ → MachineState → Type 0) (b k : ℕ) (x : MachineState) (o : Option MachineState) (y : MachineState)

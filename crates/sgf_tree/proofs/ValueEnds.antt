@@ -13,12 +13,14 @@ use Rattle.sgf_tree.specs.inner.Progress.{ComesTo, HasNoBracket, IsNextBracket, 
 use Rattle.sgf_tree.proofs.Faults.{ended-fault, refused-fault}
 use Rattle.sgf_tree.proofs.Run.{run-take-step, run-take-span}
 
+pub drop-span : {A : Type 0} (t : List A) (a b : ℕ) → a ≤ b → drop (b - a) (drop a t) ≡ drop b t
+drop-span t a b le = let e : a + (b - a) ≡ b = omega arith in drop-drop (b - a) a t ∙ ap (λ k. drop k t) e
+
 -- two spans side by side
 pub span-join : {A : Type 0} (t : List A) (a b c : ℕ) → a ≤ b → b ≤ c → slice_range t a b ++ slice_range t b c ≡ slice_range t a c
 span-join t a b c le le' =
     let e : c - a ≡ (b - a) + (c - b) = omega arith in
-    let f : a + (b - a) ≡ b = omega arith in
-    rw e (sym (take-add (b - a) (c - b) (drop a t) ∙ ap (λ xs. take (b - a) (drop a t) ++ take (c - b) xs) (drop-drop (b - a) a t ∙ ap (λ k. drop k t) f)))
+    rw e (sym (take-add (b - a) (c - b) (drop a t) ∙ ap (λ xs. take (b - a) (drop a t) ++ take (c - b) xs) (drop-span t a b le)))
 
 -- the whole text is reached
 pub reaches-all : (t : List ℕ) (z : MachineState) → ComesTo t (length t) z → run 0 start t ≡ Some z
@@ -54,20 +56,19 @@ span-at : (t : List ℕ) (end i : ℕ) → end ≤ i → i < length t → get_or
 span-at t end i le lt = grind (arith, common_steps, get_or-take, get_or-drop)
 
 -- the search for `]` finds the next one
-pub bracket-found : (t : List ℕ) (at further : ℕ) → at ≤ length t
+pub bracket_found : (t : List ℕ) (at further : ℕ) → at ≤ length t
     → IsFirstByte (is_byte 93) (slice_range t at (length t)) (Some further) → IsNextBracket t at (at + further)
-bracket-found t at further le found = search (rules, length-take, length-drop, span-at, eqb-true, eq-eqb)
+bracket_found t at further le found = search (rules, length-take, length-drop, span-at, eqb-true, eq-eqb)
 
-pub bracket-none : (t : List ℕ) (at : ℕ) → at ≤ length t → IsFirstByte (is_byte 93) (slice_range t at (length t)) None → HasNoBracket t at (length t)
-bracket-none t at le none = search (rules, length-take, length-drop, eq-eqb, span-at)
+pub bracket_none : (t : List ℕ) (at : ℕ) → at ≤ length t → IsFirstByte (is_byte 93) (slice_range t at (length t)) None → HasNoBracket t at (length t)
+bracket_none t at le none = search (rules, length-take, length-drop, eq-eqb, span-at)
 
 -- the machine over the units of a value
 run-units : {v s r : List ℕ} (at : ℕ) (n : Started) (name : List ℕ) (before : List (List ℕ)) (so_far : List ℕ) → IsValue v s r
     → run at (in_value n name before so_far) v ≡ Some (in_value n name before (so_far ++ v))
 unfolding run next_state
 run-units at n name before so_far no_unit = rw append-nil
-run-units at n name before so_far (plain {b} x y u) =
-    rw (ne_eqb b 93 x, ne_eqb b 92 y) (rw append_assoc at (run-units (at + 1) n name before (so_far ++ b ∷ []) u))
+run-units at n name before so_far (plain {b} x y u) = search (rules, ne_eqb, append_assoc, (run-units (at + 1) n name before (so_far ++ b ∷ []) u))
 run-units at n name before so_far (escaped {b} u) = rw append_assoc at (run-units (at + 1 + 1) n name before (so_far ++ 92 ∷ b ∷ []) u)
 
 module _ (t : List ℕ) (at end : ℕ) (low : at ≤ end) (within : end ≤ length t) (spelled : SpellsValue t at end) (n : Started) (name : List ℕ) (before : List (List ℕ))

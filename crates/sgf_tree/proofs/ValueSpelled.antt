@@ -5,7 +5,7 @@ use Rattle.std.proofs.Math.Seq.{drop-length}
 use Rattle.std.proofs.lemmas.List.{drop-drop}
 use Rattle.sgf_tree.specs.RawValue.{IsValue, no_unit, plain, escaped}
 use Rattle.sgf_tree.specs.inner.Progress.{ArePlain, SpellsValue, SpellsNoValue}
-use Rattle.sgf_tree.proofs.ValueEnds.{span-join, plain-other}
+use Rattle.sgf_tree.proofs.ValueEnds.{drop-span, span-join, plain-other}
 
 -- units after units
 value-join : {u v s m r : List ℕ} → IsValue u s m → IsValue v m r → IsValue (u ++ v) s r
@@ -30,9 +30,6 @@ module _ (t : List ℕ) (at : ℕ) where
   pub spelled-none : SpellsValue t at at
   spelled-none = let e : at - at ≡ 0 = omega arith in rw e no_unit
 
-  drop-span : (a b : ℕ) → a ≤ b → drop (b - a) (drop a t) ≡ drop b t
-  drop-span a b le = let e : a + (b - a) ≡ b = omega arith in drop-drop (b - a) a t ∙ ap (λ k. drop k t) e
-
   spelled-more : (a b : ℕ) → at ≤ a → a ≤ b → SpellsValue t at a → SpellsValue t a b → SpellsValue t at b
   spelled-more a b low le h k = rw (← span-join t at a b low le) (value-join h k)
 
@@ -44,7 +41,7 @@ module _ (t : List ℕ) (at : ℕ) where
       (λ i lt.
       let same : get_or (drop a t) i 0 ≡ get_or t (a + i) 0 = get_or-drop a t i 0 in
       subst (λ c. (c ≢ 93) × (c ≢ 92)) (sym same) (plain-other (get_or t (a + i) 0) (run.passing (a + i) (omega arith) (omega arith)))) in
-      spelled-more a b low le h (subst (IsValue (slice_range t a b) (drop a t)) (drop-span a b le) units)
+      spelled-more a b low le h (subst (IsValue (slice_range t a b) (drop a t)) (drop-span t a b le) units)
 
   pub spelled-escape : (a : ℕ) → at ≤ a → a + 1 < length t → get_or t a 0 ≡ 92 → SpellsValue t at a → SpellsValue t at (a + 2)
   spelled-escape a low lt e h =
@@ -81,9 +78,6 @@ value-cut (plain x y h) (plain z w k) = value-cut h k
 value-cut (plain x y h) (escaped k) = y refl
 value-cut (escaped h) (plain z w k) = w refl
 value-cut (escaped h) (escaped k) = value-cut h k
-
-pub none-ended : (t : List ℕ) (at : ℕ) → SpellsValue t at (length t) → SpellsNoValue t at
-none-ended t at h v r k = value-unended (subst (IsValue (slice_range t at (length t)) (drop at t)) (drop-length t) h) k
 
 pub none-cut : (t : List ℕ) (at a : ℕ) → a + 1 ≡ length t → get_or t a 0 ≡ 92 → SpellsValue t at a → SpellsNoValue t at
 none-cut t at a e f h v r k = grind (arith, common_steps, value-cut)

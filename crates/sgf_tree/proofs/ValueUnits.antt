@@ -1,10 +1,12 @@
 -- Which `]` ends a raw value: the first one with an even number of `\` directly before it.
 use Rattle.std.proofs.lemmas.Grind.{common_steps}
-use Rattle.std.proofs.Common.{◌≡◌, ◌≢◌, ℕ, zero, suc, ◌+◌, ◌-◌, ◌*◌, ◌/◌, ◌%◌, ◌<◌, ◌≤◌, ◌⊎◌, inl, inr, List, length, get_or, refl, sym, ap, subst, ◌∙◌, arith}
+use Rattle.std.proofs.Common.{◌≡◌, ◌≢◌, ℕ, zero, suc, ◌+◌, ◌-◌, ◌*◌, ◌/◌, ◌%◌, ◌<◌, ◌≤◌, ◌⊎◌, inl, inr, List, length, get_or, drop, slice_range, refl, sym, ap, subst, ◌∙◌, arith}
 use Rattle.std.proofs.lemmas.Bool.{cases_eq}
+use Rattle.std.proofs.Math.Seq.{drop-length}
+use Rattle.sgf_tree.specs.RawValue.{IsValue}
 use Rattle.sgf_tree.specs.inner.Progress.{ArePlain, HasNoBracket, IsNextBracket, AreBackslashesBefore, AreEscapes, SpellsValue, IsValueEnd, IsUnended}
 use Rattle.sgf_tree.proofs.ValueEnds.{other-plain, units-end, escape-end}
-use Rattle.sgf_tree.proofs.ValueSpelled.{spelled-none, spelled-plain, spelled-escape, none-ended, none-cut}
+use Rattle.sgf_tree.proofs.ValueSpelled.{spelled-none, spelled-plain, spelled-escape, value-unended, none-cut}
 
 -- whole units of a value stand from `at` to `end`
 pub record AreValueUnits (t : List ℕ) (at end : ℕ) : Type 0 where
@@ -52,12 +54,8 @@ module _ (t : List ℕ) (at : ℕ) where
   side-by-side : (k a : ℕ) → a + 2 * k ≤ length t → ((i : ℕ) → i < k → get_or t (a + 2 * i) 0 ≡ 92) → AreValueUnits t at a → AreValueUnits t at (a + 2 * k)
   side-by-side zero a within escapes units = let e : a ≡ a + 2 * 0 = omega arith in subst (AreValueUnits t at) e units
   side-by-side (suc k) a within escapes units =
-      let here : a + 2 * 0 ≡ a = omega arith in
-      let e : a + 2 + 2 * k ≡ a + 2 * suc k = omega arith in
-      subst (AreValueUnits t at) e
-      (side-by-side k (a + 2) (omega arith)
-      (λ i lt. let f : a + 2 * suc i ≡ a + 2 + 2 * i = omega arith in subst (λ j. get_or t j 0 ≡ 92) f (escapes (suc i) (omega arith)))
-      (escape-units a (omega arith) (subst (λ j. get_or t j 0 ≡ 92) here (escapes 0 (omega arith))) units))
+      let e : a + 2 * k + 2 ≡ a + 2 * suc k = omega arith in
+      subst (AreValueUnits t at) e (escape-units (a + 2 * k) (omega arith) (escapes k (omega arith)) (side-by-side k a (omega arith) (λ i lt. escapes i (omega arith)) units))
 
   pub escapes-units : (a b : ℕ) → AreEscapes t a b → AreValueUnits t at a → AreValueUnits t at b
   escapes-units a b escapes units = grind (arith, common_steps, side-by-side)
@@ -106,7 +104,7 @@ module _ (t : List ℕ) (at : ℕ) where
   endless start le none units =
       elim (units-to (length t - start) start (length t) (omega arith) (omega arith) none units) [
         | inl all ↦ record {
-          spelled = none-ended t at all.spelled;
+          spelled = λ v r. value-unended (subst (IsValue (slice_range t at (length t)) (drop at t)) (drop-length t) all.spelled);
           fault = λ n name before h. units-end t at (length t) all.rises (omega arith) all.spelled n name before h refl;
         }
         | inr cut ↦ record {

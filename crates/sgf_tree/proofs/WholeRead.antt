@@ -1,6 +1,6 @@
 -- How all games of a text are read, and what holds then.
 use Rattle.std.proofs.lemmas.Grind.{common_steps}
-use Rattle.std.proofs.Common.{◌≡◌, ℕ, ◌+◌, ◌-◌, ◌<◌, ◌≤◌, ◌⊎◌, inl, inr, List, [], ◌∷◌, length, get_or, Some, None, unwrap_or, refl, sym, ap, subst, ◌∙◌, arith}
+use Rattle.std.proofs.Common.{◌≡◌, ℕ, ◌+◌, ◌-◌, ◌<◌, ◌≤◌, ◌⊎◌, inl, inr, List, [], ◌∷◌, length, get_or, Some, None, unwrap_or, refl, sym, ap, subst, ◌∙◌, arith, rules}
 use Rattle.sgf_tree.specs.Tree.{Games, no_games, game, game_count, node_count}
 use Rattle.sgf_tree.specs.Spelling.{Spells, is_white_space}
 use Rattle.sgf_tree.specs.Refusal.{IsFaultyAt}
@@ -16,8 +16,7 @@ use Rattle.sgf_tree.proofs.SequencesRead.{open-unaccepted}
 use Rattle.sgf_tree.proofs.ValueEnds.{reaches-all}
 
 no-game : (gs : List OpenGame) → length gs ≡ 0 → gs ≡ []
-no-game [] e = refl
-no-game (g ∷ gs) e = absurd (omega arith)
+no-game gs h = grind (arith, common_steps)
 
 some-game : (games : Games) → 0 < node_count games → 0 < game_count games
 some-game no_games some = some
@@ -72,11 +71,4 @@ module _ (t : List ℕ) where
           let count : open_count k.closed k.unclosed ≡ node_count k.closed = ap (open_count k.closed) all in
           let nodes : 0 < node_count k.closed = omega (arith, so_far.some some) in
           let accepts = games-accepted t at k so_far.stands ends all (some-game k.closed nodes) in
-          let collection : collection_of t ≡ Some k.closed = collection-reached k.closed so_far.stands.state (games-whole t at k so_far.stands ends) accepts in
-          let same : k.closed ≡ games_in t = sym (ap (λ o. unwrap_or o no_games) collection) in
-          let kept : keeps (whole k.closed) nothing = subst (λ gs. keeps (record { closed = k.closed; unclosed = gs }) nothing) all so_far.kept in
-          record {
-            spelled = subst (λ c. Spells c t) same (accepted-spelled k.closed t collection);
-            kept = subst (λ c. keeps (whole c) nothing) same kept;
-            few = subst (λ c. node_count c ≤ length t) same (omega (arith, so_far.few));
-          }
+          search (rules, collection-reached, games-whole, unwrap_or, accepted-spelled)

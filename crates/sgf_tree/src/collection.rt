@@ -108,6 +108,7 @@ impl<'a> Collection<'a> {
     }
 
     /// Whether no node follows node `i` on a line.
+    #[tactic(auto, using(crate::proofs::Leaves::leaf_last, crate::proofs::Leaves::last_leaf))]
     pub fn is_leaf(&self, i: usize) -> bool
         requires { i < node_count self.now }
         ensures { IsTrue result ↔ IsLeaf self.now i }
@@ -116,6 +117,7 @@ impl<'a> Collection<'a> {
     }
 
     /// The place of node `i`: the offset in bytes, from 0, of its `;` in the text.
+    #[tactic(auto, using(crate::proofs::PlacesKept::places_count, crate::proofs::PlacesKept::place_kept))]
     pub fn place(&self, i: usize) -> usize
         requires { i < node_count self.now }
         ensures { place_at self.now i ≡ Some result }

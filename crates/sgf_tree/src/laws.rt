@@ -10,6 +10,7 @@ ghost use Rattle.sgf_tree.specs.Text.{IsDecoded, text_of};
 /// One text after another. Let each of two texts spell games, and let the second not begin with a
 /// byte order mark. Then the two joined spell the games of the first followed by those of the
 /// second. The places of the second are raised by the length of the first text.
+#[tactic(auto, using(crate::proofs::Appending::spells_append))]
 pub fn append()
     ensures { (games others : Games) (text later : List ℕ) → Spells games text → Spells others later
         → ¬ BeginsWithByteOrderMark later → Spells (joined games (raised (length text) others)) (text ++ later) }
@@ -17,6 +18,7 @@ pub fn append()
 
 /// A text spells at most one collection (SGF FF\[4\], EBNF, with this project's choices). So the grammar is unambiguous, also in
 /// the place of each node, in its properties and in their raw values.
+#[tactic(auto, using(crate::proofs::SpelledAccepted::one_collection))]
 pub fn one()
     ensures { (games others : Games) (text : List ℕ) → Spells games text → Spells others text → games ≡ others }
 {}

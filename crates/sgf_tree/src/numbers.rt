@@ -19,6 +19,7 @@ pub fn number(raw: &[u8]) -> Option<i64>
 }
 
 /// The value of 1 to 18 digits; None for anything else.
+#[tactic(auto, using(crate::proofs::DecimalValue::decimal_value_take, crate::proofs::DecimalValue::decimal_value_more, crate::proofs::DecimalValue::digits_more))]
 fn magnitude(digits: &[u8]) -> Option<u64>
     ensures value { result ≡ magnitude_of digits.now }
     ensures fits { IfSome result (λ value. value < 10 ^ 18) }

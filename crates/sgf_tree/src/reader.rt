@@ -104,6 +104,7 @@ pub fn measure(alloc: Global, text: &[u8]) -> Result<Extent, ReadFault>
 }
 
 /// Reads a whole text, and tells `keeper` what comes.
+#[tactic(auto, using(crate::proofs::ByteOrderMark::games_begin))]
 fn read_whole<K: Keeper>(
     text: &[u8],
     keeper: &mut K,

@@ -34,6 +34,7 @@ pub(crate) fn is_empty_node(text: &[u8]) -> bool
 
 /// The end of a node, after any white space, if such short properties stand from `at` up to it. If it is None, nothing is known.
 #[inline(always)]
+#[tactic(auto, using(crate::proofs::Leading::others_none, crate::proofs::Leading::others_more, crate::proofs::Leading::others_end))]
 fn others_end(text: &[u8], at: usize, names: &[[u8; 2]]) -> Option<usize>
     requires { at ≤ length text.now }
     ensures { IfSome result (AreOthers names.now text.now at) }

@@ -50,6 +50,7 @@ pub(crate) fn is_two_plain(text: &[u8], at: usize) -> bool
 }
 
 /// The first `]` among the `NEAR` bytes at `at`, all compared at once.
+#[tactic(auto, using(crate::proofs::NearBrackets::none_found, crate::proofs::NearBrackets::lowest_found))]
 fn near_bracket(text: &[u8], at: usize) -> Option<usize>
     requires { at + NEAR ≤ length text.now }
     ensures { MatchOption result (HasNoBracket text.now at (at + NEAR)) (λ end. IsNextBracket text.now at end) }

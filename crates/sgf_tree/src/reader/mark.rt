@@ -8,6 +8,7 @@ use crate::reader::fault::PartFault;
 
 /// The end of the UTF-8 byte order mark (EF BB BF) at the start of the text; 0 if the text has none. `NotSgf` if the
 /// text begins with EF, but not with the mark.
+#[tactic(auto, using(crate::proofs::ByteOrderMark::mark_none, crate::proofs::ByteOrderMark::mark_read, crate::proofs::ByteOrderMark::first_faulty, crate::proofs::ByteOrderMark::second_faulty))]
 pub(crate) fn mark_end(text: &[u8]) -> Result<usize, PartFault>
     ensures read { IfOk result (IsMarkRead text.now) }
     ensures fault { IfErr result (IsTrueFault text.now) }

@@ -1,4 +1,4 @@
-use Rattle.std.proofs.Common.{◌≡◌, ◌+◌, ◌*◌, ◌<◌, length, get_or, inl, inr, ap, ◌∙◌, arith}
+use Rattle.std.proofs.Common.{◌≡◌, ◌+◌, ◌*◌, ◌<◌, length, get_or, inl, inr, ap, ◌∙◌, arith, rules}
 use Rattle.std.proofs.lemmas.Bool.{cases_lt}
 use Rattle.sgf_tree.proofs.reader.value.escapes_end.Goals as goal
 
@@ -12,10 +12,5 @@ escapes-preserved c =
       within = omega (arith, room);
       count = before.count + 1;
       bytes = omega (arith, before.bytes);
-      each = λ k lt. elim (cases_lt k before.count) [
-        | inl below ↦ before.each k below
-        | inr last ↦
-            let here : at + 2 * k ≡ c.escapes.end = omega (arith, before.bytes) in
-            ap (λ i. get_or t i 0) here ∙ c.if-text-end-eq92.true
-      ];
+      each = search (rules, cases_lt);
     }

@@ -3,7 +3,7 @@ use Rattle.sgf_tree.specs.NodesLeft.{NodesLeft}
 use Rattle.sgf_tree.specs.inner.Lead.{IsLedNode, IsEmptyNode}
 use Rattle.sgf_tree.specs.inner.Machine.{games_in}
 use Rattle.sgf_tree.specs.inner.NodeText.{node_in}
-use Rattle.sgf_tree.proofs.Leading.{led-properties, led-over, led-next, empty-over, empty-next}
+use Rattle.sgf_tree.proofs.Leading.{led-properties, led-next, empty-next}
 use Rattle.sgf_tree.proofs.Walking.{between-some}
 use Rattle.sgf_tree.proofs.walk.SequenceNodes.next.Goals as goal
 
@@ -19,36 +19,32 @@ returns c = (c.open.ensures.0, c.open.ensures.1, c.open.ensures.2 c.args.names.n
 pub invariant_of-self : goal.invariant_of-self
 invariant_of-self c =
     let w = c.self.inside in
-    let more : w.number < w.end = omega (arith, c.self.invariant.0.rises, c.if-self.false) in
     let is : IsLedNode c.args.names.now (drop w.at w.text.now) c.in-Some.end = subst (λ s. IsLedNode c.args.names.now s c.in-Some.end) c.rest_from-text.ensures c.in-Some.ensures in
-    (led-over c.args.names.now w.text.now w.at c.in-Some.end is w.number w.end c.self.invariant.0 more, c.self.invariant.1)
+    ((led-next w.text.now w.at w.number w.end c.self.invariant.0 (omega (arith, c.self.invariant.0.rises, c.if-self.false)) c.args.names.now c.in-Some.end is).1, c.self.invariant.1)
 
 pub returns-in-Some : goal.returns-in-Some
 returns-in-Some c =
     let w = c.self.inside in
-    let more : w.number < w.end = omega (arith, c.self.invariant.0.rises, c.if-self.false) in
     let is : IsLedNode c.args.names.now (drop w.at w.text.now) c.in-Some.end = subst (λ s. IsLedNode c.args.names.now s c.in-Some.end) c.rest_from-text.ensures c.in-Some.ensures in
-    let next = led-next c.args.names.now w.text.now w.at c.in-Some.end is w.number w.end c.self.invariant.0 more in (
+    let next = led-next w.text.now w.at w.number w.end c.self.invariant.0 (omega (arith, c.self.invariant.0.rises, c.if-self.false)) c.args.names.now c.in-Some.end is in (
       node_in w.text.now w.at,
       ap (λ (n : NodesLeft). n.nodes) (sym c.self.view_is) ∙ next.0,
       (
         refl,
         rw (c.part-value.ensures, c.rest_from-text.ensures) (led-properties c.args.names.now (drop w.at w.text.now) c.in-Some.end is),
-        next.1,
+        next.2,
       ),
     )
 
 pub invariant_of-self-then-is_empty_node : goal.invariant_of-self-then-is_empty_node
 invariant_of-self-then-is_empty_node c =
     let w = c.self.inside in
-    let more : w.number < w.end = omega (arith, c.self.invariant.0.rises, c.if-self.false) in
     let is : IsEmptyNode (drop w.at w.text.now) = subst IsEmptyNode c.rest_from-text.ensures (c.is_empty_node.ensures c.if-is_empty_node.true) in
-    (empty-over w.text.now w.at is w.number w.end c.self.invariant.0 more, c.self.invariant.1)
+    ((empty-next w.text.now w.at w.number w.end c.self.invariant.0 (omega (arith, c.self.invariant.0.rises, c.if-self.false)) is).0.1, c.self.invariant.1)
 
 pub returns-then-is_empty_node : goal.returns-then-is_empty_node
 returns-then-is_empty_node c =
     let w = c.self.inside in
-    let more : w.number < w.end = omega (arith, c.self.invariant.0.rises, c.if-self.false) in
     let is : IsEmptyNode (drop w.at w.text.now) = subst IsEmptyNode c.rest_from-text.ensures (c.is_empty_node.ensures c.if-is_empty_node.true) in
-    let next = empty-next w.text.now w.at is w.number w.end c.self.invariant.0 more in
-    (node_in w.text.now w.at, ap (λ (n : NodesLeft). n.nodes) (sym c.self.view_is) ∙ next.0, (refl, next.1, next.2))
+    let next = empty-next w.text.now w.at w.number w.end c.self.invariant.0 (omega (arith, c.self.invariant.0.rises, c.if-self.false)) is in
+    (node_in w.text.now w.at, ap (λ (n : NodesLeft). n.nodes) (sym c.self.view_is) ∙ next.0.0, (refl, next.1, next.0.2))

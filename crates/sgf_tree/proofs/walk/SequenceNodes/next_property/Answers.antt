@@ -13,7 +13,7 @@ returns-then-not-capital_at c =
     let none : w.at - w.at ≡ 0 = omega arith in
     let other = rw c.rest_from-text.ensures at (c.capital_at.ensures.other c.if-not-capital_at.true) in (
       ap (λ n. n.properties) (sym c.self.view_is)
-          ∙ no-property (drop w.at w.text.now) 0 (subst (IsSpan is_white_space (drop w.at w.text.now) 0) none (run-drop is_white_space w.text.now w.at w.at c.self.invariant.0.stands)) c.self.invariant.0.held other,
+          ∙ no-property (drop w.at w.text.now) 0 (subst (IsSpan is_white_space (drop w.at w.text.now) 0) none (run-drop is_white_space w.text.now w.at w.at c.self.invariant.0.stands)) c.self.invariant.0.left.held other,
       refl,
     )
 
@@ -23,7 +23,7 @@ property_at-property-requires c =
     let here = c.rest_from-text.ensures in
     let none : w.at - w.at ≡ 0 = omega arith in
     record {
-      held = subst ArePropertiesIn (sym here) c.self.invariant.0.held;
+      held = subst ArePropertiesIn (sym here) c.self.invariant.0.left.held;
       kept = rw here (kept-drop w.text.now w.at _ c.self.invariant.0.stands.within c.self.invariant.1);
       white_space = rw here (subst (IsSpan is_white_space (drop w.at w.text.now) 0) none (run-drop is_white_space w.text.now w.at w.at c.self.invariant.0.stands));
       within = (c.capital_at.ensures.stands c.if-not-capital_at.false).0;

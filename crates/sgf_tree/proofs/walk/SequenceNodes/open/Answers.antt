@@ -6,19 +6,17 @@ use Rattle.sgf_tree.specs.inner.NodeText.{node_in, properties_in}
 use Rattle.sgf_tree.specs.inner.Walking.{nodes_between, IsWalk}
 use Rattle.sgf_tree.proofs.Walking.{IsNextAt, some-between, next-closed, into-node, past-front}
 use Rattle.sgf_tree.proofs.walk.SequenceNodes.open.Goals as goal
+use Rattle.sgf_tree.proofs.walk.SequenceNodes.open.Goals.{After-rest_from-node}
 
--- the walk before the next node
-record IsBefore (t : List ℕ) (at number end : ℕ) (w : IsWalk t at number end) (old : NodesLeft) : Type 0 where
-  pub more : number < end
-  pub nodes : nodes_between (games_in t) number end ≡ old.nodes
-  pub next : IsNextAt t at number end w more
-
-before : (t : List ℕ) (at number end : ℕ) (w : IsWalk t at number end) (new left old : NodesLeft) → record { properties = properties_in (drop at t); nodes = nodes_between (games_in t) number end } ≡ new
-    → new ≡ left → left.properties ≡ [] → left.nodes ≡ old.nodes → 0 < length old.nodes → IsBefore t at number end w old
-before t at number end w new left old view same none stay some =
-    let nodes : nodes_between (games_in t) number end ≡ old.nodes = ap (λ (n : NodesLeft). n.nodes) (view ∙ same) ∙ stay in
-    let more : number < end = some-between (games_in t) number end (omega (arith, some, ap length nodes)) in
-    record { more = more; nodes = nodes; next = next-closed t at number end w more (ap (λ (n : NodesLeft). n.properties) (view ∙ same) ∙ none) }
+-- the walk is at its next node
+next : (c : After-rest_from-node) → (more : c.self.inside.number < c.self.inside.end) × (nodes_between (games_in c.self.inside.text.now) c.self.inside.number c.self.inside.end ≡ c.args.self.now.nodes)
+    × IsNextAt c.self.inside.text.now c.self.inside.at c.self.inside.number c.self.inside.end c.self.invariant.0 more
+next c =
+    let s = c.self.inside in
+    let left = c.self.view_is ∙ c.in_default.ensures.1 in
+    let nodes : nodes_between (games_in s.text.now) s.number s.end ≡ c.args.self.now.nodes = ap (λ (n : NodesLeft). n.nodes) left ∙ c.left.invariant in
+    let more : s.number < s.end = some-between (games_in s.text.now) s.number s.end (omega (arith, c.requires, ap length nodes)) in
+    (more, nodes, next-closed s.text.now s.at s.number s.end c.self.invariant.0 more (ap (λ (n : NodesLeft). n.properties) left ∙ c.in_default.ensures.0))
 
 pub skip_white_space-self-inside-requires : goal.skip_white_space-self-inside-requires
 skip_white_space-self-inside-requires c =
@@ -29,8 +27,8 @@ skip_white_space-self-inside-requires c =
 pub invariant_of-self : goal.invariant_of-self
 invariant_of-self c =
     let s = c.self.inside in
-    let at = before s.text.now s.at s.number s.end c.self.invariant.0 c.next_property.new.self c.left.self c.args.self.now c.self.view_is c.in_default.ensures.1 c.in_default.ensures.0 c.left.invariant c.requires in (
-      (past-front s.text.now s.at s.number s.end c.self.invariant.0 at.more at.next c.rest_from-node.result.now c.rest_from-node.ensures (c.is_lone_front.ensures c.if-is_lone_front.true) c.skip_white_space-self-inside.result
+    let at = next (goal.at.invariant_of-self c).After-rest_from-node in (
+      (past-front s.text.now s.at s.number s.end c.self.invariant.0 at.0 at.2 c.rest_from-node.result.now c.rest_from-node.ensures (c.is_lone_front.ensures c.if-is_lone_front.true) c.skip_white_space-self-inside.result
           c.skip_white_space-self-inside.ensures).0,
       c.self.invariant.1,
     )
@@ -38,26 +36,26 @@ invariant_of-self c =
 pub returns-then-is_lone_front : goal.returns-then-is_lone_front
 returns-then-is_lone_front c =
     let s = c.self.inside in
-    let at = before s.text.now s.at s.number s.end c.self.invariant.0 c.next_property.new.self c.left.self c.args.self.now c.self.view_is c.in_default.ensures.1 c.in_default.ensures.0 c.left.invariant c.requires in
-    let front = past-front s.text.now s.at s.number s.end c.self.invariant.0 at.more at.next c.rest_from-node.result.now c.rest_from-node.ensures (c.is_lone_front.ensures c.if-is_lone_front.true) c.skip_white_space-self-inside.result
+    let at = next (goal.at.returns-then-is_lone_front c).After-rest_from-node in
+    let front = past-front s.text.now s.at s.number s.end c.self.invariant.0 at.0 at.2 c.rest_from-node.result.now c.rest_from-node.ensures (c.is_lone_front.ensures c.if-is_lone_front.true) c.skip_white_space-self-inside.result
     c.skip_white_space-self-inside.ensures in
-    (node_in s.text.now s.at, sym at.nodes ∙ at.next.nodes, λ _. (refl, rw c.part.ensures front.1))
+    (node_in s.text.now s.at, sym at.1 ∙ at.2.nodes, λ _. (refl, rw c.part.ensures front.1))
 
 pub invariant_of-self-2 : goal.invariant_of-self-2
 invariant_of-self-2 c =
     let s = c.self.inside in
-    let at = before s.text.now s.at s.number s.end c.self.invariant.0 c.next_property.new.self c.left.self c.args.self.now c.self.view_is c.in_default.ensures.1 c.in_default.ensures.0 c.left.invariant c.requires in
-    ((into-node s.text.now s.at s.number s.end c.self.invariant.0 at.more at.next c.skip_white_space-self-inside-2.result c.skip_white_space-self-inside-2.ensures).0, c.self.invariant.1)
+    let at = next (goal.at.invariant_of-self-2 c).After-rest_from-node in
+    ((into-node s.text.now s.at s.number s.end c.self.invariant.0 at.0 at.2 c.skip_white_space-self-inside-2.result c.skip_white_space-self-inside-2.ensures).0, c.self.invariant.1)
 
 pub skip_white_space-self-inside-requires-2 : goal.skip_white_space-self-inside-requires-2
 skip_white_space-self-inside-requires-2 c =
     let s = c.self.inside in
-    let at = before s.text.now s.at s.number s.end c.self.invariant.0 c.next_property.new.self c.left.self c.args.self.now c.self.view_is c.in_default.ensures.1 c.in_default.ensures.0 c.left.invariant c.requires in
-    omega (arith, at.next.inside)
+    let at = next (goal.at.skip_white_space-self-inside-requires-2 c).After-rest_from-node in
+    omega (arith, at.2.inside)
 
 pub returns : goal.returns
 returns c =
     let s = c.self.inside in
-    let at = before s.text.now s.at s.number s.end c.self.invariant.0 c.next_property.new.self c.left.self c.args.self.now c.self.view_is c.in_default.ensures.1 c.in_default.ensures.0 c.left.invariant c.requires in
-    let node = into-node s.text.now s.at s.number s.end c.self.invariant.0 at.more at.next c.skip_white_space-self-inside-2.result c.skip_white_space-self-inside-2.ensures in
-    (node_in s.text.now s.at, sym at.nodes ∙ at.next.nodes, λ _. (refl, node.1))
+    let at = next (goal.at.returns c).After-rest_from-node in
+    let node = into-node s.text.now s.at s.number s.end c.self.invariant.0 at.0 at.2 c.skip_white_space-self-inside-2.result c.skip_white_space-self-inside-2.ensures in
+    (node_in s.text.now s.at, sym at.1 ∙ at.2.nodes, λ _. (refl, node.1))
