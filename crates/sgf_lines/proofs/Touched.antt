@@ -222,18 +222,6 @@ module _ (c : Games) where
     pub places_below : (next : ℕ) (xs : List ℕ) → next < node_count c → Each (IsPlaceBefore next) xs → Each (λ x. x < place_number c next) xs
     places_below next xs lt h = each_weaker (IsPlaceBefore next) (λ x. x < place_number c next) (λ x w. omega (arith, w.2, places_rise w.0 next w.1 lt)) xs h
 
-    -- no more nodes than places below the limit
-    pub nodes_within : (limit : ℕ) → ((i p : ℕ) → place_at c i ≡ Some p → p < limit) → node_count c ≤ limit
-    nodes_within limit below = by (node_count c) refl
-      where
-        numbered : (i : ℕ) → i < node_count c → i ≤ place_number c i
-        numbered zero lt = omega arith
-        numbered (suc i) lt = omega (arith, numbered i (omega arith), places_rise i (suc i) (omega arith) lt)
-
-        by : (n : ℕ) → node_count c ≡ n → node_count c ≤ limit
-        by zero e = omega (arith, e)
-        by (suc i) e = let lt : i < node_count c = omega (arith, e) in omega (arith, e, numbered i lt, below i (place_number c i) (place_is i lt))
-
     -- those of nodes that rise
     places_from : (from low to : ℕ) (ns : List ℕ) → Rises from ns to → to ≤ node_count c → (from < node_count c → low ≤ place_number c from) → RisesFrom low (map (place_number c) ns)
     places_from from low to [] r le first = tt
