@@ -58,10 +58,6 @@ part_then start (end ∷ ends) xs count (suc k) part h e =
     length_of (z ∷ ys) zero y e = omega arith
     length_of (z ∷ ys) (suc k) y e = omega (arith, length_of ys k y e)
 
--- where they end depends on their ends alone
-pub same_end : (start k : ℕ) (ends others : List ℕ) → k ≤ length ends → k ≤ length others → take k others ≡ take k ends → end_of start ends k ≡ end_of start others k
-same_end start k ends others le more same = grind (arith, common_steps)
-
 -- The first parts depend on their ends and on their elements.
 pub alike : {A : Type 0} (start : ℕ) (ends others : List ℕ) (xs ys : List A) (count k : ℕ) → RiseTo start ends count → k ≤ length ends → take k ends ≡ take k others
     → take (end_of start ends k - start) xs ≡ take (end_of start ends k - start) ys → take k (parts_from start ends xs) ≡ take k (parts_from start others ys)
@@ -99,7 +95,7 @@ parts_text f start (end ∷ ends) xs count is h =
 
 -- the front that a line shares with the line before it
 pub has_front : (old new : SequencesState) (shared : Front) → SharesFront old new shared → HasFront new.ends shared
-has_front old new shared h = grind (arith, common_steps, same_end)
+has_front old new shared h = grind (arith, common_steps)
 
 pub front_kept : (old : List ℕ) (kept : ℕ) (new : List ℕ) → Continues old kept new → take kept new ≡ take kept old
 front_kept old kept new h = grind (arith, common_steps, length-take-le, take-append_seam)

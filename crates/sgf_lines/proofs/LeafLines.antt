@@ -20,18 +20,14 @@ variations no_games = refl
 variations (game first more no_games after) = omega (arith, length-append (through (first ∷ more) []) (node_lines after), variations after)
 variations (game first more (game f m b a) after) = grind (arith, common_steps, (variations (game f m b a)), some_leaf, length-append, through_some, (variations after))
 
--- the lines through a game, which has as many
-own_lines : (first : Node) (more : List Node) (below : Games) → length (through (first ∷ more) (node_lines below)) ≡ leaf_count (game first more below no_games)
-own_lines first more no_games = refl
-own_lines first more (game f m b a) = omega (arith, variations, some_leaf f m b a, through_some)
-
 apart : (first : Node) (more : List Node) (below after : Games) → leaf_count (game first more below after) ≡ leaf_count (game first more below no_games) + leaf_count after
 apart first more no_games after = omega arith
 apart first more (game f m b a) after = omega arith
 
 lines_from_leaves : (number : ℕ) (games : Games) → length (lines_from number games) ≡ leaf_count games
 lines_from_leaves number no_games = refl
-lines_from_leaves number (game first more below after) = grind (arith, common_steps, length-append, length-map, own_lines, apart, (lines_from_leaves (number + 1) after))
+lines_from_leaves number (game first more below after) =
+    grind (arith, common_steps, length-append, length-map, variations, some_leaf, through_some, apart, (lines_from_leaves (number + 1) after))
 
 pub lines_leaves : (games : Games) → length (lines games) ≡ leaf_count games
 lines_leaves games = lines_from_leaves 1 games

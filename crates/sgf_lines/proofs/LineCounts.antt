@@ -39,12 +39,9 @@ module _ (source new_source : SourceState) (text : List ℕ) (h : HasReadAll sou
   pub count_of_games : (c : Games) (counts : Counts) → Spells c text → counts ≡ counts_of c → IsCount source new_source (Ok counts)
   count_of_games c counts spelled is = of_text (Ok counts) refl (h.whole, (c, spelled, is))
 
-  unread_says : (fault : ReadFault) → (fault ≡ TextTooLong → MAX_LENGTH < length text) → IsFaultyWhereNotSgf text fault → IsCount source new_source (Err (unread fault (length text)))
-  unread_says fault long faulty = grind (arith, common_steps, of_text)
-
   pub count_of_unread : (fault : ReadFault) (met : RunFault) → met ≡ unread fault (length text) → (fault ≡ TextTooLong → MAX_LENGTH < length text) → IsFaultyWhereNotSgf text fault
       → IsCount source new_source (Err met)
-  count_of_unread fault met is long faulty = rw is (unread_says fault long faulty)
+  count_of_unread fault met is long faulty = grind (arith, common_steps, of_text)
 
 -- two pieces are put as one
 pub both_put : {B F : Type 0} (old now new : SinkState) (first second : List ℕ) (result : Result B F) → Appends old.taken now.taken first → now.failures ≡ old.failures

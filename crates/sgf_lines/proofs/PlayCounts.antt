@@ -195,8 +195,7 @@ module _ (form : Form) (counts : ℕ → ℕ) (counts_are : (n : ℕ) → counts
 
   -- but its record wasn't taken whole
   pub played_then_cut : (new : ℕ) → PlaysLine {E = MemoryFault} counts before at now new (Ok true) → ArePlaysFor form (page_from c first limit) k new
-  played_then_cut new p =
-      let all = one_played new p in record { at_least = omega (arith, all, plays_grow form (page_from c first limit) k); at_most = omega (arith, all) }
+  played_then_cut new p = omega (arith, one_played new p, plays_grow form (page_from c first limit) k)
 
   -- no memory for all of it
   pub played_in_part : (e : MemoryFault) (new : ℕ) → PlaysLine counts before at now new (Err e) → ArePlaysFor form (page_from c first limit) k new

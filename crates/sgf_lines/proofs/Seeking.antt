@@ -35,6 +35,3 @@ no_line c place none = λ k d lt e.
     let line : get_or (lines c) k d ≡ l.0 = get_or_from_slice_get (lines c) k l.0 d l.1.found in
     let placed : place_of l.0 ≡ place = rw line at e in
     none (leaf_of p.0) (leads c k p.0 p.1).is_leaf (l.1.place ∙ ap Some placed)
-
-pub no_line_there : (c : Games) (next place : ℕ) (at : CursorState) → before c next ≡ at → ((leaf : ℕ) → IsLeaf c leaf → place_at c leaf ≢ Some place) → HasNoLineAt at.games place
-no_line_there c next place at is none = rw (← is) (no_line c place none)

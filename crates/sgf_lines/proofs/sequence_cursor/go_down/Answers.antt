@@ -5,12 +5,6 @@ use Rattle.sgf_lines.proofs.SequenceStarts.{first_no_less, fewer, start_is}
 use Rattle.sgf_lines.proofs.SequenceCuts.{descent_begins, descends}
 use Rattle.sgf_lines.proofs.sequence_cursor.go_down.Goals as goal
 
-pub overflow_add-end : goal.overflow_add-end
-overflow_add-end c = omega (arith, fewer c.args.outline.now, c.requires.within, c.requires.few)
-
-pub overflow_add-front : goal.overflow_add-front
-overflow_add-front c = omega (arith, fewer c.args.outline.now, c.requires.within, c.requires.few, c.requires.kept, c.args.path.now.small, c.args.path.now.ok)
-
 pub loop-sequence-init : goal.loop-sequence-init
 loop-sequence-init c =
     grind (arith, common_steps, descent_begins c.args.outline.now c.args.path.now.items c.args.front.sequences c.args.first c.requires.parts (omega (arith, c.requires.kept, c.args.path.now.ok.0)))

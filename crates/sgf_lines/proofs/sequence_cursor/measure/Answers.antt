@@ -5,12 +5,6 @@ use Rattle.sgf_lines.proofs.SequenceStarts.{fewer}
 use Rattle.sgf_lines.proofs.SequenceClimbing.{measure_begins, measures, measure_fits, measured}
 use Rattle.sgf_lines.proofs.sequence_cursor.measure.Goals as goal
 
-pub loop-sequence-init : goal.loop-sequence-init
-loop-sequence-init c = measure_begins c.args.outline.now c.args.last c.requires.within
-
-pub overflow_add-sequences : goal.overflow_add-sequences
-overflow_add-sequences c = grind (arith, common_steps, measure_fits, fewer)
-
 pub loop-sequence-preserved : goal.loop-sequence-preserved
 loop-sequence-preserved c =
     grind (arith, common_steps, measures c.args.outline.now c.args.last c.in-Some.number c.loop-sequence.sequences c.loop-sequence.nodes c.loop-sequence.sequence c.sequence_outer-sequence.result c.loop-sequence.invariant c.in-Some.is c.sequence_outer-sequence.ensures)
