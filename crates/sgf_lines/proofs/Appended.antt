@@ -1,6 +1,6 @@
 -- The lines of games after others are those of the others and then theirs, and what stands further on is judged alike.
 use Rattle.std.proofs.lemmas.Grind.{common_steps}
-use Rattle.std.proofs.Common.{◌≡◌, ◌≢◌, ℕ, ◌+◌, List, [], ◌∷◌, ◌++◌, length, map, slice_get, Some, option_map, codes, decimal, refl, sym, ap, ◌∙◌, arith, append_assoc}
+use Rattle.std.proofs.Common.{◌≡◌, ◌≢◌, ℕ, ◌+◌, List, [], ◌∷◌, ◌++◌, map, refl, ap, arith, append_assoc}
 use Rattle.std.proofs.lemmas.Grind.{flat_map-append}
 use Rattle.std.specs.List.{flat_map, AllZip}
 use Rattle.std.proofs.lemmas.Option.{slice_get-map}
@@ -9,15 +9,12 @@ use Rattle.sgf_tree.specs.Tree.{Node, Games, no_games, game, game_count, joined}
 use Rattle.sgf_tree.specs.Appending.{raised_node, raised}
 use Rattle.sgf_lines.specs.declared.options.Form.TheVariants.{List as list_form}
 use Rattle.sgf_lines.specs.declared.verdict.Verdict.{Verdict}
-use Rattle.sgf_lines.specs.Lines.{Line, through, node_lines, lines_of_game, lines_from, lines, last_number, place_of}
+use Rattle.sgf_lines.specs.Lines.{Line, node_lines, lines_of_game, lines_from, lines, last_number}
 use Rattle.sgf_lines.specs.Verdict.{verdict_of}
-use Rattle.sgf_lines.specs.ListRow.{verdict_text}
 use Rattle.sgf_lines.specs.Record.{record_of}
 use Rattle.sgf_lines.specs.Appending.{raised_verdict, raised_record}
-use Rattle.sgf_tree.specs.FileOrder.{node_at}
 use Rattle.sgf_lines.specs.Paths.{Path, paths, IsPathOf}
 use Rattle.sgf_lines.specs.SplitAgain.{HaveSame, SaysSame, scored, illegal_at, another_game, another_size}
-use Rattle.sgf_lines.specs.declared.verdict.Verdict.TheVariants.{Illegal}
 use Rattle.sgf_lines.proofs.Again.{says_same}
 use Rattle.sgf_lines.proofs.Lists.{Each, map-through}
 use Rattle.sgf_lines.proofs.Joins.{as_many}

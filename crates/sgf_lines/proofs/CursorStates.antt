@@ -1,6 +1,6 @@
 -- How many lines end before a node, which line ends at it, and what a cursor that stands after it shows.
 use Rattle.std.proofs.lemmas.Grind.{common_steps}
-use Rattle.std.proofs.Common.{◌≡◌, ℕ, ◌+◌, ◌-◌, ◌<◌, ◌≤◌, List, [], length, map, slice_get, Option, Some, None, option_map, refl, sym, ap, ◌∙◌, inl, inr, arith, zero, suc, get_or}
+use Rattle.std.proofs.Common.{◌≡◌, ℕ, ◌+◌, ◌-◌, ◌<◌, ◌≤◌, List, [], length, slice_get, Option, Some, None, option_map, sym, ap, ◌∙◌, inl, inr, arith, zero, suc, get_or}
 use Rattle.std.specs.Prelude.{nat_lt}
 use Rattle.std.proofs.lemmas.Bool.{lt-ltb, le-ltb, cases_lt}
 use Rattle.std.proofs.lemmas.List.Sums.{prefix_len_is}
@@ -13,8 +13,8 @@ use Rattle.sgf_lines.specs.inner.Standing.{lines_before, IsAfterLeaf}
 use Rattle.sgf_tree.proofs.Rises.{rises-pair}
 use Rattle.sgf_lines.proofs.Lists.{element, each_get}
 use Rattle.sgf_lines.proofs.Visits.{one_way, way_within, last-way, some_node, leads, leaves_in_order, covered}
-use Rattle.sgf_lines.specs.Lines.{Line, lines, place_of, last_number}
-use Rattle.sgf_lines.specs.inner.Following.{numbers_of, numbers_before, path_before, line_in, line_before}
+use Rattle.sgf_lines.specs.Lines.{Line, lines, place_of}
+use Rattle.sgf_lines.specs.inner.Following.{path_before, line_before}
 use Rattle.sgf_lines.proofs.Named.{game_of_root, line_at, length-paths}
 use Rattle.sgf_lines.specs.Cursor.{CursorState, advanced, IsLine}
 use Rattle.sgf_lines.specs.declared.line.LineRef.{LineRef}

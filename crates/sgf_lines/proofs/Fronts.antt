@@ -1,12 +1,12 @@
 -- Nodes in sequences, by the indices where these end.
 use Rattle.std.proofs.lemmas.Grind.{common_steps}
 use Rattle.std.proofs.Common.{◌≡◌, ℕ, zero, suc, ◌+◌, ◌-◌, ◌<◌, ◌≤◌, List, [], ◌∷◌, ◌++◌, length, get_or, take, drop, map, slice_get, Some, refl, sym, ap, ◌∙◌, arith}
-use Rattle.std.specs.List.{concat, flat_map, range_with_len}
+use Rattle.std.specs.List.{concat, flat_map}
 use Rattle.std.proofs.Math.Seq.{take-append_seam}
 use Rattle.std.proofs.lemmas.List.{take-append-drop, length-drop, length-take-le, drop-take, drop-drop}
 use Rattle.std.proofs.lemmas.Grind.{flat_map-append}
 use Rattle.sgf_lines.specs.declared.sequence_cursor.Front.{Front}
-use Rattle.sgf_lines.specs.inner.Following.{Continues, first_after}
+use Rattle.sgf_lines.specs.inner.Following.{Continues}
 use Rattle.sgf_lines.specs.inner.Fronts.{HasFront}
 use Rattle.sgf_lines.specs.inner.Sequences.{SequencesState, SharesFront, RiseTo, parts_from}
 

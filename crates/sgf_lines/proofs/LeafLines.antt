@@ -3,7 +3,7 @@ use Rattle.std.proofs.lemmas.Grind.{common_steps}
 use Rattle.std.proofs.Common.{◌≡◌, ℕ, ◌+◌, ◌<◌, List, [], ◌∷◌, ◌++◌, length, refl, arith, length-append}
 use Rattle.std.proofs.lemmas.List.{length-map}
 use Rattle.sgf_tree.specs.Tree.{Node, Games, no_games, game, leaf_count}
-use Rattle.sgf_lines.specs.Lines.{Line, lines, lines_from, lines_of_game, node_lines, through}
+use Rattle.sgf_lines.specs.Lines.{lines, lines_from, node_lines, through}
 
 -- nothing is lost where lists go on from a branch
 through_some : {A : Type 0} (own : List A) (rests : List (List A)) → 0 < length rests → length (through own rests) ≡ length rests

@@ -15,14 +15,13 @@ use Rattle.sgf_tree.specs.declared.fault.TheConstants.{MAX_LENGTH}
 use Rattle.sgf_tree.specs.Spelling.{Spells}
 use Rattle.sgf_tree.specs.Refusal.{IsFaultyWhereNotSgf}
 use Rattle.sgf_tree.specs.declared.fault.ReadFault.{ReadFault}
-use Rattle.sgf_tree.specs.declared.fault.ReadFault.TheVariants.{TooLong as TextTooLong, NotSgf as TextNotSgf, Memory as TextMemory}
+use Rattle.sgf_tree.specs.declared.fault.ReadFault.TheVariants.{TooLong as TextTooLong}
 use Rattle.sgf_lines.specs.Streams.{SourceState, SinkState, PutsAll}
 use Rattle.sgf_lines.specs.Answer.{read_failures, unread}
 use Rattle.sgf_lines.specs.Counts.{counts_of, AnswersCount, IsCount}
 use Rattle.sgf_lines.specs.inner.Running.{HasReadAll}
 use Rattle.sgf_lines.specs.declared.counting.Counts.{Counts}
 use Rattle.sgf_lines.specs.declared.fault.RunFault.{RunFault}
-use Rattle.sgf_lines.specs.declared.fault.RunFault.TheVariants.{NotSgf, Memory}
 
 -- no more lines than nodes
 pub lines_within : (c : Games) → length (lines c) ≤ node_count c

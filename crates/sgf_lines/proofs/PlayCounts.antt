@@ -1,27 +1,18 @@
 -- How many nodes a run plays for its page: a line adds those of its judged nodes that it doesn't share with the line before it.
-use Rattle.std.proofs.Common.{◌≡◌, ℕ, zero, suc, ◌+◌, ◌<◌, ◌≤◌, List, [], ◌∷◌, ◌++◌, length, take, map, inl, inr, refl, ap, ◌∙◌, arith, ◌-◌, drop, slice_get, Some, sym, subst, length-append, Option, None, Result, Ok, Err, add-one, append_assoc}
-use Rattle.std.specs.List.{range_with_len, flat_map}
+use Rattle.std.proofs.Common.{◌≡◌, ℕ, zero, suc, ◌+◌, ◌<◌, ◌≤◌, List, ◌++◌, length, take, inl, inr, refl, ap, ◌∙◌, arith, ◌-◌, drop, slice_get, Some, sym, length-append, Option, None, Result, Ok, Err, add-one, append_assoc}
+use Rattle.std.specs.List.{flat_map}
 use Rattle.std.proofs.lemmas.Bool.{cases_Bool}
 use Rattle.sgf_tree.specs.Tree.{Games, node_count}
-use Rattle.sgf_tree.specs.FileOrder.{PlacesRise, node_at}
-use Rattle.sgf_lines.specs.Lines.{last_number, Line, lines}
-use Rattle.sgf_lines.specs.Paths.{paths}
-use Rattle.sgf_lines.specs.inner.Following.{first_after, Continues, numbers_before, nodes_of}
-use Rattle.sgf_tree.proofs.Rises.{Rises}
-use Rattle.sgf_lines.proofs.Lists.{Each, element, each_append, each_weaker, each_take}
+use Rattle.sgf_tree.specs.FileOrder.{PlacesRise}
+use Rattle.sgf_lines.specs.Lines.{Line, lines}
+use Rattle.sgf_lines.specs.inner.Following.{Continues, numbers_before}
 use Rattle.sgf_lines.proofs.Touched.{SharesAfter, adds_fresh, judged_first, judged_shared, judged_few, fewer_in_front}
-use Rattle.std.proofs.lemmas.List.{map-append, take-map, take-append-drop, length-take-le, length-map, length-drop, take_all, length-take}
+use Rattle.std.proofs.lemmas.List.{take-append-drop, length-map, length-drop, take_all, length-take}
 use Rattle.std.proofs.Math.Seq.{take-add}
 use Rattle.std.proofs.lemmas.Option.{slice_get_within}
-use Rattle.sgf_lines.specs.JudgedGames.{game_kind, root_properties}
 use Rattle.sgf_lines.specs.Verdict.{judged_nodes}
-use Rattle.sgf_lines.specs.Plays.{different, all_judged_places, judged_places, places_of}
-use Rattle.sgf_lines.proofs.Named.{length-paths}
-use Rattle.sgf_lines.proofs.LineNodes.{named_in}
-use Rattle.sgf_lines.proofs.Keeping.{same_front}
-use Rattle.sgf_lines.proofs.Joins.{more_texts, as_many}
-use Rattle.sgf_lines.proofs.Walking.{judged_front, judged_alike}
-use Rattle.std.specs.Prelude.{Bool, true, false, if◌then◌else◌, unwrap_or, filter}
+use Rattle.sgf_lines.specs.Plays.{different, all_judged_places, judged_places}
+use Rattle.std.specs.Prelude.{true, unwrap_or}
 use Rattle.std.specs.Io.KnownBytes.{Appends}
 use Rattle.std.proofs.KnownBytes.{Appends-trans, Appends-kept}
 use Rattle.sgf_lines.specs.Page.{limited}

@@ -1,6 +1,6 @@
 -- A script that has commands leads to the colouring at the end of its line's walk.
 use Rattle.std.proofs.lemmas.Grind.{common_steps}
-use Rattle.std.proofs.Common.{◌≡◌, ℕ, ◌*◌, ◌<◌, ◌≤◌, List, [], ◌∷◌, ◌++◌, length, map, fold, Option, Some, None, Bool, true, false, codes, refl, sym, ap, ◌∙◌, arith, subst, cond, append-nil, append_assoc, decimal, Result, Ok, Err, option_map, option_and_then, nat_lt, nat_le, ◌&&◌, ℤ, pos, negsuc}
+use Rattle.std.proofs.Common.{◌≡◌, ℕ, ◌*◌, ◌<◌, ◌≤◌, List, [], ◌∷◌, ◌++◌, length, map, fold, Option, Some, None, Bool, true, false, codes, refl, sym, ap, ◌∙◌, arith, subst, cond, append-nil, append_assoc, decimal, Result, Ok, Err, option_and_then, nat_lt, nat_le, ◌&&◌, ℤ}
 use Rattle.std.proofs.lemmas.Grind.{flat_map-append}
 use Rattle.std.proofs.lemmas.List.Folds.{list_any-append}
 use Rattle.std.specs.List.{flat_map, list_any}
@@ -8,34 +8,29 @@ use Rattle.std.proofs.lemmas.List.{length-map, length-replicate}
 use Rattle.std.proofs.lemmas.Bool.{not-false, or_parts}
 use Rattle.std.proofs.lemmas.Bool.Decides.{nat_tests}
 use Rattle.sgf_tree.specs.Tree.{Property, Node}
-use Rattle.sgf_tree.specs.Number.{number_of}
-use Rattle.go_board.specs.declared.size.TheConstants.{MAX_SIDE}
 use Rattle.go_board.specs.declared.stones.Cell.{Cell}
 use Rattle.go_board.specs.declared.stones.Cell.TheVariants.{Empty}
 use Rattle.go_board.specs.declared.stones.Colour.{Colour}
-use Rattle.go_board.specs.declared.stones.Colour.TheVariants.{Black, White}
 use Rattle.go_board.specs.declared.points.Point.{Point}
 use Rattle.go_board.specs.declared.vertices.TheConstants.{MAX_VERTEX_SIDE}
 use Rattle.go_board.specs.declared.reason.Reason.{Reason}
-use Rattle.go_board.specs.declared.reason.Reason.TheVariants.{Over, Turn, Occupied, Repeat}
 use Rattle.go_board.specs.declared.referee.plays.Play.{Play}
 use Rattle.go_board.specs.declared.referee.plays.Play.TheVariants.{Pass, Stone}
 use Rattle.go_board.specs.declared.referee.plays.SetupOp.{SetupOp}
-use Rattle.go_board.specs.Colour.{opponent, stone_of, same_cell}
 use Rattle.go_board.specs.Point.{IsOn, points}
-use Rattle.go_board.specs.Grid.{Grid, cell_at, with_cell, empty_grid}
-use Rattle.go_board.specs.Clearing.{clear, play, has_unreaching}
+use Rattle.go_board.specs.Grid.{Grid, empty_grid}
+use Rattle.go_board.specs.Clearing.{play, has_unreaching}
 use Rattle.go_board.specs.Values.{letter_value, coordinate, point_value}
-use Rattle.go_board.specs.State.{State, with_area, set_up, turned, is_over}
-use Rattle.go_board.specs.Reason.{must_move, is_occupied, is_repeat, reason_of}
+use Rattle.go_board.specs.State.{State, with_area, set_up, turned}
+use Rattle.go_board.specs.Reason.{reason_of}
 use Rattle.sgf_lines.specs.Lines.{Line}
 use Rattle.sgf_lines.specs.NodeContents.{Move, Stones, moves, stones, players}
-use Rattle.sgf_lines.specs.NodeValues.{is_pass, move_value, operations, last_player}
-use Rattle.sgf_lines.specs.JudgedGames.{not_go, board, is_go, side_from, side_of, game_kind_on, game_kind, root_properties}
+use Rattle.sgf_lines.specs.NodeValues.{move_value, operations, last_player}
+use Rattle.sgf_lines.specs.JudgedGames.{board, side_from, side_of, game_kind, root_properties}
 use Rattle.sgf_lines.specs.Step.{side_in, turn_step, move_step, setup_step, step_by, step}
 use Rattle.sgf_lines.specs.Walk.{TakenNode, IllegalNode, Walk, before_root, stepped, next_by, next, walk}
 use Rattle.sgf_lines.specs.ListRow.{list_row}
-use Rattle.sgf_lines.specs.Script.{comment_row, comment_text, comment_rows, play_command, setup_commands, move_commands_by, move_commands, node_script, taken_script, leaves_unreaching_by, leaves_unreaching, has_no_commands, board_commands, commands_by, script}
+use Rattle.sgf_lines.specs.Script.{comment_row, comment_text, play_command, setup_commands, move_commands, node_script, taken_script, leaves_unreaching_by, leaves_unreaching, has_no_commands, board_commands, commands_by, script}
 use Rattle.sgf_lines.specs.NodeContents.{first_value}
 use Rattle.sgf_lines.specs.Replay.{Engine, no_board, sized, shows, refused, after_command, after_row, after_text, replayed}
 use Rattle.sgf_tree.proofs.Names.{not-found}

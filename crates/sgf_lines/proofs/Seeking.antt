@@ -1,8 +1,8 @@
 -- The place of the leaf that a line ends in, and the position after that line.
 use Rattle.std.proofs.lemmas.Grind.{common_steps}
-use Rattle.std.proofs.Common.{◌≡◌, ℕ, ◌+◌, ◌<◌, List, length, Option, Some, None, refl, sym, ap, ◌∙◌, arith, ◌≢◌, slice_get, option_map, get_or}
+use Rattle.std.proofs.Common.{◌≡◌, ℕ, ◌+◌, ◌<◌, List, Some, ap, ◌∙◌, arith, ◌≢◌, get_or}
 use Rattle.sgf_tree.specs.Tree.{Games, node_count}
-use Rattle.sgf_tree.specs.FileOrder.{IsLeaf, OrderedNode, ordered_nodes, place_at}
+use Rattle.sgf_tree.specs.FileOrder.{IsLeaf, place_at}
 use Rattle.sgf_lines.specs.inner.PathTo.{IsPathTo}
 use Rattle.sgf_tree.proofs.OrderedNodes.{length-nodes_from}
 use Rattle.sgf_lines.proofs.Visits.{leads}
@@ -11,7 +11,7 @@ use Rattle.std.proofs.lemmas.Option.{slice_get_within, get_or_from_slice_get}
 use Rattle.sgf_lines.specs.Lines.{lines, place_of, HasNoLineAt}
 use Rattle.sgf_lines.specs.Paths.{paths, leaf_of}
 use Rattle.sgf_lines.specs.Cursor.{CursorState, IsAfterPlace}
-use Rattle.sgf_lines.specs.inner.Standing.{lines_before, IsAfterLeaf}
+use Rattle.sgf_lines.specs.inner.Standing.{IsAfterLeaf}
 use Rattle.sgf_lines.proofs.Lists.{element}
 use Rattle.sgf_lines.proofs.Named.{line_at, length-paths}
 

@@ -1,6 +1,6 @@
 -- What a cursor by sequences shows of the line before it, and where it stands after the next leaf.
 use Rattle.std.proofs.lemmas.Grind.{common_steps}
-use Rattle.std.proofs.Common.{◌≡◌, ◌≢◌, ℕ, suc, ◌+◌, ◌-◌, ◌<◌, ◌≤◌, inl, inr, List, [], ◌∷◌, ◌++◌, length, get_or, take, drop, slice_get, Option, Some, None, option_map, refl, sym, ap, ◌∙◌, subst, arith, add-one, length-append}
+use Rattle.std.proofs.Common.{◌≡◌, ◌≢◌, ℕ, suc, ◌+◌, ◌-◌, ◌<◌, ◌≤◌, inl, inr, List, [], ◌∷◌, ◌++◌, length, get_or, take, slice_get, Option, Some, None, option_map, refl, sym, ap, ◌∙◌, arith, add-one, length-append}
 use Rattle.std.specs.List.{range_with_len}
 use Rattle.std.proofs.lemmas.Bool.{cases_lt}
 use Rattle.std.proofs.lemmas.List.{length-map, take-map, length-take-le}
@@ -15,7 +15,7 @@ use Rattle.sgf_lines.specs.Cursor.{CursorState, advanced, IsAfterPlace}
 use Rattle.sgf_lines.specs.inner.PathTo.{HasNoLeaf, IsNextLeaf}
 use Rattle.sgf_lines.specs.inner.Standing.{lines_before, IsAfterLeaf}
 use Rattle.sgf_lines.specs.inner.Following.{Continues, path_before, nodes_before, line_before, line_in, nodes_of, IsCutBack}
-use Rattle.sgf_lines.specs.inner.Sequences.{SequencesState, SharesFront, RiseTo, sequences_of, nodes_in, first_of, sequence_length, part_numbers, part_ends, AreParts, IsAfterSequences, IsNextEnd, IsFrontUpTo, GoesDown, IsAbove, ArePartsTo, parts_from}
+use Rattle.sgf_lines.specs.inner.Sequences.{SequencesState, SharesFront, RiseTo, sequences_of, nodes_in, first_of, part_numbers, part_ends, AreParts, IsAfterSequences, IsNextEnd, IsFrontUpTo, GoesDown, IsAbove, ArePartsTo, parts_from}
 use Rattle.sgf_lines.specs.declared.sequence_cursor.Front.{Front}
 use Rattle.sgf_lines.specs.declared.sequence_cursor.Part.{Part}
 use Rattle.sgf_lines.proofs.Named.{line_at}
@@ -124,7 +124,7 @@ module _ (c : Games) (next : ℕ) (parts : List Part) (h : IsAfterSequences c ne
     pub game_is : (part : Part) → slice_get parts 0 ≡ Some part
         → option_map (λ (line : Line). line.game_number) (line_before state.at) ≡ Some (game_of c (sequence_start c part.sequence))
     game_is part there =
-        grind (arith, common_steps, line_at c (lines_before c (first_of c next) - 1) (record {game_number = game_of c (get_or (part_numbers c parts) 0 0) ; numbers = part_numbers c parts}) (shown.path_is 0), line_found, root part there)
+        grind (arith, common_steps, line_at c (lines_before c (first_of c next) - 1) (record { game_number = game_of c (get_or (part_numbers c parts) 0 0); numbers = part_numbers c parts }) (shown.path_is 0), line_found, root part there)
 
     -- a sequence stands before the next one
     pub one_before : 1 ≤ next

@@ -6,7 +6,7 @@ use Rattle.sgf_tree.proofs.OrderedNodes.{parent_at-lt, parent_at-within, length-
 use Rattle.sgf_tree.proofs.Rises.{Rises, rises-append}
 use Rattle.sgf_lines.specs.Lines.{last_number, through, node_lines, lines_of_game, lines_from}
 use Rattle.sgf_lines.specs.inner.PathTo.{IsPathTo, top, step, HasNoLeaf}
-use Rattle.sgf_lines.proofs.Lists.{Each, range_append, map-through, each_append, each_weaker, each_get, element}
+use Rattle.sgf_lines.proofs.Lists.{Each, range_append, map-through, each_weaker, each_get, element}
 use Rattle.sgf_tree.proofs.Lists.{slice_get-left, slice_get-right}
 use Rattle.std.proofs.lemmas.List.{map-append, length-map}
 use Rattle.std.specs.List.{range_with_len}
@@ -310,7 +310,7 @@ follows c (game first more no_games after) at from parent above old tail end h u
     let all = among_after c at parent first more no_games after h in (
       goes_on_to c from leaf own old (own_down c at parent first more no_games after h from above old d) (omega (arith, d.within)) is_leaf,
       rw there (follows c after next next parent above own tail end all up (λ some. begin_down c next parent above own fresh after all.stands some up refl)
-      (λ e. let same : at + node_count (game first more no_games after) ≡ next = omega arith in rw same at (goes own fresh refl)) (λ last rest is. rw sum (goes last rest is))),
+          (λ e. let same : at + node_count (game first more no_games after) ≡ next = omega arith in rw same at (goes own fresh refl)) (λ last rest is. rw sum (goes last rest is))),
     )
 follows c (game first more (game f m b a) after) at from parent above old tail end h up down none goes =
     let leaf = at + length more in

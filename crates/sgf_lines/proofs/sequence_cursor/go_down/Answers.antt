@@ -1,7 +1,7 @@
 -- There is room for each part, and it stands after those so far.
 use Rattle.std.proofs.lemmas.Grind.{common_steps}
-use Rattle.std.proofs.Common.{◌≡◌, ◌-◌, ◌++◌, ◌∷◌, [], arith}
-use Rattle.sgf_lines.proofs.SequenceStarts.{first_no_less, fewer, start_is}
+use Rattle.std.proofs.Common.{◌-◌, arith}
+use Rattle.sgf_lines.proofs.SequenceStarts.{first_no_less, start_is}
 use Rattle.sgf_lines.proofs.SequenceCuts.{descent_begins, descends}
 use Rattle.sgf_lines.proofs.sequence_cursor.go_down.Goals as goal
 

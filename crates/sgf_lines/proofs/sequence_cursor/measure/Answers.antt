@@ -1,8 +1,7 @@
 -- One step up the way counts one sequence more, and its nodes.
 use Rattle.std.proofs.lemmas.Grind.{common_steps}
 use Rattle.std.proofs.Common.{arith}
-use Rattle.sgf_lines.proofs.SequenceStarts.{fewer}
-use Rattle.sgf_lines.proofs.SequenceClimbing.{measure_begins, measures, measure_fits, measured}
+use Rattle.sgf_lines.proofs.SequenceClimbing.{measures, measured}
 use Rattle.sgf_lines.proofs.sequence_cursor.measure.Goals as goal
 
 pub loop-sequence-preserved : goal.loop-sequence-preserved
