@@ -20,14 +20,10 @@ variations no_games = refl
 variations (game first more no_games after) = omega (arith, length-append (through (first ∷ more) []) (node_lines after), variations after)
 variations (game first more (game f m b a) after) = grind (arith, common_steps, (variations (game f m b a)), some_leaf, length-append, through_some, (variations after))
 
-apart : (first : Node) (more : List Node) (below after : Games) → leaf_count (game first more below after) ≡ leaf_count (game first more below no_games) + leaf_count after
-apart first more no_games after = omega arith
-apart first more (game f m b a) after = omega arith
-
 lines_from_leaves : (number : ℕ) (games : Games) → length (lines_from number games) ≡ leaf_count games
 lines_from_leaves number no_games = refl
 lines_from_leaves number (game first more below after) =
-    grind (arith, common_steps, length-append, length-map, variations, some_leaf, through_some, apart, (lines_from_leaves (number + 1) after))
+    grind (arith, common_steps, length-append, length-map, variations, some_leaf, through_some, (lines_from_leaves (number + 1) after))
 
 pub lines_leaves : (games : Games) → length (lines games) ≡ leaf_count games
 lines_leaves games = lines_from_leaves 1 games

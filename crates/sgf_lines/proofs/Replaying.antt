@@ -45,11 +45,8 @@ any_append p xs ys e = or_parts (list_any p xs) (list_any p ys) (sym (list_any-a
 
 -- ---- The points that values name are on the board.
 
-on_by : (side : ℕ) (o : Option ℕ) (n : ℕ) → option_and_then (λ m. cond (nat_lt m side) (Some m) None) o ≡ Some n → n < side
-on_by side o n e = grind (arith, common_steps)
-
 coordinate_on : (side b n : ℕ) → coordinate side b ≡ Some n → n < side
-coordinate_on side b n e = on_by side (letter_value b) n e
+coordinate_on side b n e = grind (arith, common_steps)
 
 point_on : (side : ℕ) (raw : List ℕ) (p : Point) → point_value raw side ≡ Some p → IsOn side p
 unfolding point_value
@@ -63,9 +60,6 @@ point_on side (c ∷ r ∷ d ∷ more) p e = absurd cc
 -- a grid with a cell for each point
 abbrev IsFull : ℕ → Grid → Type 0
 IsFull side g = (g.side ≡ side) × (length g.cells ≡ side * side)
-
-pass_leaves : (side : ℕ) (engine : Engine) (k : Colour) → Carries engine (play_command side k Pass) engine
-pass_leaves side engine k = grind (arith, common_steps, takes_row)
 
 module _ (laws : BoardLaws) (side : ℕ) (small : side ≤ 25) where
   -- a step leads to a grid with a cell for each point, and its node's commands lead there
@@ -105,7 +99,7 @@ module _ (laws : BoardLaws) (side : ℕ) (small : side ≤ 25) where
   -- the command of a legal play
   plays_on : (s t : State) (k : Colour) (raw : List ℕ) (x : Play) → IsFull side s.colouring → move_value raw (side_in s) ≡ Some x → reason_of s k x ≡ None
       → t ≡ turned s k x → Carries (shows s.colouring) (play_command side k x) (shows t.colouring) × IsFull side t.colouring
-  plays_on s t k raw x full value none is = grind (arith, common_steps, pass_leaves, stone_on, takes_play, not-found, is_same, not-false, play_full)
+  plays_on s t k raw x full value none is = grind (arith, common_steps, takes_row, stone_on, takes_play, not-found, is_same, not-false, play_full)
 
   turn_leads : (s t : State) (m : Move) (x : Play) (reason : Option Reason) → IsFull side s.colouring → move_value m.raw (side_in s) ≡ Some x
       → reason_of s m.player x ≡ reason → turn_step s m.player x reason ≡ Ok t → StepReplayed s t [] (m ∷ [])
@@ -204,11 +198,8 @@ module _ (laws : BoardLaws) (side : ℕ) (small : side ≤ 25) where
       subst (λ x. Carries no_board x (shows (empty_grid side))) (append_assoc line (10 ∷ []) (codes "clear_board\n"))
       (takes_both no_board (sized side) (shows (empty_grid side)) (line ++ (10 ∷ [])) (codes "clear_board\n") told cleared)
 
-side_given : (number : Option ℤ) (side : ℕ) → side_from number ≡ Some side → 1 ≤ side
-side_given number side e = grind (arith, common_steps)
-
 side_said : (raw : Option (List ℕ)) (side : ℕ) → side_of raw ≡ Some side → 1 ≤ side
-side_said raw side e = grind (arith, common_steps, side_given)
+side_said raw side e = grind (arith, common_steps)
 
 has_point : (properties : List Property) (side : ℕ) → game_kind properties ≡ board side → 1 ≤ side
 has_point properties side e = grind (arith, common_steps, side_said)
