@@ -7,7 +7,7 @@ use Rattle.go_board.specs.declared.reason.Reason.{Reason}
 use Rattle.go_board.specs.State.{State, starting}
 use Rattle.sgf_lines.specs.declared.verdict.Verdict.TheVariants.{Illegal}
 use Rattle.sgf_lines.specs.NodeContents.{moves_in, stones_in, players_in}
-use Rattle.sgf_lines.specs.JudgedGames.{GameKind, not_go, bad_size, board, game_kind, root_properties}
+use Rattle.sgf_lines.specs.JudgedGames.{GameKind, not_go, bad_size, board, root_properties}
 use Rattle.sgf_lines.specs.Step.{step_by, step}
 use Rattle.sgf_lines.specs.Walk.{TakenNode, IllegalNode, Walk, stepped, next, walk}
 use Rattle.sgf_lines.specs.Verdict.{score_in, verdict_with, verdict_at, verdict_by, verdict_of}

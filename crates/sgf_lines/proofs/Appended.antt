@@ -1,6 +1,6 @@
 -- The lines of games after others are those of the others and then theirs, and what stands further on is judged alike.
 use Rattle.std.proofs.lemmas.Grind.{common_steps}
-use Rattle.std.proofs.Common.{◌≡◌, ◌≢◌, ℕ, ◌+◌, List, [], ◌∷◌, ◌++◌, length, map, slice_get, Some, option_map, codes, decimal, refl, sym, ap, ◌∙◌, arith, append_assoc}
+use Rattle.std.proofs.Common.{◌≡◌, ◌≢◌, ℕ, ◌+◌, List, [], ◌∷◌, ◌++◌, map, refl, ap, arith, append_assoc}
 use Rattle.std.proofs.lemmas.Grind.{flat_map-append}
 use Rattle.std.specs.List.{flat_map, AllZip}
 use Rattle.std.proofs.lemmas.Option.{slice_get-map}
@@ -9,15 +9,12 @@ use Rattle.sgf_tree.specs.Tree.{Node, Games, no_games, game, game_count, joined}
 use Rattle.sgf_tree.specs.Appending.{raised_node, raised}
 use Rattle.sgf_lines.specs.declared.options.Form.TheVariants.{List as list_form}
 use Rattle.sgf_lines.specs.declared.verdict.Verdict.{Verdict}
-use Rattle.sgf_lines.specs.Lines.{Line, through, node_lines, lines_of_game, lines_from, lines, last_number, place_of}
+use Rattle.sgf_lines.specs.Lines.{Line, node_lines, lines_of_game, lines_from, lines, last_number}
 use Rattle.sgf_lines.specs.Verdict.{verdict_of}
-use Rattle.sgf_lines.specs.ListRow.{verdict_text}
 use Rattle.sgf_lines.specs.Record.{record_of}
 use Rattle.sgf_lines.specs.Appending.{raised_verdict, raised_record}
-use Rattle.sgf_tree.specs.FileOrder.{node_at}
 use Rattle.sgf_lines.specs.Paths.{Path, paths, IsPathOf}
 use Rattle.sgf_lines.specs.SplitAgain.{HaveSame, SaysSame, scored, illegal_at, another_game, another_size}
-use Rattle.sgf_lines.specs.declared.verdict.Verdict.TheVariants.{Illegal}
 use Rattle.sgf_lines.proofs.Again.{says_same}
 use Rattle.sgf_lines.proofs.Lists.{Each, map-through}
 use Rattle.sgf_lines.proofs.Joins.{as_many}
@@ -69,28 +66,25 @@ place-raised by [] h = absurd (h refl)
 place-raised by (n ∷ []) h = refl
 place-raised by (n ∷ m ∷ ms) h = place-raised by (m ∷ ms) (λ e. cc)
 
--- nodes further on have the same properties, and so the same verdict
-all-raised : (by : ℕ) (nodes : List Node) → AllZip HaveSame nodes (map (raised_node by) nodes)
-all-raised by [] = tt
-all-raised by (n ∷ ns) = (refl, all-raised by ns)
-
 said-raised : (by : ℕ) (nodes : List Node) (told later : Verdict) → SaysSame nodes (map (raised_node by) nodes) told later → later ≡ raised_verdict by told
 said-raised by nodes told later scored = refl
 said-raised by nodes told later (illegal_at {turn} {reason} {node} {other} index here there) = grind (arith, common_steps, slice_get-map)
 said-raised by nodes told later another_game = refl
 said-raised by nodes told later another_size = refl
 
+-- nodes further on have the same properties, and so the same verdict
+all-raised : (by : ℕ) (nodes : List Node) → AllZip HaveSame nodes (map (raised_node by) nodes)
+all-raised by [] = tt
+all-raised by (n ∷ ns) = (refl, all-raised by ns)
+
 verdict-raised : (by : ℕ) (nodes : List Node) → verdict_of (map (raised_node by) nodes) ≡ raised_verdict by (verdict_of nodes)
 verdict-raised by nodes =
     said-raised by nodes (verdict_of nodes) (verdict_of (map (raised_node by) nodes)) (says_same nodes (map (raised_node by) nodes) (all-raised by nodes))
 
-row-raised : (by games : ℕ) (line : Line) → IsFilled line → record_of list_form (raised_line by games line) ≡ raised_record by games line
-row-raised by games line filled = grind (arith, common_steps, place-raised, length-map, verdict-raised)
-
 rows-raised : (by games : ℕ) (ls : List Line) → Each IsFilled ls
     → flat_map (λ line. record_of list_form line) (map (raised_line by games) ls) ≡ flat_map (λ line. raised_record by games line) ls
 rows-raised by games [] h = refl
-rows-raised by games (l ∷ ls) h = cc (row-raised by games l h.0, rows-raised by games ls h.1)
+rows-raised by games (l ∷ ls) h = grind (arith, common_steps, place-raised, length-map, verdict-raised, (rows-raised by games ls h.1))
 
 pub rows_joined : (c d : Games) (by : ℕ) → flat_map (λ line. record_of list_form line) (lines (joined c (raised by d)))
     ≡ flat_map (λ line. record_of list_form line) (lines c) ++ flat_map (λ line. raised_record by (game_count c) line) (lines d)

@@ -1,6 +1,6 @@
 -- How many lines end before a node, which line ends at it, and what a cursor that stands after it shows.
 use Rattle.std.proofs.lemmas.Grind.{common_steps}
-use Rattle.std.proofs.Common.{◌≡◌, ℕ, ◌+◌, ◌-◌, ◌<◌, ◌≤◌, List, [], length, map, slice_get, Option, Some, None, option_map, refl, sym, ap, ◌∙◌, inl, inr, arith, zero, suc, get_or}
+use Rattle.std.proofs.Common.{◌≡◌, ℕ, ◌+◌, ◌-◌, ◌<◌, ◌≤◌, List, [], length, slice_get, Option, Some, None, option_map, sym, ap, ◌∙◌, inl, inr, arith, zero, suc, get_or}
 use Rattle.std.specs.Prelude.{nat_lt}
 use Rattle.std.proofs.lemmas.Bool.{lt-ltb, le-ltb, cases_lt}
 use Rattle.std.proofs.lemmas.List.Sums.{prefix_len_is}
@@ -13,8 +13,8 @@ use Rattle.sgf_lines.specs.inner.Standing.{lines_before, IsAfterLeaf}
 use Rattle.sgf_tree.proofs.Rises.{rises-pair}
 use Rattle.sgf_lines.proofs.Lists.{element, each_get}
 use Rattle.sgf_lines.proofs.Visits.{one_way, way_within, last-way, some_node, leads, leaves_in_order, covered}
-use Rattle.sgf_lines.specs.Lines.{Line, lines, place_of, last_number}
-use Rattle.sgf_lines.specs.inner.Following.{numbers_of, numbers_before, path_before, line_in, line_before}
+use Rattle.sgf_lines.specs.Lines.{Line, lines, place_of}
+use Rattle.sgf_lines.specs.inner.Following.{path_before, line_before}
 use Rattle.sgf_lines.proofs.Named.{game_of_root, line_at, length-paths}
 use Rattle.sgf_lines.specs.Cursor.{CursorState, advanced, IsLine}
 use Rattle.sgf_lines.specs.declared.line.LineRef.{LineRef}
@@ -93,14 +93,6 @@ shows c (suc i) numbers h lt =
     let is : suc i ≡ i + 1 = omega arith in
     shown_at c i numbers (omega (arith, h.within)) (h.leaf i is) (h.path i is)
 
--- where no leaf is left, no line is
-pub none_left : (c : Games) (next : ℕ) → HasNoLeaf c next (node_count c) → slice_get (lines c) (lines_before c next) ≡ None
-none_left c next none = grind (arith, common_steps, slice_get_past, no_line_left, length-paths)
-
--- after the next leaf one line more has been given
-pub one_later : (c : Games) (next i : ℕ) → IsNextLeaf c next i → lines_before c (i + 1) ≡ lines_before c next + 1
-one_later c next i h = (next_line c next i h.from_there h.within h.is_leaf h.first).1.one_more
-
 -- the position of a cursor that goes on from the node `next`
 abbrev pub before : Games → ℕ → CursorState
 before c next = record { games = c; index = lines_before c next }
@@ -112,17 +104,14 @@ module _ (c : Games) (next : ℕ) (at : CursorState) (is : before c next ≡ at)
   pub shows_line : (numbers : List ℕ) → IsAfterLeaf c next numbers → 0 < at.index → IsShown c next numbers
   shows_line numbers h lt = shows c next numbers h (rw (← is) at lt)
 
+  -- where no leaf is left, no line is
   pub none_is_left : HasNoLeaf c next (node_count c) → slice_get (lines at.games) at.index ≡ None
-  none_is_left none = rw (← is) (none_left c next none)
+  none_is_left none = rw (← is) (slice_get_past (lines c) (lines_before c next) (omega (arith, no_line_left c next none, length-paths c)))
 
+  -- after the next leaf one line more has been given
   pub advances : (i : ℕ) → IsNextLeaf c next i → before c (i + 1) ≡ advanced at
-  advances i h = rw (← is) (ap (λ n. record { games = c; index = n }) (one_later c next i h))
-
--- a line is shown by its path, and by the number of its game and its place
-shows_path : (games : Games) (index : ℕ) (line : LineRef) → 0 < length line.path.now → line.path.now ≡ numbers_of (slice_get (paths games) index)
-    → option_map (λ (l : Line). l.game_number) (slice_get (lines games) index) ≡ Some line.game → option_map place_of (slice_get (lines games) index) ≡ Some line.place → IsLine games index line
-shows_path games index line some path game place = grind (arith, common_steps, line_at, same_path)
+  advances i h = rw (← is) (ap (λ n. record { games = c; index = n }) (next_line c next i h.from_there h.within h.is_leaf h.first).1.one_more)
 
 pub line_is : (at : CursorState) (line : LineRef) → 0 < at.index → 0 < length line.path.now → line.path.now ≡ path_before at
     → option_map (λ (l : Line). l.game_number) (line_before at) ≡ Some line.game → option_map place_of (line_before at) ≡ Some line.place → IsLine at.games (at.index - 1) line
-line_is at line lt some path game place = grind (arith, common_steps, shows_path)
+line_is at line lt some path game place = grind (arith, common_steps, line_at, same_path)

@@ -13,7 +13,7 @@ use Rattle.sgf_lines.specs.Paths.{paths}
 use Rattle.sgf_lines.specs.Cursor.{CursorState}
 use Rattle.sgf_lines.specs.inner.PathTo.{IsPathTo, step, IsNextLeaf}
 use Rattle.sgf_lines.specs.inner.Standing.{lines_before, IsAfterLeaf}
-use Rattle.sgf_lines.specs.inner.Following.{first_after, Continues, numbers_of, numbers_before, path_before, IsCutBack}
+use Rattle.sgf_lines.specs.inner.Following.{first_after, Continues, numbers_before, path_before, IsCutBack}
 use Rattle.sgf_lines.proofs.Lists.{get_left}
 use Rattle.sgf_lines.proofs.Visits.{none_above, last-way, way_rises, rises_parts, GoesOn, goes_on_there, ends_at, after_way}
 use Rattle.sgf_lines.proofs.CursorStates.{before_none, next_line, given_line, before}

@@ -1,12 +1,12 @@
 -- Nodes in sequences, by the indices where these end.
 use Rattle.std.proofs.lemmas.Grind.{common_steps}
 use Rattle.std.proofs.Common.{◌≡◌, ℕ, zero, suc, ◌+◌, ◌-◌, ◌<◌, ◌≤◌, List, [], ◌∷◌, ◌++◌, length, get_or, take, drop, map, slice_get, Some, refl, sym, ap, ◌∙◌, arith}
-use Rattle.std.specs.List.{concat, flat_map, range_with_len}
+use Rattle.std.specs.List.{concat, flat_map}
 use Rattle.std.proofs.Math.Seq.{take-append_seam}
 use Rattle.std.proofs.lemmas.List.{take-append-drop, length-drop, length-take-le, drop-take, drop-drop}
 use Rattle.std.proofs.lemmas.Grind.{flat_map-append}
 use Rattle.sgf_lines.specs.declared.sequence_cursor.Front.{Front}
-use Rattle.sgf_lines.specs.inner.Following.{Continues, first_after}
+use Rattle.sgf_lines.specs.inner.Following.{Continues}
 use Rattle.sgf_lines.specs.inner.Fronts.{HasFront}
 use Rattle.sgf_lines.specs.inner.Sequences.{SequencesState, SharesFront, RiseTo, parts_from}
 
@@ -58,10 +58,6 @@ part_then start (end ∷ ends) xs count (suc k) part h e =
     length_of (z ∷ ys) zero y e = omega arith
     length_of (z ∷ ys) (suc k) y e = omega (arith, length_of ys k y e)
 
--- where they end depends on their ends alone
-pub same_end : (start k : ℕ) (ends others : List ℕ) → k ≤ length ends → k ≤ length others → take k others ≡ take k ends → end_of start ends k ≡ end_of start others k
-same_end start k ends others le more same = grind (arith, common_steps)
-
 -- The first parts depend on their ends and on their elements.
 pub alike : {A : Type 0} (start : ℕ) (ends others : List ℕ) (xs ys : List A) (count k : ℕ) → RiseTo start ends count → k ≤ length ends → take k ends ≡ take k others
     → take (end_of start ends k - start) xs ≡ take (end_of start ends k - start) ys → take k (parts_from start ends xs) ≡ take k (parts_from start others ys)
@@ -99,7 +95,7 @@ parts_text f start (end ∷ ends) xs count is h =
 
 -- the front that a line shares with the line before it
 pub has_front : (old new : SequencesState) (shared : Front) → SharesFront old new shared → HasFront new.ends shared
-has_front old new shared h = grind (arith, common_steps, same_end)
+has_front old new shared h = grind (arith, common_steps)
 
 pub front_kept : (old : List ℕ) (kept : ℕ) (new : List ℕ) → Continues old kept new → take kept new ≡ take kept old
 front_kept old kept new h = grind (arith, common_steps, length-take-le, take-append_seam)

@@ -3,7 +3,7 @@ use Rattle.std.proofs.lemmas.Grind.{common_steps}
 use Rattle.std.proofs.Common.{◌≡◌, ℕ, ◌+◌, ◌<◌, List, [], ◌∷◌, ◌++◌, length, refl, arith, length-append}
 use Rattle.std.proofs.lemmas.List.{length-map}
 use Rattle.sgf_tree.specs.Tree.{Node, Games, no_games, game, leaf_count}
-use Rattle.sgf_lines.specs.Lines.{Line, lines, lines_from, lines_of_game, node_lines, through}
+use Rattle.sgf_lines.specs.Lines.{lines, lines_from, node_lines, through}
 
 -- nothing is lost where lists go on from a branch
 through_some : {A : Type 0} (own : List A) (rests : List (List A)) → 0 < length rests → length (through own rests) ≡ length rests
@@ -20,18 +20,10 @@ variations no_games = refl
 variations (game first more no_games after) = omega (arith, length-append (through (first ∷ more) []) (node_lines after), variations after)
 variations (game first more (game f m b a) after) = grind (arith, common_steps, (variations (game f m b a)), some_leaf, length-append, through_some, (variations after))
 
--- the lines through a game, which has as many
-own_lines : (first : Node) (more : List Node) (below : Games) → length (through (first ∷ more) (node_lines below)) ≡ leaf_count (game first more below no_games)
-own_lines first more no_games = refl
-own_lines first more (game f m b a) = omega (arith, variations, some_leaf f m b a, through_some)
-
-apart : (first : Node) (more : List Node) (below after : Games) → leaf_count (game first more below after) ≡ leaf_count (game first more below no_games) + leaf_count after
-apart first more no_games after = omega arith
-apart first more (game f m b a) after = omega arith
-
 lines_from_leaves : (number : ℕ) (games : Games) → length (lines_from number games) ≡ leaf_count games
 lines_from_leaves number no_games = refl
-lines_from_leaves number (game first more below after) = grind (arith, common_steps, length-append, length-map, own_lines, apart, (lines_from_leaves (number + 1) after))
+lines_from_leaves number (game first more below after) =
+    grind (arith, common_steps, length-append, length-map, variations, some_leaf, through_some, (lines_from_leaves (number + 1) after))
 
 pub lines_leaves : (games : Games) → length (lines games) ≡ leaf_count games
 lines_leaves games = lines_from_leaves 1 games

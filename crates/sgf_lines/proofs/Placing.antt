@@ -12,7 +12,7 @@ use Rattle.go_board.specs.declared.stones.Colour.{Colour}
 use Rattle.go_board.specs.declared.stones.Colour.TheVariants.{Black as BlackPlayer, White as WhitePlayer}
 use Rattle.go_board.specs.declared.points.Point.{Point}
 use Rattle.go_board.specs.declared.referee.plays.Play.TheVariants.{Stone}
-use Rattle.go_board.specs.Colour.{opponent, stone_of, same_cell}
+use Rattle.go_board.specs.Colour.{stone_of, same_cell}
 use Rattle.go_board.specs.Point.{IsOn, index_of, point_at, points}
 use Rattle.go_board.specs.Grid.{Grid, cell_at, with_cell, empty_grid}
 use Rattle.go_board.specs.Reaching.{Leads, Reaches, reaches}
@@ -20,7 +20,7 @@ use Rattle.go_board.specs.Clearing.{clear, play, HasUnreaching, has_unreaching}
 use Rattle.go_board.specs.Vertex.{vertex_of}
 use Rattle.go_board.proofs.GridLemmas.{Decides-same_cell}
 use Rattle.sgf_lines.specs.Script.{colour_letter, vertex_text, play_command, stone_commands, colouring_commands}
-use Rattle.sgf_lines.specs.Replay.{shows, refused, after_stone, after_command, after_row, after_text}
+use Rattle.sgf_lines.specs.Replay.{shows}
 use Rattle.sgf_lines.proofs.Lists.{Each}
 use Rattle.sgf_lines.proofs.ScriptRows.{IsWithin, Carries, takes_row, takes_nothing, takes_both, solid_within, within_both, vertex_solid, point_names, play_reads}
 
@@ -49,17 +49,13 @@ pub takes_play : (board : Grid) (k : Colour) (p : Point) → board.side ≤ 25 �
     → Carries (shows board) (play_command board.side k (Stone p)) (shows (play board k p))
 takes_play board k p small on empty rest =
     let line = codes "play " ++ colour_letter k ++ codes " " ++ vertex_text (vertex_of p board.side) in
-    let played : after_row (shows board) line ≡ shows (play board k p) =
-    ap (λ c. after_command (shows board) c) (play_reads board.side k p small on) ∙ ap (λ o. after_stone board k o) (point_names board.side p small on)
-    ∙ ap (λ c. cond (same_cell c Empty) (shows (play board k p)) refused) empty in
-    takes_row (shows board) line (play_within board.side k p small on) rest ∙ ap (λ b. after_text b rest) played
+    grind (arith, common_steps, play_reads board.side k p small on, point_names board.side p small on, takes_row (shows board) line (play_within board.side k p small on) rest, play_within board.side k p small on)
 
 module _ (laws : BoardLaws) where
   same_point : (side : ℕ) (p q : Point) → IsOn side p → IsOn side q → index_of side p ≡ index_of side q → p ≡ q
   same_point side p q on also e =
-      let one = (laws.once side (index_of side p) p).1 (on, refl) in
       let two = (laws.once side (index_of side p) q).1 (also, e) in
-      cc
+      grind (arith, common_steps)
 
   point_or : (side : ℕ) (p q : Point) → IsOn side p → IsOn side q → (q ≡ p) ⊎ (q ≢ p)
   point_or side p q on also = grind (arith, common_steps, cases_eq, same_point)
@@ -209,20 +205,8 @@ module _ (laws : BoardLaws) where
           let is : cell_at g q ≡ stone_of k = is_same (cell_at g q) (stone_of k) stone in
           let next = with_cell h q (cell_at g q) in
           let made : play h k q ≡ next = play_part h k q (part_of h (turn_of k i) placed) on is in
-          let at_turn : turn_of k i ≤ rank (cell_at g q) (index_of g.side q) =
-          let e = rank_same k (cell_at g q) (index_of g.side q) is in let f = ap (λ j. turn_of k j) here in omega arith in
-          let free : cell_at h q ≡ Empty = placed.left q on at_turn in
           let rest = goes_on next (placed_more h k i q low on here is placed) in
-          let played : Carries (shows h) (play_command g.side k (Stone q)) (shows (play h k q)) =
-          subst (λ n. Carries (shows h) (play_command n k (Stone q)) (shows (play h k q))) placed.side
-          (takes_play h k q (rw placed.side small) (subst (λ n. IsOn n q) (sym placed.side) on) free) in
-          let one : Carries (shows h) (play_command g.side k (Stone q)) (shows next) =
-          subst (λ b. Carries (shows h) (play_command g.side k (Stone q)) (shows b)) made played in
-          record {
-            board = rest.board;
-            placed = rest.placed;
-            takes = takes_both (shows h) (shows next) (shows rest.board) (play_command g.side k (Stone q)) (lines_of k ps) one rest.takes;
-          }
+          grind (arith, common_steps, turn_of, rank, rank_same, takes_play, takes_both, lines_of)
       take_stone k i q h ps false low on here none placed goes_on =
           goes_on h (placed_same h k i q low on here (λ e. let same = (Decides-same_cell (stone_of k) (stone_of k)).1 refl in let alike = ap (λ c. same_cell c (stone_of k)) e in cc) placed)
 

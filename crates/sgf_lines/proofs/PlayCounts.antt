@@ -1,27 +1,19 @@
 -- How many nodes a run plays for its page: a line adds those of its judged nodes that it doesn't share with the line before it.
-use Rattle.std.proofs.Common.{◌≡◌, ℕ, zero, suc, ◌+◌, ◌<◌, ◌≤◌, List, [], ◌∷◌, ◌++◌, length, take, map, inl, inr, refl, ap, ◌∙◌, arith, ◌-◌, drop, slice_get, Some, sym, subst, length-append, Option, None, Result, Ok, Err, add-one, append_assoc}
-use Rattle.std.specs.List.{range_with_len, flat_map}
+use Rattle.std.proofs.lemmas.Grind.{common_steps}
+use Rattle.std.proofs.Common.{◌≡◌, ℕ, zero, suc, ◌+◌, ◌<◌, ◌≤◌, List, ◌++◌, length, take, inl, inr, refl, ap, ◌∙◌, arith, ◌-◌, drop, slice_get, Some, sym, length-append, Option, None, Result, Ok, Err, add-one, append_assoc}
+use Rattle.std.specs.List.{flat_map}
 use Rattle.std.proofs.lemmas.Bool.{cases_Bool}
 use Rattle.sgf_tree.specs.Tree.{Games, node_count}
-use Rattle.sgf_tree.specs.FileOrder.{PlacesRise, node_at}
-use Rattle.sgf_lines.specs.Lines.{last_number, Line, lines}
-use Rattle.sgf_lines.specs.Paths.{paths}
-use Rattle.sgf_lines.specs.inner.Following.{first_after, Continues, numbers_before, nodes_of}
-use Rattle.sgf_tree.proofs.Rises.{Rises}
-use Rattle.sgf_lines.proofs.Lists.{Each, element, each_append, each_weaker, each_take}
+use Rattle.sgf_tree.specs.FileOrder.{PlacesRise}
+use Rattle.sgf_lines.specs.Lines.{Line, lines}
+use Rattle.sgf_lines.specs.inner.Following.{Continues, numbers_before}
 use Rattle.sgf_lines.proofs.Touched.{SharesAfter, adds_fresh, judged_first, judged_shared, judged_few, fewer_in_front}
-use Rattle.std.proofs.lemmas.List.{map-append, take-map, take-append-drop, length-take-le, length-map, length-drop, take_all, length-take}
+use Rattle.std.proofs.lemmas.List.{take-append-drop, length-map, length-drop, take_all, length-take}
 use Rattle.std.proofs.Math.Seq.{take-add}
 use Rattle.std.proofs.lemmas.Option.{slice_get_within}
-use Rattle.sgf_lines.specs.JudgedGames.{game_kind, root_properties}
 use Rattle.sgf_lines.specs.Verdict.{judged_nodes}
-use Rattle.sgf_lines.specs.Plays.{different, all_judged_places, judged_places, places_of}
-use Rattle.sgf_lines.proofs.Named.{length-paths}
-use Rattle.sgf_lines.proofs.LineNodes.{named_in}
-use Rattle.sgf_lines.proofs.Keeping.{same_front}
-use Rattle.sgf_lines.proofs.Joins.{more_texts, as_many}
-use Rattle.sgf_lines.proofs.Walking.{judged_front, judged_alike}
-use Rattle.std.specs.Prelude.{Bool, true, false, if◌then◌else◌, unwrap_or, filter}
+use Rattle.sgf_lines.specs.Plays.{different, all_judged_places, judged_places}
+use Rattle.std.specs.Prelude.{true, unwrap_or}
 use Rattle.std.specs.Io.KnownBytes.{Appends}
 use Rattle.std.proofs.KnownBytes.{Appends-trans, Appends-kept}
 use Rattle.sgf_lines.specs.Page.{limited}
@@ -58,9 +50,7 @@ pub record IsSoFar (form : Form) (c : Games) (first limit : ℕ) (old : SinkStat
 
 module _ (form : Form) (c : Games) (first limit : ℕ) (old : SinkState) (k : ℕ) (at : CursorState) (now : SinkState) (h : IsSoFar form c first limit old k at now) where
   next_of_page : (line : Line) → k < limit → slice_get (lines at.games) at.index ≡ Some line → slice_get (page_from c first limit) k ≡ Some line
-  next_of_page line lt found =
-      let there : slice_get (lines c) (first + k) ≡ Some line = rw (h.same, h.index) at found in
-      get_taken (drop first (lines c)) limit k lt ∙ get_dropped (lines c) first k ∙ there
+  next_of_page line lt found = grind (arith, common_steps, get_taken, get_dropped)
 
   -- the next record is written too
   pub one_written : (new : CursorState) (sink : SinkState) (line : Line) → k < limit → slice_get (lines at.games) at.index ≡ Some line → new ≡ advanced at
@@ -82,15 +72,11 @@ module _ (form : Form) (c : Games) (first limit : ℕ) (old : SinkState) (k : �
 
   -- all lines of the page were written
   all_of : (plays : ℕ) → plays ≡ plays_of form (take k (page_from c first limit)) → length (page_from c first limit) ≤ k → WritesLines form (page_from c first limit) old now plays (Ok k)
-  all_of plays are le =
-      let all : take k (page_from c first limit) ≡ page_from c first limit = take_all k (page_from c first limit) le in
-      (rw all at h.takes, omega (arith, h.within), are ∙ ap (plays_of form) all)
+  all_of plays are le = grind (arith, common_steps, take_all)
 
   -- no line is left
   pub none_left : (plays : ℕ) → plays ≡ plays_of form (take k (page_from c first limit)) → slice_get (lines at.games) at.index ≡ None → WritesLines form (page_from c first limit) old now plays (Ok k)
-  none_left plays are none =
-      let past : slice_get (drop first (lines c)) k ≡ None = get_dropped (lines c) first k ∙ (rw (h.same, h.index) at none) in
-      all_of plays are (omega (arith, get_none (drop first (lines c)) k past, length-take limit (drop first (lines c))))
+  none_left plays are none = grind (arith, common_steps, get_dropped, all_of, get_none, length-take)
 
   -- as many lines were written as were asked for
   pub limit_met : (plays : ℕ) → plays ≡ plays_of form (take k (page_from c first limit)) → limit ≤ k → WritesLines form (page_from c first limit) old now plays (Ok k)
@@ -99,9 +85,7 @@ module _ (form : Form) (c : Games) (first limit : ℕ) (old : SinkState) (k : �
 -- the page by the options
 pub for_options : (form : Form) (c : Games) (first : ℕ) (asked : Option ℕ) (limit : ℕ) (old new : SinkState) (plays : ℕ) (result : Result ℕ RunFault) → limit ≡ unwrap_or asked (node_count c)
     → WritesLines form (page_from c first limit) old new plays result → WritesLines form (limited asked (drop first (lines c))) old new plays result
-for_options form c first asked limit old new plays result is h =
-    let fewer : length (drop first (lines c)) ≤ node_count c = omega (arith, lines_within c, length-drop first (lines c)) in
-    rw (limited_is asked (node_count c) (drop first (lines c)) fewer, ← is) h
+for_options form c first asked limit old new plays result is h = grind (arith, common_steps, lines_within, length-drop, limited_is)
 
 -- in a form that judges what is added is added, and in another nothing is
 added_in : (form : Form) (all some more : ℕ) → all ≡ some + more → plays_in form all ≡ plays_in form some + plays_in form more
@@ -115,11 +99,7 @@ not_more_in form all = elim (cases_Bool (entry_of form).judges) [ inl judges ↦
 
 -- a line more plays no less
 plays_grow : (form : Form) (ls : List Line) (k : ℕ) → plays_of form (take k ls) ≤ plays_of form (take (k + 1) ls)
-plays_grow form ls k =
-    let front = flat_map judged_places (take k ls) in
-    let all = ap all_judged_places (take-add k 1 ls) ∙ ap different (flat_map-append judged_places (take k ls) (take 1 (drop k ls))) in
-    fewer_in form (length (all_judged_places (take k ls))) (length (all_judged_places (take (k + 1) ls)))
-    (omega (arith, ap length all, fewer_in_front front (flat_map judged_places (take 1 (drop k ls)))))
+plays_grow form ls k = grind (arith, common_steps, take-add, flat_map-append, fewer_in, fewer_in_front)
 
 -- all lines
 all_plays : (form : Form) (ls : List Line) (k : ℕ) → length ls ≤ k → plays_of form (take k ls) ≡ plays_of form ls
@@ -127,9 +107,7 @@ all_plays form ls k le = ap (plays_of form) (take_all k ls le)
 
 module _ (c : Games) (rise : PlacesRise c) (first limit : ℕ) where
   stands : (k : ℕ) (line : Line) → slice_get (page_from c first limit) k ≡ Some line → slice_get (lines c) (first + k) ≡ Some line
-  stands k line e =
-      let lt : k < limit = omega (arith, slice_get_within (page_from c first limit) k line e, length-take limit (drop first (lines c))) in
-      sym (get_taken (drop first (lines c)) limit k lt ∙ get_dropped (lines c) first k) ∙ e
+  stands k line e = grind (arith, common_steps, slice_get_within, length-take, get_taken, get_dropped)
 
   -- how many nodes a line shares with the one before it on the page
   abbrev pub Shares : ℕ → ℕ → Type 0
@@ -141,19 +119,14 @@ module _ (c : Games) (rise : PlacesRise c) (first limit : ℕ) where
   adds form k shared line e h =
       let page = page_from c first limit in
       let more = adds_fresh c rise judged_places judged_first judged_shared first page stands k shared line e h in
-      rw add-one (added_in form (length (all_judged_places (take (suc k) page))) (length (all_judged_places (take k page))) (length (judged_nodes line) - shared)
-      (ap length more ∙ length-append (all_judged_places (take k page)) (drop shared (judged_places line))
-      ∙ ap (λ n. length (all_judged_places (take k page)) + n) (length-drop shared (judged_places line) ∙ ap (λ n. n - shared) (length-map (judged_nodes line) (λ n. n.place)))))
+      rw add-one grind (arith, common_steps, added_in, length-append, length-drop, length-map)
 
   -- no more than there are nodes
   pub few : (form : Form) (k : ℕ) → plays_of form (take k (page_from c first limit)) ≤ node_count c
   few form k =
       let rest = drop first (lines c) in
       let page = page_from c first limit in
-      let parts : lines c ≡ take first (lines c) ++ (take k page ++ (drop k page ++ drop limit rest)) =
-      sym (take-append-drop first (lines c)) ∙ ap (λ ls. take first (lines c) ++ ls)
-      (sym (take-append-drop limit rest) ∙ ap (λ ls. ls ++ drop limit rest) (sym (take-append-drop k page)) ∙ append_assoc (take k page) (drop k page) (drop limit rest)) in
-      omega (arith, not_more_in form (length (all_judged_places (take k page))), judged_few c rise (take first (lines c)) (take k page) (drop k page ++ drop limit rest) parts)
+      grind (arith, common_steps, take-append-drop first (lines c), take-append-drop limit rest, take-append-drop k page, append_assoc (take k page) (drop k page) (drop limit rest), not_more_in form (length (all_judged_places (take k page))), judged_few)
 
   pub few_played : (form : Form) (old new : SinkState) (plays : ℕ) (result : Result ℕ RunFault) → WritesLines form (page_from c first limit) old new plays result → plays ≤ node_count c
   few_played form old new plays (Ok k) h = omega (arith, h.2, few form (length (page_from c first limit)), ap (plays_of form) (take_all (length (page_from c first limit)) (page_from c first limit) (omega arith)))
@@ -168,9 +141,7 @@ module _ (c : Games) (rise : PlacesRise c) (first limit : ℕ) where
 pub shares_by : (c : Games) (rise : PlacesRise c) (first limit k : ℕ) (before : Before) (at : CursorState) (held : ℕ) → at.games ≡ c → at.index ≡ first + k → (k ≡ 0 → before ≡ Unheld) → (0 < k → before ≡ Held)
     → AreHeld before at held → Shares c rise first limit k held
 shares_by c rise first limit zero before at held same index first_line later h = rw (first_line refl) at h
-shares_by c rise first limit (suc k) before at held same index first_line later h =
-    let go : Continues (numbers_before at.games at.index) held (numbers_before at.games (at.index + 1)) = rw (later (omega arith)) at h in
-    rw (same, index, add-one) at go
+shares_by c rise first limit (suc k) before at held same index first_line later h = grind (arith, common_steps, add-one)
 
 -- a run never goes back to a line for which memory was refused
 pub goes_forth : (k : ℕ) (before : Before) (at : CursorState) → (k ≡ 0 → before ≡ Unheld) → (0 < k → before ≡ Held) → next_by before at ≡ at
@@ -183,11 +154,7 @@ module _ (form : Form) (counts : ℕ → ℕ) (counts_are : (n : ℕ) → counts
   found_there line found = ap (λ (p : CursorState). slice_get (lines at.games) p.index) (sym (goes_forth k before at first_line later)) ∙ found
 
   next_adds : (n : ℕ) → HasPlays counts before at n → plays_of form (take (k + 1) (page_from c first limit)) ≡ plays_of form (take k (page_from c first limit)) + n
-  next_adds n p =
-      let there : slice_get (lines c) (first + k) ≡ Some p.line = rw (written.same, written.index) at (found_there p.line p.found) in
-      let here : slice_get (page_from c first limit) k ≡ Some p.line = get_taken (drop first (lines c)) limit k lt ∙ get_dropped (lines c) first k ∙ there in
-      let count : n ≡ plays_in form (length (judged_nodes p.line) - p.held) = p.count_is ∙ counts_are (length (judged_nodes p.line) - p.held) in
-      rw count (adds c rise first limit form k p.held p.line here (shares_by c rise first limit k before at p.held written.same written.index first_line later p.are_held))
+  next_adds n p = grind (arith, common_steps, found_there, get_taken, get_dropped, adds, shares_by)
 
   -- the next line was played whole
   pub one_played : (new : ℕ) → PlaysLine {E = MemoryFault} counts before at now new (Ok true) → new ≡ plays_of form (take (k + 1) (page_from c first limit))
@@ -195,8 +162,7 @@ module _ (form : Form) (counts : ℕ → ℕ) (counts_are : (n : ℕ) → counts
 
   -- but its record wasn't taken whole
   pub played_then_cut : (new : ℕ) → PlaysLine {E = MemoryFault} counts before at now new (Ok true) → ArePlaysFor form (page_from c first limit) k new
-  played_then_cut new p =
-      let all = one_played new p in record { at_least = omega (arith, all, plays_grow form (page_from c first limit) k); at_most = omega (arith, all) }
+  played_then_cut new p = omega (arith, one_played new p, plays_grow form (page_from c first limit) k)
 
   -- no memory for all of it
   pub played_in_part : (e : MemoryFault) (new : ℕ) → PlaysLine counts before at now new (Err e) → ArePlaysFor form (page_from c first limit) k new
@@ -205,8 +171,4 @@ module _ (form : Form) (counts : ℕ → ℕ) (counts_are : (n : ℕ) → counts
 
 -- the records were written, and then the flush failed
 pub not_flushed : (form : Form) (ls : List Line) (old now new : SinkState) (plays k : ℕ) → WritesLines form ls old now plays (Ok k) → TakesNothing now new → WritesLines form ls old new plays (Err (Write k))
-not_flushed form ls old now new plays k h f =
-    let takes = Appends-kept old.taken now.taken new.taken (output form ls) h.0 f.taken in (
-      rw h.1 (all_taken form ls old new takes),
-      record { at_least = omega (arith, h.2, all_plays form ls k (omega (arith, h.1))); at_most = omega (arith, h.2, all_plays form ls (k + 1) (omega (arith, h.1))) },
-    )
+not_flushed form ls old now new plays k h f = grind (arith, common_steps, all_taken, all_plays)

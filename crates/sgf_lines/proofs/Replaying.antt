@@ -1,6 +1,6 @@
 -- A script that has commands leads to the colouring at the end of its line's walk.
 use Rattle.std.proofs.lemmas.Grind.{common_steps}
-use Rattle.std.proofs.Common.{◌≡◌, ℕ, ◌*◌, ◌<◌, ◌≤◌, List, [], ◌∷◌, ◌++◌, length, map, fold, Option, Some, None, Bool, true, false, codes, refl, sym, ap, ◌∙◌, arith, subst, cond, append-nil, append_assoc, decimal, Result, Ok, Err, option_map, option_and_then, nat_lt, nat_le, ◌&&◌, ℤ, pos, negsuc}
+use Rattle.std.proofs.Common.{◌≡◌, ℕ, ◌*◌, ◌<◌, ◌≤◌, List, [], ◌∷◌, ◌++◌, length, map, fold, Option, Some, None, Bool, true, false, codes, refl, sym, ap, ◌∙◌, arith, subst, cond, append-nil, append_assoc, decimal, Result, Ok, Err, option_and_then, nat_lt, nat_le, ◌&&◌, ℤ}
 use Rattle.std.proofs.lemmas.Grind.{flat_map-append}
 use Rattle.std.proofs.lemmas.List.Folds.{list_any-append}
 use Rattle.std.specs.List.{flat_map, list_any}
@@ -8,34 +8,29 @@ use Rattle.std.proofs.lemmas.List.{length-map, length-replicate}
 use Rattle.std.proofs.lemmas.Bool.{not-false, or_parts}
 use Rattle.std.proofs.lemmas.Bool.Decides.{nat_tests}
 use Rattle.sgf_tree.specs.Tree.{Property, Node}
-use Rattle.sgf_tree.specs.Number.{number_of}
-use Rattle.go_board.specs.declared.size.TheConstants.{MAX_SIDE}
 use Rattle.go_board.specs.declared.stones.Cell.{Cell}
 use Rattle.go_board.specs.declared.stones.Cell.TheVariants.{Empty}
 use Rattle.go_board.specs.declared.stones.Colour.{Colour}
-use Rattle.go_board.specs.declared.stones.Colour.TheVariants.{Black, White}
 use Rattle.go_board.specs.declared.points.Point.{Point}
 use Rattle.go_board.specs.declared.vertices.TheConstants.{MAX_VERTEX_SIDE}
 use Rattle.go_board.specs.declared.reason.Reason.{Reason}
-use Rattle.go_board.specs.declared.reason.Reason.TheVariants.{Over, Turn, Occupied, Repeat}
 use Rattle.go_board.specs.declared.referee.plays.Play.{Play}
 use Rattle.go_board.specs.declared.referee.plays.Play.TheVariants.{Pass, Stone}
 use Rattle.go_board.specs.declared.referee.plays.SetupOp.{SetupOp}
-use Rattle.go_board.specs.Colour.{opponent, stone_of, same_cell}
 use Rattle.go_board.specs.Point.{IsOn, points}
-use Rattle.go_board.specs.Grid.{Grid, cell_at, with_cell, empty_grid}
-use Rattle.go_board.specs.Clearing.{clear, play, has_unreaching}
+use Rattle.go_board.specs.Grid.{Grid, empty_grid}
+use Rattle.go_board.specs.Clearing.{play, has_unreaching}
 use Rattle.go_board.specs.Values.{letter_value, coordinate, point_value}
-use Rattle.go_board.specs.State.{State, with_area, set_up, turned, is_over}
-use Rattle.go_board.specs.Reason.{must_move, is_occupied, is_repeat, reason_of}
+use Rattle.go_board.specs.State.{State, with_area, set_up, turned}
+use Rattle.go_board.specs.Reason.{reason_of}
 use Rattle.sgf_lines.specs.Lines.{Line}
 use Rattle.sgf_lines.specs.NodeContents.{Move, Stones, moves, stones, players}
-use Rattle.sgf_lines.specs.NodeValues.{is_pass, move_value, operations, last_player}
-use Rattle.sgf_lines.specs.JudgedGames.{not_go, board, is_go, side_from, side_of, game_kind_on, game_kind, root_properties}
+use Rattle.sgf_lines.specs.NodeValues.{move_value, operations, last_player}
+use Rattle.sgf_lines.specs.JudgedGames.{board, side_from, side_of, game_kind, root_properties}
 use Rattle.sgf_lines.specs.Step.{side_in, turn_step, move_step, setup_step, step_by, step}
 use Rattle.sgf_lines.specs.Walk.{TakenNode, IllegalNode, Walk, before_root, stepped, next_by, next, walk}
 use Rattle.sgf_lines.specs.ListRow.{list_row}
-use Rattle.sgf_lines.specs.Script.{comment_row, comment_text, comment_rows, play_command, setup_commands, move_commands_by, move_commands, node_script, taken_script, leaves_unreaching_by, leaves_unreaching, has_no_commands, board_commands, commands_by, script}
+use Rattle.sgf_lines.specs.Script.{comment_row, comment_text, play_command, setup_commands, move_commands, node_script, taken_script, leaves_unreaching_by, leaves_unreaching, has_no_commands, board_commands, commands_by, script}
 use Rattle.sgf_lines.specs.NodeContents.{first_value}
 use Rattle.sgf_lines.specs.Replay.{Engine, no_board, sized, shows, refused, after_command, after_row, after_text, replayed}
 use Rattle.sgf_tree.proofs.Names.{not-found}
@@ -48,30 +43,16 @@ use Rattle.sgf_lines.proofs.Placing.{BoardLaws, is_same, takes_play, takes_board
 any_append : {A : Type 0} (p : A → Bool) (xs ys : List A) → list_any p (xs ++ ys) ≡ false → (list_any p xs ≡ false) × (list_any p ys ≡ false)
 any_append p xs ys e = or_parts (list_any p xs) (list_any p ys) (sym (list_any-append p xs ys) ∙ e)
 
-free_point : (s : State) (k : Colour) (p : Point) → reason_of s k (Stone p) ≡ None → cell_at s.colouring p ≡ Empty
-free_point s k p e = grind (arith, common_steps, not-found, is_same, not-false)
-
 -- ---- The points that values name are on the board.
 
-on_test : (test : Bool) (side m n : ℕ) → nat_lt m side ≡ test → cond test (Some m) None ≡ Some n → n < side
-on_test true side m n t e = let same : m ≡ n = cc in let lt : m < side = grind (arith, nat_tests) in omega arith
-on_test false side m n t e = absurd cc
-
-on_by : (side : ℕ) (o : Option ℕ) (n : ℕ) → option_and_then (λ m. cond (nat_lt m side) (Some m) None) o ≡ Some n → n < side
-on_by side o n e = grind (arith, common_steps, on_test)
-
 coordinate_on : (side b n : ℕ) → coordinate side b ≡ Some n → n < side
-coordinate_on side b n e = on_by side (letter_value b) n e
-
-point_by : (side : ℕ) (a b : Option ℕ) (p : Point) → ((n : ℕ) → a ≡ Some n → n < side) → ((n : ℕ) → b ≡ Some n → n < side)
-    → option_and_then (λ col. option_and_then (λ row. Some (record { col = col; row = row })) b) a ≡ Some p → IsOn side p
-point_by side a b p f g e = grind (arith, common_steps)
+coordinate_on side b n e = grind (arith, common_steps)
 
 point_on : (side : ℕ) (raw : List ℕ) (p : Point) → point_value raw side ≡ Some p → IsOn side p
 unfolding point_value
 point_on side [] p e = absurd cc
 point_on side (c ∷ []) p e = absurd cc
-point_on side (c ∷ r ∷ []) p e = point_by side (coordinate side c) (coordinate side r) p (coordinate_on side c) (coordinate_on side r) e
+point_on side (c ∷ r ∷ []) p e = grind (arith, common_steps, coordinate_on)
 point_on side (c ∷ r ∷ d ∷ more) p e = absurd cc
 
 -- ---- A node's step.
@@ -79,9 +60,6 @@ point_on side (c ∷ r ∷ d ∷ more) p e = absurd cc
 -- a grid with a cell for each point
 abbrev IsFull : ℕ → Grid → Type 0
 IsFull side g = (g.side ≡ side) × (length g.cells ≡ side * side)
-
-pass_leaves : (side : ℕ) (engine : Engine) (k : Colour) → Carries engine (play_command side k Pass) engine
-pass_leaves side engine k = grind (arith, common_steps, takes_row)
 
 module _ (laws : BoardLaws) (side : ℕ) (small : side ≤ 25) where
   -- a step leads to a grid with a cell for each point, and its node's commands lead there
@@ -115,20 +93,13 @@ module _ (laws : BoardLaws) (side : ℕ) (small : side ≤ 25) where
   set_full s [] player full = full
   set_full s (op ∷ ops) player full = setup_full s.colouring (op ∷ ops) full
 
-  player_leads : (s t : State) (last : Option (Option Colour)) → IsFull side s.colouring → setup_step s (Some []) last ≡ Ok t → StepReplayed s t [] []
-  player_leads s t last full is = grind (arith, common_steps, stays)
-
-  stone_by : (n : ℕ) (raw : List ℕ) (p : Point) (passes : Bool) → cond passes (Some Pass) (option_map Stone (point_value raw n)) ≡ Some (Stone p) → IsOn n p
-  stone_by n raw p true e = absurd cc
-  stone_by n raw p false e = grind (arith, common_steps, point_on)
-
   stone_on : (n : ℕ) (raw : List ℕ) (p : Point) → move_value raw n ≡ Some (Stone p) → IsOn n p
-  stone_on n raw p e = stone_by n raw p (is_pass raw n) e
+  stone_on n raw p e = grind (arith, common_steps, point_on)
 
   -- the command of a legal play
   plays_on : (s t : State) (k : Colour) (raw : List ℕ) (x : Play) → IsFull side s.colouring → move_value raw (side_in s) ≡ Some x → reason_of s k x ≡ None
       → t ≡ turned s k x → Carries (shows s.colouring) (play_command side k x) (shows t.colouring) × IsFull side t.colouring
-  plays_on s t k raw x full value none is = grind (arith, common_steps, pass_leaves, stone_on, takes_play, free_point, play_full)
+  plays_on s t k raw x full value none is = grind (arith, common_steps, takes_row, stone_on, takes_play, not-found, is_same, not-false, play_full)
 
   turn_leads : (s t : State) (m : Move) (x : Play) (reason : Option Reason) → IsFull side s.colouring → move_value m.raw (side_in s) ≡ Some x
       → reason_of s m.player x ≡ reason → turn_step s m.player x reason ≡ Ok t → StepReplayed s t [] (m ∷ [])
@@ -137,10 +108,7 @@ module _ (laws : BoardLaws) (side : ℕ) (small : side ≤ 25) where
       let after : t ≡ turned s m.player x = cc in
       let does = plays_on s t m.player m.raw x full e r after in
       let line : move_commands t.colouring.side (m ∷ []) ≡ play_command side m.player x =
-      append-nil (move_commands_by t.colouring.side m.player (move_value m.raw t.colouring.side))
-      ∙ ap (λ n. move_commands_by n m.player (move_value m.raw n)) (does.1.0 ∙ sym full.0)
-      ∙ ap (λ o. move_commands_by (side_in s) m.player o) e
-      ∙ ap (λ n. play_command n m.player x) full.0 in
+      grind (arith, common_steps, append-nil) in
       record {
         full = does.1;
         middle = shows s.colouring;
@@ -178,7 +146,7 @@ module _ (laws : BoardLaws) (side : ℕ) (small : side ≤ 25) where
   step_leads s t (m ∷ []) [] [] full settled is = move_leads s t m (move_value m.raw (side_in s)) full refl is
   step_leads s t [] (first ∷ others) ps full settled is =
       setup_leads s t first others (operations (first ∷ others) (side_in s)) (last_player None ps) full settled is
-  step_leads s t [] [] (p ∷ ps) full settled is = player_leads s t (last_player None (p ∷ ps)) full is
+  step_leads s t [] [] (p ∷ ps) full settled is = grind (arith, common_steps, stays)
 
   node_leads : (s t : State) (n : Node) → IsFull side s.colouring → leaves_unreaching (record { node = n; after = t }) ≡ false → step s n ≡ Ok t
       → Carries (shows s.colouring) (node_script t n) (shows t.colouring) × IsFull side t.colouring
@@ -230,24 +198,11 @@ module _ (laws : BoardLaws) (side : ℕ) (small : side ≤ 25) where
       subst (λ x. Carries no_board x (shows (empty_grid side))) (append_assoc line (10 ∷ []) (codes "clear_board\n"))
       (takes_both no_board (sized side) (shows (empty_grid side)) (line ++ (10 ∷ [])) (codes "clear_board\n") told cleared)
 
--- a board has a point
-side_by : (test : Bool) (n side : ℕ) → (nat_le 1 n && nat_le n MAX_SIDE) ≡ test → cond test (Some n) None ≡ Some side → 1 ≤ side
-side_by true n side t e = let same : n ≡ side = cc in let le : 1 ≤ n = grind (arith, nat_tests) in omega arith
-side_by false n side t e = absurd cc
-
-side_given : (number : Option ℤ) (side : ℕ) → side_from number ≡ Some side → 1 ≤ side
-side_given number side e = grind (arith, common_steps, side_by)
-
 side_said : (raw : Option (List ℕ)) (side : ℕ) → side_of raw ≡ Some side → 1 ≤ side
-side_said raw side e = grind (arith, common_steps, side_given)
-
-side_least : (go : Bool) (o : Option ℕ) (side : ℕ) → cond go (game_kind_on o) not_go ≡ board side → o ≡ Some side
-side_least true None side e = absurd cc
-side_least true (Some n) side e = let same : n ≡ side = cc in ap Some same
-side_least false o side e = absurd cc
+side_said raw side e = grind (arith, common_steps)
 
 has_point : (properties : List Property) (side : ℕ) → game_kind properties ≡ board side → 1 ≤ side
-has_point properties side e = grind (arith, common_steps, side_said, side_least)
+has_point properties side e = grind (arith, common_steps, side_said)
 
 pub script_replayed : BoardLaws → (line : Line) (side : ℕ) → game_kind (root_properties line.nodes) ≡ board side
     → has_no_commands side (walk side line.nodes) ≡ false → replayed (script line) ≡ shows (walk side line.nodes).state.colouring
@@ -259,8 +214,7 @@ script_replayed laws line side opens says =
     let said = walk_said laws side small (before_root side) line.nodes (begun_said laws side small) parts.1 in
     let played = flat_map taken_script w.taken in
     let all : Carries no_board (board_commands side ++ played) (shows w.state.colouring) =
-    takes_both no_board empty (shows w.state.colouring) (board_commands side) played
-    (takes_commands laws side small (has_point (root_properties line.nodes) side opens)) said.0 in
+    grind (arith, common_steps, takes_both, takes_commands, has_point) in
     let commands : commands_by (game_kind (root_properties line.nodes)) line.nodes ≡ board_commands side ++ played =
     ap (λ o. commands_by o line.nodes) opens ∙ ap (λ b. cond b [] (board_commands side ++ played)) says in
     let row : Carries no_board (comment_row (list_row line)) no_board = takes_comment no_board (list_row line) (row_within line) in

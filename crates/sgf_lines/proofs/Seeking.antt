@@ -1,8 +1,8 @@
 -- The place of the leaf that a line ends in, and the position after that line.
 use Rattle.std.proofs.lemmas.Grind.{common_steps}
-use Rattle.std.proofs.Common.{◌≡◌, ℕ, ◌+◌, ◌<◌, List, length, Option, Some, None, refl, sym, ap, ◌∙◌, arith, ◌≢◌, slice_get, option_map, get_or}
+use Rattle.std.proofs.Common.{◌≡◌, ℕ, ◌+◌, ◌<◌, List, Some, ap, ◌∙◌, arith, ◌≢◌, get_or}
 use Rattle.sgf_tree.specs.Tree.{Games, node_count}
-use Rattle.sgf_tree.specs.FileOrder.{IsLeaf, OrderedNode, ordered_nodes, place_at}
+use Rattle.sgf_tree.specs.FileOrder.{IsLeaf, place_at}
 use Rattle.sgf_lines.specs.inner.PathTo.{IsPathTo}
 use Rattle.sgf_tree.proofs.OrderedNodes.{length-nodes_from}
 use Rattle.sgf_lines.proofs.Visits.{leads}
@@ -11,7 +11,7 @@ use Rattle.std.proofs.lemmas.Option.{slice_get_within, get_or_from_slice_get}
 use Rattle.sgf_lines.specs.Lines.{lines, place_of, HasNoLineAt}
 use Rattle.sgf_lines.specs.Paths.{paths, leaf_of}
 use Rattle.sgf_lines.specs.Cursor.{CursorState, IsAfterPlace}
-use Rattle.sgf_lines.specs.inner.Standing.{lines_before, IsAfterLeaf}
+use Rattle.sgf_lines.specs.inner.Standing.{IsAfterLeaf}
 use Rattle.sgf_lines.proofs.Lists.{element}
 use Rattle.sgf_lines.proofs.Named.{line_at, length-paths}
 
@@ -35,6 +35,3 @@ no_line c place none = λ k d lt e.
     let line : get_or (lines c) k d ≡ l.0 = get_or_from_slice_get (lines c) k l.0 d l.1.found in
     let placed : place_of l.0 ≡ place = rw line at e in
     none (leaf_of p.0) (leads c k p.0 p.1).is_leaf (l.1.place ∙ ap Some placed)
-
-pub no_line_there : (c : Games) (next place : ℕ) (at : CursorState) → before c next ≡ at → ((leaf : ℕ) → IsLeaf c leaf → place_at c leaf ≢ Some place) → HasNoLineAt at.games place
-no_line_there c next place at is none = rw (← is) (no_line c place none)

@@ -1,6 +1,6 @@
 -- The loops that climb from a sequence to the root of its game.
 use Rattle.std.proofs.lemmas.Grind.{common_steps}
-use Rattle.std.proofs.Common.{◌≡◌, ℕ, ◌+◌, ◌-◌, ◌<◌, ◌≤◌, List, [], ◌∷◌, ◌++◌, length, set, drop, Option, Some, None, refl, sym, ap, ◌∙◌, subst, arith, append_assoc, length-append, length-set}
+use Rattle.std.proofs.Common.{◌≡◌, ℕ, ◌+◌, ◌-◌, ◌<◌, ◌≤◌, List, [], ◌∷◌, ◌++◌, length, set, drop, Option, Some, None, refl, ap, ◌∙◌, arith, append_assoc, length-append, length-set}
 use Rattle.std.proofs.lemmas.Grind.{drop-set_at}
 use Rattle.sgf_tree.specs.Tree.{Games, node_count}
 use Rattle.sgf_tree.specs.FileOrder.{sequence_starts, sequence_numbers}

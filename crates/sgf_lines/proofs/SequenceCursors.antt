@@ -1,6 +1,6 @@
 -- What a cursor by sequences shows of the line before it, and where it stands after the next leaf.
 use Rattle.std.proofs.lemmas.Grind.{common_steps}
-use Rattle.std.proofs.Common.{◌≡◌, ◌≢◌, ℕ, suc, ◌+◌, ◌-◌, ◌<◌, ◌≤◌, inl, inr, List, [], ◌∷◌, ◌++◌, length, get_or, take, drop, slice_get, Option, Some, None, option_map, refl, sym, ap, ◌∙◌, subst, arith, add-one, length-append}
+use Rattle.std.proofs.Common.{◌≡◌, ◌≢◌, ℕ, suc, ◌+◌, ◌-◌, ◌<◌, ◌≤◌, inl, inr, List, [], ◌∷◌, ◌++◌, length, get_or, take, slice_get, Option, Some, None, option_map, refl, sym, ap, ◌∙◌, arith, add-one, length-append}
 use Rattle.std.specs.List.{range_with_len}
 use Rattle.std.proofs.lemmas.Bool.{cases_lt}
 use Rattle.std.proofs.lemmas.List.{length-map, take-map, length-take-le}
@@ -15,13 +15,13 @@ use Rattle.sgf_lines.specs.Cursor.{CursorState, advanced, IsAfterPlace}
 use Rattle.sgf_lines.specs.inner.PathTo.{HasNoLeaf, IsNextLeaf}
 use Rattle.sgf_lines.specs.inner.Standing.{lines_before, IsAfterLeaf}
 use Rattle.sgf_lines.specs.inner.Following.{Continues, path_before, nodes_before, line_before, line_in, nodes_of, IsCutBack}
-use Rattle.sgf_lines.specs.inner.Sequences.{SequencesState, SharesFront, RiseTo, sequences_of, nodes_in, first_of, sequence_length, part_numbers, part_ends, AreParts, IsAfterSequences, IsNextEnd, IsFrontUpTo, GoesDown, IsAbove, ArePartsTo, parts_from}
+use Rattle.sgf_lines.specs.inner.Sequences.{SequencesState, SharesFront, RiseTo, sequences_of, nodes_in, first_of, part_numbers, part_ends, AreParts, IsAfterSequences, IsNextEnd, IsFrontUpTo, GoesDown, IsAbove, ArePartsTo, parts_from}
 use Rattle.sgf_lines.specs.declared.sequence_cursor.Front.{Front}
 use Rattle.sgf_lines.specs.declared.sequence_cursor.Part.{Part}
 use Rattle.sgf_lines.proofs.Named.{line_at}
 use Rattle.sgf_lines.proofs.LineNodes.{as_many_nodes, nodes_after, node_is, some_before, line_is}
 use Rattle.sgf_lines.proofs.CursorStates.{before, starts, IsShown, shows_line, advances, none_is_left}
-use Rattle.sgf_lines.proofs.Seeking.{stands_after, sought, no_line_there}
+use Rattle.sgf_lines.proofs.Seeking.{stands_after, sought, no_line}
 use Rattle.sgf_lines.proofs.Descending.{path_is, short, kept_within, stands_next, continues_made, shares}
 use Rattle.sgf_lines.proofs.SequenceStarts.{first_no_less, never_empty, start_is, first_within, first_is_zero, leaf_last}
 use Rattle.sgf_lines.proofs.SequenceParts.{end_of, parent_of, rise_to, part_nodes, part_range}
@@ -124,7 +124,7 @@ module _ (c : Games) (next : ℕ) (parts : List Part) (h : IsAfterSequences c ne
     pub game_is : (part : Part) → slice_get parts 0 ≡ Some part
         → option_map (λ (line : Line). line.game_number) (line_before state.at) ≡ Some (game_of c (sequence_start c part.sequence))
     game_is part there =
-        grind (arith, common_steps, line_at c (lines_before c (first_of c next) - 1) (record {game_number = game_of c (get_or (part_numbers c parts) 0 0) ; numbers = part_numbers c parts}) (shown.path_is 0), line_found, root part there)
+        grind (arith, common_steps, line_at c (lines_before c (first_of c next) - 1) (record { game_number = game_of c (get_or (part_numbers c parts) 0 0); numbers = part_numbers c parts }) (shown.path_is 0), line_found, root part there)
 
     -- a sequence stands before the next one
     pub one_before : 1 ≤ next
@@ -169,11 +169,8 @@ module _ (c : Games) (next : ℕ) (parts : List Part) (h : IsAfterSequences c ne
     parent_there : parent_at c (first_of c next) ≡ Some parent
     parent_there = rw (start_is c next next_there) at (parent_of c next outer above)
 
-    outer_there : (outer : Option ℕ) → IsAbove c next outer → (o : ℕ) → outer ≡ Some o → o < length (sequence_starts c)
-    outer_there outer is o e = grind (arith, common_steps, next_there)
-
     node_cut : IsCutBack (part_numbers c parts) parent front.nodes
-    node_cut = cut_back c parts h.are outer front (outer_there outer above) cut
+    node_cut = grind (arith, common_steps, cut_back, next_there)
 
     pub front_before : front.nodes ≤ first_of c next
     front_before =
@@ -231,7 +228,7 @@ module _ (c : Games) (next : ℕ) (parts : List Part) (h : IsAfterSequences c ne
   -- ---- The line that ends in a leaf.
 
   pub no_such_line : (place : ℕ) → ((leaf : ℕ) → IsLeaf c leaf → place_at c leaf ≢ Some place) → HasNoLineAt state.at.games place
-  no_such_line place none = no_line_there c (first_of c next) place state.at at_is none
+  no_such_line place none = rw (← games_are) (no_line c place none)
 
   pub found : (sequence place : ℕ) → sequence < length (sequence_starts c) → IsLeaf c (sequence_end c sequence - 1) → place_at c (sequence_end c sequence - 1) ≡ Some place
       → IsAfterPlace place state.at (before state.at.games (sequence_end state.at.games sequence))

@@ -1,15 +1,14 @@
 -- Parts of a line: the numbers of their nodes, where they end, and the way to a sequence by the sequences above it.
 use Rattle.std.proofs.lemmas.Grind.{common_steps}
-use Rattle.std.proofs.Common.{◌≡◌, ℕ, zero, suc, ◌+◌, ◌-◌, ◌<◌, ◌≤◌, List, [], ◌∷◌, ◌++◌, length, get_or, take, drop, slice_get, Option, Some, None, option_map, refl, sym, ap, ◌∙◌, subst, arith, append_assoc, append-nil, length-append}
-use Rattle.std.specs.Prelude.{option_to_list}
+use Rattle.std.proofs.Common.{◌≡◌, ℕ, zero, suc, ◌+◌, ◌-◌, ◌<◌, ◌≤◌, List, [], ◌∷◌, ◌++◌, length, get_or, take, slice_get, Option, Some, None, option_map, refl, ap, ◌∙◌, arith, append-nil, length-append}
 use Rattle.std.specs.List.{flat_map, range_with_len}
 use Rattle.std.proofs.lemmas.Grind.{flat_map-append}
 use Rattle.std.proofs.lemmas.List.FromFn.{length-range_with_len}
 use Rattle.std.proofs.Math.Seq.{take-append_seam, drop-append_seam}
 use Rattle.sgf_tree.specs.Tree.{Node, Games, node_count}
 use Rattle.sgf_tree.specs.FileOrder.{OrderedNode, parent_at, node_at, nodes_at, sequence_starts, sequence_start, sequence_end, sequence_numbers}
-use Rattle.sgf_lines.specs.inner.PathTo.{IsPathTo, step}
-use Rattle.sgf_lines.specs.inner.Sequences.{sequence_length, part_numbers, part_ends, AreParts, RiseTo, parts_from, IsAbove, step}
+use Rattle.sgf_lines.specs.inner.PathTo.{IsPathTo}
+use Rattle.sgf_lines.specs.inner.Sequences.{sequence_length, part_numbers, part_ends, AreParts, RiseTo, parts_from, IsAbove}
 use Rattle.sgf_lines.specs.declared.sequence_cursor.Part.{Part}
 use Rattle.sgf_lines.proofs.Visits.{way_along}
 use Rattle.sgf_lines.proofs.SequenceStarts.{ordered_there, never_empty, length_is, start_is, first_within}

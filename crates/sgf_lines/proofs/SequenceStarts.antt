@@ -1,16 +1,16 @@
 -- Where the sequences of a collection begin and end among its nodes, and which nodes are leaves.
 use Rattle.std.proofs.lemmas.Grind.{common_steps}
-use Rattle.std.proofs.Common.{◌≡◌, ℕ, zero, suc, ◌+◌, ◌-◌, ◌<◌, ◌≤◌, ◌⊎◌, inl, inr, Bool, true, false, cond, List, [], ◌∷◌, length, get_or, slice_get, Option, Some, None, option_map, refl, sym, ap, ◌∙◌, subst, arith, add-zero}
+use Rattle.std.proofs.Common.{◌≡◌, ℕ, zero, suc, ◌+◌, ◌-◌, ◌<◌, ◌≤◌, inl, inr, List, length, get_or, slice_get, Some, ap, ◌∙◌, arith}
 use Rattle.std.proofs.lemmas.Bool.{cases_lt, cases_eq}
 use Rattle.std.proofs.lemmas.List.{get_or_past}
-use Rattle.std.proofs.lemmas.Option.{slice_get-get_or, slice_get_within, get_or_from_slice_get}
-use Rattle.sgf_tree.specs.Tree.{Node, Games, no_games, game, node_count}
-use Rattle.sgf_tree.specs.FileOrder.{OrderedNode, further_nodes, ordered_nodes, parent_at, IsLeaf, opening_numbers, sequence_starts, sequence_start, sequence_end}
+use Rattle.std.proofs.lemmas.Option.{slice_get-get_or, get_or_from_slice_get}
+use Rattle.sgf_tree.specs.Tree.{Games, node_count}
+use Rattle.sgf_tree.specs.FileOrder.{OrderedNode, ordered_nodes, IsLeaf, sequence_starts, sequence_start, sequence_end}
 use Rattle.sgf_tree.proofs.OrderedNodes.{length-ordered_nodes}
 use Rattle.sgf_tree.proofs.Starts.{starts-are, first-start}
 use Rattle.sgf_tree.proofs.ListedNodes.{starts-rise}
 use Rattle.sgf_tree.proofs.Outlined.{sequence-further}
-use Rattle.sgf_tree.proofs.Rises.{Rises, rises-low, rises-get, rises-pair}
+use Rattle.sgf_tree.proofs.Rises.{Rises, rises-get, rises-pair}
 use Rattle.sgf_lines.specs.inner.PathTo.{HasNoLeaf}
 use Rattle.sgf_lines.specs.inner.Sequences.{first_of, sequence_length}
 use Rattle.sgf_lines.proofs.Lists.{element}

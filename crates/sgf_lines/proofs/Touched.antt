@@ -1,16 +1,15 @@
 -- The places of nodes on lines, each once. A line adds the places that it doesn't share with the line before it, since these rise from that of the first node
 -- after that line. So the places on all lines are those of all nodes, and no more nodes are judged than there are.
-use Rattle.std.proofs.Common.{◌≡◌, ℕ, ◌+◌, ◌-◌, ◌<◌, ◌≤◌, Bool, true, false, List, [], ◌∷◌, ◌++◌, inl, inr, refl, sym, ap, ◌∙◌, arith, zero, suc, length, map, slice_get, Some, None, option_map, unwrap_or, subst, append_assoc, append-nil, length-append, take, drop}
-use Rattle.std.specs.Prelude.{filter, ◌==◌, ◌||◌, if◌then◌else◌}
+use Rattle.std.proofs.Common.{◌≡◌, ℕ, ◌+◌, ◌-◌, ◌<◌, ◌≤◌, Bool, true, false, List, [], ◌∷◌, ◌++◌, inl, inr, refl, sym, ap, ◌∙◌, arith, zero, suc, length, map, slice_get, Some, None, unwrap_or, append_assoc, append-nil, length-append, take, drop}
+use Rattle.std.specs.Prelude.{filter, ◌||◌, if◌then◌else◌}
 use Rattle.std.specs.List.{flat_map, range_with_len, IsDistinct, drop-map}
 use Rattle.std.specs.Set.{is_member}
 use Rattle.std.proofs.Math.Dec.{eqb}
 use Rattle.std.proofs.Math.Bool.{or-true}
 use Rattle.std.proofs.lemmas.Cmp.{nat_eq_equiv}
 use Rattle.std.proofs.lemmas.Bool.{ne_eqb, eqb-true, eq-eqb, cases_Bool, cases_lt, cases_eq}
-use Rattle.std.proofs.lemmas.Bool.Decides.{nat_tests}
 use Rattle.std.proofs.lemmas.List.Folds.{list_any-append}
-use Rattle.std.proofs.lemmas.List.Elements.{filter-append, filter_passes, All-filter, All-weaker, All-from_recursion, recursion_from_All}
+use Rattle.std.proofs.lemmas.List.Elements.{filter-append, filter_passes, All-filter, All-from_recursion, recursion_from_All}
 use Rattle.std.proofs.lemmas.Map.Made.{All-is_member, is_member-filter, length-le_from_is_member}
 use Rattle.std.proofs.lemmas.Map.Keys.{IsDistinct-cons, IsDistinct-head, IsDistinct-tail}
 use Rattle.std.proofs.lemmas.Grind.{flat_map-append, common_steps}
@@ -61,13 +60,7 @@ not_there (x ∷ xs) n h = rw (ne_eqb n x (λ e. omega (arith, h.0))) (not_there
 -- one number more
 different_more : (xs : List ℕ) (n : ℕ) → different (xs ++ n ∷ []) ≡ different xs ++ (if has xs n then [] else n ∷ [])
 different_more [] n = refl
-different_more (x ∷ xs) n =
-    ap (λ l. x ∷ filter (differ x) l) (different_more xs n) ∙ ap (λ l. x ∷ l) (filter-append (differ x) (different xs) (if has xs n then [] else n ∷ []))
-    ∙ ap (λ l. x ∷ (filter (differ x) (different xs) ++ l)) (by (has xs n))
-  where
-    by : (b : Bool) → filter (differ x) (if b then [] else n ∷ []) ≡ (if eqb n x || b then [] else n ∷ [])
-    by true = rw (or-true (eqb n x)) refl
-    by false = elim (cases_eq n x) [ inl same ↦ rw (eq-eqb n x same, eq-eqb x n (sym same)) refl | inr other ↦ rw (ne_eqb n x other, ne_eqb x n (λ e. other (sym e))) refl ]
+different_more (x ∷ xs) n = grind (arith, common_steps, (different_more xs n), filter-append, eqb, or-true, cases_eq, eq-eqb, ne_eqb)
 
 -- numbers that stand there already add nothing
 nothing_more : (xs ys : List ℕ) → Each (λ n. has xs n ≡ true) ys → different (xs ++ ys) ≡ different xs
@@ -99,9 +92,7 @@ all_more xs (y ∷ ys) low below rise =
 -- numbers that stand there already, and then greater ones: only these are more
 more_different : (xs old fresh : List ℕ) (low : ℕ) → Each (λ n. has xs n ≡ true) old → Each (λ x. x < low) xs → RisesFrom low fresh
     → different (xs ++ (old ++ fresh)) ≡ different xs ++ fresh
-more_different xs old fresh low there below rise =
-    let old_below = each_weaker (λ n. has xs n ≡ true) (λ x. x < low) (λ n. holds_of (λ x. x < low) xs n below) old there in
-    ap different (sym (append_assoc xs old fresh)) ∙ all_more (xs ++ old) fresh low (each_append (λ x. x < low) xs old below old_below) rise ∙ ap (λ l. l ++ fresh) (nothing_more xs old there)
+more_different xs old fresh low there below rise = grind (arith, common_steps, each_weaker, holds_of, append_assoc, all_more, each_append, nothing_more)
 
 -- ---- There are no more different numbers in a list than in one that has each of them.
 
@@ -115,27 +106,16 @@ distinct_filter p (n ∷ l) h =
 distinct_different : (l : List ℕ) → IsDistinct eqb (different l)
 unfolding IsDistinct
 distinct_different [] = tt
-distinct_different (n ∷ l) = (
-  recursion_from_All (λ m. eqb n m ≡ false) (filter (differ n) (different l))
-  (All-weaker (λ m. differ n m ≡ true) (λ m. eqb n m ≡ false) (λ m d. elim (cases_Bool (eqb n m)) [ inl e ↦ absurd (let no : differ n m ≡ false = rw e refl in cc) | inr e ↦ e ])
-  (filter (differ n) (different l)) (filter_passes (differ n) (different l))),
-  distinct_filter (differ n) (different l) (distinct_different l),
-)
+distinct_different (n ∷ l) = grind (arith, common_steps, recursion_from_All, eqb, cases_Bool, filter_passes, distinct_filter, (distinct_different l))
 
 has-different : (l : List ℕ) (q : ℕ) → has (different l) q ≡ has l q
 has-different [] q = refl
 has-different (n ∷ l) q =
     let left = is_member-filter nat_eq_equiv (differ n) q (λ x e. ap (differ n) (eqb-true q x e)) (different l) in
-    let rest = has-different l q in
-    elim (cases_eq q n) [
-      | inl same ↦ rw (eq-eqb q n same) refl
-      | inr other ↦ let passes : differ n q ≡ true = rw (ne_eqb n q (λ e. other (sym e))) refl in grind (arith, common_steps)
-    ]
+    grind (arith, common_steps, (has-different l q), cases_eq, eq-eqb, ne_eqb)
 
 fewer_different : (xs ys : List ℕ) → Each (λ n. has ys n ≡ true) xs → length (different xs) ≤ length (different ys)
-fewer_different xs ys h =
-    length-le_from_is_member nat_eq_equiv (different xs) (different ys) (distinct_different xs)
-    (λ q e. has-different ys q ∙ holds_of (λ n. has ys n ≡ true) xs q h (sym (has-different xs q) ∙ e))
+fewer_different xs ys h = grind (arith, common_steps, length-le_from_is_member, nat_eq_equiv, distinct_different, has-different, holds_of)
 
 -- no more in a front
 pub fewer_in_front : (xs ys : List ℕ) → length (different xs) ≤ length (different (xs ++ ys))
@@ -168,9 +148,7 @@ after_is old new kept h = ap first_after h.new_is ∙ by (take kept old) (first_
 
 -- the nodes after the kept ones
 after_kept : (old new : List ℕ) (kept : ℕ) (h : Continues old kept new) → drop kept new ≡ range_with_len (first_after old) (h.more + 1)
-after_kept old new kept h =
-    let range = range_with_len (first_after old) (h.more + 1) in
-    ap (drop kept) h.new_is ∙ ap (λ k. drop k (take kept old ++ range)) (sym (length-take-le kept old h.kept_within)) ∙ drop-append_seam (take kept old) range
+after_kept old new kept h = grind (arith, common_steps, length-take-le, drop-append_seam)
 
 -- the place of a node, by its number
 abbrev pub place_number : Games → ℕ → ℕ
@@ -178,31 +156,20 @@ place_number c i = unwrap_or (place_at c i) 0
 
 module _ (c : Games) where
   pub place_is : (i : ℕ) → i < node_count c → place_at c i ≡ Some (place_number c i)
-  place_is i lt =
-      let r = element (ordered_nodes c) i (omega (arith, length-nodes_from 0 None c)) in
-      let here : place_at c i ≡ Some r.0.node.place = ap (λ o. option_map (λ (r : OrderedNode). r.node.place) o) r.1 in
-      here ∙ sym (ap (λ o. Some (unwrap_or o 0)) here)
+  place_is i lt = grind (arith, common_steps, element (ordered_nodes c) i (omega (arith, length-nodes_from 0 None c)), length-nodes_from 0 None c)
 
   pub places_named : (ns : List Node) (is : List ℕ) → map Some ns ≡ map (node_at c) is → places_of ns ≡ map (place_number c) is
   places_named [] [] e = refl
   places_named [] (i ∷ is) e = absurd cc
   places_named (n ∷ ns) [] e = absurd cc
   places_named (n ∷ ns) (i ∷ is) e =
-      let first : Some n ≡ node_at c i = cc in
       let rest : map Some ns ≡ map (node_at c) is = cc in
-      let here : n.place ≡ place_number c i = sym (ap (λ o. unwrap_or o 0) (place_of_node c i n first)) in
-      let others = places_named ns is rest in
-      cc
+      grind (arith, common_steps, place_of_node, (places_named ns is rest))
 
   places_range : (before rest : List OrderedNode) → ordered_nodes c ≡ before ++ rest → map (place_number c) (range_with_len (length before) (length rest)) ≡ map (λ r. r.node.place) rest
   places_range before [] e = refl
   places_range before (r ∷ rest) e =
-      let here : slice_get (ordered_nodes c) (length before) ≡ Some r = ap (λ rs. slice_get rs (length before)) e ∙ slice_get-right before (r ∷ rest) (length before) 0 (omega arith) in
-      let place : place_number c (length before) ≡ r.node.place = ap (λ o. unwrap_or (option_map (λ (r : OrderedNode). r.node.place) o) 0) here in
-      let next : length (before ++ r ∷ []) ≡ length before + 1 = length-append before (r ∷ []) in
-      let others : map (place_number c) (range_with_len (length before + 1) (length rest)) ≡ map (λ r. r.node.place) rest =
-      rw next at (places_range (before ++ r ∷ []) rest (e ∙ sym (append_assoc before (r ∷ []) rest))) in
-      cc
+      cc (slice_get-right before (r ∷ rest) (length before) 0 (omega arith), length-append before (r ∷ []), places_range (before ++ r ∷ []) rest (e ∙ sym (append_assoc before (r ∷ []) rest)), append_assoc before (r ∷ []) rest)
 
   -- a place of a node before `end`
   abbrev pub IsPlaceBefore : ℕ → ℕ → Type 0
@@ -249,9 +216,7 @@ module _ (c : Games) where
   rising zero le = (omega arith, omega arith)
   rising (suc k) le =
       let q = element (paths c) k (omega arith) in
-      let up = (leads c k q.0 q.1).up in
-      let after = after_way up in
-      rw q.1 (rw after (way_rises up), omega (arith, after, way_within up))
+      grind (arith, common_steps, leads c k q.0 q.1, after_way, way_rises, way_within)
 
   on_path : (k : ℕ) (line : Line) → slice_get (lines c) k ≡ Some line → suc k ≤ length (paths c)
   on_path k line e = omega (arith, slice_get_within (lines c) k line e, length-paths c)
@@ -294,14 +259,7 @@ module _ (c : Games) where
         → (from < node_count c → low ≤ place_number c from) → Each (λ x. x < low) (so_far k) → Each (λ n. has (so_far k) n ≡ true) (take shared (chosen line))
         → different (so_far (suc k)) ≡ different (so_far k) ++ drop shared (chosen line)
     adds_by k shared from low to line e rises within first_is below there =
-        let numbers = numbers_before c (suc (first + k)) in
-        let are = chosen_are k line e in
-        let fresh : drop shared (chosen line) ≡ take (are.0 - shared) (map (place_number c) (drop shared numbers)) =
-        ap (drop shared) are.1 ∙ drop-take_less shared are.0 (map (place_number c) numbers) ∙ ap (take (are.0 - shared)) (drop-map (place_number c) shared numbers) in
-        let rising_fresh : RisesFrom low (drop shared (chosen line)) =
-        rw fresh (rises_take low (are.0 - shared) (map (place_number c) (drop shared numbers)) (places_from rise from low to (drop shared numbers) rises within first_is)) in
-        ap different (sym (more_texts chosen page k line e)) ∙ ap (λ l. different (so_far k ++ l)) (sym (take-append-drop shared (chosen line)))
-        ∙ more_different (so_far k) (take shared (chosen line)) (drop shared (chosen line)) low there below rising_fresh
+        grind (arith, common_steps, chosen_are k line e, drop-take_less, drop-map, rises_take, places_from, more_texts chosen page k line e, take-append-drop shared (chosen line), more_different)
 
     -- a line adds those that it doesn't share with the line before it
     pub adds_fresh : (k shared : ℕ) (line : Line) → slice_get page k ≡ Some line → SharesAfter first k shared → different (so_far (suc k)) ≡ different (so_far k) ++ drop shared (chosen line)
@@ -358,10 +316,7 @@ module _ (c : Games) where
         shares_all (suc k) kept h = let same : 0 + suc k ≡ suc k = omega arith in rw same h
 
     pub touched_all : touched_places (lines c) ≡ node_places c
-    touched_all =
-        let count = length-paths c in
-        ap (λ ls. different (flat_map all_places_of ls)) (sym (take_all (length (lines c)) (lines c) (omega arith))) ∙ touched_to (length (lines c)) (omega arith)
-        ∙ ap (λ k. map (place_number c) (range_with_len 0 (first_after (numbers_before c k)))) (sym count) ∙ ap (λ n. map (place_number c) (range_with_len 0 n)) (last_end c) ∙ all_places
+    touched_all = cc (length-paths c, take_all (length (lines c)) (lines c) (omega arith), touched_to (length (lines c)) (omega arith), last_end c, all_places)
 
 -- ---- The nodes that are judged on lines stand on them.
 
@@ -372,9 +327,7 @@ pub judged_shared : (last line : Line) (k : ℕ) → k ≤ length last.nodes →
 judged_shared last line k le e = grind (arith, common_steps, take-map, judged_alike last.nodes line.nodes k le e)
 
 judged_there : (line : Line) → Each (λ n. has (places_of line.nodes) n ≡ true) (judged_places line)
-judged_there line =
-    let f = judged_first line in
-    rw f.1 (each_take (λ n. has (places_of line.nodes) n ≡ true) f.0 (places_of line.nodes) (each_has (places_of line.nodes)))
+judged_there line = grind (arith, common_steps, judged_first line, each_take, each_has (places_of line.nodes))
 
 -- the places of the nodes of lines
 abbrev places_in : List Line → List ℕ
@@ -382,12 +335,7 @@ places_in ls = flat_map (λ line. places_of line.nodes) ls
 
 all_there : (ls : List Line) → Each (λ n. has (places_in ls) n ≡ true) (flat_map judged_places ls)
 all_there [] = tt
-all_there (line ∷ ls) =
-    let own = places_of line.nodes in
-    let others = places_in ls in
-    each_append (λ n. has (own ++ others) n ≡ true) (judged_places line) (flat_map judged_places ls)
-    (each_weaker (λ n. has own n ≡ true) (λ n. has (own ++ others) n ≡ true) (has_left own others) (judged_places line) (judged_there line))
-    (each_weaker (λ n. has others n ≡ true) (λ n. has (own ++ others) n ≡ true) (has_right own others) (flat_map judged_places ls) (all_there ls))
+all_there (line ∷ ls) = grind (arith, common_steps, each_append, each_weaker, has_left, judged_there, has_right, (all_there ls))
 
 pub judged_touched : (ls : List Line) → length (all_judged_places ls) ≤ length (touched_places ls)
 judged_touched ls = fewer_different (flat_map judged_places ls) (places_in ls) (all_there ls)
@@ -395,11 +343,4 @@ judged_touched ls = fewer_different (flat_map judged_places ls) (places_in ls) (
 -- and no more are judged than the collection has
 pub judged_few : (c : Games) → PlacesRise c → (before ls after : List Line) → lines c ≡ before ++ (ls ++ after) → length (all_judged_places ls) ≤ node_count c
 judged_few c rise before ls after is =
-    let all = places_in (lines c) in
-    let parts : all ≡ places_in before ++ (places_in ls ++ places_in after) =
-    ap places_in is ∙ flat_map-append (λ (line : Line). places_of line.nodes) before (ls ++ after)
-    ∙ ap (λ ns. places_in before ++ ns) (flat_map-append (λ (line : Line). places_of line.nodes) ls after) in
-    let there : Each (λ n. has all n ≡ true) (flat_map judged_places ls) =
-    each_weaker (λ n. has (places_in ls) n ≡ true) (λ n. has all n ≡ true)
-    (λ n h. rw parts (has_right (places_in before) (places_in ls ++ places_in after) n (has_left (places_in ls) (places_in after) n h))) (flat_map judged_places ls) (all_there ls) in
-    omega (arith, fewer_different (flat_map judged_places ls) all there, ap length (touched_all c rise), length-map (ordered_nodes c) (λ r. r.node.place), length-ordered_nodes c)
+    grind (arith, common_steps, flat_map-append, each_weaker, has_right, has_left, all_there ls, fewer_different, touched_all c rise, length-map, length-ordered_nodes c)

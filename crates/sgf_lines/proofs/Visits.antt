@@ -1,4 +1,5 @@
 -- The nodes of a collection are visited in file order. Each path leads to a leaf, and keeps a front of the path before it.
+use Rattle.std.proofs.lemmas.Grind.{common_steps}
 use Rattle.std.proofs.Common.{◌≡◌, ℕ, ◌+◌, ◌<◌, ◌≤◌, List, [], ◌∷◌, ◌++◌, length, Option, Some, None, refl, sym, ap, ◌∙◌, subst, arith, length-append, suc, slice_get, option_map, true, add-zero, append_assoc, append-nil, ◌≢◌, zero, ◌-◌, map, inl, inr, take, All, add-one}
 use Rattle.sgf_tree.specs.Tree.{Games, node_count, Node, game, no_games}
 use Rattle.sgf_tree.specs.FileOrder.{parent_at, OrderedNode, further_nodes, nodes_from, ordered_nodes, IsLeaf}
@@ -6,7 +7,7 @@ use Rattle.sgf_tree.proofs.OrderedNodes.{parent_at-lt, parent_at-within, length-
 use Rattle.sgf_tree.proofs.Rises.{Rises, rises-append}
 use Rattle.sgf_lines.specs.Lines.{last_number, through, node_lines, lines_of_game, lines_from}
 use Rattle.sgf_lines.specs.inner.PathTo.{IsPathTo, top, step, HasNoLeaf}
-use Rattle.sgf_lines.proofs.Lists.{Each, range_append, map-through, each_append, each_weaker, each_get, element}
+use Rattle.sgf_lines.proofs.Lists.{Each, range_append, map-through, each_weaker, each_get, element}
 use Rattle.sgf_tree.proofs.Lists.{slice_get-left, slice_get-right}
 use Rattle.std.proofs.lemmas.List.{map-append, length-map}
 use Rattle.std.specs.List.{range_with_len}
@@ -62,8 +63,7 @@ rises_parts low (n ∷ ns) high h = let r = rises_parts (n + 1) ns high h.1 in (
 
 -- the nodes of a way rise
 pub way_rises : {c : Games} {i : ℕ} {way : List ℕ} → IsPathTo c (Some i) way → Rises 0 way (i + 1)
-way_rises {c = c} {i = i} (step {parent = None} {above = above} e up is) =
-    subst (λ l. Rises 0 l (i + 1)) (sym (is ∙ ap (λ l. l ++ i ∷ []) (none_above up))) (omega arith, omega arith)
+way_rises {c = c} {i = i} (step {parent = None} {above = above} e up is) = grind (arith, common_steps, none_above)
 way_rises {c = c} {i = i} (step {parent = Some n} {above = above} e up is) =
     let front = rises_high 0 above (n + 1) i (omega (arith, parent_at-lt c i n e)) (way_rises up) in
     subst (λ l. Rises 0 l (i + 1)) (sym is) (rises-append 0 i (i + 1) above (i ∷ []) front (omega arith, omega arith))
@@ -76,21 +76,13 @@ pub record StandsAt (all : List OrderedNode) (at : ℕ) (xs : List OrderedNode) 
   pub length_is : length before ≡ at
 
 stands_left : {all : List OrderedNode} {at : ℕ} (xs ys : List OrderedNode) → StandsAt all at (xs ++ ys) → StandsAt all at xs
-stands_left xs ys h =
-    record { before = h.before; after = ys ++ h.after; is = h.is ∙ ap (λ zs. h.before ++ zs) (append_assoc xs ys h.after); length_is = h.length_is }
+stands_left xs ys h = grind (arith, common_steps, append_assoc)
 
 pub stands_right : {all : List OrderedNode} {at : ℕ} (end : ℕ) (xs ys : List OrderedNode) → StandsAt all at (xs ++ ys) → end ≡ at + length xs → StandsAt all end ys
-stands_right {at = at} end xs ys h e =
-    record {
-      before = h.before ++ xs;
-      after = h.after;
-      is = h.is ∙ ap (λ zs. h.before ++ zs) (append_assoc xs ys h.after) ∙ sym (append_assoc h.before xs (ys ++ h.after));
-      length_is = omega (arith, length-append h.before xs, h.length_is);
-    }
+stands_right {at = at} end xs ys h e = grind (arith, common_steps, append_assoc xs ys h.after, append_assoc h.before xs (ys ++ h.after), length-append h.before xs)
 
 pub stands_get : {all : List OrderedNode} {at : ℕ} (xs : List OrderedNode) (k : ℕ) → StandsAt all at xs → k < length xs → slice_get all (at + k) ≡ slice_get xs k
-stands_get {at = at} xs k h lt =
-    ap (λ zs. slice_get zs (at + k)) h.is ∙ slice_get-right h.before (xs ++ h.after) (at + k) k (omega (arith, h.length_is)) ∙ slice_get-left xs h.after k lt
+stands_get {at = at} xs k h lt = grind (arith, common_steps, slice_get-right, slice_get-left)
 
 -- the ordered nodes of games, the first of which begins at the index `at`, stand in those of the collection
 abbrev pub Stands : Games → ℕ → Option ℕ → Games → Type 0
@@ -216,20 +208,10 @@ module _ (c : Games) (at : ℕ) (parent : Option ℕ) (first : Node) (more : Lis
   ]
 
   among_below : Among c (last + 1) (Some last) below
-  among_below = record {
-    stands = stands_below c at parent first more below after h.stands;
-    parent_first = λ i e. let same : last ≡ i = cc in omega arith;
-    next_above = λ i e. omega (arith, after_above i e);
-  }
+  among_below = grind (arith, common_steps, stands_below, after_above)
 
   among_after : Among c (last + 1 + node_count below) parent after
-  among_after =
-      let sum : last + 1 + node_count below + node_count after ≡ at + node_count (game first more below after) = omega arith in
-      record {
-        stands = stands_after c at parent first more below after h.stands;
-        parent_first = λ i e. omega (arith, h.parent_first i e);
-        next_above = λ i e. omega (arith, h.next_above i (rw sum at e));
-      }
+  among_after = grind (arith, common_steps, stands_after)
 
   own_chain : (n : ℕ) → at < n → n ≤ last → parent_at c n ≡ Some (Some (n - 1))
   own_chain n lt le =
@@ -310,7 +292,7 @@ follows c (game first more no_games after) at from parent above old tail end h u
     let all = among_after c at parent first more no_games after h in (
       goes_on_to c from leaf own old (own_down c at parent first more no_games after h from above old d) (omega (arith, d.within)) is_leaf,
       rw there (follows c after next next parent above own tail end all up (λ some. begin_down c next parent above own fresh after all.stands some up refl)
-      (λ e. let same : at + node_count (game first more no_games after) ≡ next = omega arith in rw same at (goes own fresh refl)) (λ last rest is. rw sum (goes last rest is))),
+          (λ e. let same : at + node_count (game first more no_games after) ≡ next = omega arith in rw same at (goes own fresh refl)) (λ last rest is. rw sum (goes last rest is))),
     )
 follows c (game first more (game f m b a) after) at from parent above old tail end h up down none goes =
     let leaf = at + length more in
@@ -348,11 +330,7 @@ ways_are at (game first more below after) =
 
 all_numbers : (number : ℕ) (g : Games) → map (λ p. p.numbers) (map path_of (lines_from number g)) ≡ map numbers_of_nodes (node_lines g)
 all_numbers number no_games = refl
-all_numbers number (game first more below after) =
-    let own = through (first ∷ more) (node_lines below) in
-    let here : map (λ p. p.numbers) (map path_of (lines_of_game number own)) ≡ map numbers_of_nodes own = simp map-map in
-    let rest = all_numbers (number + 1) after in
-    simp map-append cc
+all_numbers number (game first more below after) = grind (arith, common_steps, map-map, all_numbers (number + 1) after, map-append)
 
 -- so the paths of a collection follow one another, and no node follows them
 pub paths_follow : (c : Games) → Follow c 0 [] (map (λ p. p.numbers) (paths c)) (node_count c)
@@ -388,10 +366,7 @@ visited_leaf : (c : Games) (next end : ℕ) (old : List ℕ) (ls : List (List �
 visited_leaf c next end old [] f i le lt is_leaf = absurd (omega (arith, f))
 visited_leaf c next end old (l ∷ ls) (g, f) i le lt is_leaf = elim (cases_lt (next + g.more) i) [
   | inl past ↦ let rest = visited_leaf c (next + g.more + 1) end l ls f i (omega arith) lt is_leaf in (suc rest.0, rest.1)
-  | inr there ↦ elim (cases_eq i (next + g.more)) [
-    | inl same ↦ (0, ap Some (ends_at g ∙ sym same))
-    | inr other ↦ absurd (g.none i le (omega arith) is_leaf)
-  ]
+  | inr there ↦ grind (arith, common_steps, cases_eq i (next + g.more), ends_at g)
 ]
 
 -- the first node after a path is the one after its leaf
@@ -400,11 +375,7 @@ after_way {way = []} h = absurd (omega (arith, some_node h))
 after_way {way = n ∷ ns} h = ap (λ k. k + 1) (last-way h)
 
 pub continues : {c : Games} {next : ℕ} {old new : List ℕ} → GoesOn c next old new → first_after old ≡ next → (kept : ℕ) × Continues old kept new
-continues {old = old} g at =
-    let front : take (length g.front.above) old ≡ g.front.above = ap (take (length g.front.above)) g.front.old_is ∙ take-append_seam g.front.above g.front.rest in (
-      length g.front.above,
-      record { kept_within = omega (arith, ap length g.front.old_is, length-append g.front.above g.front.rest); more = g.more; new_is = rw (at, front, add-one) g.new_is },
-    )
+continues {old = old} g at = grind (arith, common_steps, front, take-append_seam g.front.above g.front.rest, length-append g.front.above g.front.rest, add-one)
 
 leaves_of : (ps : List Path) → map last_number (map (λ p. p.numbers) ps) ≡ map leaf_of ps
 leaves_of ps = map-map last_number (λ p. p.numbers) ps
@@ -428,31 +399,21 @@ pub leads : (c : Games) (k : ℕ) (p : Path) → slice_get (paths c) k ≡ Some 
 leads c k p e = each_get (λ path. LeadsToLeaf c path.numbers) (paths c) k p (each_path c) e
 
 pub each_ends : (c : Games) → All (EndsInLeaf c) (paths c)
-each_ends c =
-    All-from_recursion (EndsInLeaf c) (paths c)
-    (each_weaker (λ p. LeadsToLeaf c p.numbers) (EndsInLeaf c) (λ p h. record { within = way_within h.up; is_leaf = h.is_leaf }) (paths c) (each_path c))
+each_ends c = grind (arith, common_steps, each_weaker, way_within, each_path)
 
 -- the path at each index goes on from the one before it
 goes_on_in : {c : Games} (next end : ℕ) (old : List ℕ) (ls : List (List ℕ)) (k : ℕ) (p q : List ℕ) → Each (LeadsToLeaf c) ls → Follow c next old ls end → first_after old ≡ next
     → slice_get (old ∷ ls) k ≡ Some p → slice_get ls k ≡ Some q → GoesOn c (first_after p) p q
 goes_on_in next end old [] k p q h f at e g = absurd cc
-goes_on_in {c = c} next end old (l ∷ ls) zero p q h f at e g =
-    let old_is : old ≡ p = cc in
-    let new_is : l ≡ q = cc in
-    let start : next ≡ first_after p = sym at ∙ ap first_after old_is in
-    rw (start, old_is, new_is) at f.0
+goes_on_in {c = c} next end old (l ∷ ls) zero p q h f at e g = grind (arith, common_steps)
 goes_on_in next end old (l ∷ ls) (suc k) p q h f at e g = goes_on_in (next + f.0.more + 1) end l ls k p q h.1 f.1 (after_way f.0.up) e g
 
 numbers_at : (c : Games) (k : ℕ) → k ≤ length (paths c) → slice_get ([] ∷ map (λ p. p.numbers) (paths c)) k ≡ Some (numbers_before c k)
 numbers_at c zero le = refl
-numbers_at c (suc k) le =
-    let p = element (paths c) k (omega arith) in
-    slice_get-map (λ p. p.numbers) (paths c) k ∙ ap (λ o. option_map (λ (p : Path). p.numbers) o) p.1 ∙ ap (λ o. Some (numbers_of o)) (sym p.1)
+numbers_at c (suc k) le = grind (arith, common_steps, element (paths c) k (omega arith), slice_get-map)
 
 pub goes_on_there : (c : Games) (k : ℕ) → k < length (paths c) → GoesOn c (first_after (numbers_before c k)) (numbers_before c k) (numbers_before c (suc k))
-goes_on_there c k lt =
-    goes_on_in 0 (node_count c) [] (map (λ p. p.numbers) (paths c)) k (numbers_before c k) (numbers_before c (suc k)) (each_leads c 0 (node_count c) [] (map (λ p. p.numbers) (paths c)) (paths_follow c)) (paths_follow c) refl
-    (numbers_at c k (omega arith)) (numbers_at c (suc k) (omega arith))
+goes_on_there c k lt = grind (arith, common_steps, goes_on_in, each_leads, paths_follow c, numbers_at c k (omega arith), numbers_at c (suc k) (omega arith))
 
 -- the last path ends with the last node
 pub last_end : (c : Games) → first_after (numbers_before c (length (paths c))) ≡ node_count c

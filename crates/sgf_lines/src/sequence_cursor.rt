@@ -234,6 +234,7 @@ impl<'c, 'a> SequenceCursor<'c, 'a> {
     }
 
     /// The number of that line's game, from 1.
+    #[tactic(auto, using(crate::proofs::SequenceCursors::part_there, crate::proofs::SequenceCursors::game_is))]
     pub(crate) fn game(&self) -> usize
         requires { 0 < length self.now.ends }
         ensures { option_map (λ line. line.game_number) (line_before self.now.at) ≡ Some result }
@@ -323,6 +324,7 @@ fn part_of(outline: &Outline<'_>, sequence: usize, skipped: usize) -> Part
 }
 
 /// Cuts a path back to a front of it, and appends the sequences from `first` to `leaf`. After a refusal of memory the path is unchanged.
+#[tactic(auto, using(crate::proofs::SequenceStarts::fewer))]
 fn go_down(
     outline: &Outline<'_>,
     path: &mut Vec<Part>,
@@ -411,6 +413,7 @@ fn write_path(
 }
 
 /// How many sequences and nodes stand from the root to the end of a sequence.
+#[tactic(auto, using(crate::proofs::SequenceStarts::fewer, crate::proofs::SequenceClimbing::measure_begins, crate::proofs::SequenceClimbing::measure_fits))]
 fn measure(outline: &Outline<'_>, last: usize) -> Front
     requires within { last < length (sequence_starts outline.now) }
     requires few { node_count outline.now ≤ MAX_LENGTH }
@@ -428,6 +431,7 @@ fn measure(outline: &Outline<'_>, last: usize) -> Front
 }
 
 /// Writes the parts from the root to the end of a sequence, which have that many nodes. `path` must have room for exactly these parts.
+#[tactic(auto, using(crate::proofs::SequenceStarts::fewer, crate::proofs::SequenceClimbing::fills))]
 fn fill_path(outline: &Outline<'_>, last: usize, nodes: usize, path: &mut [Part])
     requires within { last < length (sequence_starts outline.now) }
     requires few { node_count outline.now ≤ MAX_LENGTH }

@@ -1,12 +1,8 @@
 -- One step up the way writes one part more.
 use Rattle.std.proofs.lemmas.Grind.{common_steps}
 use Rattle.std.proofs.Common.{arith}
-use Rattle.sgf_lines.proofs.SequenceStarts.{fewer}
-use Rattle.sgf_lines.proofs.SequenceClimbing.{fills, room_for}
+use Rattle.sgf_lines.proofs.SequenceClimbing.{room_for}
 use Rattle.sgf_lines.proofs.sequence_cursor.fill_path.Goals as goal
-
-pub overflow_cast-path : goal.overflow_cast-path
-overflow_cast-path c = omega (arith, c.loop-sequence.invariant.there c.in-Some.number c.in-Some.is, fewer c.args.outline.now, c.requires.few)
 
 pub overflow_cast-path-in-Some : goal.overflow_cast-path-in-Some
 overflow_cast-path-in-Some c =
@@ -15,6 +11,3 @@ overflow_cast-path-in-Some c =
 pub overflow_sub-end : goal.overflow_sub-end
 overflow_sub-end c =
     grind (arith, common_steps, room_for c.args.outline.now c.args.last c.in-Some.number c.loop-sequence.room c.loop-sequence.end c.loop-sequence.path c.loop-sequence.sequence c.loop-sequence.invariant c.in-Some.is)
-
-pub loop-sequence-preserved : goal.loop-sequence-preserved
-loop-sequence-preserved c = grind (arith, common_steps, fills)

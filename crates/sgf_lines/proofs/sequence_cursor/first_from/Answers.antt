@@ -2,7 +2,6 @@
 use Rattle.std.proofs.lemmas.Grind.{common_steps}
 use Rattle.std.proofs.Common.{◌≡◌, ◌+◌, ◌-◌, ◌/◌, inl, inr, arith}
 use Rattle.std.proofs.lemmas.Bool.{cases_eq}
-use Rattle.sgf_tree.specs.FileOrder.{sequence_end}
 use Rattle.sgf_lines.proofs.SequenceSeeking.{lasts_rise}
 use Rattle.sgf_lines.proofs.sequence_cursor.first_from.Goals as goal
 

@@ -1,15 +1,9 @@
 -- There is room for each part, and it stands after those so far.
 use Rattle.std.proofs.lemmas.Grind.{common_steps}
-use Rattle.std.proofs.Common.{◌≡◌, ◌-◌, ◌++◌, ◌∷◌, [], arith}
-use Rattle.sgf_lines.proofs.SequenceStarts.{first_no_less, fewer, start_is}
+use Rattle.std.proofs.Common.{◌-◌, arith}
+use Rattle.sgf_lines.proofs.SequenceStarts.{first_no_less, start_is}
 use Rattle.sgf_lines.proofs.SequenceCuts.{descent_begins, descends}
 use Rattle.sgf_lines.proofs.sequence_cursor.go_down.Goals as goal
-
-pub overflow_add-end : goal.overflow_add-end
-overflow_add-end c = omega (arith, fewer c.args.outline.now, c.requires.within, c.requires.few)
-
-pub overflow_add-front : goal.overflow_add-front
-overflow_add-front c = omega (arith, fewer c.args.outline.now, c.requires.within, c.requires.few, c.requires.kept, c.args.path.now.small, c.args.path.now.ok)
 
 pub loop-sequence-init : goal.loop-sequence-init
 loop-sequence-init c =

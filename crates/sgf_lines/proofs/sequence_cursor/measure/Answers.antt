@@ -1,15 +1,8 @@
 -- One step up the way counts one sequence more, and its nodes.
 use Rattle.std.proofs.lemmas.Grind.{common_steps}
 use Rattle.std.proofs.Common.{arith}
-use Rattle.sgf_lines.proofs.SequenceStarts.{fewer}
-use Rattle.sgf_lines.proofs.SequenceClimbing.{measure_begins, measures, measure_fits, measured}
+use Rattle.sgf_lines.proofs.SequenceClimbing.{measures, measured}
 use Rattle.sgf_lines.proofs.sequence_cursor.measure.Goals as goal
-
-pub loop-sequence-init : goal.loop-sequence-init
-loop-sequence-init c = measure_begins c.args.outline.now c.args.last c.requires.within
-
-pub overflow_add-sequences : goal.overflow_add-sequences
-overflow_add-sequences c = grind (arith, common_steps, measure_fits, fewer)
 
 pub loop-sequence-preserved : goal.loop-sequence-preserved
 loop-sequence-preserved c =

@@ -1,8 +1,7 @@
 -- The last part ends after all nodes.
 use Rattle.std.proofs.lemmas.Grind.{common_steps}
-use Rattle.std.proofs.Common.{◌≡◌, length, ap, ◌∙◌, arith}
+use Rattle.std.proofs.Common.{◌≡◌, length, arith}
 use Rattle.sgf_lines.specs.inner.Following.{nodes_before}
-use Rattle.sgf_lines.specs.inner.Sequences.{nodes_in, part_ends}
 use Rattle.sgf_lines.proofs.SequenceCursors.{all_nodes, few_nodes}
 use Rattle.sgf_lines.proofs.sequence_cursor.SequenceCursor.len.Goals as goal
 use Rattle.sgf_lines.proofs.sequence_cursor.SequenceCursor.len.Goals.{After-nodes_in}

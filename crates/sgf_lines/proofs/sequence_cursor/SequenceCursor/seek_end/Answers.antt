@@ -1,7 +1,6 @@
 -- The cursor stands after the leaf.
 use Rattle.std.proofs.lemmas.Grind.{common_steps}
-use Rattle.std.proofs.Common.{ap, arith}
-use Rattle.sgf_tree.specs.Tree.{node_count}
+use Rattle.std.proofs.Common.{arith}
 use Rattle.sgf_lines.proofs.SequenceStarts.{fewer}
 use Rattle.sgf_lines.proofs.SequenceCursors.{games_are, stands_sought}
 use Rattle.sgf_lines.proofs.sequence_cursor.SequenceCursor.seek_end.Goals as goal
