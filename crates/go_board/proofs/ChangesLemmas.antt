@@ -1,5 +1,5 @@
 -- Changes that lead back from a colouring to the one before it.
-use Rattle.std.proofs.Common.{◌≡◌, ◌≢◌, ◌⊎◌, ◌==◌, ℕ, ◌+◌, ◌*◌, ◌<◌, inl, inr, Bool, true, false, cond, List, [], ◌∷◌, ◌++◌, length, take, drop, refl, sym, ap, subst, ◌∙◌, append_assoc, All, arith}
+use Rattle.std.proofs.Common.{◌≡◌, ◌≢◌, ◌⊎◌, ◌==◌, ℕ, ◌+◌, ◌*◌, ◌<◌, inl, inr, Bool, true, false, cond, List, [], ◌∷◌, ◌++◌, length, take, drop, refl, sym, ap, subst, ◌∙◌, append_assoc, All, slice_index, arith}
 use Rattle.std.proofs.lemmas.Bool.{cases_Bool, cases_eq, false≢true}
 use Rattle.std.proofs.lemmas.Bool.Decides.{Decides-eqb}
 use Rattle.std.proofs.lemmas.List.{append-nil, take-append-drop, length-set}
@@ -226,6 +226,13 @@ module _ {old new : Grid} {all : Bool} {row : ℕ} {a b : List Change} (h : Keep
       | inr other ↦ h.each r (omega (arith, low, other))
     ];
   }
+
+-- a row that has neither the stone nor what it takes off
+pub row_kept : (g : Grid) (k : Colour) (p : Point) (taken : List ℕ) (row : ℕ) → IsMove g k p taken → row < g.side → row ≢ p.row → slice_index taken row ≡ 0 → IsSameRow g (play g k p) row
+row_kept g k p taken row move low other none = λ col left.
+    let q : Point = record { col = col; row = row } in
+    sym (move.taken.played.kept q (left, low) (λ gone. false≢true (sym (ap (λ w. has_bit w col) none ∙ has_bit-zero col) ∙ gone))
+    ∙ cell_at-with_cell_elsewhere g p q (stone_of k) move.on_board (left, low) (λ same. other (ap (λ (x : Point). x.row) same)))
 
 -- a stone that takes nothing off changes its own row alone
 pub kept_alone : (g : Grid) (k : Colour) (p : Point) (taken : List ℕ) (a b : List Change) → IsMove g k p taken → length taken ≡ 0 → AddsRow g p.row a b → KeepRows g (play g k p) false g.side a b

@@ -107,26 +107,15 @@ cells_one Empty White e f = absurd (false≢true f)
 cells_one Empty Empty e f = refl
 
 -- the word of a row for Black, and the one for White
-module _ (start print : ℕ) (grid : Grid) (row col : ℕ) (left : col < 64) where
-  black_at : key_bits start print grid (64 * (2 * row + 2) + col) ≡ has_stone grid Black row col
-  black_at =
-      let index : 2 * row + 2 ≡ suc (suc (2 * row)) = omega arith in
-      let even : (2 * row) % 2 ≡ 0 = omega arith in
-      let half : (2 * row) / 2 ≡ row = omega arith in
-      key_at start print grid (2 * row + 2) col left
-      ∙ ap (λ n. key_bit start print grid n col) index
-      ∙ ap (λ n. has_stone grid (if n == 0 then Black else White) ((2 * row) / 2) col) even
-      ∙ ap (λ n. has_stone grid Black n col) half
-
-  white_at : key_bits start print grid (64 * (2 * row + 3) + col) ≡ has_stone grid White row col
-  white_at =
-      let index : 2 * row + 3 ≡ suc (suc (2 * row + 1)) = omega arith in
-      let odd : (2 * row + 1) % 2 ≡ 1 = omega arith in
-      let half : (2 * row + 1) / 2 ≡ row = omega arith in
-      key_at start print grid (2 * row + 3) col left
-      ∙ ap (λ n. key_bit start print grid n col) index
-      ∙ ap (λ n. has_stone grid (if n == 0 then Black else White) ((2 * row + 1) / 2) col) odd
-      ∙ ap (λ n. has_stone grid White n col) half
+stone_at : (start print : ℕ) (grid : Grid) (row col white : ℕ) → col < 64 → white < 2 → key_bits start print grid (64 * (2 * row + 2 + white) + col) ≡ has_stone grid (if white == 0 then Black else White) row col
+stone_at start print grid row col white left few =
+    let index : 2 * row + 2 + white ≡ suc (suc (2 * row + white)) = omega arith in
+    let side : (2 * row + white) % 2 ≡ white = omega (arith, few) in
+    let half : (2 * row + white) / 2 ≡ row = omega (arith, few) in
+    key_at start print grid (2 * row + 2 + white) col left
+    ∙ ap (λ n. key_bit start print grid n col) index
+    ∙ ap (λ n. has_stone grid (if n == 0 then Black else White) ((2 * row + white) / 2) col) side
+    ∙ ap (λ n. has_stone grid (if white == 0 then Black else White) n col) half
 
 pub whole_same : (start start' print print' : ℕ) (grid grid' : Grid) → grid.side ≡ grid'.side → grid.side ≤ 52 → length grid.cells ≡ grid.side * grid.side → length grid'.cells ≡ grid'.side * grid'.side
     → Agree (key_bits start print grid) (key_bits start' print' grid') 6784 → grid ≡ grid'
@@ -138,14 +127,10 @@ whole_same start start' print print' grid grid' side few all all' a =
     let left : col < 64 = omega (arith, on.0, few) in
     let low' : row < grid'.side = omega (arith, on.1, side) in
     let left' : col < grid'.side = omega (arith, on.0, side) in
-    cells_one (cell_at grid p) (cell_at grid' p)
-    (sym (stone-on grid Black row col on.1 on.0)
-    ∙ sym (black_at start print grid row col left)
-    ∙ a.each (64 * (2 * row + 2) + col) (omega (arith, on.1, few, left))
-    ∙ black_at start' print' grid' row col left
-    ∙ stone-on grid' Black row col low' left')
-    (sym (stone-on grid White row col on.1 on.0)
-    ∙ sym (white_at start print grid row col left)
-    ∙ a.each (64 * (2 * row + 3) + col) (omega (arith, on.1, few, left))
-    ∙ white_at start' print' grid' row col left
-    ∙ stone-on grid' White row col low' left'))
+    let same : (white : ℕ) → white < 2 → same_cell (cell_at grid p) (if white == 0 then Black else White) ≡ same_cell (cell_at grid' p) (if white == 0 then Black else White) = λ white two.
+    sym (stone-on grid (if white == 0 then Black else White) row col on.1 on.0)
+    ∙ sym (stone_at start print grid row col white left two)
+    ∙ a.each (64 * (2 * row + 2 + white) + col) (omega (arith, on.1, few, left, two))
+    ∙ stone_at start' print' grid' row col white left two
+    ∙ stone-on grid' (if white == 0 then Black else White) row col low' left' in
+    cells_one (cell_at grid p) (cell_at grid' p) (same 0 (omega arith)) (same 1 (omega arith)))

@@ -107,11 +107,8 @@ never_back_with past k p q rows all move last stays_too stays (suc j, h, e) =
     let other : q ≢ p = λ same. last.there (ap (cell_at g) same ∙ move.empty) in
     last.there (sym (cell_at-with_cell_elsewhere g p q (stone_of k) move.on_board last.on other) ∙ sym (move.taken.played.kept q last.on (λ taken. false≢true (sym stays_too ∙ taken))) ∙ free)
 
--- what becomes of a past when a stone is played: the three ends of the call
+-- what becomes of a past when a stone is played: a stone is played, or memory is refused
 module _ {E : Type 0} (k : Colour) (p : Point) (old new : PastColourings) where
-  pub played_again : Contains (present_stretch old) (play (newest_grid old) k p) → new ≡ old → IsPlayed {E = E} k p old new (Ok false)
-  played_again has same = record { known = (λ _. has, λ _. refl); ok = same; refused = tt; err = tt }
-
   pub played_new : (Contains (present_stretch old) (play (newest_grid old) k p) → ⊥) → new ≡ with_next old (play (newest_grid old) k p) false → IsPlayed {E = E} k p old new (Ok true)
   played_new never made = record { known = (λ t. absurd (false≢true (sym t)), λ has. absurd (never has)); ok = made; refused = tt; err = tt }
 

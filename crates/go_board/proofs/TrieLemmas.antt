@@ -596,13 +596,6 @@ pub trie_first : (w : ℕ) (keys : ℕ → ℕ → Bool) (node : Node) → node.
 trie_first w keys node depth up off =
     (refl, first_tree w keys (depth_of (node ∷ [])) (kid_of (node ∷ [])) depth off, omega (arith, up), without_last [] node 0 refl ∙ ap (λ (t : Bool). if t then [] else with_named [] node.up node.up_side (displaced 0 node)) (eq-eqb node.up 0 up))
 
--- the slot that named the newest node is there
-pub trie_up : (w n : ℕ) (keys : ℕ → ℕ → Bool) (nodes : List Node) → IsTrieOf w (length nodes) keys nodes → length nodes ≡ n + 1 → (node_at nodes n).up ≤ n
-trie_up w n keys nodes trie count =
-    let next : length nodes ≡ suc n = omega (arith, count) in
-    let whole : IsTrieOf w (suc n) keys nodes = subst (λ m. IsTrieOf w m keys nodes) next trie in
-    whole.2
-
 -- where a walk by the bits of an item ends before the place where the item parts, it comes in
 pub way_opens : {keys : ℕ → ℕ → Bool} {nodes : List Node} {key bits : ℕ → Bool} {item : ℕ} (slot : Slot) (place : ℕ) → IsWayTo keys nodes key place slot
     → Agree key bits (place + 1) → IsParting (length nodes) keys bits item place → IsOpening keys nodes bits slot place

@@ -1,7 +1,8 @@
 //! The rows that lead back from a colouring to the one before it.
 
-ghost use Rattle.std.specs.Prelude.{◌≡◌, ◌+◌, ◌<◌, ◌≤◌, length};
+ghost use Rattle.std.specs.Prelude.{◌≡◌, ◌≢◌, ◌+◌, ◌<◌, ◌≤◌, IsFalse, length, slice_index};
 ghost use Rattle.std.specs.Vec.{vec_capacity};
+ghost use Rattle.go_board.specs.declared.stones.Colour.{Colour};
 ghost use Rattle.go_board.specs.Clearing.{play};
 ghost use Rattle.go_board.specs.inner.Changes.{after_changes, AddsRow, AreOn, KeepRows, is_full};
 ghost use Rattle.go_board.specs.inner.Groups.{IsMove};
@@ -10,6 +11,7 @@ use crate::board::Board;
 use crate::board::regions::all_columns;
 use crate::board::stone_rows::{has_column, without_column};
 use crate::points::Point;
+use crate::quick::print_past::print::columns_in;
 use crate::size::MAX_ROWS;
 use crate::stones::Colour;
 
@@ -108,9 +110,30 @@ pub(crate) fn put_kept(
         board.put(colour, point, taken);
         return;
     }
-    let old = board.copy();
+    keep_played(board, point, taken, all, changes);
     board.put(colour, point, taken);
-    keep_rows(&old, board, all, changes);
+}
+
+/// Adds the rows of a board that a stone changes; all rows if `all` is true. There must be room for all.
+fn keep_played(board: &Board, point: Point, taken: &[u64], all: bool, changes: &mut Vec<Change>)
+    requires room { length changes.old.items + board.now.side ≤ vec_capacity changes.old }
+    ensures { (colour : Colour) → IsMove board.now colour point taken.now
+        → KeepRows board.now (play board.now colour point) all board.now.side changes.old.items changes.new.items }
+{
+    board.has_all_cells();
+    for row in 0..board.size().side() {
+        let apart = all | may_change(row, point, taken);
+        if apart {
+            keep_row(board, row, changes);
+        }
+    }
+}
+
+/// Whether a stone may change a row; `taken` is what the stone takes off.
+fn may_change(row: u8, point: Point, taken: &[u64]) -> bool
+    ensures { IsFalse result → (row ≢ point.row) × (slice_index taken.now row ≡ 0) }
+{
+    row == point.row || columns_in(taken, row) != 0
 }
 
 /// Whether the step after `count` others keeps all rows of the colouring before it.

@@ -126,7 +126,7 @@ fn points_after(side: u8, point: Point) -> usize
 }
 
 /// The columns of a row of a set, which may have fewer rows.
-fn columns_in(rows: &[u64], row: u8) -> u64
+pub(crate) fn columns_in(rows: &[u64], row: u8) -> u64
     ensures { result ≡ slice_index rows.now row }
 {
     let row = usize::from(row);

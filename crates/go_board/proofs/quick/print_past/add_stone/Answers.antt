@@ -19,10 +19,6 @@ pub returns-in_err-add_stone-clause-table : goal.returns-in_err-add_stone-clause
 returns-in_err-add_stone-clause-table c =
     rw c.in_err-add_stone.ensures.err (c.reserve-2.ensures.table (all_of c.args.colourings.now) c.requires.table)
 
-pub returns-in_err-add_stone-clause-emptied : goal.returns-in_err-add_stone-clause-emptied
-returns-in_err-add_stone-clause-emptied c =
-    rw c.in_err-add_stone.ensures.err (c.reserve.ensures.emptied (all_of c.args.colourings.now) c.requires.emptied)
-
 pub next_number-requires : goal.next_number-requires
 next_number-requires c = (all_of c.args.colourings.now, c.reserve-2.ensures.table (all_of c.args.colourings.now) c.requires.table)
 

@@ -31,10 +31,3 @@ pub returns-in_err-add_stone : goal.returns-in_err-add_stone
 returns-in_err-add_stone c =
     let w = (goal.at.returns-in_err-add_stone c).Joined-not-is_new in
     played_refused c.args.colour c.args.point c.args.self.now c.add_stone.new.colourings c.from_residual.result c.from_residual.ensures.0 (never w) (c.in_err-add_stone.ensures.err ∙ kept w)
-
-pub returns : goal.returns
-returns c =
-    let w = (goal.at.returns c).Joined-not-is_new in
-    let k = c.args.colour in
-    let p = c.args.point in
-    played_new k p c.args.self.now c.add_stone.new.colourings (never w) (c.in_ok-add_stone.ensures.ok ∙ ap (λ (past : PastColourings). with_next past (play (newest_grid past) k p) false) (kept w))

@@ -1,10 +1,9 @@
-use Rattle.std.proofs.Common.{◌≡◌, Contains, Ok, true, false, refl, ap, sym, subst, ◌∙◌}
+use Rattle.std.proofs.Common.{◌≡◌, Contains, false, ap, sym, subst, ◌∙◌}
 use Rattle.std.proofs.lemmas.Bool.{false≢true}
-use Rattle.go_board.specs.declared.fault.MemoryFault.{MemoryFault}
 use Rattle.go_board.specs.Grid.{Grid}
 use Rattle.go_board.specs.Clearing.{has_unreaching, play}
-use Rattle.go_board.specs.Past.{PastColourings, newest_grid, present_stretch, with_next, IsPlayed}
-use Rattle.go_board.proofs.RepeatLemmas.{played_again, played_new, played_refused}
+use Rattle.go_board.specs.Past.{PastColourings, newest_grid, present_stretch, IsPlayed}
+use Rattle.go_board.proofs.RepeatLemmas.{played_refused}
 use Rattle.go_board.proofs.SettledLemmas.{settled_by_play}
 use Rattle.go_board.proofs.quick.print_past.PrintPast.play_on_copy.Goals as goal
 use Rattle.go_board.proofs.quick.print_past.PrintPast.play_on_copy.Goals.{After-find}
@@ -21,21 +20,8 @@ module _ (c : After-find) where
   pub never : c.find.result ≡ false → Contains (present_stretch c.self.inside.colourings) (play (newest_grid c.self.inside.colourings) c.args.colour c.args.point) → ⊥
   never none has = false≢true (sym none ∙ c.find.ensures.1 (subst (λ (g : Grid). Contains (present_stretch c.self.inside.colourings) g) (sym made) has))
 
-pub returns-then-find : goal.returns-then-find
-returns-then-find c =
-    let was = c.self.inside.colourings in
-    let has = subst (λ (g : Grid). Contains (present_stretch was) g) (made (goal.at.returns-then-find c).After-find) (c.find.ensures.0 c.if-find.true) in
-    subst (λ (past : PastColourings). IsPlayed {E = MemoryFault} c.args.colour c.args.point past was (Ok false)) c.self.view_is (played_again c.args.colour c.args.point was was has refl)
-
 pub returns-in_err-add : goal.returns-in_err-add
 returns-in_err-add c =
     let was = c.self.inside.colourings in
     subst (λ (past : PastColourings). IsPlayed c.args.colour c.args.point past c.add.new.self c.from_residual.result) c.self.view_is
     (played_refused c.args.colour c.args.point was c.add.new.self c.from_residual.result c.from_residual.ensures.0 (never (goal.at.returns-in_err-add c).After-find c.if-find.false) c.in_err-add.ensures.err)
-
-pub returns : goal.returns
-returns c =
-    let was = c.self.inside.colourings in
-    let w = (goal.at.returns c).After-find in
-    subst (λ (past : PastColourings). IsPlayed {E = MemoryFault} c.args.colour c.args.point past c.add.new.self (Ok true)) c.self.view_is
-    (played_new c.args.colour c.args.point was c.add.new.self (never w c.if-find.false) (c.in_ok-add.ensures.ok ∙ ap (λ (g : Grid). with_next was g false) (made w)))

@@ -9,6 +9,3 @@ pub returns-clause-nearest : goal.returns-clause-nearest
 returns-clause-nearest c = λ keys trie.
     subst (λ x. IsNearest keys c.args.nodes.now (bits_of c.args.key.now) c.args.end x) (sym c.kid.ensures)
     (way_nearest WIDTH keys c.args.nodes.now trie c.descend.result (record { way = c.descend.ensures.way keys trie; stop = c.descend.ensures.stop }) c.requires.within)
-
-pub returns-clause-there : goal.returns-clause-there
-returns-clause-there c = (returns-clause-nearest c c.requires.trie.0 c.requires.trie.1).there

@@ -22,33 +22,23 @@ module _ (c : After-key_of-other) where
   pub other : Agree (bits_of c.key_of-other.result) (keys_of (all_of c.args.colourings.now) c.nearest-near.result) WIDTH
   other = subst (λ x. Agree (bits_of c.key_of-other.result) x WIDTH) (c.key_of-other.ensures.whole c.board_at-past.ensures) (agree_self (bits_of c.key_of-other.result) WIDTH)
 
-pub returns-in-Some : goal.returns-in-Some
-returns-in-Some c =
+pub returns-in-Some-clause-table : goal.returns-in-Some-clause-table
+returns-in-Some-clause-table c =
     let t = c.args.self.now in
     let held = all_of c.args.colourings.now in
     let is = c.requires.table in
     let keys = keys_of held in
-    let w = (goal.at.returns-in-Some c).After-key_of-other in
+    let w = (goal.at.returns-in-Some-clause-table c).After-key_of-other in
     let apart = c.in-Some.ensures in
     let parts = parts_as (nearest_is w) (keys (length t.nodes.items)) _ c.in-Some.place apart.0 (own w) (other w) apart.1 apart.2 in
-    let more = c.part.ensures.more in
-    record {
-      table = tabled_with held t (record t { nodes = c.part.new.nodes }) is refl refl (omega (arith, is.room, c.part.ensures.room)) (omega (arith, is.most, c.part.ensures.room)) (omega (arith, more, c.requires.more)) (c.part.ensures.trie keys c.nearest-near.result c.requires.table.linked parts.0 parts.1);
-      next = more;
-      prints = refl;
-    }
+    tabled_with held t (record t { nodes = c.part.new.nodes }) is refl refl (omega (arith, is.room, c.part.ensures.room)) (omega (arith, is.most, c.part.ensures.room)) (omega (arith, c.part.ensures.more, c.requires.more))
+    (c.part.ensures.trie keys c.nearest-near.result is.linked parts.0 parts.1)
 
-pub returns-in-None : goal.returns-in-None
-returns-in-None c =
+pub returns-in-None-clause-table : goal.returns-in-None-clause-table
+returns-in-None-clause-table c =
     let t = c.args.self.now in
     let held = all_of c.args.colourings.now in
     let is = c.requires.table in
-    let keys = keys_of held in
-    let w = (goal.at.returns-in-None c).After-key_of-other in
-    let more = c.repeat.ensures.more in
-    record {
-      table = tabled_with held t (record t { nodes = c.repeat.new.nodes }) is refl refl (omega (arith, is.room, c.repeat.ensures.room)) (omega (arith, is.most, c.repeat.ensures.room)) (omega (arith, more, c.requires.more))
-          (c.repeat.ensures.trie keys c.nearest-near.result c.requires.table.linked (nearest_is w).there (agree_on (agree_back (other w)) (agree_on (agree_back c.in-None.ensures) (own w))));
-      next = more;
-      prints = refl;
-    }
+    let w = (goal.at.returns-in-None-clause-table c).After-key_of-other in
+    tabled_with held t (record t { nodes = c.repeat.new.nodes }) is refl refl (omega (arith, is.room, c.repeat.ensures.room)) (omega (arith, is.most, c.repeat.ensures.room)) (omega (arith, c.repeat.ensures.more, c.requires.more))
+    (c.repeat.ensures.trie (keys_of held) c.nearest-near.result is.linked (nearest_is w).there (agree_on (agree_back (other w)) (agree_on (agree_back c.in-None.ensures) (own w))))

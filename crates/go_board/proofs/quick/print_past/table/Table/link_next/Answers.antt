@@ -5,8 +5,8 @@ use Rattle.go_board.proofs.TableLemmas.{tabled_with}
 use Rattle.go_board.proofs.TrieLemmas.{parts_as}
 use Rattle.go_board.proofs.quick.print_past.table.Table.link_next.Goals as goal
 
-pub returns-in-Some : goal.returns-in-Some
-returns-in-Some c =
+pub returns-in-Some-clause-table : goal.returns-in-Some-clause-table
+returns-in-Some-clause-table c =
     let t = c.args.self.now in
     let held = all_of c.args.colourings.now in
     let is = c.requires.table in
@@ -16,22 +16,5 @@ returns-in-Some c =
     let own = rw count at c.key_of-key.ensures in
     let apart = c.in-Some.ensures in
     let parts = parts_as (found.nearest keys is.linked) (keys (length t.nodes.items)) _ c.in-Some.place apart.0 own.front c.key_of-other.ensures.front apart.1 apart.2 in
-    let more = c.part.ensures.more in
-    record {
-      table = tabled_with held t (record t { nodes = c.part.new.nodes }) is refl refl (omega (arith, is.room, c.part.ensures.room)) (omega (arith, is.most, c.part.ensures.room)) (omega (arith, more, c.requires.more)) (c.part.ensures.trie keys c.nearest-near.result is.linked parts.0 parts.1);
-      next = more;
-      prints = refl;
-    }
-
-pub returns-then-number-eq0 : goal.returns-then-number-eq0
-returns-then-number-eq0 c =
-    let t = c.args.self.now in
-    let held = all_of c.args.colourings.now in
-    let is = c.requires.table in
-    let none : length t.nodes.items ≡ 0 = sym (c.len-number.ensures ∙ t.nodes.ok.0) ∙ c.if-number-eq0.true in
-    let more : length c.plant.new.nodes.items ≡ length t.nodes.items + 1 = omega (arith, none, c.plant.ensures.one) in
-    record {
-      table = tabled_with held t (record t { nodes = c.plant.new.nodes }) is refl refl (omega (arith, is.room, c.plant.ensures.room)) (omega (arith, is.most, c.plant.ensures.room)) (omega (arith, more, c.requires.more)) (c.plant.ensures.trie (keys_of held));
-      next = more;
-      prints = refl;
-    }
+    tabled_with held t (record t { nodes = c.part.new.nodes }) is refl refl (omega (arith, is.room, c.part.ensures.room)) (omega (arith, is.most, c.part.ensures.room)) (omega (arith, c.part.ensures.more, c.requires.more))
+    (c.part.ensures.trie keys c.nearest-near.result is.linked parts.0 parts.1)

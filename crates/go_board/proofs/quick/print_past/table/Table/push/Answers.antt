@@ -8,11 +8,6 @@ use Rattle.go_board.specs.inner.Trie.{IsOpening}
 use Rattle.go_board.proofs.TableLemmas.{keys-print, linked_before, tabled, tabled_more}
 use Rattle.go_board.proofs.quick.print_past.table.Table.push.Goals as goal
 
-pub insert-requires-clause-slot : goal.insert-requires-clause-slot
-insert-requires-clause-slot c =
-    let gap = rw c.in-Some.is at c.requires.table.3 in
-    (gap.opens c.requires.table.1 (sym c.requires.table.4)).there.there
-
 pub returns-in_default : goal.returns-in_default
 returns-in_default c = λ held next is some printed.
     let t = c.args.self.now in
