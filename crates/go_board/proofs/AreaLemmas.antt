@@ -28,8 +28,7 @@ area_columns area columns p is from to = grind (arith, common_steps, and-true, a
 
 -- a point of an area is between its first and its last row
 pub area_rows : (area : Rect) (p : Point) → is_in area p ≡ true → (area.first.row ≤ p.row) × (p.row ≤ area.last.row)
-area_rows area p is =
-    let rows = and_parts _ _ (and_parts _ _ is).1 in (leb-true area.first.row p.row rows.0, leb-true p.row area.last.row rows.1)
+area_rows area p is = grind (arith, common_steps, and_parts, leb-true)
 
 -- an area's colours leave the side
 pub side-with_area : (g : Grid) (op : SetupOp) → (with_area g op).side ≡ g.side
@@ -42,5 +41,4 @@ side-with_areas g (op ∷ ops) = side-with_areas (with_area g op) ops ∙ side-w
 
 -- one area more
 pub areas_more : (g before coloured : Grid) (ops : List SetupOp) (i : ℕ) (d : SetupOp) → i < length ops → coloured ≡ with_area before (get_or ops i d) → before.side ≡ g.side → before ≡ fold with_area g (take i ops) → (coloured.side ≡ g.side) × (coloured ≡ fold with_area g (take (i + 1) ops))
-areas_more g before coloured ops i d within step same so_far =
-    (ap (λ (h : Grid). h.side) step ∙ side-with_area before (get_or ops i d) ∙ same, step ∙ ap (λ h. with_area h (get_or ops i d)) so_far ∙ sym (fold_more with_area g ops i d within))
+areas_more g before coloured ops i d within step same so_far = grind (arith, common_steps, fold_more, side-with_area)

@@ -1,5 +1,5 @@
 -- Widening a set of columns: a sum carries from a column on as far as there is region, and steps go back from there.
-use Rattle.std.proofs.Common.{◌≡◌, ◌⊎◌, inl, inr, ℕ, zero, suc, ◌+◌, ◌-◌, ◌*◌, ◌/◌, ◌%◌, ◌^◌, ◌<◌, ◌≤◌, Bool, true, false, not, bit_and, bit_or, w64, sym, ap, ◌∙◌, arith}
+use Rattle.std.proofs.Common.{◌≡◌, ◌⊎◌, inl, inr, ℕ, zero, suc, ◌+◌, ◌-◌, ◌*◌, ◌/◌, ◌%◌, ◌^◌, ◌<◌, ◌≤◌, Bool, true, false, not, bit_and, bit_or, w64, sym, ap, ◌∙◌, arith, rules}
 use Rattle.std.proofs.lemmas.Grind.{common_steps}
 use Rattle.std.specs.Int.{bit_at, bit_not}
 use Rattle.std.proofs.Math.Nat.{add-mod, add-mod_left, mod-eq_of_lt, two-pow-succ}
@@ -14,12 +14,10 @@ low-more n c =
     let width : suc c ≡ 1 + c = omega arith in ap (λ k. n % 2 ^ k) width ∙ mod-pow-add n 1 c
 
 low-set : (n c : ℕ) → has_bit n c ≡ true → n % 2 ^ suc c ≡ 2 ^ c + n % 2 ^ c
-low-set n c is =
-    low-more n c ∙ ap (λ b. b * 2 ^ c + n % 2 ^ c) (bit_at-there n c is) ∙ omega arith
+low-set n c is = grind (arith, common_steps, bit_at-there, low-more)
 
 low-unset : (n c : ℕ) → has_bit n c ≡ false → n % 2 ^ suc c ≡ n % 2 ^ c
-low-unset n c none =
-    low-more n c ∙ ap (λ b. b * 2 ^ c + n % 2 ^ c) (bit_at-gone n c none) ∙ omega arith
+low-unset n c none = grind (arith, common_steps, bit_at-gone, low-more)
 
 low-below : (n c : ℕ) → n % 2 ^ c < 2 ^ c
 low-below n c = mod_below n (2 ^ c) (pow_pos c)
@@ -144,12 +142,7 @@ module _ (region seed : ℕ) (low : region < 2 ^ 64) (part : IsPart (has_bit see
       ]
 
   pub IsWidened-carried : IsWidened region seed carried
-  IsWidened-carried = record {
-    within = carried-within;
-    kept = carried-kept;
-    next = carried-next;
-    least = carried-least;
-  }
+  IsWidened-carried = search (rules, carried-kept, carried-least, carried-next, carried-within)
 
 -- a set with the columns before its own that there is region for
 abbrev pub with_before : ℕ → ℕ → ℕ

@@ -127,12 +127,7 @@ count_alike side p q alike =
 
 -- the points of the player's colour or reaching it, and not reaching the other's
 counts_alike : (k : Colour) (c : Cell) (own other : Bool) → (c ≡ stone_of k → own ≡ true) → ((is_either c Empty (stone_of k) && own) && not (is_either c Empty (stone_of (opponent k)) && other)) ≡ (same_cell c (stone_of k) || (same_cell c Empty && (own && not other)))
-counts_alike Black BlackStone own other by_itself = rw (by_itself refl) refl
-counts_alike Black WhiteStone own other by_itself = refl
-counts_alike Black Empty own other by_itself = refl
-counts_alike White BlackStone own other by_itself = refl
-counts_alike White WhiteStone own other by_itself = rw (by_itself refl) refl
-counts_alike White Empty own other by_itself = refl
+counts_alike k c own other by_itself = grind (arith, common_steps)
 
 pub score_by_rows : (g : Grid) (k : Colour) (rows others : List ℕ) → AreRowsOf g.side (reaches_through_own g Empty (stone_of k)) rows → AreRowsOf g.side (reaches_through_own g Empty (stone_of (opponent k))) others → count_apart g.side rows others ≡ score_of g k
 unfolding count_apart score_of counts_for

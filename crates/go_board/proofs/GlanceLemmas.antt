@@ -1,5 +1,5 @@
 -- What the words of bits around a point tell of a stone on it.
-use Rattle.std.proofs.Common.{◌≡◌, ◌≢◌, ◌⊎◌, inl, inr, ℕ, ◌+◌, ◌^◌, ◌<◌, ◌||◌, ◌&&◌, Bool, true, false, not, List, [], length, get_or, bit_and, bit_or, w64, refl, sym, ap, ◌∙◌, arith, subst}
+use Rattle.std.proofs.Common.{◌≡◌, ◌≢◌, ◌⊎◌, inl, inr, ℕ, ◌+◌, ◌^◌, ◌<◌, ◌||◌, ◌&&◌, Bool, true, false, not, List, [], length, get_or, bit_and, bit_or, w64, refl, sym, ap, ◌∙◌, arith, subst, rules}
 use Rattle.std.proofs.lemmas.Grind.{common_steps}
 use Rattle.std.specs.Int.{bit_not}
 use Rattle.std.proofs.lemmas.Bool.{or_cases, or_parts, and_parts, and_from, or_right, not-true, false≢true, cases_eq}
@@ -78,23 +78,15 @@ none_free own others p i col there = absurd (false≢true (sym (has_bit-zero col
 
 -- the free points of a row that isn't the point's own
 pub free_elsewhere : (own others : List ℕ) (p : Point) (i : ℕ) (row : RowStones) → i ≢ 2 → IsRowAt own others p.row i row → AreFree own others p i row.free
-free_elsewhere own others p i row other is col there =
-    let f = is.are_free col there in (f.0, f.1, f.2, λ same. other (let row = ap (λ (q : Point). q.row) same in omega (arith, row, f.1.1)))
+free_elsewhere own others p i row other is col there = grind (arith, common_steps)
 
 -- the point's own row without the point
 module _ (own others : List ℕ) (p : Point) (free : ℕ) (row : RowStones) (gone : has_bit free p.col ≡ false) (left : (k : ℕ) → k ≢ p.col → has_bit free k ≡ has_bit row.free k) (is : IsRowAt own others p.row 2 row) where
   pub free_here : AreFree own others p 2 free
-  free_here col there =
-      let other : col ≢ p.col = λ same. false≢true (sym gone ∙ ap (has_bit free) (sym same) ∙ there) in
-      let f = is.are_free col (sym (left col other) ∙ there) in
-      (f.0, f.1, f.2, λ same. other (sym f.1.0 ∙ ap (λ (q : Point). q.col) same))
+  free_here col there = search (rules)
 
   pub row_here : IsRowAt own others p.row 2 (record { own = row.own; others = row.others; free = free })
-  row_here = record {
-    are_free = λ col there. let f = free_here col there in (f.0, f.1, f.2);
-    are_own = is.are_own;
-    has_others = is.has_others;
-  }
+  row_here = search (rules, free_here)
 
 -- the point beside another one is another
 pub apart : (p q : Point) → AreAdjacent p q → q ≢ p
@@ -138,10 +130,7 @@ module _ (own others : List ℕ) (p : Point) (i columns above : ℕ) (row : RowS
 
   -- the stone has a liberty
   pub free_there : (col : ℕ) → has_bit (bit_and columns row.free) col ≡ true → Lives own others p
-  free_there col there =
-      let both = and_parts _ _ (sym (has_bit-and columns row.free col) ∙ there) in
-      let f = is.free_here col both.1 in
-      inl (f.0, f.2, f.3, is.beside f.0 f.1.1 (ap (has_bit columns) f.1.0 ∙ both.0))
+  free_there col there = search (rules, and_parts, free_here, has_bit-and)
 
   -- or a stone beside it has one
   pub lives_there : (col : ℕ) → has_bit (bit_and columns (bit_or row.free (bit_and row.own near))) col ≡ true → Lives own others p

@@ -55,8 +55,7 @@ pub cell_at-with_cell : (g : Grid) (p : Point) (c : Cell) → IsOn g.side p → 
 cell_at-with_cell g p c h all = grind (arith, common_steps, get_or-set_same, index_below)
 
 pub cell_at-with_cell_elsewhere : (g : Grid) (p q : Point) (c : Cell) → IsOn g.side p → IsOn g.side q → q ≢ p → cell_at (with_cell g p c) q ≡ cell_at g q
-cell_at-with_cell_elsewhere g p q c hp hq other =
-    get_or-set_other g.cells (index_of g.side p) (index_of g.side q) c Empty (λ e. other (index_of-injective g.side q p hq hp e))
+cell_at-with_cell_elsewhere g p q c hp hq other = grind (arith, common_steps, get_or-set_other, index_of-injective)
 
 -- a list of one value, read with that value for what is after its end
 pub get_or-replicate_default : {X : Type 0} (n i : ℕ) (d : X) → get_or (replicate n d) i d ≡ d

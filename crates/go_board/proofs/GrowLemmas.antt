@@ -1,5 +1,5 @@
 -- Filling a set of points, as rows of words: one row grown; the rows that wait, and those that don't.
-use Rattle.std.proofs.Common.{◌≡◌, ◌≢◌, inl, inr, ℕ, zero, suc, ◌+◌, ◌-◌, ◌^◌, ◌<◌, ◌≤◌, ◌||◌, Bool, true, List, length, get_or, set, bit_and, bit_or, refl, sym, ap, ◌∙◌, arith, slice_index, ◌⊎◌, ◌&&◌, false, not, nat_eq, w64, subst}
+use Rattle.std.proofs.Common.{◌≡◌, ◌≢◌, inl, inr, ℕ, zero, suc, ◌+◌, ◌-◌, ◌^◌, ◌<◌, ◌≤◌, ◌||◌, Bool, true, List, length, get_or, set, bit_and, bit_or, refl, sym, ap, ◌∙◌, arith, slice_index, ◌⊎◌, ◌&&◌, false, not, nat_eq, w64, subst, rules}
 use Rattle.std.proofs.lemmas.Grind.{common_steps}
 use Rattle.std.proofs.lemmas.Bool.{or_cases, or_left, or_right, and_parts, and_from, false≢true, cases_lt, cases_eq, cases_Bool, true≢false}
 use Rattle.std.proofs.lemmas.List.{get_or-set_same, get_or-set_other}
@@ -19,8 +19,7 @@ row_below rows p is = grind (arith, common_steps, get_or-eq_default, has_bit-zer
 
 -- the points of rows of which one is written
 pub set_there : (rows : List ℕ) (row word : ℕ) → row < length rows → (q : Point) → q.row ≡ row → is_set (set rows row word) q ≡ has_bit word q.col
-set_there rows row word within q same =
-    ap (λ r. has_bit (get_or (set rows row word) r 0) q.col) same ∙ ap (λ w. has_bit w q.col) (get_or-set_same rows row word 0 within)
+set_there rows row word within q same = grind (arith, common_steps, get_or-set_same)
 
 pub set_elsewhere : (rows : List ℕ) (row word : ℕ) (q : Point) → q.row ≢ row → is_set (set rows row word) q ≡ is_set rows q
 set_elsewhere rows row word q other = ap (λ w. has_bit w q.col) (get_or-set_other rows row q.row word 0 other)
@@ -65,8 +64,7 @@ module _ (rows region : List ℕ) (row beside grown : ℕ) (within_row : row < l
       ∙ and_from _ _ (has_bit-or (get_or rows row 0) beside col ∙ or_left _ _ is) (within (record { col = col; row = row }) is)
 
   beside_seed : (col : ℕ) → has_bit beside col ≡ true → has_bit (get_or region row 0) col ≡ true → has_bit (seed_of rows region row beside) col ≡ true
-  beside_seed col is region_there =
-      has_bit-and _ _ col ∙ and_from _ _ (has_bit-or (get_or rows row 0) beside col ∙ or_right _ _ is) region_there
+  beside_seed col is region_there = grind (arith, common_steps, and_from, has_bit-and, has_bit-or, or_right)
 
   above_set : (set : Point → Bool) → IsAmong (is_set rows) set → (r col : ℕ) → r ≡ row → has_bit (row_above rows r) col ≡ true → (q : Point) × (q.col ≡ col) × (q.row + 1 ≡ r) × (set q ≡ true)
   above_set set part zero col same is = absurd (false≢true (sym (has_bit-zero col) ∙ is))
@@ -151,22 +149,7 @@ IsClosed-all region first rows waiting done none = grind (arith, common_steps, h
 
 -- where another row grew of which a row lacks nothing, the row is closed as before
 pub closed_still : (region rows next : List ℕ) (row r : ℕ) → IsAmong (is_set rows) (is_set next) → ((k : ℕ) → k ≢ row → slice_index next k ≡ slice_index rows k) → r ≢ row → IsRowClosed (is_set region) (is_set rows) r → (DifferByOne r row → IsTaken region next r (slice_index next row)) → IsRowClosed (is_set region) (is_set next) r
-closed_still region rows next row r kept others other was taken =
-    λ p q same adjacent there is.
-    elim (cases_eq q.row row) [
-      | inl at ↦
-          elim adjacent [
-            | inr line ↦ absurd (other (sym same ∙ line.0 ∙ at))
-            | inl column ↦
-                let beside : DifferByOne r row = subst (λ k. DifferByOne k row) same (subst (DifferByOne p.row) at column.1) in
-                let here : has_bit (slice_index next row) q.col ≡ true = ap (λ k. has_bit (slice_index next k) q.col) (sym at) ∙ is in
-                ap (λ k. has_bit (slice_index next k) p.col) same
-                ∙ taken beside p.col
-                (ap (λ k. has_bit (slice_index region k) p.col) (sym same) ∙ there)
-                (ap (has_bit (slice_index next row)) column.0 ∙ here)
-          ]
-      | inr elsewhere_row ↦ kept p (was p q same adjacent there (ap (λ w. has_bit w q.col) (sym (others q.row elsewhere_row)) ∙ is))
-    ]
+closed_still region rows next row r kept others other was taken = search (rules, here)
 
 -- one row grown, and perhaps one row more among the first ones
 pub filled_more : (region first rows next : List ℕ) (waiting after row from count : ℕ) → IsFilledBut region first rows waiting from → ((r : ℕ) → r < count → r ≢ row → r < from) → length next ≡ length rows → Grows (is_set region) (is_set rows) (is_set next) → IsRowClosed (is_set region) (is_set next) row → ((k : ℕ) → k ≢ row → slice_index next k ≡ slice_index rows k) → ((r : ℕ) → r ≢ row → has_bit after r ≡ false → has_bit waiting r ≡ false) → ((r : ℕ) → has_bit after r ≡ true → r < length region) → ((r : ℕ) → DifferByOne r row → r < count → has_bit after r ≡ false → IsTaken region next r (slice_index next row)) → IsFilledBut region first next after count

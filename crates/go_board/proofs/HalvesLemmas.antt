@@ -54,12 +54,10 @@ pub back_again : (p : Point) → unshifted (shifted p) ≡ p
 back_again p = grind (arith, common_steps)
 
 pub in_low : (rows : List ℕ) (p : Point) → is_set (low_halves rows) p ≡ (nat_lt p.col 32 && is_set rows p)
-in_low rows p =
-    ap (λ w. has_bit w p.col) (get_or-map (λ w. w % 2 ^ 32) rows p.row 0) ∙ has_bit-low_half (slice_index rows p.row) p.col
+in_low rows p = grind (arith, common_steps, get_or-map, has_bit-low_half)
 
 pub in_high : (rows : List ℕ) (p : Point) → is_set (high_halves rows) p ≡ is_set rows (shifted p)
-in_high rows p =
-    ap (λ w. has_bit w p.col) (get_or-map (λ w. w / 2 ^ 32) rows p.row 0) ∙ has_bit-high_half (slice_index rows p.row) p.col
+in_high rows p = grind (arith, common_steps, get_or-map, has_bit-high_half)
 
 pub low_from : (rows : List ℕ) (p : Point) → p.col < 32 → is_set rows p ≡ true → is_set (low_halves rows) p ≡ true
 low_from rows p low is = in_low rows p ∙ and_from _ _ ((Decides-ltb p.col 32).1 low) is

@@ -111,14 +111,10 @@ HaveLiberty-all own others alive long each = record {
 }
 
 empty_apart : (k : Colour) (c : Cell) → c ≡ Empty → same_cell c (stone_of k) ≡ false
-empty_apart Black Empty is = refl
-empty_apart White Empty is = refl
-empty_apart k BlackStone is = cc
-empty_apart k WhiteStone is = cc
+empty_apart k c is = grind (arith, common_steps)
 
 of_own : (own way : Bool) → (own && not (own && way)) ≡ (own && not way)
-of_own true way = refl
-of_own false way = refl
+of_own own way = grind (arith, common_steps)
 
 module _ (g : Grid) (k : Colour) (rows others first : List ℕ) (small : g.side ≤ 52) (all : length rows ≡ g.side) (is_own : AreRowsOf g.side (λ p. same_cell (cell_at g p) (stone_of k)) rows) (is_other : AreRowsOf g.side (λ p. same_cell (cell_at g p) (stone_of (opponent k))) others) (alive : HaveLiberty rows others first) where
   stone_there : (p : Point) → is_set rows p ≡ true → cell_at g p ≡ stone_of k

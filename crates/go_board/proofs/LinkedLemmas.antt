@@ -1,5 +1,5 @@
 -- The group of a stone, and the points beside it.
-use Rattle.std.proofs.Common.{◌≡◌, ◌≢◌, inl, inr, ℕ, zero, suc, ◌+◌, ◌*◌, ◌/◌, ◌%◌, ◌^◌, ◌<◌, subst, true, false, w64, List, length, get_or, set, take, replicate, bit_and, bit_or, slice_index, refl, sym, ap, ◌∙◌, arith}
+use Rattle.std.proofs.Common.{◌≡◌, ◌≢◌, inl, inr, ℕ, zero, suc, ◌+◌, ◌*◌, ◌/◌, ◌%◌, ◌^◌, ◌<◌, subst, true, false, w64, List, length, get_or, set, take, replicate, bit_and, bit_or, slice_index, refl, sym, ap, ◌∙◌, arith, rules}
 use Rattle.std.proofs.lemmas.Grind.{common_steps}
 use Rattle.std.proofs.lemmas.Bool.{or_cases, or_left, or_right, and_parts, and_from, false≢true, cases_eq}
 use Rattle.std.specs.Int.{trailing_zeros}
@@ -21,16 +21,7 @@ abbrev pub beside_columns : ℕ → ℕ → ℕ → ℕ
 beside_columns above here below = bit_or (bit_or (bit_or above below) (here * 2 ^ 1 % 2 ^ 64)) (here / 2 ^ 1)
 
 pub beside_from : (above here below col : ℕ) → has_bit (beside_columns above here below) col ≡ true → IsInOrBeside above here below col
-beside_from above here below col is =
-    elim (or_cases _ _ (sym (has_bit-or (bit_or (bit_or above below) (here * 2 ^ 1 % 2 ^ 64)) (here / 2 ^ 1) col) ∙ is)) [
-      | inr right ↦ inr (inr (suc col, inl (omega arith), sym (has_bit-right here col) ∙ right))
-      | inl rest ↦
-          elim (or_cases _ _ (sym (has_bit-or (bit_or above below) (here * 2 ^ 1 % 2 ^ 64) col) ∙ rest)) [
-            | inr left ↦ (let from = from_left here col left in inr (inr (from.0, inr from.1, from.2)))
-            | inl both ↦
-                elim (or_cases _ _ (sym (has_bit-or above below col) ∙ both)) [ inl up ↦ inl up | inr down ↦ inr (inl down) ]
-          ]
-    ]
+beside_from above here below col is = search (rules, from_left, has_bit-or, has_bit-right, or_cases)
 
 pub beside_to : (above here below col : ℕ) → col < 64 → IsInOrBeside above here below col → has_bit (beside_columns above here below) col ≡ true
 beside_to above here below col low is = grind (arith, common_steps, has_bit-left, has_bit-or, has_bit-right, or_left, or_right)

@@ -26,8 +26,7 @@ one_point p q e f = ap (λ c. record { col = c; row = p.row }) e ∙ ap (λ r. r
 
 -- the point at a point's index is that point
 pub point_at-index_of : (side : ℕ) (p : Point) → IsOn side p → point_at side (index_of side p) ≡ p
-point_at-index_of side p h =
-    one_point _ p (mod-mul-add p.row side p.col h.0) (div-mul-add p.row side p.col h.0)
+point_at-index_of side p h = grind (arith, common_steps, div-mul-add, mod-mul-add, one_point)
 
 -- two points of the grid with one index are one
 pub index_of-injective : (side : ℕ) (p q : Point) → IsOn side p → IsOn side q → index_of side p ≡ index_of side q → p ≡ q

@@ -57,8 +57,7 @@ Leads-next g own k q [] way = inr way.1
 Leads-next g own k q (r ∷ path) way = inl way.1
 
 pub step_kind : (g : Grid) (own k : Cell) (p q : Point) (path : List Point) → Leads g own k p (q ∷ path) → (cell_at g q ≡ cell_at g p) ⊎ (cell_at g q ≡ k)
-step_kind g own k p q path way =
-    elim (Leads-next g own k q path way.3) [ inl same ↦ inl (same ∙ sym way.1) | inr there ↦ inr there ]
+step_kind g own k p q path way = grind (arith, common_steps, Leads-next)
 
 Within-Leads : (g : Grid) (own k : Cell) (p : Point) (path : List Point) → Leads g own k p path → Within g k (length path) p
 unfolding Within
@@ -116,9 +115,7 @@ module _ (g : Grid) (k : Cell) where
 
   at_index : (n i : ℕ) → i < g.side * g.side → is_marked (reaching_within g k n) (point_at g.side i) ≡ get_or (marks_after n) i false
   unfolding marks_after
-  at_index n i h =
-      ap (λ j. get_or (marks_after n) j false)
-      (ap (λ s. index_of s (point_at g.side i)) (side_after n) ∙ index_of-point_at g.side i h)
+  at_index n i h = grind (arith, common_steps, index_of-point_at, marks_after, side_after)
 
   -- a mark stays, at each index
   round_adds : (n : ℕ) → IsWithin (marks_after n) (marks_after (suc n))

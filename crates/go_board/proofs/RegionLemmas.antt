@@ -86,9 +86,7 @@ not_other WhitePlayer Black = refl
 not_other _ _ = refl
 
 pub same_bools : (a b : Bool) → (a ≡ true → b ≡ true) → (b ≡ true → a ≡ true) → a ≡ b
-same_bools true b there back = sym (there refl)
-same_bools false true there back = back refl
-same_bools false false there back = refl
+same_bools a b there back = grind (arith, common_steps)
 
 either_is : (c one other : Cell) → is_either c one other ≡ true → (c ≡ one) ⊎ (c ≡ other)
 either_is c one other is = grind (arith, common_steps, Decides-same_cell, or_cases)

@@ -46,8 +46,7 @@ false_from_Decides b d against = false_from_ne_true b (λ is. against (d.0 is))
 
 pub emptied : (g : Grid) (k : Colour) (p : Point) → IsOn g.side p → cell_at g p ≡ stone_of k → (¬ (Reaches g Empty p)) → cleared_cell g k p ≡ Empty
 unfolding cleared_cell
-emptied g k p on stone shut =
-    emptied_by _ _ _ ((Decides-same_cell _ _).1 stone) (false_from_Decides _ (Decides-reaches g Empty p on) shut)
+emptied g k p on stone shut = grind (arith, common_steps, Decides-reaches, Decides-same_cell, emptied_by, false_from_Decides)
 
 pub kept : (g : Grid) (k : Colour) (p : Point) → IsOn g.side p → Reaches g Empty p → cleared_cell g k p ≡ cell_at g p
 unfolding cleared_cell
@@ -65,8 +64,7 @@ Decides-has_unreaching g =
     (λ p on. Decides-and _ _ (Decides-not _ (Decides-same_cell _ _)) (Decides-not _ (Decides-reaches g Empty p on))))
 
 Decides-all_three : {P Q R : Type 0} (x y z : Bool) → Decides x P → Decides y Q → Decides z R → Decides (x && (y && z)) (P × Q × R)
-Decides-all_three x y z p q r =
-    Decides-like _ (λ w. (w.0, w.1.0, w.1.1)) (λ w. (w.0, (w.1, w.2))) (Decides-and _ _ p (Decides-and _ _ q r))
+Decides-all_three x y z p q r = grind (arith, common_steps, Decides-and, Decides-like)
 
 pub decides_counts_for : (g : Grid) (k : Colour) (p : Point) → IsOn g.side p → Decides (counts_for g k p) (CountsFor g k p)
 unfolding counts_for

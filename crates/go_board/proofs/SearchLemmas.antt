@@ -24,8 +24,7 @@ use Rattle.go_board.proofs.GridLemmas.{get_or-replicate_default, is_marked-marki
 
 -- with no bit set no point is marked
 pub is_set-none : (n : ℕ) (p : Point) → is_set (replicate n 0) p ≡ false
-is_set-none n p =
-    ap (λ w. bit_at w p.col == 1) (get_or-replicate_default n p.row 0) ∙ ap (λ b. b == 1) (bit_at-zero p.col)
+is_set-none n p = grind (arith, common_steps, bit_at-zero, get_or-replicate_default)
 
 pub rows-none : (side n : ℕ) (rows : List ℕ) → rows ≡ replicate n 0 → marking_of side (is_set rows) ≡ no_marks side
 rows-none side n rows is =
@@ -143,15 +142,7 @@ module _ (s : Searched) (p : Point) (sound : IsSound s) (on : IsOn s.marking.sid
 
   -- fewer wait than the grid has points
   pub room : length s.waiting < s.marking.side * s.marking.side
-  room =
-      omega (
-        arith,
-        counted,
-        sound.few,
-        sound.all,
-        length-set s.marking.marks (index_of s.marking.side p) true,
-        count_by-le-length (λ b. b) next.marking.marks,
-      )
+  room = grind (arith, common_steps, count_by-le-length, counted, length-set)
 
 -- the search that the front of an array holds
 abbrev pub held : Marking → List Point → ℕ → Searched

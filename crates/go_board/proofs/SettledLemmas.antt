@@ -75,11 +75,7 @@ unfolding clear
 AllReach-clear_other g k d reach = λ p on left. reaches_after_clear g k p (reach p on (left_stone g k d p on left))
 
 stone_reaches : (g : Grid) (k : Colour) → AllReach g k → AllReach g (opponent k) → (p : Point) → IsOn g.side p → (c : Cell) → cell_at g p ≡ c → c ≢ Empty → Reaches g Empty p
-stone_reaches g Black own others p on BlackStone is stone = own p on is
-stone_reaches g Black own others p on WhiteStone is stone = others p on is
-stone_reaches g White own others p on BlackStone is stone = others p on is
-stone_reaches g White own others p on WhiteStone is stone = own p on is
-stone_reaches g k own others p on Empty is stone = absurd (stone refl)
+stone_reaches g k own others p on c is stone = grind (arith, common_steps)
 
 -- every stone reaches empty where those of a player and of her opponent do
 pub both_reach : (g : Grid) (k : Colour) → AllReach g k → AllReach g (opponent k) → has_unreaching g ≡ false

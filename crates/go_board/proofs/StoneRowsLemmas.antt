@@ -1,5 +1,5 @@
 -- The rows of the stones of a board: the grid that they make, and points of a row coloured anew.
-use Rattle.std.proofs.Common.{◌≡◌, ◌≢◌, ◌↔◌, inl, inr, ℕ, ◌*◌, ◌<◌, ◌≤◌, ◌^◌, ◌%◌, ◌==◌, ◌&&◌, ◌||◌, Bool, true, false, not, cond, List, length, get_or, set, take, replicate, bit_and, bit_or, w64, refl, sym, ap, ◌∙◌, arith, subst}
+use Rattle.std.proofs.Common.{◌≡◌, ◌≢◌, ◌↔◌, inl, inr, ℕ, ◌*◌, ◌<◌, ◌≤◌, ◌^◌, ◌%◌, ◌==◌, ◌&&◌, ◌||◌, Bool, true, false, not, cond, List, length, get_or, set, take, replicate, bit_and, bit_or, w64, refl, sym, ap, ◌∙◌, arith, subst, rules}
 use Rattle.std.proofs.lemmas.Grind.{common_steps}
 use Rattle.std.specs.Int.{bit_at, bit_not}
 use Rattle.std.proofs.Math.Bool.{or-true, and-true, and-false}
@@ -46,11 +46,7 @@ bit_in side words p below = ap (λ w. has_bit w p.col) (get_or-take side words p
 -- the rows of a board, as many as it has, are those of the grid that they make
 module _ (side : ℕ) (black white : List ℕ) (are : AreStones side black white) where
   front : (k : Cell) (words : List ℕ) → length words ≡ 52 → ((p : Point) → is_set words p ≡ true → IsOn side p) → ((p : Point) → is_set words p ≡ same_cell (stone_in black white p) k) → AreRowsOf side (λ p. same_cell (cell_at (grid_with side black white) p) k) (take side words)
-  front k words long on is = record {
-    on = λ p at. bit_in side words p at.1 ∙ is p ∙ ap (λ c. same_cell c k) (sym (cell_at-grid_of side (stone_in black white) p at));
-    off = λ p there. let below = row_below (take side words) p there in
-        on p (sym (bit_in side words p (omega (arith, below, are.few, length-take-le side words (rw long are.few)))) ∙ there);
-  }
+  front k words long on is = grind (arith, common_steps, bit_in, cell_at-grid_of, length-take-le, row_below)
 
   pub black_front : AreRowsOf side (λ p. same_cell (cell_at (grid_with side black white) p) Black) (take side black)
   black_front = front Black black are.black_rows are.black_on (λ p. black_is (is_set black p) (is_set white p))
@@ -131,20 +127,10 @@ module _ (side : ℕ) (black white : List ℕ) (row columns : ℕ) (c : Cell) (b
 
   pub grid-coloured : grid_with side (set black row b) (set white row w) ≡ with_columns (grid_with side black white) row columns c
   unfolding with_columns
-  grid-coloured =
-      same_colours side _ _
-      (λ q on.
-      ap (λ x. cond x Black (cond (is_set (set white row w) q) White Empty)) (is_black q)
-      ∙ ap (λ x. cond (cond (turned q) (same_cell c Black) (is_set black q)) Black (cond x White Empty)) (is_white q)
-      ∙ chosen (turned q) c (is_set black q) (is_set white q)
-      ∙ ap (λ x. cond (turned q) c x) (sym (cell_at-grid_of side (stone_in black white) q on)))
+  grid-coloured = search (rules, cell_at-grid_of, chosen, is_black, is_white, same_colours)
 
 row_stone : (e b w x y : Bool) → cond (cond e (b && not w) x) Black (cond (cond e w y) White Empty) ≡ cond e (cond w White (cond b Black Empty)) (cond x Black (cond y White Empty))
-row_stone false b w x y = refl
-row_stone true true true x y = refl
-row_stone true true false x y = refl
-row_stone true false true x y = refl
-row_stone true false false x y = refl
+row_stone e b w x y = grind (arith, common_steps)
 
 -- a board after a row was set
 module _ (side : ℕ) (black white : List ℕ) (row all b w : ℕ) (are : AreStones side black white) (below : row < side) (black_in : (col : ℕ) → has_bit all col ≡ true → col < side) (white_in : (col : ℕ) → has_bit w col ≡ true → col < side) (rest : (col : ℕ) → col < 64 → has_bit b col ≡ (has_bit all col && not (has_bit w col))) (off : (col : ℕ) → has_bit b col ≡ true → has_bit all col ≡ true) where
@@ -158,41 +144,18 @@ module _ (side : ℕ) (black white : List ℕ) (row all b w : ℕ) (are : AreSto
   unfolding with_row
   grid-row =
       same_colours side _ _
-      (λ q on.
-      let e = q.row == row in
-      ap (λ x. cond x Black (cond (is_set (set white row w) q) White Empty)) (is_set-row black row b in_black_rows q)
-      ∙ ap (λ x. cond (cond e (has_bit b q.col) (is_set black q)) Black (cond x White Empty)) (is_set-row white row w in_white_rows q)
-      ∙ ap (λ x. cond (cond e x (is_set black q)) Black (cond (cond e (has_bit w q.col) (is_set white q)) White Empty)) (rest q.col (omega (arith, on.0, are.few)))
-      ∙ row_stone e (has_bit all q.col) (has_bit w q.col) (is_set black q) (is_set white q)
-      ∙ ap (λ x. cond e (cond (has_bit w q.col) White (cond (has_bit all q.col) Black Empty)) x) (sym (cell_at-grid_of side (stone_in black white) q on)))
+      (λ q on. grind (arith, common_steps, is_set-row black row b in_black_rows q, is_set-row white row w in_white_rows q, rest q.col (omega (arith, on.0, are.few)), row_stone, cell_at-grid_of side (stone_in black white) q on))
 
 -- one point coloured is a grid with that point coloured
 pub one_coloured : (g : Grid) (p : Point) (row columns : ℕ) (c : Cell) → IsOn g.side p → length g.cells ≡ g.side * g.side → row ≡ p.row → has_bit columns p.col ≡ true → ((k : ℕ) → k ≢ p.col → has_bit columns k ≡ false) → with_columns g row columns c ≡ with_cell g p c
 unfolding with_columns
 one_coloured g p row columns c on all at there elsewhere =
-    grid_of-cells h _ (length-set g.cells (index_of g.side p) c ∙ all)
+    grid_of-cells (with_cell g p c) _ (length-set g.cells (index_of g.side p) c ∙ all)
     (λ q on_board.
     elim (same_or_not q p) [
-      | inl same ↦
-          ap (λ (x : Point). cond ((x.row == row) && has_bit columns x.col) c (cell_at g x)) same
-          ∙ ap (λ b. cond (b && has_bit columns p.col) c (cell_at g p)) ((Decides-eqb p.row row).1 (sym at))
-          ∙ ap (λ b. cond b c (cell_at g p)) there
-          ∙ sym (ap (cell_at h) same ∙ cell_at-with_cell g p c on all)
-      | inr other ↦
-          ap (λ b. cond b c (cell_at g q)) (outside q other) ∙ sym (cell_at-with_cell_elsewhere g p q c on on_board other)
+      | inl same ↦ rw same (grind (arith, common_steps, Decides-eqb, cell_at-with_cell g p c on all))
+      | inr other ↦ grind (arith, common_steps, Decides-eqb, one_point q p, elsewhere q.col, cell_at-with_cell_elsewhere g p q c on on_board other)
     ])
-  where
-    h : Grid
-    h = with_cell g p c
-
-    outside : (q : Point) → q ≢ p → ((q.row == row) && has_bit columns q.col) ≡ false
-    outside q other =
-        elim (cases_Bool (q.row == row)) [
-          | inl same ↦
-              ap (λ b. b && has_bit columns q.col) same
-              ∙ elsewhere q.col (λ e. other (one_point q p e ((Decides-eqb q.row row).0 same ∙ at)))
-          | inr apart ↦ ap (λ b. b && has_bit columns q.col) apart
-        ]
 
 -- a word with some columns as they are to be
 pub columns_set : (word columns c : ℕ) → has_bit (bit_or word columns) c ≡ cond (has_bit columns c) true (has_bit word c)
@@ -215,12 +178,10 @@ bit_elsewhere : (col : ℕ) → col < 64 → (k : ℕ) → k ≢ col → has_bit
 bit_elsewhere col low k other = set_bit_elsewhere 0 col low k other ∙ has_bit-zero k
 
 pub without_there : (word col : ℕ) → word < 2 ^ 64 → col < 64 → has_bit (bit_and word (bit_not w64 (bit_of col))) col ≡ false
-without_there word col fits low =
-    has_bit-less word (bit_of col) col fits (small col) ∙ ap (λ x. has_bit word col && not x) (bit_there col low) ∙ and-false (has_bit word col)
+without_there word col fits low = grind (arith, common_steps, and-false, bit_there, has_bit-less, small)
 
 pub without_elsewhere : (word col : ℕ) → word < 2 ^ 64 → col < 64 → (k : ℕ) → k ≢ col → has_bit (bit_and word (bit_not w64 (bit_of col))) k ≡ has_bit word k
-without_elsewhere word col fits low k other =
-    has_bit-less word (bit_of col) k fits (small col) ∙ ap (λ x. has_bit word k && not x) (bit_elsewhere col low k other) ∙ and-true (has_bit word k)
+without_elsewhere word col fits low k other = grind (arith, common_steps, and-true, bit_elsewhere, has_bit-less, small)
 
 -- a board on which nothing stands
 pub AreStones-none : (side : ℕ) (black white : List ℕ) → side ≤ 52 → black ≡ replicate 52 0 → white ≡ replicate 52 0 → AreStones side black white × (grid_with side black white ≡ empty_grid side)

@@ -1,5 +1,5 @@
 -- Grids coloured row by row, and cleared ones.
-use Rattle.std.proofs.Common.{◌≡◌, ◌≢◌, ℕ, ◌+◌, ◌*◌, ◌^◌, ◌<◌, ◌≤◌, ◌==◌, ◌&&◌, Bool, cond, w64, true, false, nat_lt, List, length, refl, sym, ap, subst, ◌∙◌, arith, inl, inr, IsTrue}
+use Rattle.std.proofs.Common.{◌≡◌, ◌≢◌, ℕ, ◌+◌, ◌*◌, ◌^◌, ◌<◌, ◌≤◌, ◌==◌, ◌&&◌, Bool, cond, w64, true, false, nat_lt, List, length, refl, sym, ap, subst, ◌∙◌, arith, inl, inr, IsTrue, rules}
 use Rattle.std.proofs.lemmas.Grind.{common_steps}
 use Rattle.std.specs.Int.{trailing_zeros}
 use Rattle.std.proofs.Math.Bool.{and-false}
@@ -63,9 +63,7 @@ painted g test cell row = grid_of g.side (λ p. cond (nat_lt p.row row && test p
 
 -- what a row adds: in it the columns are those of the set, and the rows before it stay
 merged : (here column test before next : Bool) (cell old : Cell) → (here ≡ true → column ≡ test) → (here ≡ true → next ≡ true) → (here ≡ false → before ≡ next) → cond (here && column) cell (cond (before && test) cell old) ≡ cond (next && test) cell old
-merged true column true before next cell old same done apart = rw (same refl, done refl) refl
-merged true column false before next cell old same done apart = rw (same refl, done refl, and-false before) refl
-merged false column test before next cell old same done apart = rw (apart refl) refl
+merged here column test before next cell old same done apart = grind (arith, common_steps)
 
 module _ (g : Grid) (test : Point → Bool) (cell : Cell) (row : ℕ) where
   pub painted_none : length g.cells ≡ g.side * g.side → ((p : Point) → test p ≡ true → row ≤ p.row) → painted g test cell row ≡ g
@@ -76,10 +74,7 @@ module _ (g : Grid) (test : Point → Bool) (cell : Cell) (row : ℕ) where
 
   pub painted_more : (columns : ℕ) → ((p : Point) → p.row ≡ row → has_bit columns p.col ≡ test p) → with_columns (painted g test cell row) row columns cell ≡ painted g test cell (row + 1)
   unfolding with_columns
-  painted_more columns is =
-      same_colours g.side _ _
-      (λ p on.
-      ap (λ x. cond ((p.row == row) && has_bit columns p.col) cell x) (cell_at-grid_of g.side _ p on) ∙ turn columns p (is p))
+  painted_more columns is = search (rules, cell_at-grid_of, same_colours, turn)
 
   pub painted_same : (columns : ℕ) → columns ≡ 0 → ((p : Point) → p.row ≡ row → has_bit columns p.col ≡ test p) → painted g test cell row ≡ painted g test cell (row + 1)
   painted_same columns zero is = grind (arith, common_steps, and-false, has_bit-zero, nat_lt, same_colours, turn)

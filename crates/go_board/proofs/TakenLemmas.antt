@@ -1,6 +1,6 @@
 -- A move on a grid where every stone reaches empty: taking off the groups without a liberty beside the stone, or else its own where that
 -- has none, is the whole move. What is taken off, as rows.
-use Rattle.std.proofs.Common.{◌≡◌, ◌⊎◌, inl, inr, ◌*◌, ◌+◌, ◌<◌, ◌≤◌, ◌||◌, true, false, ℕ, List, [], length, slice_index, slice_set, bit_or, refl, sym, ap, subst, ◌∙◌, arith, ◌≢◌, Bool, ◌∷◌, IsTrue}
+use Rattle.std.proofs.Common.{◌≡◌, ◌⊎◌, inl, inr, ◌*◌, ◌+◌, ◌<◌, ◌≤◌, ◌||◌, true, false, ℕ, List, [], length, slice_index, slice_set, bit_or, refl, sym, ap, subst, ◌∙◌, arith, ◌≢◌, Bool, ◌∷◌, IsTrue, rules}
 use Rattle.std.proofs.lemmas.Grind.{common_steps}
 use Rattle.std.proofs.Math.Bool.{or-false}
 use Rattle.std.proofs.lemmas.Bool.{cases_Bool, cases_lt, or_cases, or_left, or_right, false≢true}
@@ -91,23 +91,11 @@ module _ (g : Grid) (cells : List Cell) (p : Point) (k : Colour) (gone : Point �
 
   pub gone_or_reaches : (q : Point) → IsOn g.side q → cell_at (record g { cells = cells }) q ≡ stone_of k → (gone q ≡ true) ⊎ Reaches (record g { cells = cells }) Empty q
   unfolding h
-  gone_or_reaches q on own =
-      elim (same_or_not q p) [
-        | inl same ↦ at_point q same own
-        | inr other ↦
-            elim (fewer q on other) [
-              | inl free ↦ absurd (stone_of≢Empty k (sym own ∙ free))
-              | inr kept_q ↦
-                  let stone = sym kept_q ∙ own in
-                  let way = reach q on stone in
-                  follow way.0 q (subst (λ c. Leads g c Empty q way.0) stone way.1) own
-            ]
-      ]
+  gone_or_reaches q on own = search (rules, at_point, follow, same_or_not, stone_of≢Empty)
 
   pub AllReach-after : ((q : Point) → gone q ≡ false) → AllReach (record g { cells = cells }) k
   unfolding h
-  AllReach-after none =
-      λ q on own. elim (gone_or_reaches q on own) [ inl is ↦ absurd (false≢true (sym (none q) ∙ is)) | inr way ↦ way ]
+  AllReach-after none = grind (arith, common_steps, gone_or_reaches)
 
   -- so clearing the colour takes off exactly these groups
   pub clear_without : length cells ≡ g.side * g.side → IsWithout (record g { cells = cells }) (clear (record g { cells = cells }) k) (λ q. IsTrue (gone q))
@@ -216,15 +204,7 @@ taken_still g k a b p among each = λ stone. elim (each stone) [ inl taken ↦ i
 
 -- the point of a stone emptied again
 pub taken_away : (g : Grid) (p : Point) (stone : Cell) → IsOn g.side p → length g.cells ≡ g.side * g.side → cell_at g p ≡ Empty → with_cell (with_cell g p stone) p Empty ≡ g
-taken_away g p stone on all free =
-    let h = with_cell g p stone in
-    let long : length h.cells ≡ g.side * g.side = length-set g.cells (index_of g.side p) stone ∙ all in
-    one_colouring (with_cell h p Empty) g refl (length-set h.cells (index_of g.side p) Empty ∙ long) all
-    (λ q at.
-    elim (same_or_not q p) [
-      | inl same ↦ ap (cell_at (with_cell h p Empty)) same ∙ cell_at-with_cell h p Empty on long ∙ sym (ap (cell_at g) same ∙ free)
-      | inr other ↦ cell_at-with_cell_elsewhere h p q Empty on at other ∙ cell_at-with_cell_elsewhere g p q stone on at other
-    ])
+taken_away g p stone on all free = grind (arith, common_steps, cell_at-with_cell, cell_at-with_cell_elsewhere, h, length-set, long, one_colouring, same_or_not)
 
 -- the rows before one have the points of others, too
 pub record AddedBelow (old rows : List ℕ) (row : ℕ) (new : List ℕ) : Type 0 where

@@ -1,5 +1,6 @@
 -- Different points have different vertices.
 use Rattle.std.proofs.Common.{◌≡◌, ℕ, ◌-◌, ◌<◌, ◌≤◌, map, get_or, refl, sym, ap, ◌∙◌, arith, nat_lt, if◌then◌else◌, slice_index}
+use Rattle.std.proofs.lemmas.Grind.{common_steps}
 use Rattle.std.specs.List.{range_with_len}
 use Rattle.std.proofs.lemmas.List.{get_or-map}
 use Rattle.std.proofs.lemmas.List.FromFn.{get_or-range_with_len}
@@ -17,11 +18,7 @@ unfolding column_of
 columns_in_order = refl
 
 column_of-letter : (col : ℕ) → col < 25 → column_of (slice_index column_letters col) ≡ col
-column_of-letter col below =
-    sym (get_or-map column_of column_letters col 0 0 below)
-    ∙ ap (λ cols. get_or cols col 0) columns_in_order
-    ∙ get_or-range_with_len 0 25 col 0 below
-    ∙ omega arith
+column_of-letter col below = grind (arith, common_steps, column_of, columns_in_order, get_or-map, get_or-range_with_len)
 
 pub vertex_of_injective : (side : ℕ) (p q : Point) → side ≤ 25 → IsOn side p → IsOn side q → vertex_of p side ≡ vertex_of q side → p ≡ q
 unfolding vertex_of

@@ -1,5 +1,5 @@
 -- Words as sets of columns: what the operations on words make of their bits.
-use Rattle.std.proofs.Common.{◌≡◌, ◌≢◌, ◌⊎◌, inl, inr, ℕ, zero, suc, ◌+◌, ◌-◌, ◌*◌, ◌/◌, ◌%◌, ◌^◌, ◌<◌, ◌≤◌, ◌==◌, ◌||◌, ◌&&◌, min, max, Bool, true, false, not, bit_and, bit_or, w64, refl, sym, ap, ◌∙◌, arith, subst}
+use Rattle.std.proofs.Common.{◌≡◌, ◌≢◌, ◌⊎◌, inl, inr, ℕ, zero, suc, ◌+◌, ◌-◌, ◌*◌, ◌/◌, ◌%◌, ◌^◌, ◌<◌, ◌≤◌, ◌==◌, ◌||◌, ◌&&◌, min, max, Bool, true, false, not, bit_and, bit_or, w64, refl, sym, ap, ◌∙◌, arith, subst, rules}
 use Rattle.std.proofs.lemmas.Grind.{common_steps}
 use Rattle.std.specs.Int.{bit_at, bit_not}
 use Rattle.std.proofs.lemmas.Bool.{not-false, false_from_ne_true, false≢true, cases_lt, cases_eq, eqb-true, eqb-false}
@@ -37,10 +37,7 @@ test_without : (a b : ℕ) → a < 2 → b < 2 → (min a (1 - b) == 1) ≡ ((a 
 test_without = by_bits (λ a b. (min a (1 - b) == 1) ≡ ((a == 1) && not (b == 1))) refl refl refl refl
 
 pub has_bit-without : (word other c : ℕ) → other < 2 ^ 64 → c < 64 → has_bit (bit_and word (bit_not w64 other)) c ≡ (has_bit word c && not (has_bit other c))
-has_bit-without word other c low column =
-    ap (λ n. n == 1)
-    (bit_at_and word (bit_not w64 other) c ∙ ap (λ b. min (bit_at word c) b) (bit_at_not w64 other c low column))
-    ∙ test_without (bit_at word c) (bit_at other c) (bit_at-lt word c) (bit_at-lt other c)
+has_bit-without word other c low column = search (rules, bit_at-lt, bit_at_and, bit_at_not, test_without)
 
 -- the same in every column, of words
 pub has_bit-less : (word other c : ℕ) → word < 2 ^ 64 → other < 2 ^ 64 → has_bit (bit_and word (bit_not w64 other)) c ≡ (has_bit word c && not (has_bit other c))

@@ -58,6 +58,7 @@ impl Board {
     }
 
     /// Adds the group of the stone on a point to `shut` if it has no liberty. Returns whether that is so.
+    #[inline(always)]
     fn find_shut(&self, colour: Colour, point: Point, shut: &mut [u64]) -> bool
         requires { IsAsked self.now colour point shut.old }
         ensures { AddsGroup self.now colour point shut.old shut.new result }

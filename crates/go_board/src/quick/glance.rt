@@ -27,7 +27,7 @@ impl Board {
         self.has_all_cells();
         let own = self.rows_of(colour);
         let others = self.rows_of(colour.opponent());
-        leaves_all_alive(own, others, point)
+        stands_apart(own, others, point) || leaves_all_alive(own, others, point)
     }
 }
 
@@ -76,9 +76,6 @@ fn leaves_all_alive(own: &[u64], others: &[u64], point: Point) -> bool
     requires on_board { IsOn (length own.now) point }
     ensures { IsTrue result → LeavesAllAlive own.now others.now point }
 {
-    if stands_apart(own, others, point) {
-        return true;
-    }
     let near = look_around(own, others, point, 0, 0);
     if near.free == 0 {
         return five_rows_show_alive(own, others, point);
