@@ -31,8 +31,7 @@ module _ (test : ℕ → Bool) where
   run-front (b ∷ s) zero run = (rw (run.stops (omega arith)), rw (run.stops (omega arith)))
   run-front (b ∷ s) (suc k) run =
       let here : test b ≡ true = run.passing 0 (omega arith) (omega arith) in
-      let rest = run-front s k (run-tail b s k run) in
-      (rw here (ap (λ u. b ∷ u) rest.0), rw here rest.1)
+      search (rules, run-tail, (run-front s k (run-tail b s k run)))
 
   -- a run further on
   pub run-drop : (s : List ℕ) (k e : ℕ) → IsSpan test s k e → IsSpan test (drop k s) 0 (e - k)
@@ -173,14 +172,7 @@ module _ (s : List ℕ) (k : ℕ) (run : IsSpan is_white_space s 0 k) (held : Ar
   pub next-property : (v m r : List ℕ) → IsPropValue v (drop end s) m → IsPastValues m r → IsNextProperty s k end v m r
   next-property v m r first past =
       let at = property-at s k run end r held lt capital letters (record { values = v ∷ past.values; spelled = value first past.spelled; none_left = past.none_left }) in
-      let step = next-value at.held first in
-      record {
-        more = step.1;
-        left = at.left;
-        is = at.is ∙ ap (λ vs. property_from (name_in (slice_range s k end)) vs ∷ properties_in r) step.0;
-        one = at.one;
-        spelled = at.spelled;
-      }
+      search (rules, next-value)
 
 -- there are no more of them than bytes
 pub count-properties-held : {s : List ℕ} → ArePropertiesIn s → length (properties_in s) ≤ length s

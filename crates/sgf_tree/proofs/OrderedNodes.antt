@@ -147,9 +147,7 @@ game_of-from at (game first more below after) j i h =
           let in_after : parent_in (nodes_from start None after) k ≡ Some (Some i) = sym (parent_in-right front (nodes_from start None after) j k (omega arith)) ∙ h in
           elim (parent-within start None after k i in_after) [
             | inl p ↦ absurd (cc)
-            | inr w ↦
-                game-after first more below after (i - at) (i - start) (omega (arith, w.from)) ∙ ap (λ n. 1 + n) (game_of-from start after k i in_after)
-                ∙ sym (game-after first more below after j k (omega arith))
+            | inr w ↦ search (rules, game-after, (game_of-from start after k i in_after))
           ]
     ]
 

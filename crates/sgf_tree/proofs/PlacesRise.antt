@@ -38,8 +38,7 @@ rises-nodes : {whole : ℕ} {ns : List Node} {s r : List ℕ} → AreNodes whole
 rises-nodes no_node le = omega arith
 rises-nodes {whole} (nodes {n = m} {ns} {t = t} {r} n are) le =
     let x = (end-drop (end-IsNode n all)).0 in
-    let y = rises-node n le in
-    (y.0, rises-low (m.place + 1) (whole - length t) (map node_place ns) (whole - length r) (omega arith) (rises-nodes are (omega arith)))
+    search (rules, rises-node, rises-low, (rises-nodes are (omega arith)))
 
 rises-games : {whole : ℕ} {g : Games} {s r : List ℕ} → AreGames whole g s r → length s ≤ whole → Rises (whole - length s) (places g) (whole - length r)
 rises-games no_game le = omega arith
@@ -62,6 +61,4 @@ place_at-places c i =
     sym (slice_get-map place_in (ordered_nodes c) i) ∙ ap (λ ps. slice_get ps i) (ordered-places 0 None c)
 
 pub places-rise : (c : Games) (t : List ℕ) → Spells c t → PlacesRise c
-places-rise c t s i j p q h e f =
-    let (low, high, rise) = rises-spelled c t s in
-    rises-pair low high (places c) i j p q rise h (sym (place_at-places c i) ∙ e) (sym (place_at-places c j) ∙ f)
+places-rise c t s i j p q h e f = search (rules, rises-spelled, rises-pair, place_at-places)

@@ -1,7 +1,7 @@
 -- Going over the nodes of a sequence on the text.
 use Rattle.std.proofs.lemmas.Grind.{common_steps}
 use Rattle.std.specs.List.{range_with_len}
-use Rattle.std.proofs.Common.{◌≡◌, ◌≢◌, ℕ, suc, ◌+◌, ◌-◌, ◌<◌, ◌≤◌, true, false, List, [], ◌∷◌, ◌++◌, length, get_or, slice_get, slice_range, drop, All, Option, Some, None, option_map, refl, sym, ap, subst, ◌∙◌, inl, inr, arith, get_or-drop, length-drop}
+use Rattle.std.proofs.Common.{◌≡◌, ◌≢◌, ℕ, suc, ◌+◌, ◌-◌, ◌<◌, ◌≤◌, true, false, List, [], ◌∷◌, ◌++◌, length, get_or, slice_get, slice_range, drop, All, Option, Some, None, option_map, refl, sym, ap, subst, ◌∙◌, inl, inr, arith, get_or-drop, length-drop, rules}
 use Rattle.std.proofs.lemmas.Bool.{cases_lt}
 use Rattle.std.proofs.lemmas.List.{drop-drop, drop_all}
 use Rattle.std.proofs.lemmas.List.Elements.{All-nil, All-cons, All-append}
@@ -96,8 +96,7 @@ module _ (t : List ℕ) where
 
   -- white space from an offset of a part of the text
   white-on : (at : ℕ) (s : List ℕ) → s ≡ drop at t → (k to : ℕ) → IsSpan is_white_space t (at + k) to → WhiteSpace (drop k s) (drop to t) × IsSpan is_white_space t to to
-  white-on at s e k to run =
-      (subst (λ x. WhiteSpace x (drop to t)) (sym (ap (drop k) e ∙ drop-drop k at t)) (white-between t (at + k) to run), empty-span t to run.within run.stops)
+  white-on at s e k to run = search (rules, drop-drop, white-between, empty-span)
 
   -- on past the next property, and the white space after it
   pub past-property : (at number end : ℕ) → IsWalk t at number end → (s : List ℕ) → s ≡ drop at t → (e to : ℕ) (p : Property) → IsProperty p s (drop e s) → ArePropertiesIn (drop e s) → IsSpan is_white_space t (at + e) to
@@ -208,8 +207,7 @@ further-between : (g : Games) (k last : ℕ) (ns : List Node) → ((j : ℕ) →
 further-between g k last [] at = refl
 further-between g k last (n ∷ ns) at =
     let e : k + 0 ≡ k = omega arith in
-    let first : node_at g k ≡ Some n = ap (node_at g) (sym e) ∙ ap (option_map (λ (r : OrderedNode). r.node)) (at 0 (omega arith)) in
-    rw first (ap (λ ms. n ∷ ms) (further-between g (k + 1) (last + 1) ns (λ j lt. let f : k + 1 + j ≡ k + suc j = omega arith in ap (slice_get (ordered_nodes g)) f ∙ at (suc j) (omega (arith, lt)))))
+    search (rules, (further-between g (k + 1) (last + 1) ns (λ j lt. let f : k + 1 + j ≡ k + suc j = omega arith in ap (slice_get (ordered_nodes g)) f ∙ at (suc j) (omega (arith, lt)))))
 
 -- all nodes of a sequence, from its entry in the table
 pub sequence-walk : (text : List ℕ) (kept : Sequences) (outlined : IsOutlined text kept) (i : ℕ) (entry : Sequence) → i < length (sequence_starts (games_in text))
