@@ -1,5 +1,5 @@
 -- The letters of an identifier that are its name, one letter after another.
-use Rattle.std.proofs.Common.{◌≡◌, ◌≢◌, ℕ, ◌+◌, ◌<◌, ◌≤◌, Bool, true, false, cond, List, ◌∷◌, ◌++◌, length, get_or, take, drop, filter, Option, Some, None, refl, sym, ap, ◌∙◌, arith, length-append, take-append-drop, length-take-le, rules}
+use Rattle.std.proofs.Common.{◌≡◌, ◌≢◌, ℕ, ◌+◌, ◌<◌, ◌≤◌, Bool, true, cond, List, ◌∷◌, ◌++◌, length, get_or, take, drop, filter, sym, ap, ◌∙◌, length-append, take-append-drop, length-take-le, rules}
 use Rattle.std.proofs.lemmas.List.{drop_more, get_or_at}
 use Rattle.std.proofs.lemmas.List.Elements.{filter-append}
 

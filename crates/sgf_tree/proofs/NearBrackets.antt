@@ -1,5 +1,5 @@
 -- The first `]` of sixteen bytes, by the mask of those that are one.
-use Rattle.std.proofs.Common.{◌≡◌, ◌≢◌, ℕ, ◌+◌, ◌^◌, ◌%◌, ◌<◌, ◌≤◌, false, cond, eqb, List, map, replicate, length, get_or, sym, subst, ◌∙◌, arith, w8, rules}
+use Rattle.std.proofs.Common.{◌≡◌, ◌≢◌, ℕ, ◌+◌, ◌^◌, ◌%◌, ◌≤◌, false, cond, eqb, List, map, replicate, length, get_or, sym, ◌∙◌, arith, w8, rules}
 use Rattle.std.proofs.lemmas.Bool.{eqb-true, eq-eqb, false≢true}
 use Rattle.std.proofs.lemmas.Simd.{length-chunk, bitmask_splat, none_from_empty_mask}
 use Rattle.std.specs.Int.Count.{count_trailing_zeros}

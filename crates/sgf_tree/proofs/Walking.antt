@@ -1,14 +1,14 @@
 -- Going over the nodes of a sequence on the text.
 use Rattle.std.proofs.lemmas.Grind.{common_steps}
 use Rattle.std.specs.List.{range_with_len}
-use Rattle.std.proofs.Common.{◌≡◌, ◌≢◌, ℕ, suc, ◌+◌, ◌-◌, ◌<◌, ◌≤◌, true, false, List, [], ◌∷◌, ◌++◌, length, get_or, slice_get, slice_range, drop, All, Option, Some, None, option_map, refl, sym, ap, subst, ◌∙◌, inl, inr, arith, get_or-drop, length-drop, rules}
+use Rattle.std.proofs.Common.{◌≡◌, ℕ, suc, ◌+◌, ◌-◌, ◌<◌, ◌≤◌, List, [], ◌∷◌, ◌++◌, length, get_or, slice_get, slice_range, drop, All, Option, Some, None, option_map, refl, sym, ap, subst, ◌∙◌, inl, inr, arith, get_or-drop, length-drop, rules}
 use Rattle.std.proofs.lemmas.Bool.{cases_lt}
 use Rattle.std.proofs.lemmas.List.{drop-drop, drop_all}
 use Rattle.std.proofs.lemmas.List.Elements.{All-nil, All-cons, All-append}
 use Rattle.std.proofs.lemmas.Option.{slice_get_cases, slice_get_within, get_or_from_slice_get, same_Some}
-use Rattle.sgf_tree.specs.Tree.{Property, lone_property, Node, Games, no_games, game, node_count}
-use Rattle.sgf_tree.specs.FileOrder.{OrderedNode, further_nodes, ordered_nodes, node_at, nodes_at, place_at, sequence_starts, sequence_start, sequence_end}
-use Rattle.sgf_tree.specs.Spelling.{is_white_space, is_upper, WhiteSpace, no_white_space, white_space, IsProperty, AreProperties, no_property, properties, IsNode, node, AreNodes, no_node, nodes, AreGames, no_game, games, Spells, spells}
+use Rattle.sgf_tree.specs.Tree.{Property, lone_property, Node, Games, node_count}
+use Rattle.sgf_tree.specs.FileOrder.{OrderedNode, further_nodes, ordered_nodes, node_at, nodes_at, sequence_starts, sequence_start, sequence_end}
+use Rattle.sgf_tree.specs.Spelling.{is_white_space, WhiteSpace, no_white_space, white_space, IsProperty, AreProperties, no_property, properties, IsNode, node, AreNodes, no_node, nodes, AreGames, no_game, games, Spells, spells}
 use Rattle.sgf_tree.specs.declared.sequences.Sequence.{Sequence}
 use Rattle.sgf_tree.specs.declared.sequences.Sequences.{Sequences}
 use Rattle.sgf_tree.specs.inner.Listing.{Listed, listed, sequences_of}
@@ -24,7 +24,7 @@ use Rattle.sgf_tree.proofs.NodesSpelled.{ends-at, ends-nodes}
 use Rattle.sgf_tree.proofs.OrderedNodes.{length-ordered_nodes}
 use Rattle.sgf_tree.proofs.NodeTexts.{white-same, white-none, white-join, white-past, ends-values, properties-in}
 use Rattle.sgf_tree.proofs.Spans.{empty-span}
-use Rattle.sgf_tree.proofs.Outlined.{start-listed, end-listed, own-at, one-listed, sequence-some, sequence-within, entry-in}
+use Rattle.sgf_tree.proofs.Outlined.{start-listed, end-listed, own-at, one-listed, sequence-within, entry-in}
 use Rattle.sgf_tree.proofs.WrittenParts.{left-after, head-same, upper-first}
 
 -- properties end at one place

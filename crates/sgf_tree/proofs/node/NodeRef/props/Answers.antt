@@ -1,4 +1,4 @@
-use Rattle.std.proofs.Common.{ap, inl, length, length-drop, arith, rules}
+use Rattle.std.proofs.Common.{ap, length, length-drop, arith, rules}
 use Rattle.sgf_tree.proofs.Iterating.{count-properties-held}
 use Rattle.sgf_tree.proofs.node.NodeRef.props.Goals as goal
 

@@ -1,4 +1,4 @@
-use Rattle.std.proofs.Common.{ap, inl, length, arith, rules}
+use Rattle.std.proofs.Common.{rules}
 use Rattle.sgf_tree.proofs.Iterating.{count-values_held}
 use Rattle.sgf_tree.proofs.property.PropRef.values.Goals as goal
 

@@ -1,4 +1,4 @@
-use Rattle.std.proofs.Common.{arith, rules}
+use Rattle.std.proofs.Common.{rules}
 use Rattle.sgf_tree.proofs.Leading.{others-nothing}
 use Rattle.sgf_tree.proofs.quick.lead.led_end.Goals as goal
 

@@ -1,6 +1,5 @@
 use Rattle.std.proofs.lemmas.Grind.{common_steps}
-use Rattle.std.proofs.Common.{◌≡◌, ◌+◌, subst, arith}
-use Rattle.sgf_tree.specs.inner.Progress.{IsValueEnd}
+use Rattle.std.proofs.Common.{arith}
 use Rattle.sgf_tree.proofs.Leading.{other-property}
 use Rattle.sgf_tree.proofs.ShortProperties.{two-value}
 use Rattle.sgf_tree.proofs.quick.lead.other_property_end.Goals as goal

@@ -1,4 +1,4 @@
-use Rattle.std.proofs.Common.{arith, rules}
+use Rattle.std.proofs.Common.{rules}
 use Rattle.sgf_tree.proofs.Points.{points-more, fourth-stands}
 use Rattle.sgf_tree.proofs.quick.points.past_points.Goals as goal
 

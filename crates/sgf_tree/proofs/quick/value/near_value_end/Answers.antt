@@ -1,4 +1,4 @@
-use Rattle.std.proofs.Common.{◌≢◌, ◌+◌, ◌-◌, ◌<◌, get_or, arith, rules}
+use Rattle.std.proofs.Common.{◌+◌, rules}
 use Rattle.sgf_tree.proofs.ValueUnits.{no-units, plain-units, bare-units, units-ended}
 use Rattle.sgf_tree.proofs.quick.value.near_value_end.Goals as goal
 use Rattle.sgf_tree.proofs.quick.value.near_value_end.Goals.{else-bracket-at-via-then-bracket-at+else-text-bracket-eq92, else-bracket-at-via-else-bracket-at}

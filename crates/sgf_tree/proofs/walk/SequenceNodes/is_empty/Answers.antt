@@ -1,9 +1,6 @@
-use Rattle.std.proofs.Common.{◌≡◌, ◌<◌, length, inl, inr, ap, arith, rules}
+use Rattle.std.proofs.Common.{rules}
 use Rattle.std.proofs.lemmas.Bool.{cases_lt}
 use Rattle.std.proofs.lemmas.Bool.Decides.{nat_tests}
-use Rattle.sgf_tree.specs.NodesLeft.{NodesLeft}
-use Rattle.sgf_tree.specs.inner.Machine.{games_in}
-use Rattle.sgf_tree.specs.inner.Walking.{nodes_between}
 use Rattle.sgf_tree.proofs.Walking.{between-some, between-none}
 use Rattle.sgf_tree.proofs.walk.SequenceNodes.is_empty.Goals as goal
 

@@ -1,8 +1,7 @@
 use Rattle.std.proofs.lemmas.Grind.{common_steps}
-use Rattle.std.proofs.Common.{◌<◌, ◌∙◌, length, drop, refl, sym, ap, subst, arith, rules}
+use Rattle.std.proofs.Common.{◌∙◌, drop, refl, sym, ap, subst, arith, rules}
 use Rattle.sgf_tree.specs.NodesLeft.{NodesLeft}
 use Rattle.sgf_tree.specs.inner.Lead.{IsLedNode, IsEmptyNode}
-use Rattle.sgf_tree.specs.inner.Machine.{games_in}
 use Rattle.sgf_tree.specs.inner.NodeText.{node_in}
 use Rattle.sgf_tree.proofs.Leading.{led-properties, led-next, empty-next}
 use Rattle.sgf_tree.proofs.Walking.{between-some}

@@ -1,9 +1,9 @@
 -- No property is left, so the walk is at the `;` of its next node.
-use Rattle.std.proofs.Common.{◌≡◌, ◌<◌, ◌∙◌, ℕ, List, [], length, drop, sym, ap, arith, refl, length-drop, rules}
+use Rattle.std.proofs.Common.{◌≡◌, ◌<◌, ◌∙◌, length, sym, ap, arith, refl, length-drop, rules}
 use Rattle.sgf_tree.specs.NodesLeft.{NodesLeft}
 use Rattle.sgf_tree.specs.inner.Machine.{games_in}
-use Rattle.sgf_tree.specs.inner.NodeText.{node_in, properties_in}
-use Rattle.sgf_tree.specs.inner.Walking.{nodes_between, IsWalk}
+use Rattle.sgf_tree.specs.inner.NodeText.{node_in}
+use Rattle.sgf_tree.specs.inner.Walking.{nodes_between}
 use Rattle.sgf_tree.proofs.Walking.{IsNextAt, some-between, next-closed, into-node, past-front}
 use Rattle.sgf_tree.proofs.walk.SequenceNodes.open.Goals as goal
 use Rattle.sgf_tree.proofs.walk.SequenceNodes.open.Goals.{After-rest_from-node}
