@@ -178,5 +178,5 @@ module _ (s : List ℕ) (k : ℕ) (run : IsSpan is_white_space s 0 k) (held : Ar
 pub count-properties-held : {s : List ℕ} → ArePropertiesIn s → length (properties_in s) ≤ length s
 count-properties-held held = grind (arith, common_steps, properties-in, count-properties)
 
-pub count-values_held : {s : List ℕ} → AreValuesIn s → length (values_in s) ≤ length s
-count-values_held held = grind (arith, common_steps, values-in, count-values)
+pub count_values_held : {s : List ℕ} → AreValuesIn s → length (values_in s) ≤ length s
+count_values_held held = grind (arith, common_steps, values-in, count-values)

@@ -65,8 +65,8 @@ module _ (names : List (List ℕ)) (t : List ℕ) where
   others_end at end all ends = grind (arith, common_steps, nothing-skipped)
 
   -- none after a move that is a node by itself
-  pub others-nothing : EndsNode t 6 → AreOthers names t 6 6
-  others-nothing ends = others_end 6 6 (others_none 6 (omega (arith, ends.within))) ends
+  pub others_nothing : EndsNode t 6 → AreOthers names t 6 6
+  others_nothing ends = others_end 6 6 (others_none 6 (omega (arith, ends.within))) ends
 
 -- the properties of the node
 module _ (names : List (List ℕ)) (s : List ℕ) (next : ℕ) (is : IsLedNode names s next) where

@@ -71,11 +71,11 @@ module _ {whole : ℕ} {ns : List Node} where
 nodes-first : (g : Games) (k end : ℕ) (n : Node) → k < end → node_at g k ≡ Some n → nodes_between g k end ≡ n ∷ nodes_between g (k + 1) end
 nodes-first g k end n lt e = grind (arith, common_steps)
 
-pub between-none : (g : Games) (k end : ℕ) → end ≤ k → length (nodes_between g k end) ≡ 0
-between-none g k end le = let none : end - k ≡ 0 = omega arith in ap (λ n. length (nodes_at g (range_with_len k n))) none
+pub between_none : (g : Games) (k end : ℕ) → end ≤ k → length (nodes_between g k end) ≡ 0
+between_none g k end le = let none : end - k ≡ 0 = omega arith in ap (λ n. length (nodes_at g (range_with_len k n))) none
 
 pub some-between : (g : Games) (k end : ℕ) → 0 < length (nodes_between g k end) → k < end
-some-between g k end some = grind (arith, common_steps, cases_lt, between-none)
+some-between g k end some = grind (arith, common_steps, cases_lt, between_none)
 
 between-first : (g : Games) (k end : ℕ) → k < end → end ≤ node_count g → (n : Node) × (nodes_between g k end ≡ n ∷ nodes_between g (k + 1) end)
 between-first g k end lt within =
@@ -84,8 +84,8 @@ between-first g k end lt within =
       | inr past ↦ absurd (omega (arith, past.0, length-ordered_nodes g))
     ]
 
-pub between-some : (g : Games) (k end : ℕ) → k < end → end ≤ node_count g → 0 < length (nodes_between g k end)
-between-some g k end lt within = omega (arith, ap length (between-first g k end lt within).1)
+pub between_some : (g : Games) (k end : ℕ) → k < end → end ≤ node_count g → 0 < length (nodes_between g k end)
+between_some g k end lt within = omega (arith, ap length (between-first g k end lt within).1)
 
 module _ (t : List ℕ) where
   -- a walk from where white space has ended

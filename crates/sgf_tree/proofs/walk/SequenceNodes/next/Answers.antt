@@ -4,11 +4,11 @@ use Rattle.sgf_tree.specs.NodesLeft.{NodesLeft}
 use Rattle.sgf_tree.specs.inner.Lead.{IsLedNode, IsEmptyNode}
 use Rattle.sgf_tree.specs.inner.NodeText.{node_in}
 use Rattle.sgf_tree.proofs.Leading.{led-properties, led-next, empty-next}
-use Rattle.sgf_tree.proofs.Walking.{between-some}
+use Rattle.sgf_tree.proofs.Walking.{between_some}
 use Rattle.sgf_tree.proofs.walk.SequenceNodes.next.Goals as goal
 
 pub open-requires : goal.open-requires
-open-requires c = search (rules, between-some)
+open-requires c = search (rules, between_some)
 
 pub returns : goal.returns
 returns c = (c.open.ensures.0, c.open.ensures.1, c.open.ensures.2 c.args.names.now)
