@@ -26,6 +26,5 @@ module _ (t : List ℕ) (at : ℕ) (room : at + 16 ≤ length t) where
 
   pub lowest_found : found ≢ 0 → IsNextBracket t at (at + count_trailing_zeros 64 found)
   lowest_found some =
-      let r : ℕ = count_trailing_zeros 64 bits in
       let lowest = NearBits.lowest-bit (λ x. eqb x 93) t at room (omega (arith, found-bits, some)) in
       search (rules, found-bits, eqb-true, not-bracket)

@@ -65,6 +65,5 @@ module _ (least most : List ℕ) (wide : length least ≡ 16) (wide' : length mo
 
   pub first-in-place : 0 < bits → IsFirstInPlace (count_trailing_zeros 64 bits)
   first-in-place some =
-      let r : ℕ = count_trailing_zeros 64 bits in
       let zeros = bit_at-trailing_zeros w64 bits some (omega arith) in
       search (rules, cases_lt, bit, get_or-eq_default, lanes-long)

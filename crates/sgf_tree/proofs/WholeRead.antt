@@ -69,6 +69,5 @@ module _ (t : List ℕ) where
           let k : Stack = so_far.stack in
           let all : k.unclosed ≡ [] = no-game k.unclosed (so_far.depth_is ∙ none) in
           let count : open_count k.closed k.unclosed ≡ node_count k.closed = ap (open_count k.closed) all in
-          let nodes : 0 < node_count k.closed = omega (arith, so_far.some some) in
-          let accepts = games-accepted t at k so_far.stands ends all (some-game k.closed nodes) in
+          let accepts = games-accepted t at k so_far.stands ends all (some-game k.closed (omega (arith, so_far.some some))) in
           search (rules, collection-reached, games-whole, unwrap_or, accepted-spelled)
