@@ -1,6 +1,5 @@
 -- Some bytes complete each state that a text reaches.
-use Rattle.std.proofs.lemmas.Grind.{common_steps}
-use Rattle.std.proofs.Common.{◌≡◌, ℕ, ◌+◌, ◌<◌, suc, Bool, false, true, List, [], ◌∷◌, ◌++◌, length, replicate, Some, All, option_and_then, if◌then◌else◌, refl, sym, ◌∙◌, subst, lit<, arith, rules}
+use Rattle.std.proofs.Common.{◌≡◌, ℕ, ◌+◌, ◌<◌, suc, Bool, false, true, List, [], ◌∷◌, ◌++◌, length, replicate, Some, All, option_and_then, if◌then◌else◌, refl, subst, lit<, rules}
 use Rattle.std.proofs.lemmas.List.Elements.{All-nil, All-cons, All-replicate}
 use Rattle.std.proofs.lemmas.Option.{none-some, same_Some, option_and_then_some}
 use Rattle.sgf_tree.specs.Tree.{Property, Node, Games, no_games, game}

@@ -52,9 +52,6 @@ pub data Rest (whole : ℕ) (c : Games) : Games → List OpenGame → List ℕ �
       → Rest whole c closed (g ∷ gs) t
 
 module _ (whole : ℕ) (c : Games) where
-  abbrev pub After_game : Stack → List ℕ → Type 0
-  After_game k t = Rest whole c k.closed k.unclosed t
-
   -- where a node has ended: nodes, and the rest
   abbrev pub After_node : Stack → List ℕ → Type 0
   After_node k t = (ns : List Node) × (u : List ℕ) × AreNodes whole ns t u × Rest whole c k.closed (add_nodes k.unclosed ns) u
@@ -93,4 +90,4 @@ module _ (whole : ℕ) (c : Games) where
   Completes (after_escape n name before value) t =
       (b : ℕ) × (s : List ℕ) × (t ≡ b ∷ s) × In_value n name before (value ++ 92 ∷ b ∷ []) s
   Completes (after_value n p) t = After_value n p t
-  Completes (after_game k) t = After_game k t
+  Completes (after_game k) t = Rest whole c k.closed k.unclosed t

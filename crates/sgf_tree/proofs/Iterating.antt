@@ -1,13 +1,13 @@
 -- A step forward over the properties in front of a text, or over the values.
 use Rattle.std.proofs.lemmas.Grind.{common_steps}
-use Rattle.std.proofs.Common.{rules, ◌≡◌, ◌≢◌, ℕ, zero, suc, ◌+◌, ◌-◌, ◌<◌, ◌≤◌, Bool, true, false, IsTrue, List, [], ◌∷◌, ◌++◌, length, get_or, take, drop, slice_range, filter, refl, sym, ap, subst, ◌∙◌, inl, inr, arith, add-one, get_or-drop, length-drop}
+use Rattle.std.proofs.Common.{rules, ◌≡◌, ◌≢◌, ℕ, zero, suc, ◌+◌, ◌-◌, ◌<◌, ◌≤◌, Bool, true, false, IsTrue, List, [], ◌∷◌, ◌++◌, length, get_or, take, drop, slice_range, filter, refl, sym, ap, subst, ◌∙◌, arith, add-one, get_or-drop, length-drop}
 use Rattle.std.proofs.lemmas.Bool.{cases_lt, false≢true}
 use Rattle.std.proofs.Math.Seq.{drop-cons}
-use Rattle.std.proofs.lemmas.List.{drop-drop, drop_all}
+use Rattle.std.proofs.lemmas.List.{drop_all}
 use Rattle.sgf_tree.specs.Tree.{Property}
 use Rattle.sgf_tree.specs.RawValue.{IsValue}
 use Rattle.sgf_tree.specs.Spelling.{is_white_space, is_upper, WhiteSpace, no_white_space, IsPropValue, prop_value, ArePropValues, no_value, value, IsProperty, property, AreProperties, no_property, properties}
-use Rattle.sgf_tree.specs.inner.NodeText.{is_letter, left_after, front, values_in, property_from, name_in, properties_in, NoValueFollows, NoPropertyFollows, AreValuesIn, ArePropertiesIn, IsNoPropValue, IsPastValues}
+use Rattle.sgf_tree.specs.inner.NodeText.{is_letter, left_after, front, values_in, property_from, name_in, properties_in, NoPropertyFollows, AreValuesIn, ArePropertiesIn, IsNoPropValue, IsPastValues}
 use Rattle.sgf_tree.specs.inner.Progress.{IsSpan, SpellsValue, SpellsNoValue}
 use Rattle.sgf_tree.proofs.Classes.{upper-not_white_space}
 use Rattle.sgf_tree.proofs.ValueEnds.{drop-span}
@@ -31,8 +31,7 @@ module _ (test : ℕ → Bool) where
   run-front (b ∷ s) zero run = (rw (run.stops (omega arith)), rw (run.stops (omega arith)))
   run-front (b ∷ s) (suc k) run =
       let here : test b ≡ true = run.passing 0 (omega arith) (omega arith) in
-      let rest = run-front s k (run-tail b s k run) in
-      (rw here (ap (λ u. b ∷ u) rest.0), rw here rest.1)
+      search (rules, run-tail, (run-front s k (run-tail b s k run)))
 
   -- a run further on
   pub run-drop : (s : List ℕ) (k e : ℕ) → IsSpan test s k e → IsSpan test (drop k s) 0 (e - k)
@@ -173,18 +172,11 @@ module _ (s : List ℕ) (k : ℕ) (run : IsSpan is_white_space s 0 k) (held : Ar
   pub next-property : (v m r : List ℕ) → IsPropValue v (drop end s) m → IsPastValues m r → IsNextProperty s k end v m r
   next-property v m r first past =
       let at = property-at s k run end r held lt capital letters (record { values = v ∷ past.values; spelled = value first past.spelled; none_left = past.none_left }) in
-      let step = next-value at.held first in
-      record {
-        more = step.1;
-        left = at.left;
-        is = at.is ∙ ap (λ vs. property_from (name_in (slice_range s k end)) vs ∷ properties_in r) step.0;
-        one = at.one;
-        spelled = at.spelled;
-      }
+      search (rules, next-value)
 
 -- there are no more of them than bytes
 pub count-properties-held : {s : List ℕ} → ArePropertiesIn s → length (properties_in s) ≤ length s
 count-properties-held held = grind (arith, common_steps, properties-in, count-properties)
 
-pub count-values_held : {s : List ℕ} → AreValuesIn s → length (values_in s) ≤ length s
-count-values_held held = grind (arith, common_steps, values-in, count-values)
+pub count_values_held : {s : List ℕ} → AreValuesIn s → length (values_in s) ≤ length s
+count_values_held held = grind (arith, common_steps, values-in, count-values)

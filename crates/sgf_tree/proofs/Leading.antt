@@ -1,23 +1,20 @@
 -- A move and other properties after it.
 use Rattle.std.proofs.lemmas.Grind.{common_steps}
-use Rattle.std.proofs.Common.{rules, ◌≡◌, ◌≢◌, ℕ, ◌+◌, ◌<◌, ◌≤◌, IsTrue, All, List, [], ◌∷◌, ◌++◌, length, get_or, drop, slice_range, refl, sym, ap, subst, ◌∙◌, arith, get_or-drop, length-drop}
-use Rattle.std.proofs.lemmas.List.{drop-drop}
+use Rattle.std.proofs.Common.{rules, ◌≡◌, ◌≢◌, ℕ, ◌+◌, ◌<◌, ◌≤◌, IsTrue, All, List, [], ◌∷◌, ◌++◌, length, get_or, drop, slice_range, refl, sym, ap, subst, ◌∙◌, arith}
 use Rattle.std.proofs.lemmas.List.Elements.{All-nil, All-push}
 use Rattle.sgf_tree.specs.Tree.{Property}
 use Rattle.sgf_tree.specs.Lead.{IsOtherName, IsLedBy}
 use Rattle.sgf_tree.specs.RawValue.{IsValue}
-use Rattle.sgf_tree.specs.Spelling.{is_upper, WhiteSpace, no_white_space, no_letter, upper, prop_value, no_value, IsProperty, property, AreProperties, no_property, properties}
+use Rattle.sgf_tree.specs.Spelling.{is_upper, no_white_space, no_letter, upper, prop_value, no_value, IsProperty, property, AreProperties, no_property, properties}
 use Rattle.sgf_tree.specs.inner.Lead.{IsOtherProperty, AreOtherProperties, AreOthers, IsLedNode, IsEmptyNode}
 use Rattle.sgf_tree.specs.inner.Machine.{games_in}
 use Rattle.sgf_tree.specs.inner.NodeText.{properties_in, node_in}
 use Rattle.sgf_tree.specs.inner.Progress.{IsValueEnd, EndsNode, IsNodeEnd}
 use Rattle.sgf_tree.specs.inner.Walking.{nodes_between, IsWalk}
-use Rattle.sgf_tree.proofs.Classes.{between-not_upper}
-use Rattle.sgf_tree.proofs.Iterating.{byte-at, white-between}
+use Rattle.sgf_tree.proofs.Iterating.{byte-at}
 use Rattle.sgf_tree.proofs.LoneNodes.{lone, spelled, ends-node}
 use Rattle.sgf_tree.proofs.NodeEnds.{nothing-skipped}
 use Rattle.sgf_tree.proofs.NodeTexts.{properties-in}
-use Rattle.sgf_tree.proofs.Spans.{empty-span}
 use Rattle.sgf_tree.proofs.Walking.{past-node}
 use Rattle.sgf_tree.proofs.WrittenParts.{properties-more}
 
@@ -68,8 +65,8 @@ module _ (names : List (List ℕ)) (t : List ℕ) where
   others_end at end all ends = grind (arith, common_steps, nothing-skipped)
 
   -- none after a move that is a node by itself
-  pub others-nothing : EndsNode t 6 → AreOthers names t 6 6
-  others-nothing ends = others_end 6 6 (others_none 6 (omega (arith, ends.within))) ends
+  pub others_nothing : EndsNode t 6 → AreOthers names t 6 6
+  others_nothing ends = others_end 6 6 (others_none 6 (omega (arith, ends.within))) ends
 
 -- the properties of the node
 module _ (names : List (List ℕ)) (s : List ℕ) (next : ℕ) (is : IsLedNode names s next) where

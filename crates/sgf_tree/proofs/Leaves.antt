@@ -1,7 +1,7 @@
 -- A leaf is the last node below itself.
-use Rattle.std.proofs.Common.{◌≡◌, ℕ, Some, refl, subst, arith, rules}
+use Rattle.std.proofs.Common.{◌≡◌, ℕ, refl, arith, rules}
 use Rattle.sgf_tree.specs.Tree.{Games}
-use Rattle.sgf_tree.specs.FileOrder.{parent_at, IsLeaf, IsAtOrBelow, itself, below, IsLastBelow}
+use Rattle.sgf_tree.specs.FileOrder.{IsLeaf, IsAtOrBelow, itself, below, IsLastBelow}
 use Rattle.sgf_tree.proofs.OrderedNodes.{parent_at-lt}
 
 -- nothing is below a leaf

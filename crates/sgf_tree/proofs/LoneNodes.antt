@@ -1,11 +1,11 @@
 -- A node that begins with a property of one letter and one value of two bytes.
 use Rattle.std.proofs.lemmas.Grind.{common_steps}
-use Rattle.std.proofs.Common.{◌≡◌, ◌≢◌, ℕ, false, IsTrue, List, ◌∷◌, get_or, take, drop, slice_range, sym, ap, subst, arith}
+use Rattle.std.proofs.Common.{◌≡◌, ◌≢◌, ℕ, false, List, ◌∷◌, get_or, take, drop, slice_range, sym, ap, subst, arith}
 use Rattle.sgf_tree.specs.Tree.{Property, lone_property}
 use Rattle.sgf_tree.specs.RawValue.{no_unit, plain}
 use Rattle.sgf_tree.specs.Spelling.{is_upper, no_white_space, no_letter, prop_value, no_value, IsProperty, property}
 use Rattle.sgf_tree.specs.inner.NodeText.{properties_in, NoValueFollows, NoPropertyFollows, ArePropertiesIn}
-use Rattle.sgf_tree.specs.inner.Progress.{is_plain, IsNodeEnd, IsMove, IsLoneFront}
+use Rattle.sgf_tree.specs.inner.Progress.{IsNodeEnd, IsMove, IsLoneFront}
 use Rattle.sgf_tree.proofs.Classes.{between-not_upper, white-not_bracket, white-not_upper}
 use Rattle.sgf_tree.proofs.Iterating.{byte-at}
 use Rattle.sgf_tree.proofs.ValueEnds.{plain-other}

@@ -1,5 +1,5 @@
 -- The first `]` of sixteen bytes, by the mask of those that are one.
-use Rattle.std.proofs.Common.{◌≡◌, ◌≢◌, ℕ, ◌+◌, ◌^◌, ◌%◌, ◌<◌, ◌≤◌, false, cond, eqb, List, map, replicate, length, get_or, sym, subst, ◌∙◌, arith, w8, rules}
+use Rattle.std.proofs.Common.{◌≡◌, ◌≢◌, ℕ, ◌+◌, ◌^◌, ◌%◌, ◌≤◌, false, cond, eqb, List, map, replicate, length, get_or, sym, ◌∙◌, arith, w8, rules}
 use Rattle.std.proofs.lemmas.Bool.{eqb-true, eq-eqb, false≢true}
 use Rattle.std.proofs.lemmas.Simd.{length-chunk, bitmask_splat, none_from_empty_mask}
 use Rattle.std.specs.Int.Count.{count_trailing_zeros}
@@ -26,6 +26,5 @@ module _ (t : List ℕ) (at : ℕ) (room : at + 16 ≤ length t) where
 
   pub lowest_found : found ≢ 0 → IsNextBracket t at (at + count_trailing_zeros 64 found)
   lowest_found some =
-      let r : ℕ = count_trailing_zeros 64 bits in
       let lowest = NearBits.lowest-bit (λ x. eqb x 93) t at room (omega (arith, found-bits, some)) in
       search (rules, found-bits, eqb-true, not-bracket)

@@ -1,6 +1,6 @@
 -- How the properties of a node are read, one after another.
 use Rattle.std.proofs.lemmas.Grind.{common_steps}
-use Rattle.std.proofs.Common.{rules, ◌≡◌, ◌≢◌, ℕ, ◌+◌, ◌<◌, false, IsTrue, List, [], ◌∷◌, length, get_or, Option, Some, None, refl, arith, ne_eqb}
+use Rattle.std.proofs.Common.{rules, ◌≡◌, ◌≢◌, ℕ, ◌+◌, ◌<◌, false, IsTrue, List, [], ◌∷◌, length, get_or, Option, Some, None, arith, ne_eqb}
 use Rattle.sgf_tree.specs.Tree.{Property}
 use Rattle.sgf_tree.specs.Spelling.{is_white_space, is_upper}
 use Rattle.sgf_tree.specs.inner.Machine.{Started, MachineState, in_node, in_name, after_value, after_node, with_property, ended, next_state, accepted}

@@ -143,8 +143,7 @@ properties-are {s = s} (suc n) no_property ends le =
     none-upper (λ b t. property_from (name_in (front is_letter (b ∷ t))) (values_in (left_after is_letter (b ∷ t))) ∷ properties_up_to n (after_values_up_to (length t) (left_after is_letter (b ∷ t)))) [] s (left_after is_white_space s) (white-left s) (λ b t w. (ends b t w).1)
 properties-are (suc n) (properties (property {b} {name} {v} {vs = vs} w h l first more) ps) ends le =
     let is = property-is {b = b} h l first more (ends-values ps ends) in
-    let p : Property = record { name = b ∷ name; first = v; more = vs } in
-    rw (left-white w (upper-not_white_space b h), h, is.0, is.1, is.2, is.3) (ap (λ qs. p ∷ qs) (properties-are n ps ends (omega arith)))
+    search (rules, left-white, upper-not_white_space, (properties-are n ps ends (omega arith)))
 
 shorter-property : {p : Property} {s r : List ℕ} → IsProperty p s r → length r < length s
 shorter-property (property w h l v vs) = omega (arith, (end-drop (end-WhiteSpace w all)).0, (end-drop (end-ArePropValues vs (end-IsPropValue v (end-Letters l all)))).0)

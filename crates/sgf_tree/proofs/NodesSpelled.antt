@@ -1,9 +1,9 @@
 -- Each node's properties are spelled in the text from its `;` on.
 use Rattle.std.proofs.lemmas.Grind.{common_steps}
-use Rattle.std.proofs.Common.{◌≡◌, ◌≢◌, ℕ, suc, ◌+◌, ◌-◌, true, false, IsTrue, List, [], ◌∷◌, ◌++◌, length, drop, All, Option, Some, None, refl, sym, ap, subst, ◌∙◌, ◌⊎◌, inl, inr, arith}
+use Rattle.std.proofs.Common.{◌≡◌, ◌≢◌, ℕ, ◌+◌, ◌-◌, true, false, IsTrue, List, ◌∷◌, ◌++◌, length, drop, All, Option, Some, None, refl, sym, ap, subst, ◌∙◌, ◌⊎◌, inl, inr, arith}
 use Rattle.std.proofs.lemmas.List.Elements.{All-nil, All-cons, All-append}
 use Rattle.std.proofs.lemmas.Bool.{false≢true}
-use Rattle.sgf_tree.specs.Tree.{Property, Node, Games, node_count}
+use Rattle.sgf_tree.specs.Tree.{Node, Games, node_count}
 use Rattle.sgf_tree.specs.FileOrder.{OrderedNode, further_nodes, nodes_from, ordered_nodes}
 use Rattle.sgf_tree.specs.Spelling.{is_white_space, is_upper, WhiteSpace, no_white_space, white_space, AreProperties, IsNode, node, AreNodes, no_node, nodes, AreGames, no_game, games, Spells, spells}
 use Rattle.sgf_tree.specs.inner.NodeText.{NoPropertyFollows}
@@ -35,20 +35,17 @@ module _ (t : List ℕ) where
     pub spelled : AreProperties n.properties (drop (n.place + 1) t) rest
     pub ends : NoPropertyFollows rest
 
-  -- what stands at its place
-  pub own-spelled : {n : Node} {s r : List ℕ} → IsNode (length t) n s r → IsEnd t s → (drop n.place t ≡ 59 ∷ drop (n.place + 1) t) × AreProperties n.properties (drop (n.place + 1) t) r
-  own-spelled {n} {s} {r} (node {place} {ps} {t = u} w e ps_spelled) end =
-      let after : IsEnd t u = tail (end-WhiteSpace w end) in
-      let dropped = end-drop after in
-      let at : place + 1 ≡ length t - length u = omega (arith, e) in
-      let here : place ≡ length t - length (59 ∷ u) = omega (arith, e) in (
-        ap (λ k. drop k t) here ∙ (end-drop (end-WhiteSpace w end)).1
-            ∙ ap (λ x. 59 ∷ x) (sym dropped.1 ∙ ap (λ k. drop k t) (sym at)),
-        subst (λ k. AreProperties ps (drop k t) r) (sym at) (subst (λ x. AreProperties ps x r) (sym dropped.1) ps_spelled),
-      )
-
   node-spelled : {n : Node} {s r : List ℕ} → IsNode (length t) n s r → IsEnd t s → NoPropertyFollows r → IsNodeSpelled n
-  node-spelled {r = r} is end ends = let here = own-spelled is end in record { begins = here.0; rest = r; spelled = here.1; ends = ends }
+  node-spelled {r = r} (node {place} {ps} {t = u} w e own) end ends =
+      let dropped = end-drop (tail (end-WhiteSpace w end)) in
+      let at : place + 1 ≡ length t - length u = omega (arith, e) in
+      let here : place ≡ length t - length (59 ∷ u) = omega (arith, e) in
+      record {
+        begins = ap (λ k. drop k t) here ∙ (end-drop (end-WhiteSpace w end)).1 ∙ ap (λ x. 59 ∷ x) (sym dropped.1 ∙ ap (λ k. drop k t) (sym at));
+        rest = r;
+        spelled = subst (λ k. AreProperties ps (drop k t) r) (sym at) (subst (λ x. AreProperties ps x r) (sym dropped.1) own);
+        ends = ends;
+      }
 
   abbrev Spelled : OrderedNode → Type 0
   Spelled r = IsNodeSpelled r.node

@@ -1,6 +1,6 @@
 -- Laws on the ordered nodes of a collection: where parents stand, and in which game.
 use Rattle.std.proofs.lemmas.Grind.{common_steps}
-use Rattle.std.proofs.Common.{◌≡◌, ℕ, zero, suc, ◌+◌, ◌-◌, ◌<◌, ◌≤◌, ◌⊎◌, inl, inr, true, if◌then◌else◌, nat_lt, List, [], ◌∷◌, ◌++◌, length, slice_get, Option, Some, None, option_map, refl, sym, ap, ◌∙◌, arith, length-append, rules}
+use Rattle.std.proofs.Common.{◌≡◌, ℕ, zero, suc, ◌+◌, ◌-◌, ◌<◌, ◌≤◌, ◌⊎◌, inl, inr, true, List, [], ◌∷◌, ◌++◌, length, slice_get, Option, Some, None, option_map, refl, sym, ap, ◌∙◌, arith, length-append, rules}
 use Rattle.std.proofs.lemmas.Bool.{cases_lt, lt-ltb, le-ltb}
 use Rattle.sgf_tree.specs.Tree.{Node, Games, no_games, game, node_count}
 use Rattle.sgf_tree.specs.FileOrder.{OrderedNode, further_nodes, nodes_from, ordered_nodes, parent_at, game_of}
@@ -147,9 +147,7 @@ game_of-from at (game first more below after) j i h =
           let in_after : parent_in (nodes_from start None after) k ≡ Some (Some i) = sym (parent_in-right front (nodes_from start None after) j k (omega arith)) ∙ h in
           elim (parent-within start None after k i in_after) [
             | inl p ↦ absurd (cc)
-            | inr w ↦
-                game-after first more below after (i - at) (i - start) (omega (arith, w.from)) ∙ ap (λ n. 1 + n) (game_of-from start after k i in_after)
-                ∙ sym (game-after first more below after j k (omega arith))
+            | inr w ↦ search (rules, game-after, (game_of-from start after k i in_after))
           ]
     ]
 

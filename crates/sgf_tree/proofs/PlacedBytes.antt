@@ -1,6 +1,6 @@
 -- Sixteen bytes, all compared at once: bit i tells whether byte i is at most so much above the least one of its place.
 use Rattle.std.proofs.lemmas.Grind.{common_steps}
-use Rattle.std.proofs.Common.{◌≡◌, ◌∙◌, ℕ, ◌+◌, ◌-◌, ◌/◌, ◌%◌, ◌^◌, ◌<◌, ◌≤◌, Bool, true, false, cond, List, map, length, get_or, inl, inr, refl, sym, ap, arith, le-leb, leb-true, w8, w64, rules}
+use Rattle.std.proofs.Common.{◌≡◌, ◌∙◌, ℕ, ◌+◌, ◌-◌, ◌/◌, ◌%◌, ◌^◌, ◌<◌, ◌≤◌, Bool, true, false, cond, List, map, length, get_or, sym, ap, arith, le-leb, leb-true, w8, w64, rules}
 use Rattle.std.proofs.Math.Dec.{leb}
 use Rattle.std.proofs.Math.ListN.{get_or-eq_default}
 use Rattle.std.proofs.lemmas.Bool.{cases_lt, false≢true}
@@ -65,6 +65,5 @@ module _ (least most : List ℕ) (wide : length least ≡ 16) (wide' : length mo
 
   pub first-in-place : 0 < bits → IsFirstInPlace (count_trailing_zeros 64 bits)
   first-in-place some =
-      let r : ℕ = count_trailing_zeros 64 bits in
       let zeros = bit_at-trailing_zeros w64 bits some (omega arith) in
       search (rules, cases_lt, bit, get_or-eq_default, lanes-long)

@@ -1,6 +1,5 @@
 -- The places of a collection that a text spells rise strictly in file order, and each is within the text.
-use Rattle.std.proofs.lemmas.Grind.{common_steps}
-use Rattle.std.proofs.Common.{◌≡◌, ℕ, ◌+◌, ◌-◌, ◌<◌, ◌≤◌, List, [], ◌∷◌, ◌++◌, length, Option, Some, None, map, slice_get, true, refl, ap, sym, ◌∙◌, arith, rules}
+use Rattle.std.proofs.Common.{◌≡◌, ℕ, ◌+◌, ◌-◌, ◌<◌, ◌≤◌, List, [], ◌∷◌, ◌++◌, length, Option, Some, None, map, slice_get, refl, ap, sym, ◌∙◌, arith, rules}
 use Rattle.std.proofs.lemmas.List.{map-append}
 use Rattle.std.proofs.lemmas.Option.{slice_get-map}
 use Rattle.sgf_tree.specs.Tree.{Node, Games, no_games, game, node_count}
@@ -38,8 +37,7 @@ rises-nodes : {whole : ℕ} {ns : List Node} {s r : List ℕ} → AreNodes whole
 rises-nodes no_node le = omega arith
 rises-nodes {whole} (nodes {n = m} {ns} {t = t} {r} n are) le =
     let x = (end-drop (end-IsNode n all)).0 in
-    let y = rises-node n le in
-    (y.0, rises-low (m.place + 1) (whole - length t) (map node_place ns) (whole - length r) (omega arith) (rises-nodes are (omega arith)))
+    search (rules, rises-node, rises-low, (rises-nodes are (omega arith)))
 
 rises-games : {whole : ℕ} {g : Games} {s r : List ℕ} → AreGames whole g s r → length s ≤ whole → Rises (whole - length s) (places g) (whole - length r)
 rises-games no_game le = omega arith
@@ -62,6 +60,4 @@ place_at-places c i =
     sym (slice_get-map place_in (ordered_nodes c) i) ∙ ap (λ ps. slice_get ps i) (ordered-places 0 None c)
 
 pub places-rise : (c : Games) (t : List ℕ) → Spells c t → PlacesRise c
-places-rise c t s i j p q h e f =
-    let (low, high, rise) = rises-spelled c t s in
-    rises-pair low high (places c) i j p q rise h (sym (place_at-places c i) ∙ e) (sym (place_at-places c j) ∙ f)
+places-rise c t s i j p q h e f = search (rules, rises-spelled, rises-pair, place_at-places)

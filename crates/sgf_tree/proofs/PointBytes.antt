@@ -19,10 +19,7 @@ module _ (t : List ℕ) (at : ℕ) (room : at + 16 ≤ length t) (fits : (i : �
   abbrev four_most : List ℕ
   four_most = 0 ∷ 253 ∷ 253 ∷ 0 ∷ 0 ∷ 253 ∷ 253 ∷ 0 ∷ 0 ∷ 253 ∷ 253 ∷ 0 ∷ 0 ∷ 253 ∷ 253 ∷ 0 ∷ []
 
-  abbrev four_bits : ℕ
-  four_bits = PlacedBytes.bits four_least four_most refl refl t at room
-
-  module _ (e : four_bits ≡ 65535) where
+  module _ (e : PlacedBytes.bits four_least four_most refl refl t at room ≡ 65535) where
     there : (i j : ℕ) → j ≡ at + i → i < 16 → 65535 / 2 ^ i % 2 ≡ 1 → above (get_or t j 0) (get_or four_least i 0) ≤ get_or four_most i 0
     there i j is lt set = in-place four_least four_most refl refl t at room i j is lt (ap (λ n. n / 2 ^ i % 2) e ∙ set)
 

@@ -1,5 +1,5 @@
 -- Values such as `[pd]`, one after the other: what was read before them goes on after them.
-use Rattle.std.proofs.Common.{◌≡◌, ℕ, zero, suc, ◌+◌, ◌-◌, ◌*◌, ◌<◌, ◌≤◌, List, length, get_or, inl, inr, sym, subst, arith, rules}
+use Rattle.std.proofs.Common.{◌≡◌, ℕ, zero, suc, ◌+◌, ◌-◌, ◌*◌, ◌<◌, ◌≤◌, List, length, inl, inr, sym, subst, arith, rules}
 use Rattle.std.proofs.lemmas.Bool.{cases_lt}
 use Rattle.sgf_tree.specs.Spelling.{is_white_space}
 use Rattle.sgf_tree.specs.inner.NodeText.{AreValuesWritten}
@@ -11,8 +11,8 @@ use Rattle.sgf_tree.proofs.WrittenParts.{values-one}
 
 module _ (t : List ℕ) where
   -- the first three of four more
-  pub points-more : (at end : ℕ) → ArePoints t at end → ArePoints t end (end + 16) → ArePoints t at (end + 12)
-  points-more at end before four =
+  pub points_more : (at end : ℕ) → ArePoints t at end → ArePoints t end (end + 16) → ArePoints t at (end + 12)
+  points_more at end before four =
       record { count = before.count + 3; ends = omega (arith, before.ends); each = each }
     where
       each : (i : ℕ) → i < before.count + 3 → IsPoint t (at + 4 * i)
@@ -25,8 +25,8 @@ module _ (t : List ℕ) where
           ]
 
   -- a fourth one begins after three
-  pub fourth-stands : (end : ℕ) → ArePoints t end (end + 16) → end + 16 ≤ length t → IsBracket t (end + 12)
-  fourth-stands end h k = search rules
+  pub fourth_stands : (end : ℕ) → ArePoints t end (end + 16) → end + 16 ≤ length t → IsBracket t (end + 12)
+  fourth_stands end h k = search rules
 
   value-end : (at : ℕ) → IsPoint t at → IsValueEnd t (at + 1) (at + 3)
   value-end at point =

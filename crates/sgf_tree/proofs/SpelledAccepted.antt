@@ -1,5 +1,5 @@
 -- What a text spells, the machine accepts; so a text spells one collection at most.
-use Rattle.std.proofs.Common.{◌≡◌, ℕ, List, [], ◌∷◌, length, Some, option_and_then, refl, sym, ap, ◌∙◌, rules}
+use Rattle.std.proofs.Common.{◌≡◌, ℕ, List, [], ◌∷◌, length, Some, option_and_then, refl, sym, ◌∙◌, rules}
 use Rattle.std.proofs.lemmas.Option.{same_Some}
 use Rattle.sgf_tree.specs.Tree.{Games, no_games, game}
 use Rattle.sgf_tree.specs.Spelling.{WhiteSpace, no_white_space, white_space, games, ByteOrderMark, no_byte_order_mark, byte_order_mark, Spells, spells}

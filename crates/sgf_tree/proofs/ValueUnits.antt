@@ -1,6 +1,6 @@
 -- Which `]` ends a raw value: the first one with an even number of `\` directly before it.
 use Rattle.std.proofs.lemmas.Grind.{common_steps}
-use Rattle.std.proofs.Common.{◌≡◌, ◌≢◌, ℕ, zero, suc, ◌+◌, ◌-◌, ◌*◌, ◌/◌, ◌%◌, ◌<◌, ◌≤◌, ◌⊎◌, inl, inr, List, length, get_or, drop, slice_range, refl, sym, ap, subst, ◌∙◌, arith}
+use Rattle.std.proofs.Common.{◌≡◌, ◌≢◌, ℕ, zero, suc, ◌+◌, ◌-◌, ◌*◌, ◌/◌, ◌%◌, ◌<◌, ◌≤◌, ◌⊎◌, inl, inr, List, length, get_or, drop, slice_range, refl, subst, arith, rules}
 use Rattle.std.proofs.lemmas.Bool.{cases_eq}
 use Rattle.std.proofs.Math.Seq.{drop-length}
 use Rattle.sgf_tree.specs.RawValue.{IsValue}
@@ -68,9 +68,7 @@ module _ (t : List ℕ) (at : ℕ) where
         let high : first ≤ end = run.rises in
         elim (units-to (first - start) start first (omega arith) (omega arith) (λ i least lt. none i least (omega arith)) units) [
           | inl all ↦ all
-          | inr cut ↦
-              let e : cut.last ≡ first - 1 = omega (arith, cut.next) in
-              absurd (run.begins (omega (arith, cut.rises, cut.next)) (ap (λ i. get_or t i 0) (sym e) ∙ cut.escape))
+          | inr cut ↦ search rules
         ]
 
     -- and its escapes are units

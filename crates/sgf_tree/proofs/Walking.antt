@@ -1,14 +1,14 @@
 -- Going over the nodes of a sequence on the text.
 use Rattle.std.proofs.lemmas.Grind.{common_steps}
 use Rattle.std.specs.List.{range_with_len}
-use Rattle.std.proofs.Common.{◌≡◌, ◌≢◌, ℕ, suc, ◌+◌, ◌-◌, ◌<◌, ◌≤◌, true, false, List, [], ◌∷◌, ◌++◌, length, get_or, slice_get, slice_range, drop, All, Option, Some, None, option_map, refl, sym, ap, subst, ◌∙◌, inl, inr, arith, get_or-drop, length-drop}
+use Rattle.std.proofs.Common.{◌≡◌, ℕ, suc, ◌+◌, ◌-◌, ◌<◌, ◌≤◌, List, [], ◌∷◌, ◌++◌, length, get_or, slice_get, slice_range, drop, All, Option, Some, None, option_map, refl, sym, ap, subst, ◌∙◌, inl, inr, arith, get_or-drop, length-drop, rules}
 use Rattle.std.proofs.lemmas.Bool.{cases_lt}
 use Rattle.std.proofs.lemmas.List.{drop-drop, drop_all}
 use Rattle.std.proofs.lemmas.List.Elements.{All-nil, All-cons, All-append}
 use Rattle.std.proofs.lemmas.Option.{slice_get_cases, slice_get_within, get_or_from_slice_get, same_Some}
-use Rattle.sgf_tree.specs.Tree.{Property, lone_property, Node, Games, no_games, game, node_count}
-use Rattle.sgf_tree.specs.FileOrder.{OrderedNode, further_nodes, ordered_nodes, node_at, nodes_at, place_at, sequence_starts, sequence_start, sequence_end}
-use Rattle.sgf_tree.specs.Spelling.{is_white_space, is_upper, WhiteSpace, no_white_space, white_space, IsProperty, AreProperties, no_property, properties, IsNode, node, AreNodes, no_node, nodes, AreGames, no_game, games, Spells, spells}
+use Rattle.sgf_tree.specs.Tree.{Property, lone_property, Node, Games, node_count}
+use Rattle.sgf_tree.specs.FileOrder.{OrderedNode, further_nodes, ordered_nodes, node_at, nodes_at, sequence_starts, sequence_start, sequence_end}
+use Rattle.sgf_tree.specs.Spelling.{is_white_space, WhiteSpace, no_white_space, white_space, IsProperty, AreProperties, no_property, properties, IsNode, node, AreNodes, no_node, nodes, AreGames, no_game, games, Spells, spells}
 use Rattle.sgf_tree.specs.declared.sequences.Sequence.{Sequence}
 use Rattle.sgf_tree.specs.declared.sequences.Sequences.{Sequences}
 use Rattle.sgf_tree.specs.inner.Listing.{Listed, listed, sequences_of}
@@ -24,7 +24,7 @@ use Rattle.sgf_tree.proofs.NodesSpelled.{ends-at, ends-nodes}
 use Rattle.sgf_tree.proofs.OrderedNodes.{length-ordered_nodes}
 use Rattle.sgf_tree.proofs.NodeTexts.{white-same, white-none, white-join, white-past, ends-values, properties-in}
 use Rattle.sgf_tree.proofs.Spans.{empty-span}
-use Rattle.sgf_tree.proofs.Outlined.{start-listed, end-listed, own-at, one-listed, sequence-some, sequence-within, entry-in}
+use Rattle.sgf_tree.proofs.Outlined.{start-listed, end-listed, own-at, one-listed, sequence-within, entry-in}
 use Rattle.sgf_tree.proofs.WrittenParts.{left-after, head-same, upper-first}
 
 -- properties end at one place
@@ -71,11 +71,11 @@ module _ {whole : ℕ} {ns : List Node} where
 nodes-first : (g : Games) (k end : ℕ) (n : Node) → k < end → node_at g k ≡ Some n → nodes_between g k end ≡ n ∷ nodes_between g (k + 1) end
 nodes-first g k end n lt e = grind (arith, common_steps)
 
-pub between-none : (g : Games) (k end : ℕ) → end ≤ k → length (nodes_between g k end) ≡ 0
-between-none g k end le = let none : end - k ≡ 0 = omega arith in ap (λ n. length (nodes_at g (range_with_len k n))) none
+pub between_none : (g : Games) (k end : ℕ) → end ≤ k → length (nodes_between g k end) ≡ 0
+between_none g k end le = let none : end - k ≡ 0 = omega arith in ap (λ n. length (nodes_at g (range_with_len k n))) none
 
 pub some-between : (g : Games) (k end : ℕ) → 0 < length (nodes_between g k end) → k < end
-some-between g k end some = grind (arith, common_steps, cases_lt, between-none)
+some-between g k end some = grind (arith, common_steps, cases_lt, between_none)
 
 between-first : (g : Games) (k end : ℕ) → k < end → end ≤ node_count g → (n : Node) × (nodes_between g k end ≡ n ∷ nodes_between g (k + 1) end)
 between-first g k end lt within =
@@ -84,8 +84,8 @@ between-first g k end lt within =
       | inr past ↦ absurd (omega (arith, past.0, length-ordered_nodes g))
     ]
 
-pub between-some : (g : Games) (k end : ℕ) → k < end → end ≤ node_count g → 0 < length (nodes_between g k end)
-between-some g k end lt within = omega (arith, ap length (between-first g k end lt within).1)
+pub between_some : (g : Games) (k end : ℕ) → k < end → end ≤ node_count g → 0 < length (nodes_between g k end)
+between_some g k end lt within = omega (arith, ap length (between-first g k end lt within).1)
 
 module _ (t : List ℕ) where
   -- a walk from where white space has ended
@@ -96,8 +96,7 @@ module _ (t : List ℕ) where
 
   -- white space from an offset of a part of the text
   white-on : (at : ℕ) (s : List ℕ) → s ≡ drop at t → (k to : ℕ) → IsSpan is_white_space t (at + k) to → WhiteSpace (drop k s) (drop to t) × IsSpan is_white_space t to to
-  white-on at s e k to run =
-      (subst (λ x. WhiteSpace x (drop to t)) (sym (ap (drop k) e ∙ drop-drop k at t)) (white-between t (at + k) to run), empty-span t to run.within run.stops)
+  white-on at s e k to run = search (rules, drop-drop, white-between, empty-span)
 
   -- on past the next property, and the white space after it
   pub past-property : (at number end : ℕ) → IsWalk t at number end → (s : List ℕ) → s ≡ drop at t → (e to : ℕ) (p : Property) → IsProperty p s (drop e s) → ArePropertiesIn (drop e s) → IsSpan is_white_space t (at + e) to
@@ -208,8 +207,7 @@ further-between : (g : Games) (k last : ℕ) (ns : List Node) → ((j : ℕ) →
 further-between g k last [] at = refl
 further-between g k last (n ∷ ns) at =
     let e : k + 0 ≡ k = omega arith in
-    let first : node_at g k ≡ Some n = ap (node_at g) (sym e) ∙ ap (option_map (λ (r : OrderedNode). r.node)) (at 0 (omega arith)) in
-    rw first (ap (λ ms. n ∷ ms) (further-between g (k + 1) (last + 1) ns (λ j lt. let f : k + 1 + j ≡ k + suc j = omega arith in ap (slice_get (ordered_nodes g)) f ∙ at (suc j) (omega (arith, lt)))))
+    search (rules, (further-between g (k + 1) (last + 1) ns (λ j lt. let f : k + 1 + j ≡ k + suc j = omega arith in ap (slice_get (ordered_nodes g)) f ∙ at (suc j) (omega (arith, lt)))))
 
 -- all nodes of a sequence, from its entry in the table
 pub sequence-walk : (text : List ℕ) (kept : Sequences) (outlined : IsOutlined text kept) (i : ℕ) (entry : Sequence) → i < length (sequence_starts (games_in text))

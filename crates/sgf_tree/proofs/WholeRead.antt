@@ -1,13 +1,13 @@
 -- How all games of a text are read, and what holds then.
 use Rattle.std.proofs.lemmas.Grind.{common_steps}
-use Rattle.std.proofs.Common.{◌≡◌, ℕ, ◌+◌, ◌-◌, ◌<◌, ◌≤◌, ◌⊎◌, inl, inr, List, [], ◌∷◌, length, get_or, Some, None, unwrap_or, refl, sym, ap, subst, ◌∙◌, arith, rules}
+use Rattle.std.proofs.Common.{◌≡◌, ℕ, ◌+◌, ◌-◌, ◌<◌, ◌≤◌, ◌⊎◌, inl, inr, List, [], ◌∷◌, length, get_or, Some, None, unwrap_or, sym, ap, subst, ◌∙◌, arith, rules}
 use Rattle.sgf_tree.specs.Tree.{Games, no_games, game, game_count, node_count}
-use Rattle.sgf_tree.specs.Spelling.{Spells, is_white_space}
+use Rattle.sgf_tree.specs.Spelling.{is_white_space}
 use Rattle.sgf_tree.specs.Refusal.{IsFaultyAt}
-use Rattle.sgf_tree.specs.inner.Machine.{OpenGame, Stack, MachineState, after_game, close, accepted, collection_of, games_in}
+use Rattle.sgf_tree.specs.inner.Machine.{OpenGame, Stack, MachineState, after_game, close, accepted, collection_of}
 use Rattle.sgf_tree.specs.inner.OwnNodes.{Coming, nothing}
 use Rattle.sgf_tree.specs.inner.Progress.{ComesTo, IsSpan}
-use Rattle.sgf_tree.specs.inner.GamesRead.{open_count, whole, StandsBetween, IsGameRead, ReadsWhole}
+use Rattle.sgf_tree.specs.inner.GamesRead.{open_count, StandsBetween, IsGameRead, ReadsWhole}
 use Rattle.sgf_tree.proofs.AcceptedSpelled.{accepted-spelled}
 use Rattle.sgf_tree.proofs.Completion.{closed-in}
 use Rattle.sgf_tree.proofs.GamesLoop.{none-accepted, close-faulty, close-stands, games-unfinished, games-whole, games-accepted, open_count-closed, depth-closed}
@@ -69,6 +69,5 @@ module _ (t : List ℕ) where
           let k : Stack = so_far.stack in
           let all : k.unclosed ≡ [] = no-game k.unclosed (so_far.depth_is ∙ none) in
           let count : open_count k.closed k.unclosed ≡ node_count k.closed = ap (open_count k.closed) all in
-          let nodes : 0 < node_count k.closed = omega (arith, so_far.some some) in
-          let accepts = games-accepted t at k so_far.stands ends all (some-game k.closed nodes) in
+          let accepts = games-accepted t at k so_far.stands ends all (some-game k.closed (omega (arith, so_far.some some))) in
           search (rules, collection-reached, games-whole, unwrap_or, accepted-spelled)

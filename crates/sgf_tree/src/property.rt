@@ -73,6 +73,7 @@ impl<'a> PropRef<'a> {
     }
 
     /// The number of its values, at least 1. This goes over all of them.
+    #[tactic(auto, using(crate::proofs::Iterating::count_values_held))]
     pub fn values(&self) -> usize
         ensures { result ≡ length (values self.now) }
     {
@@ -94,6 +95,7 @@ impl<'a> PropRef<'a> {
 
 /// Whether the capitals of an identifier are this name. This is the plain way.
 #[inline(never)]
+#[tactic(auto, using(crate::proofs::Names::filter_other))]
 fn is_name_in(identifier: &[u8], name: &[u8]) -> bool
     ensures { IsTrue result ↔ (name_in identifier.now ≡ name.now) }
 {

@@ -73,6 +73,7 @@ impl<'c, 'a> Model for SequenceNodes<'c, 'a> {
 impl<'c, 'a> SequenceNodes<'c, 'a> {
     /// Whether no node is left.
     #[inline(always)]
+    #[tactic(auto, using(crate::proofs::Walking::between_some, crate::proofs::Walking::between_none))]
     pub fn is_empty(&self) -> bool
         ensures { result ≡ (length self.now.nodes == 0) }
     {

@@ -11,6 +11,7 @@ use crate::reader::scan::skip_white_space;
 /// Where the node ends that the text begins with, after any white space, if it is written like `;B[pd]BL[921.325]OB[3]`: a move, and then
 /// perhaps short properties whose names aren't among `names`. If it is None, nothing is known.
 #[inline(always)]
+#[tactic(auto, using(crate::proofs::Leading::others_nothing))]
 pub(crate) fn led_end(text: &[u8], names: &[[u8; 2]]) -> Option<usize>
     ensures { IfSome result (IsLedNode names.now text.now) }
 {

@@ -1,6 +1,6 @@
 use Rattle.std.proofs.lemmas.Grind.{common_steps}
-use Rattle.std.proofs.Common.{◌≡◌, ◌∙◌, Some, ap, sym, arith}
-use Rattle.sgf_tree.specs.FileOrder.{node_at, place_at}
+use Rattle.std.proofs.Common.{◌≡◌, Some, arith, rules}
+use Rattle.sgf_tree.specs.FileOrder.{place_at}
 use Rattle.sgf_tree.proofs.PlacesKept.{places_count, place_kept}
 use Rattle.sgf_tree.proofs.collection.Collection.node.Goals as goal
 use Rattle.sgf_tree.proofs.collection.Collection.node.Goals.{After-index}
@@ -16,5 +16,4 @@ pub node_at-requires : goal.node_at-requires
 node_at-requires c = (c.args.i, here (goal.at.node_at-requires c).After-index)
 
 pub returns : goal.returns
-returns c =
-    ap (λ g. node_at g c.args.i) (sym c.self.view_is) ∙ c.node_at.ensures c.args.i (here (goal.at.returns c).After-index)
+returns c = search (rules, here)

@@ -1,4 +1,4 @@
-use Rattle.std.proofs.Common.{ap, inl, length, length-drop, arith}
+use Rattle.std.proofs.Common.{ap, length, length-drop, arith, rules}
 use Rattle.sgf_tree.proofs.Iterating.{count-properties-held}
 use Rattle.sgf_tree.proofs.node.NodeRef.props.Goals as goal
 
@@ -10,5 +10,4 @@ new-left-requires c = record {
 }
 
 pub count-requires-clause-fits : goal.count-requires-clause-fits
-count-requires-clause-fits c =
-    inl (omega (arith, c.self.told, ap length c.new-left.ensures, count-properties-held c.self.invariant.0.properties, length-drop 1 c.self.inside.text.now))
+count-requires-clause-fits c = search (rules, count-properties-held, length-drop)

@@ -1,4 +1,4 @@
-use Rattle.std.proofs.Common.{◌≢◌, ◌+◌, ◌-◌, ◌<◌, get_or, arith}
+use Rattle.std.proofs.Common.{◌+◌, rules}
 use Rattle.sgf_tree.proofs.ValueUnits.{no-units, plain-units, bare-units, units-ended}
 use Rattle.sgf_tree.proofs.quick.value.near_value_end.Goals as goal
 use Rattle.sgf_tree.proofs.quick.value.near_value_end.Goals.{else-bracket-at-via-then-bracket-at+else-text-bracket-eq92, else-bracket-at-via-else-bracket-at}
@@ -11,13 +11,4 @@ returns-then-is_two_plain c =
     units-ended t at (at + 2) (plain-units t at at (at + 2) (no-units t at) pair.plain) pair.within pair.bracket
 
 pub returns : goal.returns
-returns c =
-    let t = c.args.text.now in
-    let at = c.args.at in
-    let end = c.in_ok-bracket.bracket in
-    let next = c.in_ok-bracket.ensures in
-    let bare : at < end → get_or t (end - 1) 0 ≢ 92 = elim c.else-bracket-at.branch [
-      | else-bracket-at-via-then-bracket-at+else-text-bracket-eq92 w ↦ λ _. w.if-text-bracket-eq92.false
-      | else-bracket-at-via-else-bracket-at w ↦ λ lt. absurd (omega (arith, w.if-bracket-at.false))
-    ] in
-    units-ended t at end (bare-units t at end next bare) next.within next.bracket
+returns c = search (rules, else-bracket-at-via-then-bracket-at+else-text-bracket-eq92, else-bracket-at-via-else-bracket-at, units-ended, bare-units)

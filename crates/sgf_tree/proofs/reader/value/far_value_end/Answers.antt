@@ -1,5 +1,5 @@
 use Rattle.std.proofs.lemmas.Grind.{common_steps}
-use Rattle.std.proofs.Common.{◌+◌, ◌<◌, length, arith}
+use Rattle.std.proofs.Common.{◌+◌, ◌<◌, length, arith, rules}
 use Rattle.sgf_tree.proofs.ValueUnits.{no-units, even-units, odd-units, escapes-units, units-ended, endless}
 use Rattle.sgf_tree.proofs.reader.value.far_value_end.Goals as goal
 
@@ -7,13 +7,7 @@ pub brackets-init : goal.brackets-init
 brackets-init c = record { within = c.requires; units = no-units c.args.text.now c.args.at }
 
 pub returns-then-escapes-eq0 : goal.returns-then-escapes-eq0
-returns-then-escapes-eq0 c =
-    let t = c.args.text.now in
-    let next = c.in-Some.ensures in
-    let inside : c.in-Some.bracket < length t = next.within in
-    units-ended t c.args.at c.in-Some.bracket
-    (even-units t c.args.at c.brackets.start c.first_escape.result c.in-Some.bracket (omega (arith, inside)) next.before c.first_escape.ensures c.brackets.invariant.units c.if-escapes-eq0.true)
-    inside next.bracket
+returns-then-escapes-eq0 c = search (rules, units-ended, even-units)
 
 pub brackets-preserved : goal.brackets-preserved
 brackets-preserved c =

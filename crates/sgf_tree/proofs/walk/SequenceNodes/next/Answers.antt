@@ -1,17 +1,14 @@
-use Rattle.std.proofs.Common.{◌<◌, ◌∙◌, length, drop, refl, sym, ap, subst, arith}
+use Rattle.std.proofs.lemmas.Grind.{common_steps}
+use Rattle.std.proofs.Common.{◌∙◌, drop, refl, sym, ap, subst, arith, rules}
 use Rattle.sgf_tree.specs.NodesLeft.{NodesLeft}
 use Rattle.sgf_tree.specs.inner.Lead.{IsLedNode, IsEmptyNode}
-use Rattle.sgf_tree.specs.inner.Machine.{games_in}
 use Rattle.sgf_tree.specs.inner.NodeText.{node_in}
 use Rattle.sgf_tree.proofs.Leading.{led-properties, led-next, empty-next}
-use Rattle.sgf_tree.proofs.Walking.{between-some}
+use Rattle.sgf_tree.proofs.Walking.{between_some}
 use Rattle.sgf_tree.proofs.walk.SequenceNodes.next.Goals as goal
 
 pub open-requires : goal.open-requires
-open-requires c =
-    let w = c.self.inside in
-    let more : w.number < w.end = omega (arith, c.self.invariant.0.rises, c.if-self.false) in
-    omega (arith, between-some (games_in w.text.now) w.number w.end more c.self.invariant.0.within, ap (λ (n : NodesLeft). length n.nodes) c.self.view_is)
+open-requires c = search (rules, between_some)
 
 pub returns : goal.returns
 returns c = (c.open.ensures.0, c.open.ensures.1, c.open.ensures.2 c.args.names.now)
@@ -37,10 +34,7 @@ returns-in-Some c =
     )
 
 pub invariant_of-self-then-is_empty_node : goal.invariant_of-self-then-is_empty_node
-invariant_of-self-then-is_empty_node c =
-    let w = c.self.inside in
-    let is : IsEmptyNode (drop w.at w.text.now) = subst IsEmptyNode c.rest_from-text.ensures (c.is_empty_node.ensures c.if-is_empty_node.true) in
-    ((empty-next w.text.now w.at w.number w.end c.self.invariant.0 (omega (arith, c.self.invariant.0.rises, c.if-self.false)) is).0.1, c.self.invariant.1)
+invariant_of-self-then-is_empty_node c = grind (arith, common_steps, empty-next)
 
 pub returns-then-is_empty_node : goal.returns-then-is_empty_node
 returns-then-is_empty_node c =

@@ -1,3 +1,4 @@
+use Rattle.std.proofs.lemmas.Grind.{common_steps}
 use Rattle.std.proofs.Common.{◌≡◌, ◌-◌, ◌∙◌, ◌∷◌, drop, refl, sym, ap, subst, arith}
 use Rattle.sgf_tree.specs.Spelling.{is_white_space}
 use Rattle.sgf_tree.specs.inner.NodeText.{properties_in, ArePropertiesIn}
@@ -31,12 +32,7 @@ property_at-property-requires c =
     }
 
 pub invariant_of-self : goal.invariant_of-self
-invariant_of-self c =
-    let w = c.self.inside in
-    let is = c.property_at-property.ensures in
-    let past = past-property w.text.now w.at w.number w.end c.self.invariant.0 c.rest_from-text.result.now c.rest_from-text.ensures c.property_at-property.result.1 c.skip_white_space-self-inside.result
-    is.spelled.0 is.spelled.1 is.left c.skip_white_space-self-inside.ensures in
-    (past.0, c.self.invariant.1)
+invariant_of-self c = grind (arith, common_steps, past-property)
 
 pub returns : goal.returns
 returns c =

@@ -1,9 +1,9 @@
 -- No property is left, so the walk is at the `;` of its next node.
-use Rattle.std.proofs.Common.{◌≡◌, ◌<◌, ◌∙◌, ℕ, List, [], length, drop, sym, ap, arith, refl, length-drop}
+use Rattle.std.proofs.Common.{◌≡◌, ◌<◌, ◌∙◌, length, sym, ap, arith, refl, length-drop, rules}
 use Rattle.sgf_tree.specs.NodesLeft.{NodesLeft}
 use Rattle.sgf_tree.specs.inner.Machine.{games_in}
-use Rattle.sgf_tree.specs.inner.NodeText.{node_in, properties_in}
-use Rattle.sgf_tree.specs.inner.Walking.{nodes_between, IsWalk}
+use Rattle.sgf_tree.specs.inner.NodeText.{node_in}
+use Rattle.sgf_tree.specs.inner.Walking.{nodes_between}
 use Rattle.sgf_tree.proofs.Walking.{IsNextAt, some-between, next-closed, into-node, past-front}
 use Rattle.sgf_tree.proofs.walk.SequenceNodes.open.Goals as goal
 use Rattle.sgf_tree.proofs.walk.SequenceNodes.open.Goals.{After-rest_from-node}
@@ -19,10 +19,7 @@ next c =
     (more, nodes, next-closed s.text.now s.at s.number s.end c.self.invariant.0 more (ap (λ (n : NodesLeft). n.properties) left ∙ c.in_default.ensures.0))
 
 pub skip_white_space-self-inside-requires : goal.skip_white_space-self-inside-requires
-skip_white_space-self-inside-requires c =
-    let s = c.self.inside in
-    let is = c.is_lone_front.ensures c.if-is_lone_front.true in
-    omega (arith, is.front.value.within, ap length c.rest_from-node.ensures, length-drop s.at s.text.now)
+skip_white_space-self-inside-requires c = search (rules, length-drop)
 
 pub invariant_of-self : goal.invariant_of-self
 invariant_of-self c =
