@@ -33,12 +33,16 @@ use Rattle.sgf_lines.specs.ListRow.{list_row}
 use Rattle.sgf_lines.specs.Script.{comment_row, comment_text, play_command, setup_commands, move_commands, node_script, taken_script, leaves_unreaching_by, leaves_unreaching, has_no_commands, board_commands, commands_by, script}
 use Rattle.sgf_lines.specs.NodeContents.{first_value}
 use Rattle.sgf_lines.specs.Replay.{Engine, no_board, sized, shows, refused, after_command, after_row, after_text, replayed}
-use Rattle.sgf_tree.proofs.Names.{not-found}
 use Rattle.sgf_lines.proofs.Lists.{Each}
 use Rattle.sgf_lines.proofs.ScriptRows.{IsWithin, Carries, takes_row, takes_nothing, takes_both, takes_comment, takes_text_rows, row_within, decimal_within, within_both, size_reads}
 use Rattle.sgf_lines.proofs.Placing.{BoardLaws, is_same, takes_play, takes_board}
 
 -- ---- What the parts of a test tell.
+
+-- an element that isn't found doesn't pass
+not-found : {A : Type 0} (b : Bool) (y : A) (o : Option A) → cond b (Some y) o ≡ None → (b ≡ false) × (o ≡ None)
+not-found true y o h = absurd (cc)
+not-found false y o h = (refl, h)
 
 any_append : {A : Type 0} (p : A → Bool) (xs ys : List A) → list_any p (xs ++ ys) ≡ false → (list_any p xs ≡ false) × (list_any p ys ≡ false)
 any_append p xs ys e = or_parts (list_any p xs) (list_any p ys) (sym (list_any-append p xs ys) ∙ e)
