@@ -2,7 +2,7 @@
 use Rattle.std.proofs.Common.{◌≡◌, ◌≢◌, ◌⊎◌, inl, inr, ℕ, ◌+◌, ◌^◌, ◌<◌, ◌||◌, ◌&&◌, Bool, true, false, not, List, [], length, get_or, bit_and, bit_or, w64, refl, sym, ap, ◌∙◌, arith, subst, rules}
 use Rattle.std.proofs.lemmas.Grind.{common_steps}
 use Rattle.std.specs.Int.{bit_not}
-use Rattle.std.proofs.lemmas.Bool.{or_cases, or_parts, and_parts, and_from, or_right, not-true, false≢true, cases_eq}
+use Rattle.std.proofs.lemmas.Bool.{or_cases, or_parts, and_parts, and_from, or_right, not-true, false≢true}
 use Rattle.std.proofs.lemmas.Nat.{le_or_l, le_or_r}
 use Rattle.go_board.specs.declared.stones.Cell.TheVariants.{Empty}
 use Rattle.go_board.specs.declared.stones.Colour.{Colour}
@@ -18,7 +18,6 @@ use Rattle.go_board.specs.inner.Regions.{AreRowsOf}
 use Rattle.go_board.specs.inner.Rows.{has_bit, is_set, IsInOrBeside}
 use Rattle.go_board.proofs.GridLemmas.{Decides-same_cell, cell_at-with_cell_elsewhere}
 use Rattle.go_board.proofs.GroupLemmas.{neither_stone}
-use Rattle.go_board.proofs.PointLemmas.{DifferByOne-sym}
 use Rattle.go_board.proofs.ReachingLemmas.{path_by_step}
 use Rattle.go_board.proofs.SweepLemmas.{lowest_left}
 use Rattle.go_board.proofs.WordLemmas.{in_the_other, has_bit-or, has_bit-and, has_bit-without, has_bit-zero, column_below}

@@ -1,18 +1,18 @@
 -- The group of a stone, and the points beside it.
-use Rattle.std.proofs.Common.{◌≡◌, ◌≢◌, inl, inr, ℕ, zero, suc, ◌+◌, ◌*◌, ◌/◌, ◌%◌, ◌^◌, ◌<◌, subst, true, false, w64, List, length, get_or, set, take, replicate, bit_and, bit_or, slice_index, refl, sym, ap, ◌∙◌, arith, rules}
+use Rattle.std.proofs.Common.{◌≡◌, ◌≢◌, inl, inr, ℕ, zero, suc, ◌+◌, ◌*◌, ◌/◌, ◌%◌, ◌^◌, ◌<◌, subst, true, false, w64, List, length, set, take, replicate, bit_and, bit_or, slice_index, refl, sym, ap, ◌∙◌, arith, rules}
 use Rattle.std.proofs.lemmas.Grind.{common_steps}
-use Rattle.std.proofs.lemmas.Bool.{or_cases, or_left, or_right, and_parts, and_from, false≢true, cases_eq}
+use Rattle.std.proofs.lemmas.Bool.{or_cases, or_left, or_right, and_parts, and_from, false≢true}
 use Rattle.std.specs.Int.{trailing_zeros}
 use Rattle.std.proofs.lemmas.List.{length-set, get_or-set_other}
 use Rattle.go_board.specs.declared.points.Point.{Point}
 use Rattle.go_board.specs.declared.board.liberty.RowStones.{RowStones}
 use Rattle.go_board.specs.Point.{IsOn, DifferByOne, AreAdjacent}
-use Rattle.go_board.specs.inner.Rows.{has_bit, is_set, IsPart, HasBeside, IsRowClosed, IsTaken, Grows, IsInOrBeside}
+use Rattle.go_board.specs.inner.Rows.{has_bit, is_set, IsPart, HasBeside, IsRowClosed, IsTaken, IsInOrBeside}
 use Rattle.go_board.specs.inner.Linked.{HasLiberty}
 use Rattle.go_board.specs.inner.Fill.{IsFilledBut}
 use Rattle.go_board.specs.inner.Glance.{IsRowAt}
 use Rattle.go_board.proofs.PointLemmas.{DifferByOne-sym}
-use Rattle.go_board.proofs.GrowLemmas.{set_there, set_elsewhere, Grows-none, closed_still}
+use Rattle.go_board.proofs.GrowLemmas.{set_there, set_elsewhere, closed_still}
 use Rattle.go_board.proofs.WordLemmas.{has_bit-or, has_bit-and, has_bit-left, from_left, has_bit-right, has_bit-zero, column_below}
 use Rattle.go_board.proofs.SweepLemmas.{lowest_left}
 

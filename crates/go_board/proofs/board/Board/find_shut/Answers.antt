@@ -1,4 +1,4 @@
-use Rattle.std.proofs.Common.{inl, inr, length, sym, ap, ◌∙◌, subst, rules, ◌≡◌}
+use Rattle.std.proofs.Common.{inl, inr, sym, ap, ◌∙◌, subst, rules}
 use Rattle.std.proofs.lemmas.Bool.{cases_Bool, or_left, or_right, false≢true}
 use Rattle.go_board.specs.inner.Groups.{AreShutGroups}
 use Rattle.go_board.specs.inner.Rows.{is_set}

@@ -1,4 +1,4 @@
-use Rattle.std.proofs.Common.{◌≡◌, ◌<◌, ◌^◌, rules, refl, inl, inr, sym, ap, ◌∙◌, arith, get_or, slice_index, bit_and, true}
+use Rattle.std.proofs.Common.{◌<◌, ◌^◌, rules, refl, inl, inr, sym, ap, ◌∙◌, arith, get_or, slice_index, bit_and}
 use Rattle.std.proofs.lemmas.Bool.{eqb-false, not-true, and_parts, false≢true}
 use Rattle.go_board.specs.declared.points.Point.{Point}
 use Rattle.go_board.specs.inner.Rows.{has_bit}

@@ -1,10 +1,9 @@
-use Rattle.std.proofs.Common.{◌≡◌, ◌<◌, ◌^◌, ℕ, List, length, set, slice_index, true, inl, inr, sym, ap, ◌∙◌, subst, arith, rules}
-use Rattle.std.proofs.lemmas.Bool.{and_from, cases_Bool, cases_eq, false≢true}
+use Rattle.std.proofs.Common.{◌≡◌, ◌<◌, ◌^◌, length, set, slice_index, inl, inr, sym, ap, ◌∙◌, subst, arith, rules}
+use Rattle.std.proofs.lemmas.Bool.{cases_Bool, cases_eq, false≢true}
 use Rattle.std.proofs.lemmas.List.{length-set}
-use Rattle.go_board.specs.declared.points.Point.{Point}
 use Rattle.go_board.specs.inner.Rows.{has_bit, is_set, IsPart, HasBeside}
 use Rattle.go_board.specs.inner.Linked.{HasLiberty, IsLinked}
-use Rattle.go_board.proofs.WordLemmas.{has_bit-and, has_bit-zero, column_below}
+use Rattle.go_board.proofs.WordLemmas.{has_bit-zero}
 use Rattle.go_board.proofs.GrowLemmas.{IsClosed-all}
 use Rattle.go_board.proofs.LinkedLemmas.{in_first, of_first, first_filled, common_column, none_lives}
 use Rattle.go_board.proofs.quick.group.has_liberty.Goals as goal

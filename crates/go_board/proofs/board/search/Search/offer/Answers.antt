@@ -1,4 +1,4 @@
-use Rattle.std.proofs.Common.{◌*◌, sym, ap, ◌∙◌, arith, set, ◌+◌}
+use Rattle.std.proofs.Common.{◌*◌, sym, ap, ◌∙◌, arith}
 use Rattle.std.proofs.lemmas.List.{length-set}
 use Rattle.go_board.specs.Marking.{Marking}
 use Rattle.go_board.proofs.SearchLemmas.{IsOffered, offered}
