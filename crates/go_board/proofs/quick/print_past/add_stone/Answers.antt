@@ -1,11 +1,8 @@
-use Rattle.std.proofs.Common.{◌≡◌, IfSome, List, false, subst, sym, rules}
-use Rattle.go_board.specs.declared.quick.print_past.trie.Node.{Node}
+use Rattle.std.proofs.Common.{false}
 use Rattle.go_board.specs.declared.stones.Colour.{Colour}
 use Rattle.go_board.specs.declared.points.Point.{Point}
 use Rattle.go_board.specs.Clearing.{play}
-use Rattle.go_board.specs.Past.{Held, PastColourings, all_of, newest_grid, with_next}
-use Rattle.go_board.specs.inner.Emptied.{IsEmptied}
-use Rattle.go_board.specs.inner.Table.{IsGap, IsTable}
+use Rattle.go_board.specs.Past.{Held, PastColourings, all_of, newest_grid}
 use Rattle.go_board.proofs.RepeatLemmas.{emptied_by_play}
 use Rattle.go_board.proofs.quick.print_past.add_stone.Goals as goal
 

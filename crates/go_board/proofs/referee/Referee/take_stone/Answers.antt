@@ -1,11 +1,10 @@
-use Rattle.std.proofs.Common.{◌≡◌, ◌+◌, ◌++◌, [], ◌∷◌, List, false, true, Contains, Some, None, refl, ap, sym, ◌∙◌, arith, rules}
+use Rattle.std.proofs.Common.{◌≡◌, ◌+◌, ◌++◌, [], ◌∷◌, false, true, Contains, Some, None, refl, ap, sym, ◌∙◌, arith, rules}
 use Rattle.std.proofs.lemmas.Bool.{false≢true}
 use Rattle.go_board.specs.declared.referee.plays.Play.TheVariants.{Stone}
 use Rattle.go_board.specs.Clearing.{play}
-use Rattle.go_board.specs.Past.{Held, PastColourings, newest_grid, with_next, present_stretch}
+use Rattle.go_board.specs.Past.{newest_grid, with_next, present_stretch}
 use Rattle.go_board.specs.State.{States}
 use Rattle.go_board.specs.Reason.{reason_of}
-use Rattle.go_board.specs.inner.Earlier.{past_of_older}
 use Rattle.go_board.proofs.EarlierLemmas.{IsRefereeKept-grown}
 use Rattle.go_board.proofs.SettledLemmas.{side_play}
 use Rattle.go_board.proofs.TurnLemmas.{reason_by_past, reason_of-new, on_err}

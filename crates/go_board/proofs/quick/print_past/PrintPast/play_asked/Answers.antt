@@ -1,8 +1,8 @@
-use Rattle.std.proofs.Common.{◌≡◌, ◌∙◌, Contains, false, ap, sym, subst}
+use Rattle.std.proofs.Common.{◌≡◌, ◌∙◌, Contains, sym, subst}
 use Rattle.std.proofs.lemmas.Bool.{false≢true}
 use Rattle.go_board.specs.Clearing.{play}
-use Rattle.go_board.specs.Past.{PastColourings, all_of, newest_grid, with_next, present_stretch}
-use Rattle.go_board.proofs.RepeatLemmas.{played_new, played_refused}
+use Rattle.go_board.specs.Past.{PastColourings, all_of, newest_grid, present_stretch}
+use Rattle.go_board.proofs.RepeatLemmas.{played_refused}
 use Rattle.go_board.proofs.TableLemmas.{gap_found}
 use Rattle.go_board.proofs.quick.print_past.PrintPast.play_asked.Goals as goal
 use Rattle.go_board.proofs.quick.print_past.PrintPast.play_asked.Goals.{Joined-not-is_new, then-not-is_new+else-has_near+else-has_made, else-not-is_new}

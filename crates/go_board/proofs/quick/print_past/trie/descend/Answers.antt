@@ -1,4 +1,4 @@
-use Rattle.std.proofs.Common.{◌-◌, ◌<◌, ◌∙◌, ℕ, Bool, List, length, arith, rules, sym, ap, subst}
+use Rattle.std.proofs.Common.{◌-◌, ◌<◌, ◌∙◌, ℕ, Bool, length, arith, rules, sym, ap, subst}
 use Rattle.go_board.specs.inner.Key.{bits_of}
 use Rattle.go_board.specs.inner.Trie.{IsTrie, IsOnWay, depth_of}
 use Rattle.go_board.proofs.TrieLemmas.{trie_tree, way_begins, way_goes_on, way_names}

@@ -1,4 +1,4 @@
-use Rattle.std.proofs.Common.{◌≡◌, ◌-◌, ◌<◌, ℕ, Bool, List, length}
+use Rattle.std.proofs.Common.{◌≡◌, ◌-◌, ◌<◌, ℕ, Bool, length}
 use Rattle.go_board.specs.inner.Key.{bits_of}
 use Rattle.go_board.specs.inner.Trie.{IsTrie, IsOnWay, depth_of, kid_of}
 use Rattle.go_board.proofs.quick.print_past.trie.descend.Given as goal

@@ -1,4 +1,4 @@
-use Rattle.std.proofs.Common.{◌<◌, length, subst, sym}
+use Rattle.std.proofs.Common.{subst, sym}
 use Rattle.go_board.specs.declared.quick.print_past.key.TheConstants.{WIDTH}
 use Rattle.go_board.specs.inner.Key.{bits_of}
 use Rattle.go_board.specs.inner.Trie.{IsNearest}

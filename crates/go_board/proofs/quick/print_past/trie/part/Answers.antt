@@ -1,6 +1,4 @@
-use Rattle.std.proofs.Common.{◌≡◌, List, length, sym, subst, ◌∙◌, arith}
-use Rattle.go_board.specs.declared.quick.print_past.trie.Node.{Node}
-use Rattle.go_board.specs.inner.Trie.{IsTrie, IsOpening, IsParting}
+use Rattle.std.proofs.Common.{sym, ◌∙◌, arith}
 use Rattle.go_board.proofs.TrieLemmas.{way_opens}
 use Rattle.go_board.proofs.quick.print_past.trie.part.Goals as goal
 

@@ -1,7 +1,6 @@
-use Rattle.std.proofs.Common.{◌≡◌, ◌+◌, ◌++◌, [], ◌∷◌, false, length, reverse, refl, ap, sym, subst, ◌∙◌, arith, rules}
+use Rattle.std.proofs.Common.{◌≡◌, ◌++◌, [], ◌∷◌, false, length, reverse, refl, ap, sym, subst, ◌∙◌, arith, rules}
 use Rattle.std.proofs.Math.Facts.{Fits-of_lt}
 use Rattle.go_board.specs.declared.quick.print_past.changes.Older.{Older}
-use Rattle.go_board.specs.Grid.{Grid}
 use Rattle.go_board.specs.Clearing.{play}
 use Rattle.go_board.specs.Past.{PastColourings, newest_grid, with_next}
 use Rattle.go_board.specs.inner.Changes.{is_full, IsPast, KeepRows}

@@ -1,5 +1,4 @@
-use Rattle.std.proofs.Common.{◌≡◌, length, reverse, ap, sym, ◌∙◌, arith}
-use Rattle.std.proofs.lemmas.List.{length-reverse}
+use Rattle.std.proofs.Common.{reverse, sym, arith}
 use Rattle.go_board.proofs.ColouringsLemmas.{started-le, length-held, start-newest}
 use Rattle.go_board.proofs.quick.print_past.colourings.Colourings.stretch_start.Goals as goal
 

@@ -1,11 +1,11 @@
-use Rattle.std.proofs.Common.{◌≡◌, ℕ, Bool, ◌<◌, ◌≤◌, ◌^◌, Contains, get_or, length, Some, ap, subst, sym, ◌∙◌, arith}
+use Rattle.std.proofs.Common.{◌≡◌, ℕ, Bool, ◌<◌, ◌^◌, length, Some, ap, subst, sym, ◌∙◌, arith}
 use Rattle.std.proofs.lemmas.Bool.{false≢true}
 use Rattle.std.proofs.lemmas.Grind.{get_or_default_zero}
 use Rattle.go_board.specs.declared.quick.print_past.key.TheConstants.{WIDTH}
 use Rattle.go_board.specs.Grid.{Grid}
-use Rattle.go_board.specs.Past.{all_of, present_stretch}
+use Rattle.go_board.specs.Past.{all_of}
 use Rattle.go_board.specs.inner.Key.{key_bits, keys_of}
-use Rattle.go_board.specs.inner.Trie.{IsNearest, IsTrie}
+use Rattle.go_board.specs.inner.Trie.{IsNearest}
 use Rattle.go_board.proofs.TableLemmas.{tabled, side-number, has_colouring, found_front, found_whole}
 use Rattle.go_board.proofs.quick.print_past.table.Table.find.Goals as goal
 use Rattle.go_board.proofs.quick.print_past.table.Table.find.Goals.{After-nearest-near, then-near-start-via-then-near-start, then-near-start-via-else-near-start+then-index-print}

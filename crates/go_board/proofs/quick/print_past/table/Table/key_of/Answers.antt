@@ -1,4 +1,4 @@
-use Rattle.std.proofs.Common.{◌≡◌, ℕ, Bool, ◌∙◌, get_or, subst, sym, arith}
+use Rattle.std.proofs.Common.{◌≡◌, ℕ, Bool, ◌∙◌, subst, sym, arith}
 use Rattle.std.proofs.lemmas.Grind.{get_or_default_zero}
 use Rattle.go_board.specs.Past.{all_of}
 use Rattle.go_board.specs.inner.Changes.{IsNumber}

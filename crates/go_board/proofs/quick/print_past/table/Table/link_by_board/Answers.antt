@@ -1,4 +1,4 @@
-use Rattle.std.proofs.Common.{◌≡◌, length, refl, sym, subst, ◌∙◌, arith}
+use Rattle.std.proofs.Common.{length, refl, subst, ◌∙◌, arith}
 use Rattle.go_board.specs.declared.quick.print_past.key.TheConstants.{WIDTH}
 use Rattle.go_board.specs.Past.{all_of}
 use Rattle.go_board.specs.inner.Key.{bits_of, keys_of}

@@ -1,4 +1,4 @@
-use Rattle.std.proofs.Common.{◌≡◌, ◌+◌, ◌<◌, length, refl, sym, ◌∙◌, arith}
+use Rattle.std.proofs.Common.{length, refl, ◌∙◌, arith}
 use Rattle.go_board.specs.Past.{all_of}
 use Rattle.go_board.specs.inner.Key.{keys_of}
 use Rattle.go_board.proofs.TableLemmas.{tabled_with}

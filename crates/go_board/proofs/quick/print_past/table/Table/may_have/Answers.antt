@@ -1,4 +1,4 @@
-use Rattle.std.proofs.Common.{◌<◌, length, slice_index, List, ℕ, sym, ◌∙◌, arith}
+use Rattle.std.proofs.Common.{sym, ◌∙◌, arith}
 use Rattle.go_board.proofs.TableLemmas.{has_number, print_there, tabled}
 use Rattle.go_board.proofs.quick.print_past.table.Table.may_have.Goals as goal
 

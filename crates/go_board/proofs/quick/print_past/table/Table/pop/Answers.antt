@@ -3,7 +3,6 @@ use Rattle.std.specs.Option.{option_to_list}
 use Rattle.std.specs.Vec.{vec_capacity}
 use Rattle.go_board.specs.declared.quick.print_past.table.Table.{Table}
 use Rattle.go_board.specs.declared.quick.print_past.trie.Node.{Node}
-use Rattle.go_board.specs.Past.{Held}
 use Rattle.go_board.specs.inner.Key.{keys_of}
 use Rattle.go_board.specs.inner.Filter.{IsFilter}
 use Rattle.go_board.specs.inner.Print.{prints_of}
