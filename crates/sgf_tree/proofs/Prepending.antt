@@ -82,22 +82,6 @@ module _ (whole : ℕ) (c : Games) where
   white-value n p b t h (vs, u, no_value, r) = ([], b ∷ u, no_value, in_node-white (with_property n (with_values p [])) b u h r)
   white-value n p b t h (vs, u, value (prop_value w units) are, r) = (vs, u, value (prop_value (white_space h w) units) are, r)
 
-  next-value : (n : Started) (p : Property) (t : List ℕ) → In_value whole c n p.name (values p) [] t → After_value whole c n p (91 ∷ t)
-  next-value n p t (v, u, units, (vs, w, are, r)) = (v ∷ vs, w, value (prop_value no_white_space units) are, rw append_assoc at r)
-
-  in-value : (n : Started) (name : List ℕ) (before : List (List ℕ)) (so_far : List ℕ) (t : List ℕ)
-      → After_value whole c n (property_of name before so_far) t → In_value whole c n name before so_far (93 ∷ t)
-  in-value n name before so_far t r = ([], t, no_unit, rw append-nil r)
-
-  plain-value : (n : Started) (name : List ℕ) (before : List (List ℕ)) (so_far : List ℕ) (b : ℕ) (t : List ℕ) → b ≢ 93 → b ≢ 92
-      → In_value whole c n name before (so_far ++ b ∷ []) t → In_value whole c n name before so_far (b ∷ t)
-  plain-value n name before so_far b t x y (v, u, units, r) = (b ∷ v, u, plain x y units, rw append_assoc at r)
-
-  escaped-value : (n : Started) (name : List ℕ) (before : List (List ℕ)) (so_far : List ℕ) (t : List ℕ)
-      → Completes whole c (after_escape n name before so_far) t → In_value whole c n name before so_far (92 ∷ t)
-  escaped-value n name before so_far t (b, s, e, (v, u, units, r)) =
-      (92 ∷ b ∷ v, u, rw e (escaped units), rw append_assoc at r)
-
   -- a byte before a text that completes the state after it
   pub prepend : (at : ℕ) (z : MachineState) (b : ℕ) (y : MachineState) (t : List ℕ) → IsTransition at z b y → at + length (b ∷ t) ≡ whole
       → Completes whole c y t → Completes whole c z (b ∷ t)
@@ -117,12 +101,12 @@ module _ (whole : ℕ) (c : Games) where
   prepend at z b y t (first_value {n} {name}) e r = name-bare n name (91 ∷ t) (t, no_white_space, r)
   prepend at z b y t (white_after_name h) e (u, w, r) = (u, white_space h w, r)
   prepend at z b y t later_value e r = (t, no_white_space, r)
-  prepend at z b y t (ends_value {n} {name} {before} {value = so_far}) e r = in-value n name before so_far t r
-  prepend at z b y t (escapes {n} {name} {before} {value = so_far}) e r = escaped-value n name before so_far t r
-  prepend at z b y t (plain_byte {n} {name} {before} {value = so_far} f g) e r = plain-value n name before so_far b t f g r
+  prepend at z b y t ends_value e r = ([], t, no_unit, rw append-nil r)
+  prepend at z b y t escapes e (d, s, f, (v, u, units, r)) = (92 ∷ d ∷ v, u, rw f (escaped units), rw append_assoc at r)
+  prepend at z b y t (plain_byte f g) e (v, u, units, r) = (b ∷ v, u, plain f g units, rw append_assoc at r)
   prepend at z b y t escaped_byte e r = (b, t, refl, r)
   prepend at z b y t (white_value {n} {p} h) e r = white-value n p b t h r
-  prepend at z b y t (next_value {n} {p}) e r = next-value n p t r
+  prepend at z b y t next_value e (v, u, units, (vs, w, are, r)) = (v ∷ vs, w, value (prop_value no_white_space units) are, rw append_assoc at r)
   prepend at z b y t (next_name {n} {p} h) e r = value-bare n p (b ∷ t) (named (with_property n p) b t h r)
   prepend at z b y t (ends_node {n} {p} h) e r =
       value-bare n p (b ∷ t) (after-bare (with_property n p) (b ∷ t) (after at (ended (with_property n p)) t e h r))
