@@ -5,8 +5,9 @@
 //! [`measure`] only counts the games, nodes and leaves, which is faster and takes less memory.
 //!
 //! An [`Outline`] ([`read_outline`]) keeps the sequences of a collection, which are the nodes between a `(` and the next parenthesis: in 20 bytes
-//! each, where it stands in the text, the number of its first node, and the sequence that it goes on from. If white space stands between its
-//! nodes, it keeps in 8 bytes where each stretch without any is. The nodes are found on the text, one after another.
+//! each, where it stands in the text, the number of its first node, and the sequence that it goes on from. If white space stands between
+//! parts of its nodes, or a name has small letters, it keeps in 8 bytes where each stretch without any is: the sgf form copies these. The
+//! nodes are found on the text, one after another.
 //! A [`Collection`] numbers its nodes from 0 in file order. Beside its outline it keeps the place of each node, in 4 bytes. The properties of
 //! a node and their raw values are read from the text again when they are asked for, one after another. Reading them takes no memory.
 //!
@@ -26,6 +27,7 @@
 //! | `reader` | reading a text, and the first fault |
 //! | `reader/keeper`, `reader/games` | what a reader tells the one who keeps a part of it; reading games |
 //! | `reader/own_nodes`, `reader/properties` | what is known of the own nodes of a game; reading the properties of a node |
+//! | `reader/stretch` | which bytes the sgf form copies |
 //! | `reader/counting` | counting games, nodes and leaves |
 //! | `reader/value` | what ends a raw value, and keeping where long values end |
 //! | `reader/mark`, `reader/scan` | the byte order mark; white space, where parts of a text end, and what stands at an offset |
@@ -56,8 +58,7 @@
 //! | decoded text; numbers | `push_text` (`text`); `number` (`numbers`) |
 //!
 //! The plain code is complete without the shortcuts in `quick`. A shortcut ensures no more than the plain function that it stands in for.
-//! Outside `quick` two things are there only for speed: the ends of long values (`long`), and whether a node is as written (`as_written`),
-//! which tells the sgf form what it may copy at once. A first reader may take `long` to be empty and `as_written` to be false.
+//! Outside `quick` one thing is there only for speed: the ends of long values (`long`). A first reader may take `long` to be empty.
 //!
 //! Worked examples are in the crate `sgf_tree_tests`, and those that the program shows are in `tests/`.
 #![tactic(auto)]
