@@ -79,7 +79,7 @@ returns c =
           rw (← c.is_written.ensures, w.if-is_written.false) (ap (λ (p : ℕ × ℕ). p.0) w.end-is ∙ ap (λ (s : Sequences). s.begun) w.in_ok-push_stretch.ensures.kept)
     ] in
     let grown : (more : List KeptStretch) × (after.stretches.items ≡ kept.stretches.items ++ more)
-        × (is_written own ≡ false → more ≡ record { start_and_mark = own.stretch.start + 2147483648; end = own.stretch.end } ∷ []) = elim c.if-is_written.branch [
+    × (is_written own ≡ false → more ≡ record { start_and_mark = own.stretch.start + 2147483648; end = own.stretch.end } ∷ []) = elim c.if-is_written.branch [
       | then-is_written w ↦ ([], rw (w.self-is, append-nil) refl, λ other. absurd (false≢true (sym other ∙ sym c.is_written.ensures ∙ w.if-is_written.true)))
       | else-is_written+in_ok-push_stretch w ↦ (_, rw w.self-is w.in_ok-push_stretch.ensures.pushed, λ _. refl)
     ] in
