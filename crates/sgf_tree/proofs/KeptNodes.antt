@@ -6,10 +6,9 @@ use Rattle.sgf_tree.specs.Tree.{Node, Games, no_games, node_count}
 use Rattle.sgf_tree.specs.FileOrder.{further_nodes}
 use Rattle.sgf_tree.specs.inner.Machine.{OpenGame, Stack, after_game, whole_game, close}
 use Rattle.sgf_tree.specs.inner.GamesRead.{open_count, open_nodes, lasts, open_lasts}
-use Rattle.sgf_tree.specs.inner.OwnNodes.{Coming, nothing, own_of, places_of, with_game}
+use Rattle.sgf_tree.specs.inner.OwnNodes.{Coming, nothing, own_of, places_of, coming_of, with_game}
 use Rattle.sgf_tree.specs.inner.Outlining.{HoldsSequences}
 use Rattle.sgf_tree.specs.inner.Placing.{ordered_places, HoldsNodes}
-use Rattle.sgf_tree.specs.declared.layout.Stretch.{Stretch}
 use Rattle.sgf_tree.specs.declared.numbered.Numbered.{Numbered}
 use Rattle.sgf_tree.proofs.Completion.{add_games}
 use Rattle.sgf_tree.proofs.GameEnds.{game-ends}
@@ -35,11 +34,10 @@ module _ (text : List ℕ) (kept : Numbered) where
   length-lasts k coming holds = ap length holds.lasts_are ∙ open_lasts-listed k.closed k.unclosed ∙ sym holds.sequences.are.count
 
   -- one more game is open
-  pub nodes-opened : (after : Numbered) (k : Stack) (g : OpenGame) (stretches : List Stretch)
-      → HoldsNodes text kept k (record { places = places_of (own_of g); stretches = stretches }) → g.below ≡ no_games
+  pub nodes-opened : (after : Numbered) (k : Stack) (g : OpenGame) (told : List ℕ) → HoldsNodes text kept k (coming_of (own_of g) told) → g.below ≡ no_games
       → HoldsSequences text after.sequences (with_game k g) nothing → after.places ≡ kept.places → after.last_nodes.items ≡ kept.last_nodes.items ++ 0 ∷ []
       → HoldsNodes text after (with_game k g) nothing
-  nodes-opened after k g stretches holds none sequences places lasts_are = grind (arith, common_steps, places-opened)
+  nodes-opened after k g told holds none sequences places lasts_are = grind (arith, common_steps, places-opened)
 
   -- a game that ends: the last node so far is the last one below its first
   module _ (after : Numbered)

@@ -1,16 +1,19 @@
 -- What the table of sequences keeps: with one more sequence, and after a game that ends.
 use Rattle.std.proofs.lemmas.Grind.{common_steps}
-use Rattle.std.proofs.Common.{◌≡◌, ℕ, zero, suc, ◌+◌, ◌-◌, ◌/◌, ◌%◌, ◌<◌, ◌≤◌, Bool, true, false, cond, inl, inr, List, [], ◌∷◌, ◌++◌, length, get_or, take, drop, slice_get, map, Option, Some, None, refl, sym, ap, subst, ◌∙◌, arith, length-append}
+use Rattle.std.proofs.Common.{◌≡◌, ℕ, ◌+◌, ◌-◌, ◌/◌, ◌%◌, ◌<◌, ◌≤◌, Bool, true, false, cond, inl, inr, List, [], ◌∷◌, ◌++◌, length, get_or, drop, slice_get, slice_range, Option, Some, None, refl, sym, ap, subst, ◌∙◌, arith, length-append}
 use Rattle.std.proofs.Math.Dec.{eqb}
-use Rattle.std.proofs.Math.Seq.{take-length, drop-length}
-use Rattle.std.proofs.lemmas.List.{drop-append-le, length-drop, length-map, map-append}
+use Rattle.std.proofs.Math.Seq.{drop-length}
+use Rattle.std.proofs.lemmas.Bool.{eqb-true}
+use Rattle.std.proofs.lemmas.List.{drop-append-le}
+use Rattle.std.specs.List.{flat_map}
 use Rattle.std.proofs.lemmas.Option.{slice_get-get_or, slice_get_within}
 use Rattle.sgf_tree.specs.Tree.{Node, Games, no_games}
+use Rattle.sgf_tree.specs.Written.{node_text}
 use Rattle.sgf_tree.specs.inner.Machine.{OpenGame, Stack, after_game, whole_game, close}
 use Rattle.sgf_tree.specs.inner.GamesRead.{open_count}
 use Rattle.sgf_tree.specs.inner.Listing.{Listed, open_list}
-use Rattle.sgf_tree.specs.inner.OwnNodes.{Coming, nothing, with_stretch, AreStretches, no_stretch, stretch_before, is_written, AreOwnNodes, own_of, places_of, with_game}
-use Rattle.sgf_tree.specs.inner.Outlining.{outer_by, stretch_by, stretches_by, IsKept, AreKept, HoldsSequences}
+use Rattle.sgf_tree.specs.inner.OwnNodes.{Coming, nothing, with_text, coming_of, is_written, IsCopied, AreOwnNodes, own_of, with_game}
+use Rattle.sgf_tree.specs.inner.Outlining.{outer_by, start_by, is_last_by, nodes_of, AreTold, AreWhole, HasStretches, IsKept, AreKept, HoldsSequences}
 use Rattle.sgf_tree.specs.declared.layout.OwnNodes.{OwnNodes}
 use Rattle.sgf_tree.specs.declared.layout.Stretch.{Stretch}
 use Rattle.sgf_tree.specs.declared.sequences.KeptStretch.{KeptStretch}
@@ -20,6 +23,7 @@ use Rattle.sgf_tree.proofs.Completion.{add_games}
 use Rattle.sgf_tree.proofs.GameEnds.{game-ends, open_games-least, open_count-closed, game_count-closed}
 use Rattle.sgf_tree.proofs.Listed.{before, own, open_list-least, open_list-nodes, list-closed, innermost-closed}
 use Rattle.sgf_tree.proofs.Lists.{slice_get-pushed, slice_get-right}
+use Rattle.sgf_tree.proofs.StretchesKept.{told-more, told-whole, whole-grown, whole-within}
 
 -- a word that a number and the flags of a sequence are kept in
 pub record Packs (word : ℕ) (written : Bool) (outer : Option ℕ) (ordinal : ℕ) : Type 0 where
@@ -48,29 +52,14 @@ packs-outer written flag outer ordinal is low = grind (arith, common_steps, flag
 pub packs-root : (written : Bool) (flag ordinal : ℕ) → flag ≡ cond written 2147483648 0 → ordinal < 1073741824 → Packs (ordinal + 1073741824 + flag) written None ordinal
 packs-root written flag ordinal is low = grind (arith, common_steps, flag-even, flag-above)
 
--- the first of a list stay when the list grows
-take-grown : {A : Type 0} (own xs ys : List A) → take (length own) xs ≡ own → take (length own) (xs ++ ys) ≡ own
-take-grown [] xs ys e = refl
-take-grown (o ∷ own) [] ys e = absurd (cc)
-take-grown (o ∷ own) (x ∷ xs) ys e = grind (arith, common_steps)
-
-drop-grown : {A : Type 0} (own xs ys : List A) (i : ℕ) → take (length own) (drop i xs) ≡ own → take (length own) (drop i (xs ++ ys)) ≡ own
-drop-grown own xs ys zero e = take-grown own xs ys e
-drop-grown [] [] ys (suc i) e = refl
-drop-grown (o ∷ own) [] ys (suc i) e = absurd (cc)
-drop-grown own (x ∷ xs) ys (suc i) e = drop-grown own xs ys i e
-
 module _ (text : List ℕ) where
-  -- there are no more stretches than nodes
-  stretches-least : {stretches : List Stretch} {nodes : List Node} → AreStretches text stretches nodes → length stretches ≤ length nodes
-  stretches-least no_stretch = omega arith
-  stretches-least (stretch_before {stretch} {stretches} {nodes} {rest} is are) = omega (arith, is.some, stretches-least are, length-append nodes rest)
-
-  pub stretches-few : (own : OwnNodes) (nodes : List Node) (stretches : List Stretch) → AreOwnNodes text own nodes stretches → length stretches ≤ length nodes
-  stretches-few own nodes stretches are = grind (arith, common_steps, stretches-least)
-
   -- what is kept stays right with more stretches
-  kept-grown : (stretches more : List Stretch) (table : List Sequence) (sequences : List Listed) → AreKept text stretches table sequences → AreKept text (stretches ++ more) table sequences
+  stretches-grown : (stretches more : List KeptStretch) (index : ℕ) (nodes : List Node) → HasStretches text stretches index nodes → HasStretches text (stretches ++ more) index nodes
+  stretches-grown stretches more index nodes whole =
+      let le : index ≤ length stretches = omega (arith, whole-within text stretches index (flat_map node_text nodes) whole) in
+      rw (drop-append-le index stretches more le) (whole-grown text (drop index stretches) more (flat_map node_text nodes) whole)
+
+  kept-grown : (stretches more : List KeptStretch) (table : List Sequence) (sequences : List Listed) → AreKept text stretches table sequences → AreKept text (stretches ++ more) table sequences
   kept-grown stretches more table sequences are = record {
     count = are.count;
     each = λ i k s here there. let is = are.each i k s here there in record {
@@ -82,17 +71,12 @@ module _ (text : List ℕ) where
       rises = is.rises;
       within = is.within;
       written = is.written;
-      stretched = λ e. let has = is.stretched e in record {
-        own = has.own;
-        here = drop-grown has.own stretches more k.end has.here;
-        are = has.are;
-        marked = has.marked;
-      };
+      stretched = λ e. stretches-grown stretches more k.end (nodes_of s) (is.stretched e);
     };
   }
 
   -- one more sequence
-  kept-pushed : (stretches : List Stretch) (table : List Sequence) (sequences : List Listed) (kept : Sequence) (sequence : Listed)
+  kept-pushed : (stretches : List KeptStretch) (table : List Sequence) (sequences : List Listed) (kept : Sequence) (sequence : Listed)
       → AreKept text stretches table sequences → IsKept text stretches kept sequence → AreKept text stretches (table ++ kept ∷ []) (sequences ++ sequence ∷ [])
   kept-pushed stretches table sequences kept sequence are is = record {
     count = omega (arith, are.count, length-append table (kept ∷ []), length-append sequences (sequence ∷ []));
@@ -108,33 +92,30 @@ module _ (text : List ℕ) where
     ];
   }
 
-  own-kept : (own : OwnNodes) (g : OpenGame) (ours stretches : List Stretch) (begun end number word ordinal : ℕ) (outer : Option ℕ)
-      → AreOwnNodes text own (own_of g) ours → drop begun stretches ≡ ours → end ≡ cond (is_written own) own.end begun → Packs word (is_written own) outer ordinal
+  own-kept : (own : OwnNodes) (g : OpenGame) (stretches : List KeptStretch) (begun end number word ordinal : ℕ) (outer : Option ℕ)
+      → AreOwnNodes own (own_of g) → own.first ≤ own.stretch.end → own.stretch.end ≤ length text
+      → (is_written own ≡ true → slice_range text own.first own.stretch.end ≡ flat_map node_text (own_of g)) → (is_written own ≡ false → HasStretches text stretches begun (own_of g))
+      → end ≡ cond (is_written own) own.stretch.end begun → Packs word (is_written own) outer ordinal
       → IsKept text stretches (record { first = own.first; last = own.last; end = end; number = number; outer_and_flags = word })
       (record { first = g.first; more = g.more; number = number; outer = outer; ordinal = ordinal })
-  own-kept own g ours stretches begun end number word ordinal outer are here ends packs =
+  own-kept own g stretches begun end number word ordinal outer are rises within written stretched ends packs =
       let last : length (own_of g) - 1 ≡ length g.more = omega arith in
-      let written : eqb (word / 2147483648) 1 ≡ true → (is_written own ≡ true) × (end ≡ own.end) = λ e.
+      let known : eqb (word / 2147483648) 1 ≡ true → (is_written own ≡ true) × (end ≡ own.stretch.end) = λ e.
       let is : is_written own ≡ true = sym packs.written_is ∙ e in
-      (is, ends ∙ ap (λ b. cond b own.end begun) is) in
+      (is, ends ∙ ap (λ b. cond b own.stretch.end begun) is) in
       record {
         number_is = refl;
         outer_is = packs.outer_is;
         ordinal_is = packs.ordinal_is;
-        first_is = sym (are.first_is g.first);
-        last_is = sym (subst (λ n. (get_or (own_of g) n g.first).place ≡ own.last) last (are.last_is g.first));
-        rises = λ e. omega (arith, (written e).1, are.rises, are.ends);
-        within = λ e. omega (arith, (written e).1, are.within);
-        written = λ e. rw (written e).1 (are.written (written e).0).1;
+        first_is = sym (are.first_is g.first (omega arith));
+        last_is = sym (subst (λ n. (get_or (own_of g) n g.first).place ≡ own.last) last (are.last_is g.first (omega arith)));
+        rises = λ e. omega (arith, (known e).1, rises);
+        within = λ e. omega (arith, (known e).1, within);
+        written = λ e. rw (known e).1 (written (known e).0);
         stretched = λ e.
             let is : is_written own ≡ false = sym packs.written_is ∙ e in
-            let at : end ≡ begun = ends ∙ ap (λ b. cond b own.end begun) is in
-            record {
-              own = ours;
-              here = rw (at, here) (take-length ours);
-              are = (are.stretched is).0;
-              marked = (are.stretched is).1;
-            };
+            let at : end ≡ begun = ends ∙ ap (λ b. cond b own.stretch.end begun) is in
+            rw at (stretched is);
       }
 
   module _ (kept : Sequences) where
@@ -170,52 +151,72 @@ module _ (text : List ℕ) where
           in_parts closed [] holds = grind (arith, common_steps, packs-root)
           in_parts closed (g ∷ gs) holds = grind (arith, common_steps, before, innermost-within, packs-outer)
 
-    -- where the stretches of a further game begin
-    pub begun-few : (k : Stack) (coming : Coming) → HoldsSequences text kept k coming
-        → length kept.stretches.items ≤ open_count k.closed k.unclosed + length coming.stretches
-    begun-few k coming holds = grind (arith, common_steps, length-map, length-drop)
-
     -- one more stretch
-    pub stretch-kept : (after : Sequences) (new : KeptStretch) (stretch : Stretch) → stretch_by new ≡ stretch → after.stretches.items ≡ kept.stretches.items ++ new ∷ []
-        → after.table ≡ kept.table → after.begun ≡ kept.begun → after.nodes ≡ kept.nodes → after.games ≡ kept.games → after.innermost ≡ kept.innermost
-        → (k : Stack) (coming : Coming) → HoldsSequences text kept k coming → HoldsSequences text after k (with_stretch coming stretch)
-    stretch-kept after new stretch is pushed table begun nodes games innermost k coming holds =
-        let grown : stretches_by after ≡ stretches_by kept ++ stretch ∷ [] =
-        ap (λ s. map stretch_by s) pushed ∙ map-append stretch_by kept.stretches.items (new ∷ []) ∙ ap (λ s. stretches_by kept ++ s ∷ []) is in
+    pub stretch-kept : (after : Sequences) (stretch : Stretch) → after ≡ record kept { stretches = after.stretches } → length after.stretches.items ≤ 67108864
+        → after.stretches.items ≡ kept.stretches.items ++ record { start_and_mark = stretch.start + 0; end = stretch.end } ∷ [] → stretch.start ≤ stretch.end → stretch.end ≤ 67108864
+        → (k : Stack) (coming : Coming) → HoldsSequences text kept k coming → stretch.end ≤ length text
+        → HoldsSequences text after k (with_text coming (slice_range text stretch.start stretch.end))
+    stretch-kept after stretch is few pushed rises low k coming holds within =
+        let new : KeptStretch = record { start_and_mark = stretch.start + 0; end = stretch.end } in
+        let start : start_by new ≡ stretch.start = below-flag false 0 stretch.start refl (omega arith) in
+        let other : is_last_by new ≡ false = flag-above false 0 stretch.start refl (omega arith) in
+        let begun : after.begun ≡ kept.begun = ap (λ (s : Sequences). s.begun) is in
+        let table : after.table ≡ kept.table = ap (λ (s : Sequences). s.table) is in
         record {
-          are = rw (grown, table) (kept-grown (stretches_by kept) (stretch ∷ []) kept.table.items _ holds.are);
-          nodes_counted = nodes ∙ holds.nodes_counted;
-          games_counted = games ∙ holds.games_counted;
-          innermost_is = innermost ∙ holds.innermost_is;
-          begun_few = rw begun holds.begun_few;
-          begun_within = omega (arith, begun, holds.begun_within, ap length grown, length-append (stretches_by kept) (stretch ∷ []));
-          coming_are =
-              rw (grown, begun) (drop-append-le kept.begun (stretches_by kept) (stretch ∷ []) holds.begun_within)
-              ∙ ap (λ s. s ++ stretch ∷ []) holds.coming_are;
+          are = rw (pushed, table) (kept-grown kept.stretches.items (new ∷ []) kept.table.items _ holds.are);
+          nodes_counted = ap (λ (s : Sequences). s.nodes) is ∙ holds.nodes_counted;
+          games_counted = ap (λ (s : Sequences). s.games) is ∙ holds.games_counted;
+          innermost_is = ap (λ (s : Sequences). s.innermost) is ∙ holds.innermost_is;
+          few = few;
+          begun_within = omega (arith, begun, holds.begun_within, ap length pushed, length-append kept.stretches.items (new ∷ []));
+          told =
+              rw (pushed, begun, drop-append-le kept.begun kept.stretches.items (new ∷ []) holds.begun_within)
+              (subst (λ i. AreTold text (drop kept.begun kept.stretches.items ++ new ∷ []) (coming.told ++ slice_range text i stretch.end)) start
+              (told-more text new (omega arith) within (drop kept.begun kept.stretches.items) coming.told other holds.told));
         }
 
     -- one more game is open
-    pub sequences-opened : (after : Sequences) (own : OwnNodes) (end word : ℕ) (k : Stack) (g : OpenGame) (stretches : List Stretch)
-        → HoldsSequences text kept k (record { places = places_of (own_of g); stretches = stretches }) → AreOwnNodes text own (own_of g) stretches → g.below ≡ no_games
-        → end ≡ cond (is_written own) own.end kept.begun
-        → Packs word (is_written own) (open_list k.closed k.unclosed).innermost (open_list k.closed k.unclosed).next_ordinal
-        → after.table.items ≡ kept.table.items ++ record { first = own.first; last = own.last; end = end; number = kept.nodes; outer_and_flags = word } ∷ []
-        → after.stretches ≡ kept.stretches → after.begun ≡ length kept.stretches.items
-        → after.nodes ≡ kept.nodes + own.count → after.games ≡ kept.games → after.innermost ≡ Some (length kept.table.items) → HoldsSequences text after (with_game k g) nothing
-    sequences-opened after own end word k g stretches holds are none ends packs table_is stretches_are begun_is nodes_are games_are innermost_is =
-        let number : kept.nodes ≡ (open_list k.closed k.unclosed).nodes = holds.nodes_counted ∙ sym (open_list-nodes k.closed k.unclosed) in
-        let it = own-kept own g stretches (stretches_by kept) kept.begun end kept.nodes word (open_list k.closed k.unclosed).next_ordinal (open_list k.closed k.unclosed).innermost are holds.coming_are ends packs in
-        let all : after.begun ≡ length (stretches_by kept) = begun_is ∙ sym (length-map kept.stretches.items stretch_by) in
-        let few = stretches-few own (own_of g) stretches are in
-        record {
-          are = rw (table_is, none, stretches_are, ← number) (kept-pushed (stretches_by kept) kept.table.items (open_list k.closed k.unclosed).sequences _ _ holds.are it);
-          nodes_counted = rw none (omega (arith, nodes_are, holds.nodes_counted, are.counted));
-          games_counted = games_are ∙ holds.games_counted;
-          innermost_is = innermost_is ∙ ap Some holds.are.count;
-          begun_few = omega (arith, few, begun_is, begun-few k _ holds);
-          begun_within = rw stretches_are (omega (arith, all));
-          coming_are = rw (stretches_are, all) (drop-length (stretches_by kept));
-        }
+    module _ (after : Sequences) (own : OwnNodes) (more : List KeptStretch) (stretches_are : after.stretches.items ≡ kept.stretches.items ++ more)
+        (last_is : is_written own ≡ false → more ≡ record { start_and_mark = own.stretch.start + 2147483648; end = own.stretch.end } ∷ [])
+        (few : length after.stretches.items ≤ 67108864) (low : own.stretch.end ≤ 67108864) where
+      -- the stretches of its nodes
+      own-stretches : (k : Stack) (g : OpenGame) → IsCopied (λ told. HoldsSequences text kept k (coming_of (own_of g) told)) text own.first own.stretch (flat_map node_text (own_of g))
+          → is_written own ≡ false → HasStretches text after.stretches.items kept.begun (own_of g)
+      own-stretches k g copied other =
+          let new : KeptStretch = record { start_and_mark = own.stretch.start + 2147483648; end = own.stretch.end } in
+          let under : own.stretch.start < 2147483648 = omega (arith, copied.rises) in
+          let start : start_by new ≡ own.stretch.start = below-flag true 2147483648 own.stretch.start refl under in
+          let last : is_last_by new ≡ true = flag-above true 2147483648 own.stretch.start refl under in
+          let whole = told-whole text new (omega (arith, start, copied.rises)) copied.within (drop kept.begun kept.stretches.items) copied.told last copied.kept.told in
+          rw (stretches_are, last_is other, drop-append-le kept.begun kept.stretches.items (new ∷ []) copied.kept.begun_within)
+          (subst (AreWhole text (drop kept.begun kept.stretches.items ++ new ∷ [])) (ap (λ i. copied.told ++ slice_range text i own.stretch.end) start ∙ copied.are) whole)
+
+      pub sequences-opened : (end word : ℕ) (k : Stack) (g : OpenGame) → AreOwnNodes own (own_of g)
+          → IsCopied (λ told. HoldsSequences text kept k (coming_of (own_of g) told)) text own.first own.stretch (flat_map node_text (own_of g)) → g.below ≡ no_games
+          → end ≡ cond (is_written own) own.stretch.end kept.begun
+          → Packs word (is_written own) (open_list k.closed k.unclosed).innermost (open_list k.closed k.unclosed).next_ordinal
+          → after.table.items ≡ kept.table.items ++ record { first = own.first; last = own.last; end = end; number = kept.nodes; outer_and_flags = word } ∷ []
+          → after.begun ≡ length after.stretches.items
+          → after.nodes ≡ kept.nodes + own.count → after.games ≡ kept.games → after.innermost ≡ Some (length kept.table.items) → HoldsSequences text after (with_game k g) nothing
+      sequences-opened end word k g are copied none ends packs table_is begun_is nodes_are games_are innermost_is =
+          let holds = copied.kept in
+          let number : kept.nodes ≡ (open_list k.closed k.unclosed).nodes = holds.nodes_counted ∙ sym (open_list-nodes k.closed k.unclosed) in
+          let written : is_written own ≡ true → slice_range text own.first own.stretch.end ≡ flat_map node_text (own_of g) = λ is.
+          let at : own.stretch.start ≡ own.first = eqb-true own.stretch.start own.first is in
+          ap (λ i. slice_range text i own.stretch.end) (sym at) ∙ ap (λ s. s ++ slice_range text own.stretch.start own.stretch.end) (sym (copied.alone at)) ∙ copied.are in
+          let it = own-kept own g after.stretches.items kept.begun end kept.nodes word (open_list k.closed k.unclosed).next_ordinal (open_list k.closed k.unclosed).innermost are
+          (omega (arith, copied.low, copied.rises)) copied.within written (own-stretches k g copied) ends packs in
+          let earlier : AreKept text after.stretches.items kept.table.items (open_list k.closed k.unclosed).sequences =
+          rw stretches_are (kept-grown kept.stretches.items more kept.table.items _ holds.are) in
+          record {
+            are = rw (table_is, none, ← number) (kept-pushed after.stretches.items kept.table.items (open_list k.closed k.unclosed).sequences _ _ earlier it);
+            nodes_counted = rw none (omega (arith, nodes_are, holds.nodes_counted, are.counted));
+            games_counted = games_are ∙ holds.games_counted;
+            innermost_is = innermost_is ∙ ap Some holds.are.count;
+            few = few;
+            begun_within = omega (arith, begun_is);
+            told = subst (λ stretches. AreTold text stretches []) (sym (ap (λ n. drop n after.stretches.items) begun_is ∙ drop-length after.stretches.items)) refl;
+          }
 
     -- a game that ends: the sequence of the game around it is innermost then
     module _ (after : Sequences) (outer : (i : ℕ) → kept.innermost ≡ Some i → (d : Sequence) × (after ≡ record kept { innermost = outer_by (get_or kept.table.items i d) })) where
@@ -229,13 +230,13 @@ module _ (text : List ℕ) where
         each-ended closed g gs holds is_open =
             let (d, is) = outer (length (before closed gs)) holds.innermost_is in
             record {
-              are = rw is (subst (AreKept text (stretches_by kept) kept.table.items) (sym (list-closed closed g gs)) holds.are);
+              are = rw is (subst (AreKept text kept.stretches.items kept.table.items) (sym (list-closed closed g gs)) holds.are);
               nodes_counted = ap (λ (s : Sequences). s.nodes) is ∙ holds.nodes_counted ∙ sym (open_count-closed closed g gs);
               games_counted = omega (arith, is_games, ap (λ (s : Sequences). s.games) is, holds.games_counted, game_count-closed closed g gs depth is_open);
               innermost_is = ap (λ (s : Sequences). s.innermost) is ∙ (innermost-kept closed g gs nothing d holds).1 ∙ sym (innermost-closed closed g gs);
-              begun_few = omega (arith, ap (λ (s : Sequences). s.begun) is, holds.begun_few, open_count-closed closed g gs);
+              few = rw is holds.few;
               begun_within = rw is holds.begun_within;
-              coming_are = rw is holds.coming_are;
+              told = rw is holds.told;
             }
 
         pub sequences-ended : (k next : Stack) → close k ≡ Some (after_game next) → Ends k next

@@ -25,7 +25,7 @@ pub mod Listed
 pub mod KeptSequences
 pub mod KeptNodes
 pub mod SequencesRead
-pub mod OwnStretches
+pub mod Copying
 pub mod OwnRead
 pub mod Starts
 pub mod LastBelow
@@ -65,4 +65,4 @@ pub mod ShortBytes
 pub mod ShortProperties
 pub mod ListedNodes
 pub mod Outlined
-pub mod StretchesLeft
+pub mod StretchesKept

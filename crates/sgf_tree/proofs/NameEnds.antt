@@ -1,10 +1,10 @@
 -- How the name of a property is read, up to the `[` after it.
 use Rattle.std.proofs.lemmas.Grind.{common_steps}
-use Rattle.std.proofs.Common.{◌≡◌, ◌≢◌, ℕ, ◌+◌, ◌<◌, ◌≤◌, false, inl, inr, IsTrue, List, [], ◌∷◌, ◌++◌, length, get_or, slice_range, Some, None, refl, ap, subst, arith, ne_eqb, get_or-drop, length-drop, rules}
+use Rattle.std.proofs.Common.{◌≡◌, ◌≢◌, ℕ, zero, suc, ◌+◌, ◌-◌, ◌<◌, ◌≤◌, false, inl, inr, IsTrue, List, [], ◌∷◌, ◌++◌, length, get_or, slice_range, Some, None, refl, sym, ap, subst, ◌∙◌, arith, if◌then◌else◌, ne_eqb, get_or-drop, length-drop}
 use Rattle.std.proofs.lemmas.Bool.{cases_lt, or_cases, or_parts, or_left, false≢true}
 use Rattle.std.proofs.lemmas.List.{take_more}
 use Rattle.std.proofs.lemmas.List.Elements.{filter-append}
-use Rattle.sgf_tree.specs.Spelling.{is_white_space, is_upper}
+use Rattle.sgf_tree.specs.Spelling.{is_white_space, is_upper, is_lower}
 use Rattle.sgf_tree.specs.inner.Machine.{Started, MachineState, in_name, after_name, in_value, next_state, accepted}
 use Rattle.sgf_tree.specs.Refusal.{IsFaultyAt}
 use Rattle.sgf_tree.specs.inner.NodeText.{is_letter, name_in}
@@ -13,7 +13,7 @@ use Rattle.sgf_tree.specs.inner.PropertiesRead.{IsNameRead}
 use Rattle.sgf_tree.proofs.Classes.{white-not_upper, white-not_lower}
 use Rattle.sgf_tree.proofs.Run.{run-take-step}
 use Rattle.sgf_tree.proofs.Skipping.{stays-after_name}
-use Rattle.sgf_tree.proofs.Spans.{empty-span, run-white, run-letters}
+use Rattle.sgf_tree.proofs.Spans.{empty-span, run-white, run-letters, span-none}
 use Rattle.sgf_tree.proofs.ValueEnds.{span-join, stops-faulty}
 
 -- one byte
@@ -34,7 +34,12 @@ name-reached t start end n lt capital letters h =
     let b : ℕ = get_or t start 0 in
     let longer : start < end = name-longer t start end lt capital letters in
     let parts : slice_range t start end ≡ (b ∷ []) ++ slice_range t (start + 1) end = name-begins t start end lt capital letters in
-    search (rules, filter-append, run-letters, or_cases)
+    let name : name_in (slice_range t start end) ≡ (b ∷ []) ++ name_in (slice_range t (start + 1) end) =
+    ap name_in parts ∙ filter-append is_upper (b ∷ []) (slice_range t (start + 1) end)
+    ∙ ap (λ c. (if c then b ∷ [] else []) ++ name_in (slice_range t (start + 1) end)) capital in
+    rw name
+    (run-letters t (start + 1) end n (b ∷ []) (omega arith) letters.within
+    (λ i low high. or_cases (is_upper (get_or t i 0)) (is_lower (get_or t i 0)) (letters.passing i (omega arith) high)) h)
 
 -- the state after a name and the white space there
 pub record StandsAfterName (t : List ℕ) (at : ℕ) (n : Started) (name : List ℕ) : Type 0 where
@@ -82,16 +87,52 @@ name-after t start end at n inside capital letters white begins =
 pub name-faulty : (t : List ℕ) (at : ℕ) (n : Started) (name : List ℕ) → StandsAfterName t at n name → at ≤ length t → (at < length t → get_or t at 0 ≢ 91) → IsFaultyAt t at
 name-faulty t at n name after le other = stops-faulty t at after.state le after.reached after.unaccepted (λ lt. after.refused lt (other lt))
 
-pub name-read : (t : List ℕ) (start end at : ℕ) → start < length t → IsTrue (is_upper (get_or t start 0)) → IsSpan is_letter t start end → IsSpan is_white_space t end at
-    → IsBracket t at → IsNameRead t start at
-name-read t start end at inside capital letters white stands =
+-- the `[`
+name-value : (t : List ℕ) (at : ℕ) (n : Started) (name : List ℕ) → StandsAfterName t at n name → at < length t → get_or t at 0 ≡ 91 → ComesTo t (at + 1) (in_value n name [] [])
+name-value t at n name after lt e = run-take-step t at after.state (in_value n name [] []) after.reached lt (rw e after.bracket)
+
+pub name-read : (Wrote : List ℕ → Type 0) (t : List ℕ) (start end at : ℕ) → start < length t → IsTrue (is_upper (get_or t start 0)) → IsSpan is_letter t start end → IsSpan is_white_space t end at
+    → IsBracket t at → Wrote (name_in (slice_range t start end)) → IsNameRead Wrote t start at
+name-read Wrote t start end at inside capital letters white stands wrote =
     record {
       rises = omega (arith, white.rises, name-longer t start end inside capital letters);
       stands = stands;
-      reached = λ n h.
-          let after = name-after t start end at n inside capital letters white h in
-          (name_in (slice_range t start end), run-take-step t at after.state (in_value n (name_in (slice_range t start end)) [] []) after.reached stands.within (rw stands.bracket after.bracket));
+      reached = λ n h. (
+        name_in (slice_range t start end),
+        name-value t at n (name_in (slice_range t start end)) (name-after t start end at n inside capital letters white h) stands.within stands.bracket,
+        wrote,
+      );
     }
+
+-- a letter of a name
+pub name-capital : (t : List ℕ) (at : ℕ) → at < length t → IsTrue (is_upper (get_or t at 0)) → slice_range t at (at + 1) ≡ name_in (slice_range t at (at + 1))
+name-capital t at lt capital = rw (span-one t at lt) (ap (λ c. if c then get_or t at 0 ∷ [] else []) (sym capital))
+
+pub name-small : (t : List ℕ) (at : ℕ) → at < length t → is_upper (get_or t at 0) ≡ false → [] ≡ name_in (slice_range t at (at + 1))
+name-small t at lt small = rw (span-one t at lt) (ap (λ c. if c then get_or t at 0 ∷ [] else []) (sym small))
+
+pub name-join : (t : List ℕ) (from between to : ℕ) → from ≤ between → between ≤ to → name_in (slice_range t from between) ++ name_in (slice_range t between to) ≡ name_in (slice_range t from to)
+name-join t from between to le le' =
+    sym (filter-append is_upper (slice_range t from between) (slice_range t between to)) ∙ ap name_in (span-join t from between to le le')
+
+-- capitals are the name that they spell
+capitals-name : (t : List ℕ) (from n : ℕ) → from + n ≤ length t → ((i : ℕ) → from ≤ i → i < from + n → IsTrue (is_upper (get_or t i 0)))
+    → name_in (slice_range t from (from + n)) ≡ slice_range t from (from + n)
+capitals-name t from zero within capitals = let none : from + 0 ≡ from = omega arith in rw (none, span-none t from) refl
+capitals-name t from (suc n) within capitals =
+    let more : from + suc n ≡ from + n + 1 = omega arith in
+    rw more
+    (sym (name-join t from (from + n) (from + n + 1) (omega arith) (omega arith))
+    ∙ ap (λ s. s ++ name_in (slice_range t (from + n) (from + n + 1))) (capitals-name t from n (omega arith) (λ i low high. capitals i low (omega arith)))
+    ∙ ap (λ s. slice_range t from (from + n) ++ s) (sym (name-capital t (from + n) (omega arith) (capitals (from + n) (omega arith) (omega arith))))
+    ∙ span-join t from (from + n) (from + n + 1) (omega arith) (omega arith))
+
+pub capitals-are : (t : List ℕ) (from to : ℕ) → IsSpan is_upper t from to → slice_range t from to ≡ name_in (slice_range t from to)
+capitals-are t from to run =
+    let rises : from ≤ to = run.rises in
+    let all : from + (to - from) ≡ to = omega arith in
+    sym (subst (λ i. name_in (slice_range t from i) ≡ slice_range t from i) all
+    (capitals-name t from (to - from) (omega (arith, run.within)) (λ i low high. run.passing i low (omega arith))))
 
 -- no white space stands before a `[` that is there
 pub bracket-here : (t : List ℕ) (at : ℕ) → IsBracket t at → IsSpan is_white_space t at at

@@ -155,10 +155,3 @@ count-properties (properties p ps) = let a = shorter-property p in let b = count
 pub properties-in : {ps : List Property} {s r : List ℕ} → AreProperties ps s r → NoPropertyFollows r → properties_in s ≡ ps
 unfolding properties_in
 properties-in {s = s} h ends = properties-are (length s) h ends (omega (arith, count-properties h))
-
--- none at all
-pub no-properties-in : (s : List ℕ) → NoNameFollows s → properties_in s ≡ []
-unfolding properties_in properties_up_to
-no-properties-in [] ends = refl
-no-properties-in (c ∷ s) ends =
-    none-upper (λ b t. property_from (name_in (front is_letter (b ∷ t))) (values_in (left_after is_letter (b ∷ t))) ∷ properties_up_to (length s) (after_values_up_to (length t) (left_after is_letter (b ∷ t)))) [] (c ∷ s) (left_after is_white_space (c ∷ s)) (white-left (c ∷ s)) ends

@@ -12,10 +12,9 @@ use Rattle.sgf_tree.specs.Written.{node_text}
 use Rattle.sgf_tree.specs.FileOrder.{OrderedNode, further_nodes, ordered_nodes, node_at, nodes_at, place_at, parent_at, IsLeaf, game_of, sequence_starts, sequence_start, sequence_end, sequence_numbers}
 use Rattle.sgf_tree.specs.inner.Machine.{games_in}
 use Rattle.sgf_tree.specs.inner.NodeText.{node_in, IsNodeIn}
-use Rattle.sgf_tree.specs.inner.OwnNodes.{places_of, written_of}
 use Rattle.sgf_tree.specs.inner.Listing.{Listed, sequences_of}
-use Rattle.sgf_tree.specs.inner.Outlining.{outer_by, game_by, is_written_by, nodes_of, stretches_by, HasStretches, IsKept, AreKept, IsOutlined}
-use Rattle.sgf_tree.specs.declared.layout.Stretch.{Stretch}
+use Rattle.sgf_tree.specs.inner.Outlining.{outer_by, game_by, is_written_by, nodes_of, HasStretches, IsKept, AreKept, IsOutlined}
+use Rattle.sgf_tree.specs.declared.sequences.KeptStretch.{KeptStretch}
 use Rattle.sgf_tree.specs.declared.sequences.Sequence.{Sequence}
 use Rattle.sgf_tree.specs.declared.sequences.Sequences.{Sequences}
 use Rattle.sgf_tree.proofs.Lists.{slice_get-left, slice_get-right}
@@ -57,16 +56,14 @@ module _ (text : List ℕ) (kept : Sequences) (outlined : IsOutlined text kept) 
   node-in = node-told text g spelled-by
 
 -- what an entry of the table says of a sequence
-pub record IsEntryOf (text : List ℕ) (stretches : List Stretch) (g : Games) (i : ℕ) (entry : Sequence) : Type 0 where
+pub record IsEntryOf (text : List ℕ) (stretches : List KeptStretch) (g : Games) (i : ℕ) (entry : Sequence) : Type 0 where
   pub number_is : entry.number ≡ sequence_start g i
   pub first_is : place_at g (sequence_start g i) ≡ Some entry.first
   pub last_is : place_at g (sequence_end g i - 1) ≡ Some entry.last
-  pub rises : is_written_by entry ≡ true → entry.first < entry.end
+  pub rises : is_written_by entry ≡ true → entry.first ≤ entry.end
   pub in_text : is_written_by entry ≡ true → entry.end ≤ length text
   pub written : is_written_by entry ≡ true → slice_range text entry.first entry.end ≡ flat_map node_text (nodes_at g (sequence_numbers g i))
   pub stretched : is_written_by entry ≡ false → HasStretches text stretches entry.end (nodes_at g (sequence_numbers g i))
-  pub told : written_of text (nodes_at g (sequence_numbers g i)) ≡ flat_map node_text (nodes_at g (sequence_numbers g i))
-  pub placed : (j : ℕ) (n : Node) → slice_get (nodes_at g (sequence_numbers g i)) j ≡ Some n → (k : ℕ) × (place_at g k ≡ Some n.place)
   pub root_is : outer_by entry ≡ None → (parent_at g (sequence_start g i) ≡ Some None) × (game_of g (sequence_start g i) ≡ game_by entry)
   pub outer_is : (outer : ℕ) → outer_by entry ≡ Some outer → (outer < i) × (parent_at g (sequence_start g i) ≡ Some (Some (sequence_end g outer - 1)))
 
@@ -77,11 +74,6 @@ nodes-are g (n ∷ ns) k at =
     let e : k + 0 ≡ k = omega arith in
     let first : node_at g k ≡ Some n = ap (node_at g) (sym e) ∙ at 0 (omega arith) in
     rw first (ap (λ ms. n ∷ ms) (nodes-are g ns (k + 1) (λ j lt. let f : k + 1 + j ≡ k + suc j = omega arith in ap (node_at g) f ∙ at (suc j) (omega (arith, lt)))))
-
--- nodes that their places tell
-told-are : (text : List ℕ) (ns : List Node) → ((j : ℕ) (n : Node) → slice_get ns j ≡ Some n → n ≡ node_in text n.place) → map (node_in text) (places_of ns) ≡ ns
-told-are text [] told = refl
-told-are text (n ∷ ns) told = ap (λ m. m ∷ map (node_in text) (places_of ns)) (sym (told 0 n refl)) ∙ ap (λ ms. n ∷ ms) (told-are text ns (λ j. told (suc j)))
 
 further-are : (last : ℕ) (ns : List Node) → map (λ (r : OrderedNode). r.node) (further_nodes last ns) ≡ ns
 further-are last [] = refl
@@ -270,53 +262,41 @@ module _ (g : Games) where
   starts-few = omega (arith, rises-count 0 _ (sequence_starts g) rise)
 
 module _ (text : List ℕ) (kept : Sequences) (outlined : IsOutlined text kept) (g : Games) (is : games_in text ≡ g) where
-  kept-by : AreKept text (stretches_by kept) kept.table.items (sequences_of g)
-  kept-by = subst (λ c. AreKept text (stretches_by kept) kept.table.items (sequences_of c)) is outlined.held.are
+  kept-by : AreKept text kept.stretches.items kept.table.items (sequences_of g)
+  kept-by = subst (λ c. AreKept text kept.stretches.items kept.table.items (sequences_of c)) is outlined.held.are
 
   -- there is an entry for each sequence
   pub table-length : length kept.table.items ≡ length (sequence_starts g)
   table-length = kept-by.count ∙ sym (length-map (sequences_of g) number_of) ∙ ap length (listed-starts g)
 
-  pub entry-in : (i : ℕ) (entry : Sequence) → i < length (sequence_starts g) → entry ≡ get_or kept.table.items i entry → IsEntryOf text (stretches_by kept) g i entry
+  pub entry-in : (i : ℕ) (entry : Sequence) → i < length (sequence_starts g) → entry ≡ get_or kept.table.items i entry → IsEntryOf text kept.stretches.items g i entry
   entry-in i entry lt here =
       let one = one-listed g i lt in of one.0 one.1
     where
-      of : (s : Listed) → slice_get (sequences_of g) i ≡ Some s → IsEntryOf text (stretches_by kept) g i entry
+      of : (s : Listed) → slice_get (sequences_of g) i ≡ Some s → IsEntryOf text kept.stretches.items g i entry
       of s at =
-          let k : IsKept text (stretches_by kept) entry s = kept-by.each i entry s (slice_get_read kept.table.items _ i entry refl (omega (arith, lt, table-length)) here) at in
+          let k : IsKept text kept.stretches.items entry s = kept-by.each i entry s (slice_get_read kept.table.items _ i entry refl (omega (arith, lt, table-length)) here) at in
           let start : sequence_start g i ≡ s.number = start-listed g i s at in
           let end : sequence_end g i ≡ last_number s + 1 = end-listed g i s at in
           let e : s.number + 0 ≡ s.number = omega arith in
           let last : last_number s ≡ sequence_end g i - 1 = omega (arith, end) in
           let nodes : nodes_at g (sequence_numbers g i) ≡ nodes_of s = nodes-listed g i s at in
-          let texts : map (node_in text) (places_of (nodes_of s)) ≡ nodes_of s = told-are text (nodes_of s) (told s at) in
           record {
             number_is = k.number_is ∙ sym start;
             first_is = ap (place_at g) (start ∙ sym e) ∙ place-listed g i s at 0 (omega arith) ∙ ap Some (sym k.first_is);
             last_is = ap (place_at g) (sym last) ∙ place-listed g i s at (length s.more) (omega arith) ∙ ap Some (sym k.last_is);
             rises = k.rises;
             in_text = k.within;
-            written = λ known. k.written known ∙ ap (flat_map node_text) (texts ∙ sym nodes);
-            stretched = λ other. subst (HasStretches text (stretches_by kept) entry.end) (sym nodes) (k.stretched other);
-            told = rw nodes (ap (flat_map node_text) texts);
-            placed = λ j n h. (s.number + j, placed s at j n (ap (λ ns. slice_get ns j) (sym nodes) ∙ h));
+            written = λ known. k.written known ∙ ap (flat_map node_text) (sym nodes);
+            stretched = λ other. subst (HasStretches text kept.stretches.items entry.end) (sym nodes) (k.stretched other);
             root_is = λ e.
                 let none : s.outer ≡ None = sym k.outer_is ∙ e in
                 let root = root-listed g i s at none in (root.0, root.1 ∙ sym (k.ordinal_is none));
             outer_is = λ o e. outer-listed g i o s at (sym k.outer_is ∙ e);
           }
-        where
-          node : (s : Listed) → slice_get (sequences_of g) i ≡ Some s → (j : ℕ) (n : Node) → slice_get (nodes_of s) j ≡ Some n → node_at g (s.number + j) ≡ Some n
-          node s at j n h = node-listed g i s at j (omega (arith, slice_get_within (nodes_of s) j n h)) ∙ h
-
-          placed : (s : Listed) → slice_get (sequences_of g) i ≡ Some s → (j : ℕ) (n : Node) → slice_get (nodes_of s) j ≡ Some n → place_at g (s.number + j) ≡ Some n.place
-          placed s at j n h = place-of (slice_get (ordered_nodes g) (s.number + j)) n (node s at j n h)
-
-          told : (s : Listed) → slice_get (sequences_of g) i ≡ Some s → (j : ℕ) (n : Node) → slice_get (nodes_of s) j ≡ Some n → n ≡ node_in text n.place
-          told s at j n h = same_Some n (node_in text n.place) (sym (node s at j n h) ∙ (node-in text kept outlined g is (s.number + j) n.place (placed s at j n h)).0)
 
 -- an entry of a sequence that begins with a root has no other one
-pub outer-none : (text : List ℕ) (stretches : List Stretch) (g : Games) (i : ℕ) (entry : Sequence) → IsEntryOf text stretches g i entry → parent_at g (sequence_start g i) ≡ Some None → outer_by entry ≡ None
+pub outer-none : (text : List ℕ) (stretches : List KeptStretch) (g : Games) (i : ℕ) (entry : Sequence) → IsEntryOf text stretches g i entry → parent_at g (sequence_start g i) ≡ Some None → outer_by entry ≡ None
 outer-none text stretches g i entry is root = by (outer_by entry) refl
   where
     by : (o : Option ℕ) → outer_by entry ≡ o → o ≡ None

@@ -1,13 +1,12 @@
 -- Values such as `[pd]`, one after the other: what was read before them goes on after them.
-use Rattle.std.proofs.Common.{◌≡◌, ℕ, zero, suc, ◌+◌, ◌-◌, ◌*◌, ◌<◌, ◌≤◌, List, length, inl, inr, sym, subst, arith, rules}
+use Rattle.std.proofs.Common.{◌≡◌, ℕ, zero, suc, ◌+◌, ◌-◌, ◌*◌, ◌<◌, ◌≤◌, List, [], ◌∷◌, ◌++◌, length, get_or, drop, slice_range, inl, inr, sym, subst, arith}
 use Rattle.std.proofs.lemmas.Bool.{cases_lt}
-use Rattle.sgf_tree.specs.Spelling.{is_white_space}
-use Rattle.sgf_tree.specs.inner.NodeText.{AreValuesWritten}
+use Rattle.sgf_tree.specs.Spelling.{is_white_space, IsPropValue, ArePropValues, no_value, value}
 use Rattle.sgf_tree.specs.inner.Progress.{IsSpan, IsValueEnd, IsPoint, ArePoints, IsBracket}
+use Rattle.sgf_tree.proofs.Iterating.{first-value}
 use Rattle.sgf_tree.proofs.NameEnds.{bracket-here}
 use Rattle.sgf_tree.proofs.ValueUnits.{no-units, plain-units, units-ended}
-use Rattle.sgf_tree.proofs.ValuesRead.{ValuesSoFar, values-step, values-more}
-use Rattle.sgf_tree.proofs.WrittenParts.{values-one}
+use Rattle.sgf_tree.proofs.ValuesRead.{After, ValuesSoFar, ValuesBefore, after-none, values-as, values-step, values-more}
 
 module _ (t : List ℕ) where
   -- the first three of four more
@@ -26,7 +25,9 @@ module _ (t : List ℕ) where
 
   -- a fourth one begins after three
   pub fourth_stands : (end : ℕ) → ArePoints t end (end + 16) → end + 16 ≤ length t → IsBracket t (end + 12)
-  fourth_stands end h k = search rules
+  fourth_stands end four within =
+      let same : end + 4 * 3 ≡ end + 12 = omega arith in
+      record { within = omega arith; bracket = subst (λ i. get_or t i 0 ≡ 91) same (four.each 3 (omega (arith, four.ends))).begins }
 
   value-end : (at : ℕ) → IsPoint t at → IsValueEnd t (at + 1) (at + 3)
   value-end at point =
@@ -34,32 +35,61 @@ module _ (t : List ℕ) where
       let same : at + 1 + 2 ≡ at + 3 = omega arith in
       subst (IsValueEnd t (at + 1)) same (units-ended t (at + 1) (at + 1 + 2) (plain-units t (at + 1) (at + 1) (at + 1 + 2) (no-units t (at + 1)) pair.plain) pair.within pair.bracket)
 
-  -- what holds before them, and after each one of them if it held before, holds after them
-  points-fold : (P : ℕ → Type 0) → ((at : ℕ) → IsPoint t at → P at → P (at + 4)) → (at end : ℕ) → ArePoints t at end → P at → P end
-  points-fold P step at end points start = subst P points.ends (go points.count (omega arith))
-    where
-      go : (n : ℕ) → n ≤ points.count → P (at + 4 * n)
-      go zero le = let same : at ≡ at + 4 * 0 = omega arith in subst P same start
-      go (suc n) le = let next : at + 4 * n + 4 ≡ at + 4 * suc n = omega arith in subst P next (step (at + 4 * n) (points.each n (omega arith)) (go n (omega arith)))
+  -- the first of the values, and those after it
+  first-point : (at end count : ℕ) → at + 4 * suc count ≡ end → ((i : ℕ) → i < suc count → IsPoint t (at + 4 * i)) → IsPoint t at
+  first-point at end count ends each = let same : at + 4 * 0 ≡ at = omega arith in subst (IsPoint t) same (each 0 (omega arith))
 
-  -- They stand as the sgf form writes them.
-  pub points-written : (from at end : ℕ) → AreValuesWritten t from at → ArePoints t at end → AreValuesWritten t from end
-  points-written from at end before points = points-fold (AreValuesWritten t from) step at end points before
+  later-points : (at count : ℕ) → ((i : ℕ) → i < suc count → IsPoint t (at + 4 * i)) → (i : ℕ) → i < count → IsPoint t (at + 4 + 4 * i)
+  later-points at count each i lt = let same : at + 4 * suc i ≡ at + 4 + 4 * i = omega arith in subst (IsPoint t) same (each (suc i) (omega arith))
+
+  -- the values that they spell
+  pub points-spelled : (at end : ℕ) → ArePoints t at end → (values : List (List ℕ)) × ArePropValues values (drop at t) (drop end t)
+  points-spelled at end points = go points.count at points.ends points.each
     where
-      step : (k : ℕ) → IsPoint t k → AreValuesWritten t from k → AreValuesWritten t from (k + 4)
-      step k point written =
-          let value = value-end k point in
-          let next : k + 3 + 1 ≡ k + 4 = omega arith in
-          subst (AreValuesWritten t from) next (values-one t from k (k + 3) written (omega (arith, point.value.within)) point.begins value.rises value.within value.bracket value.spelled)
+      go : (n at : ℕ) → at + 4 * n ≡ end → ((i : ℕ) → i < n → IsPoint t (at + 4 * i)) → (values : List (List ℕ)) × ArePropValues values (drop at t) (drop end t)
+      go zero at ends each = let same : at ≡ end = omega arith in ([], subst (λ i. ArePropValues [] (drop at t) (drop i t)) same no_value)
+      go (suc n) at ends each =
+          let point = first-point at end n ends each in
+          let is_end = value-end at point in
+          let inside : at < length t = omega (arith, point.value.within) in
+          let next : at + 3 + 1 ≡ at + 4 = omega arith in
+          let first = first-value t at at (bracket-here t at (record { within = inside; bracket = point.begins })) (at + 3) inside point.begins is_end.within is_end.bracket is_end.spelled in
+          let more = go n (at + 4) (omega arith) (later-points at n each) in
+          (slice_range t (at + 1) (at + 3) ∷ more.0, value (subst (λ i. IsPropValue (slice_range t (at + 1) (at + 3)) (drop at t) (drop i t)) next first) more.1)
 
   -- They were read, if another value begins after them.
-  pub points-read : (bracket at end : ℕ) → ValuesSoFar t bracket at → ArePoints t at end → IsBracket t end → ValuesSoFar t bracket end
-  points-read bracket at end before points = points-fold (λ k. IsBracket t k → ValuesSoFar t bracket k) step at end points (λ _. before)
+  pub points-read : (Wrote : List ℕ → Type 0) (from bracket at end : ℕ) → from ≤ at → ValuesSoFar t (After Wrote t from at) bracket at → ArePoints t at end → IsBracket t end
+      → ValuesSoFar t (After Wrote t from end) bracket end
+  points-read Wrote from bracket at end low before points stands = go points.count at low before points.ends points.each
     where
-      step : (k : ℕ) → IsPoint t k → (IsBracket t k → ValuesSoFar t bracket k) → IsBracket t (k + 4) → ValuesSoFar t bracket (k + 4)
-      step k point so_far there =
-          let here : IsBracket t k = record { within = omega (arith, point.value.within); bracket = point.begins } in
-          let close : k + 3 + 1 ≡ k + 4 = omega arith in
-          values-more t bracket (k + 4)
-          (values-step t bracket k (k + 3) (k + 4) (so_far here) (value-end k point) (subst (λ i. IsSpan is_white_space t i (k + 4)) (sym close) (bracket-here t (k + 4) there)))
-          there.within there.bracket
+      next : (n at : ℕ) → at + 4 * n ≡ end → ((i : ℕ) → i < n → IsPoint t (at + 4 * i)) → IsBracket t at
+      next zero at ends each = let same : end ≡ at = omega arith in subst (IsBracket t) same stands
+      next (suc n) at ends each = let point = first-point at end n ends each in record { within = omega (arith, point.value.within); bracket = point.begins }
+
+      go : (n at : ℕ) → from ≤ at → ValuesSoFar t (After Wrote t from at) bracket at → at + 4 * n ≡ end → ((i : ℕ) → i < n → IsPoint t (at + 4 * i)) → ValuesSoFar t (After Wrote t from end) bracket end
+      go zero at low so_far ends each = let same : at ≡ end = omega arith in subst (λ i. ValuesSoFar t (After Wrote t from i) bracket i) same so_far
+      go (suc n) at low so_far ends each =
+          let more = later-points at n each in
+          let ends' : at + 4 + 4 * n ≡ end = omega arith in
+          let there = next n (at + 4) ends' more in
+          let close : at + 3 + 1 ≡ at + 4 = omega arith in
+          let read = values-step t Wrote from bracket at (at + 3) (at + 4) so_far low (next (suc n) at ends each) (value-end at (first-point at end n ends each))
+          (subst (λ i. IsSpan is_white_space t i (at + 4)) (sym close) (bracket-here t (at + 4) there)) in
+          go n (at + 4) (omega arith)
+          (values-more t (After Wrote t from (at + 4)) bracket (at + 4) (subst (λ i. ValuesBefore t (After Wrote t from i) bracket (at + 4)) close read) there.within there.bracket)
+          ends' more
+
+  -- points, and a value after them
+  pub values-run : (Wrote Other : List ℕ → Type 0) (bracket from last close next : ℕ) → ValuesSoFar t Wrote bracket from → ArePoints t from last → IsBracket t last
+      → IsValueEnd t (last + 1) close → IsSpan is_white_space t (close + 1) next → ((written : List ℕ) → Wrote written → Other (written ++ slice_range t from (close + 1)))
+      → ValuesBefore t Other bracket next
+  values-run Wrote Other bracket from last close next so_far points stands is_end white to =
+      let run = points-read Wrote from bracket from last (omega arith) (values-as t Wrote (After Wrote t from from) bracket from (after-none Wrote t from) so_far) points stands in
+      let all = values-step t Wrote from bracket last close next run (omega (arith, points.ends)) stands is_end white in
+      record {
+        rises = all.rises;
+        reached = λ n name h.
+            let (p, there, named, wrote) = all.reached n name h in
+            let (before, earlier, are) = wrote in
+            (p, there, named, subst Other are (to before earlier));
+      }

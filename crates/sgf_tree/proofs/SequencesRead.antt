@@ -1,13 +1,14 @@
 -- How the machine goes over the own nodes of a game.
 use Rattle.std.proofs.lemmas.Grind.{common_steps}
-use Rattle.std.proofs.Common.{◌≡◌, ◌≢◌, ℕ, ◌+◌, ◌<◌, true, false, List, [], ◌∷◌, ◌++◌, length, get_or, None, refl, arith, ne_eqb}
+use Rattle.std.proofs.Common.{◌≡◌, ◌≢◌, ℕ, ◌+◌, ◌<◌, true, false, List, [], ◌∷◌, ◌++◌, length, get_or, None, refl, ap, arith, ne_eqb}
+use Rattle.std.specs.List.{flat_map}
 use Rattle.sgf_tree.specs.Tree.{Property, Node, Games, no_games, game}
 use Rattle.sgf_tree.specs.Spelling.{is_white_space}
-use Rattle.sgf_tree.specs.inner.Machine.{OpenGame, Stack, Started, opened, in_node, after_game, after_node, between_games, ended, new_game, new_node, next_state, accepted}
+use Rattle.sgf_tree.specs.Written.{property_text}
+use Rattle.sgf_tree.specs.inner.Machine.{OpenGame, Stack, Started, opened, in_node, add_node, after_game, after_node, between_games, ended, new_game, new_node, next_state, accepted}
 use Rattle.sgf_tree.specs.Refusal.{IsFaultyAt}
 use Rattle.sgf_tree.specs.inner.Progress.{ComesTo, IsSpan}
 use Rattle.sgf_tree.specs.inner.PropertiesRead.{StandsAfterNode, ArePropertiesRead, with_properties}
-use Rattle.sgf_tree.specs.declared.reader.properties.PartRead.{PartRead}
 use Rattle.sgf_tree.specs.inner.GamesRead.{StandsBetween}
 use Rattle.sgf_tree.proofs.Run.{run-take-step}
 use Rattle.sgf_tree.proofs.Skipping.{stays-opened}
@@ -55,24 +56,37 @@ module _ (t : List ℕ) where
   abbrev pub with_node : OpenGame → Node → OpenGame
   with_node last n = record { first = last.first; more = last.more ++ n ∷ []; below = last.below }
 
-  pub nodes-first : (at place : ℕ) (read : PartRead) (k : Stack) → IsSpan is_white_space t at place → ComesTo t at (opened k) → place < length t → get_or t place 0 ≡ 59
-      → ArePropertiesRead t (place + 1) read → (ps : List Property) × NodesSoFar read.end k (new_game (record { place = place; properties = ps }))
-  nodes-first at place whole k white after lt e read =
+  pub nodes-first : (Wrote : List ℕ → Type 0) (at place text_end end : ℕ) (k : Stack) → IsSpan is_white_space t at place → ComesTo t at (opened k) → place < length t → get_or t place 0 ≡ 59
+      → ArePropertiesRead Wrote t (place + 1) text_end end → (ps : List Property) × NodesSoFar end k (new_game (record { place = place; properties = ps })) × Wrote (flat_map property_text ps)
+  nodes-first Wrote at place text_end end k white after lt e read =
       let n : Started = record { stack = k; opens = true; place = place; properties = [] } in
-      let own = read.reached n refl (place-node at place k white after lt e) in (
-        own.0,
+      let (ps, stands, wrote) = read.reached n refl (place-node at place k white after lt e) in (
+        ps,
         record {
-          whole = with_properties n own.0;
-          stands = own.1;
+          whole = with_properties n ps;
+          stands = stands;
           stack_is = refl;
           nothing_below = refl;
           not_white_space = read.white_space.stops;
         },
+        wrote,
       )
 
-  pub nodes-next : (place : ℕ) (read : PartRead) (k : Stack) (last : OpenGame) → NodesSoFar place k last → place < length t → get_or t place 0 ≡ 59
-      → ArePropertiesRead t (place + 1) read → (ps : List Property) × NodesSoFar read.end k (with_node last (record { place = place; properties = ps }))
-  nodes-next place whole k last so_far lt e read = grind (arith, common_steps, next-node)
+  pub nodes-next : (Wrote : List ℕ → Type 0) (place text_end end : ℕ) (k : Stack) (last : OpenGame) → NodesSoFar place k last → place < length t → get_or t place 0 ≡ 59
+      → ArePropertiesRead Wrote t (place + 1) text_end end → (ps : List Property) × NodesSoFar end k (with_node last (record { place = place; properties = ps })) × Wrote (flat_map property_text ps)
+  nodes-next Wrote place text_end end k last so_far lt e read =
+      let n : Started = record { stack = ended so_far.whole; opens = false; place = place; properties = [] } in
+      let (ps, stands, wrote) = read.reached n refl (next-node place so_far.whole so_far.stands lt e) in (
+        ps,
+        record {
+          whole = with_properties n ps;
+          stands = stands;
+          stack_is = ap (λ (s : Stack). record { closed = s.closed; unclosed = add_node s.unclosed (record { place = place; properties = ps }) }) so_far.stack_is;
+          nothing_below = so_far.nothing_below;
+          not_white_space = read.white_space.stops;
+        },
+        wrote,
+      )
 
   -- no further node follows
   pub nodes-done : (end : ℕ) (k : Stack) (last : OpenGame) → NodesSoFar end k last → (end < length t → get_or t end 0 ≢ 59)

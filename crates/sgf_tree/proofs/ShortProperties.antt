@@ -1,40 +1,53 @@
 -- A property with one value, as the code tells it.
-use Rattle.std.proofs.lemmas.Grind.{common_steps}
-use Rattle.std.proofs.Common.{◌≡◌, ◌≢◌, ℕ, ◌+◌, ◌<◌, ◌≤◌, Bool, false, IsTrue, List, [], ◌∷◌, ◌++◌, length, get_or, Some, None, true, refl, ap, subst, arith}
+use Rattle.std.proofs.lemmas.Grind.{common_steps, flat_map-append}
+use Rattle.std.proofs.Common.{◌≡◌, ◌≢◌, ℕ, ◌+◌, ◌<◌, ◌≤◌, Bool, false, IsTrue, List, [], ◌∷◌, ◌++◌, length, get_or, slice_range, Some, None, refl, sym, ap, subst, ◌∙◌, arith, append-nil}
 use Rattle.std.proofs.lemmas.Bool.{cases_lt, or_left}
-use Rattle.sgf_tree.specs.Tree.{Property}
+use Rattle.std.specs.List.{flat_map}
+use Rattle.sgf_tree.specs.Tree.{Property, values}
 use Rattle.sgf_tree.specs.Spelling.{is_white_space, is_upper, is_lower}
+use Rattle.sgf_tree.specs.Written.{value_text, property_text}
 use Rattle.sgf_tree.specs.inner.Machine.{Started, in_node}
-use Rattle.sgf_tree.specs.inner.NodeText.{is_letter, AreValuesWritten, AreWritten}
+use Rattle.sgf_tree.specs.inner.NodeText.{is_letter}
 use Rattle.sgf_tree.specs.inner.Progress.{ComesTo, IsSpan, IsBracket, IsValueEnd, IsMove, EndsNode}
-use Rattle.sgf_tree.specs.inner.PropertiesRead.{AreValuesEnded, IsNameRead, IsPropertyRead, IsShortProperty, ArePropertiesRead, with_properties}
-use Rattle.sgf_tree.specs.declared.reader.properties.PartRead.{PartRead}
+use Rattle.sgf_tree.specs.inner.PropertiesRead.{AreValuesEnded, StandsIn, IsNameRead, IsPropertyRead, IsShortProperty, ArePropertiesRead, with_properties}
 use Rattle.sgf_tree.proofs.Classes.{upper-range, between-not_upper}
-use Rattle.sgf_tree.proofs.NameEnds.{name-read, bracket-here}
+use Rattle.sgf_tree.proofs.NameEnds.{name-read, capitals-are, bracket-here}
 use Rattle.sgf_tree.proofs.NodeEnds.{StandsInNode, node-done, node-name, nothing-skipped}
 use Rattle.sgf_tree.proofs.Skipping.{stays-in_node}
-use Rattle.sgf_tree.proofs.Spans.{run-white}
+use Rattle.sgf_tree.proofs.Spans.{run-white, span-none}
+use Rattle.sgf_tree.proofs.ValueEnds.{span-join}
 use Rattle.sgf_tree.proofs.ValueUnits.{no-units, plain-units, units-ended}
-use Rattle.sgf_tree.proofs.ValuesRead.{ValuesBefore, values-begin, values-step}
-use Rattle.sgf_tree.proofs.WrittenParts.{values-none, values-one, property-one, written-none, written-more}
+use Rattle.sgf_tree.proofs.ValuesRead.{After, ValuesBefore, after-none, values-begin, values-step}
 
--- how far a part was read that the sgf form writes as it stands
-abbrev pub straight : ℕ → ℕ → PartRead
-straight text_end end = record { text_end = text_end; end = end; as_written = true }
+-- two parts side by side
+pub stands-join : (t : List ℕ) (from between to : ℕ) → from ≤ between → between ≤ to → (u v : List ℕ) → StandsIn t from between u → StandsIn t between to v → StandsIn t from to (u ++ v)
+stands-join t from between to le le' u v first next =
+    sym (span-join t from between to le le') ∙ ap (λ s. s ++ slice_range t between to) first ∙ ap (λ s. u ++ s) next
 
 -- a name and its values, and what the sgf form writes for them
-pub property-read : (t : List ℕ) (start bracket : ℕ) (read : PartRead) → IsNameRead t start bracket → ValuesBefore t bracket read.end → bracket < read.text_end
-    → IsSpan is_white_space t read.text_end read.end → (read.end < length t → get_or t read.end 0 ≢ 91)
-    → (IsTrue read.as_written → IsSpan is_upper t start bracket × AreValuesWritten t bracket read.text_end) → IsPropertyRead t start read
-property-read t start bracket read name values some white other written = grind (arith, common_steps, property-one)
+pub property-read : (Named Valued Wrote : List ℕ → Type 0) (t : List ℕ) (start bracket text_end end : ℕ) → IsNameRead Named t start bracket → ValuesBefore t Valued bracket end
+    → bracket < text_end → IsSpan is_white_space t text_end end → (end < length t → get_or t end 0 ≢ 91)
+    → ((u v : List ℕ) → Named u → Valued v → Wrote (u ++ v)) → IsPropertyRead Wrote t start text_end end
+property-read Named Valued Wrote t start bracket text_end end name_read values_read some white other join =
+    record {
+      rises = omega (arith, name_read.rises);
+      white_space = white;
+      no_value = other;
+      reached = λ n h.
+          let (name, there, named) = name_read.reached n h in
+          let (p, after, same, valued) = values_read.reached n name there in
+          (p, after, subst (λ m. Wrote (m ++ flat_map value_text (values p))) (sym same) (join name (flat_map value_text (values p)) named valued));
+    }
 
 pub short-property : (t : List ℕ) (start bracket close next : ℕ) → start < length t → IsTrue (is_upper (get_or t start 0)) → IsSpan is_letter t start bracket
-    → IsSpan is_upper t start bracket → IsBracket t bracket → IsValueEnd t (bracket + 1) close → AreValuesEnded t (close + 1) next → IsPropertyRead t start (straight (close + 1) next)
+    → IsSpan is_upper t start bracket → IsBracket t bracket → IsValueEnd t (bracket + 1) close → AreValuesEnded t (close + 1) next
+    → IsPropertyRead (StandsIn t start (close + 1)) t start (close + 1) next
 short-property t start bracket close next lt capital letters capitals stands value ended =
-    let name = name-read t start bracket bracket lt capital letters (bracket-here t bracket stands) stands in
-    let values = values-step t bracket bracket close next (values-begin t bracket) value ended.white_space in
-    let alone = values-one t bracket bracket close (values-none t bracket (omega (arith, stands.within))) stands.within stands.bracket value.rises value.within value.bracket value.spelled in
-    property-read t start bracket (straight (close + 1) next) name values (omega (arith, value.rises)) ended.white_space (λ _. ended.other) (λ _. (capitals, alone))
+    let None : List ℕ → Type 0 = λ w. w ≡ [] in
+    let name = name-read (StandsIn t start bracket) t start bracket bracket lt capital letters (bracket-here t bracket stands) stands (capitals-are t start bracket capitals) in
+    let values = values-step t None bracket bracket bracket close next (values-begin t (After None t bracket bracket) bracket (after-none None t bracket [] refl)) (omega arith) stands value ended.white_space in
+    property-read (StandsIn t start bracket) (After None t bracket (close + 1)) (StandsIn t start (close + 1)) t start bracket (close + 1) next name values (omega (arith, value.rises)) ended.white_space (λ _. ended.other)
+    (λ u v named (none, is, are). stands-join t start bracket (close + 1) capitals.rises (omega (arith, value.rises)) u v named (ap (λ s. s ++ slice_range t bracket (close + 1)) (sym is) ∙ are))
 
 -- a property of two capitals and one value of plain bytes
 module _ (t : List ℕ) (at close : ℕ) (is : IsShortProperty t at close) where
@@ -49,7 +62,7 @@ module _ (t : List ℕ) (at close : ℕ) (is : IsShortProperty t at close) where
       let three : at + 2 + 1 ≡ at + 3 = omega arith in
       rw three (units-ended t (at + 3) close (plain-units t (at + 3) (at + 3) close (no-units t (at + 3)) is.plain) is.within is.end)
 
-  two-whole : (next : ℕ) → AreValuesEnded t (close + 1) next → IsPropertyRead t at (straight (close + 1) next)
+  two-whole : (next : ℕ) → AreValuesEnded t (close + 1) next → IsPropertyRead (StandsIn t at (close + 1)) t at (close + 1) next
   two-whole next ended =
       let rises : at + 3 ≤ close = is.plain.rises in
       short-property t at (at + 2) close next (omega (arith, is.within)) is.first two-letters
@@ -59,22 +72,19 @@ module _ (t : List ℕ) (at close : ℕ) (is : IsShortProperty t at close) where
 ended-at : (t : List ℕ) (end : ℕ) → end < length t → 32 < get_or t end 0 → get_or t end 0 ≢ 91 → AreValuesEnded t end end
 ended-at t end lt above other = record { white_space = nothing-skipped t end lt above; other = other }
 
--- The properties of a node were read so far, and the text of the last one up to `read.text_end`.
-pub record ReadSoFar (t : List ℕ) (at : ℕ) (read : PartRead) : Type 0 where
-  pub rises : at ≤ read.text_end
-  pub white_space : IsSpan is_white_space t read.text_end read.end
-  pub no_value : at < read.text_end → read.end < length t → get_or t read.end 0 ≢ 91
-  pub reached : (n : Started) → n.properties ≡ [] → ComesTo t at (in_node n) → (ps : List Property) × StandsInNode t read.end (with_properties n ps)
-  pub written : IsTrue read.as_written → AreWritten t at read.text_end
+-- The properties of a node were read so far, and the text of the last one up to `text_end`.
+pub record ReadSoFar (Wrote : List ℕ → Type 0) (t : List ℕ) (at text_end end : ℕ) : Type 0 where
+  pub rises : at ≤ text_end
+  pub white_space : IsSpan is_white_space t text_end end
+  pub reached : (n : Started) → n.properties ≡ [] → ComesTo t at (in_node n) → (ps : List Property) × StandsInNode t end (with_properties n ps) × Wrote (flat_map property_text ps)
 
 module _ (t : List ℕ) (at : ℕ) where
   -- none yet
-  pub so-far-begin : (end : ℕ) → at ≤ length t → IsSpan is_white_space t at end → ReadSoFar t at (straight at end)
-  so-far-begin end within white =
+  pub so-far-begin : (Wrote : List ℕ → Type 0) (end : ℕ) → IsSpan is_white_space t at end → Wrote [] → ReadSoFar Wrote t at at end
+  so-far-begin Wrote end white wrote =
       record {
         rises = omega arith;
         white_space = white;
-        no_value = λ some. absurd (omega arith);
         reached = λ n none h. (
           [],
           record {
@@ -84,43 +94,48 @@ module _ (t : List ℕ) (at : ℕ) where
             whole_is = ap (with_properties n) none;
             other = λ lt. tt;
           },
+          wrote,
         );
-        written = λ _. written-none t at within;
       }
 
   -- one more property
-  pub so-far-more : (read next whole : PartRead) → ReadSoFar t at read → read.end < length t → IsTrue (is_upper (get_or t read.end 0)) → IsPropertyRead t read.end next
-      → whole.text_end ≡ next.text_end → whole.end ≡ next.end → (IsTrue whole.as_written → IsTrue read.as_written × (read.text_end ≡ read.end) × IsTrue next.as_written) → ReadSoFar t at whole
-  so-far-more read next whole so_far lt capital property text_end end written =
-      rw (text_end, end)
-      (record {
+  pub so-far-more : (Wrote Next All : List ℕ → Type 0) (text_end end next_text next : ℕ) → ReadSoFar Wrote t at text_end end → end < length t → IsTrue (is_upper (get_or t end 0))
+      → IsPropertyRead Next t end next_text next → ((u v : List ℕ) → Wrote u → Next v → All (u ++ v)) → ReadSoFar All t at next_text next
+  so-far-more Wrote Next All text_end end next_text next so_far lt capital property join =
+      record {
         rises = omega (arith, so_far.rises, so_far.white_space.rises, property.rises);
         white_space = property.white_space;
-        no_value = λ some. property.no_value;
         reached = λ n none h.
-            let before = so_far.reached n none h in
-            let done : Started = with_properties n before.0 in
-            let after = property.reached done (node-name t read.end done before.1 lt capital) in (
-              before.0 ++ after.0 ∷ [],
+            let (ps, stands, wrote) = so_far.reached n none h in
+            let done : Started = with_properties n ps in
+            let (p, after, last) = property.reached done (node-name t end done stands lt capital) in
+            let texts : flat_map property_text ps ++ property_text p ≡ flat_map property_text (ps ++ p ∷ []) =
+            ap (λ s. flat_map property_text ps ++ s) (sym (append-nil (property_text p))) ∙ sym (flat_map-append property_text ps (p ∷ [])) in (
+              ps ++ p ∷ [],
               record {
                 done = done;
-                last = Some after.0;
-                reached = after.1;
+                last = Some p;
+                reached = after;
                 whole_is = refl;
                 other = property.no_value;
               },
+              subst All texts (join (flat_map property_text ps) (property_text p) wrote last),
             );
-        written = λ is.
-            let (before, same, last) = written is in
-            written-more t at read.end next.text_end (subst (AreWritten t at) same (so_far.written before)) (property.written last);
-      })
+      }
 
-  pub so-far-done : (read : PartRead) → ReadSoFar t at read → (read.end < length t → is_upper (get_or t read.end 0) ≡ false) → ArePropertiesRead t at read
-  so-far-done read so_far no_property = grind (arith, common_steps, node-done)
+  pub so-far-done : (Wrote : List ℕ → Type 0) (text_end end : ℕ) → ReadSoFar Wrote t at text_end end → (end < length t → is_upper (get_or t end 0) ≡ false)
+      → ArePropertiesRead Wrote t at text_end end
+  so-far-done Wrote text_end end so_far no_property =
+      record {
+        rises = so_far.rises;
+        white_space = so_far.white_space;
+        no_property = no_property;
+        reached = λ n none h. let (ps, stands, wrote) = so_far.reached n none h in (ps, node-done t end (with_properties n ps) stands so_far.white_space.stops no_property, wrote);
+      }
 
 -- The properties of a node were read up to a `]` just before `end`: whatever white space follows there, all before it is read.
 abbrev pub AreReadTo : List ℕ → ℕ → ℕ → Type 0
-AreReadTo t at end = (next : ℕ) → AreValuesEnded t end next → ReadSoFar t at (straight end next)
+AreReadTo t at end = (next : ℕ) → AreValuesEnded t end next → ReadSoFar (StandsIn t at end) t at end next
 
 module _ (t : List ℕ) (at end : ℕ) (so_far : AreReadTo t at end) where
   -- one more short property
@@ -128,20 +143,19 @@ module _ (t : List ℕ) (at end : ℕ) (so_far : AreReadTo t at end) where
   read-to-more close is next ended =
       let letter = upper-range (get_or t end 0) is.first in
       let lt : end < length t = omega (arith, is.plain.rises, is.within) in
-      let here : AreValuesEnded t end end = ended-at t end lt (omega (arith, letter.0)) (λ e. omega (arith, letter.1)) in
-      so-far-more t at (straight end end) (straight (close + 1) next) (straight (close + 1) next) (so_far end here) lt is.first (two-whole t end close is next ended) refl refl
-      (λ _. (refl, refl, refl))
+      let here = so_far end (ended-at t end lt (omega (arith, letter.0)) (λ e. omega (arith, letter.1))) in
+      so-far-more t at (StandsIn t at end) (StandsIn t end (close + 1)) (StandsIn t at (close + 1)) end end (close + 1) next here lt is.first (two-whole t end close is next ended)
+      (stands-join t at end (close + 1) here.rises (omega (arith, is.plain.rises)))
 
   -- the node ends
-  pub read-to-end : EndsNode t end → ArePropertiesRead t at (straight end end)
+  pub read-to-end : EndsNode t end → ArePropertiesRead (StandsIn t at end) t at end end
   read-to-end ends =
-      let here = so_far end (ended-at t end ends.within ends.above (λ e. omega (arith, ends.below))) in
-      so-far-done t at (straight end end) here (λ lt. between-not_upper (get_or t end 0) ends.below)
+      so-far-done t at (StandsIn t at end) end end (so_far end (ended-at t end ends.within ends.above (λ e. omega (arith, ends.below)))) (λ lt. between-not_upper (get_or t end 0) ends.below)
 
 -- no properties before the end of a node
-pub none-read : (t : List ℕ) (at : ℕ) → EndsNode t at → ArePropertiesRead t at (straight at at)
+pub none-read : (t : List ℕ) (at : ℕ) → EndsNode t at → ArePropertiesRead (StandsIn t at at) t at at at
 none-read t at ends =
-    so-far-done t at (straight at at) (so-far-begin t at at (omega (arith, ends.within)) (nothing-skipped t at ends.within ends.above)) (λ lt. between-not_upper (get_or t at 0) ends.below)
+    so-far-done t at (StandsIn t at at) at at (so-far-begin t at (StandsIn t at at) at (nothing-skipped t at ends.within ends.above) (span-none t at)) (λ lt. between-not_upper (get_or t at 0) ends.below)
 
 -- a move in front of a node's properties
 module _ (t : List ℕ) (at : ℕ) (is : IsMove t at) where
@@ -155,10 +169,10 @@ module _ (t : List ℕ) (at : ℕ) (is : IsMove t at) where
       rw (two, four)
       (units-ended t (at + 2) (at + 2 + 2) (plain-units t (at + 2) (at + 2) (at + 2 + 2) (no-units t (at + 2)) is.value.plain) is.value.within is.value.bracket)
 
-  move-whole : (next : ℕ) → AreValuesEnded t (at + 5) next → IsPropertyRead t at (straight (at + 5) next)
+  move-whole : (next : ℕ) → AreValuesEnded t (at + 5) next → IsPropertyRead (StandsIn t at (at + 5)) t at (at + 5) next
   move-whole next ended =
       let five : at + 4 + 1 ≡ at + 5 = omega arith in
-      subst (λ i. IsPropertyRead t at (straight i next)) five
+      subst (λ i. IsPropertyRead (StandsIn t at i) t at i next) five
       (short-property t at (at + 1) (at + 4) next (omega (arith, is.value.within)) is.capital (move-name is_letter (or_left (is_upper (get_or t at 0)) (is_lower (get_or t at 0)) is.capital) refl)
       (move-name is_upper is.capital refl) (record { within = omega (arith, is.value.within); bracket = is.bracket }) move-value (rw five ended))
 
@@ -166,9 +180,10 @@ module _ (t : List ℕ) (at : ℕ) (is : IsMove t at) where
   after-move next ended =
       let letter = upper-range (get_or t at 0) is.capital in
       let lt : at < length t = omega (arith, is.value.within) in
-      so-far-more t at (straight at at) (straight (at + 5) next) (straight (at + 5) next) (so-far-begin t at at (omega arith) (nothing-skipped t at lt (omega (arith, letter.0)))) lt is.capital
-      (move-whole next ended) refl refl (λ _. (refl, refl, refl))
+      so-far-more t at (StandsIn t at at) (StandsIn t at (at + 5)) (StandsIn t at (at + 5)) at at (at + 5) next
+      (so-far-begin t at (StandsIn t at at) at (nothing-skipped t at lt (omega (arith, letter.0))) (span-none t at)) lt is.capital
+      (move-whole next ended) (stands-join t at at (at + 5) (omega arith) (omega arith))
 
   -- and nothing after it
-  pub lone-read : EndsNode t (at + 5) → ArePropertiesRead t at (straight (at + 5) (at + 5))
+  pub lone-read : EndsNode t (at + 5) → ArePropertiesRead (StandsIn t at (at + 5)) t at (at + 5) (at + 5)
   lone-read ends = read-to-end t at (at + 5) after-move ends

@@ -1,53 +1,106 @@
--- How the values of a property are read, one after another.
-use Rattle.std.proofs.Common.{◌≡◌, ℕ, ◌+◌, ◌<◌, ◌≤◌, List, [], length, get_or, slice_range, arith}
+-- How the values of a property are read, one after another, and what the sgf form writes for them.
+use Rattle.std.proofs.Common.{◌≡◌, ℕ, ◌+◌, ◌<◌, ◌≤◌, List, [], ◌∷◌, ◌++◌, length, get_or, slice_range, refl, sym, ap, subst, ◌∙◌, arith, append_assoc, append-nil}
+use Rattle.std.proofs.lemmas.Grind.{flat_map-append}
+use Rattle.std.specs.List.{flat_map}
 use Rattle.sgf_tree.specs.Tree.{Property, values}
 use Rattle.sgf_tree.specs.Spelling.{is_white_space}
+use Rattle.sgf_tree.specs.Written.{value_text}
 use Rattle.sgf_tree.specs.inner.Machine.{Started, in_value, after_value, property_of, next_state}
-use Rattle.sgf_tree.specs.inner.Progress.{ComesTo, IsSpan, IsValueEnd}
+use Rattle.sgf_tree.specs.inner.Progress.{ComesTo, IsSpan, IsBracket, IsValueEnd}
+use Rattle.sgf_tree.proofs.NameEnds.{span-one}
 use Rattle.sgf_tree.proofs.Run.{run-take-step}
 use Rattle.sgf_tree.proofs.Skipping.{stays-after_value}
-use Rattle.sgf_tree.proofs.Spans.{run-white}
-use Rattle.sgf_tree.proofs.ValueEnds.{units-read}
+use Rattle.sgf_tree.proofs.Spans.{run-white, span-none}
+use Rattle.sgf_tree.proofs.ValueEnds.{span-join, units-read}
+
+-- a property's values, with one more
+property-values : (name : List ℕ) (before : List (List ℕ)) (value : List ℕ) → (values (property_of name before value) ≡ before ++ value ∷ []) × ((property_of name before value).name ≡ name)
+property-values name [] value = (refl, refl)
+property-values name (first ∷ rest) value = (refl, refl)
+
+-- what was written before, and then the text between two offsets
+abbrev pub After : (List ℕ → Type 0) → List ℕ → ℕ → ℕ → List ℕ → Type 0
+After Wrote text from to written = (before : List ℕ) × Wrote before × (before ++ slice_range text from to ≡ written)
+
+module _ (Wrote : List ℕ → Type 0) (t : List ℕ) where
+  pub after-none : (at : ℕ) (written : List ℕ) → Wrote written → After Wrote t at at written
+  after-none at written wrote = (written, wrote, ap (λ s. written ++ s) (span-none t at) ∙ append-nil written)
+
+  after-more : (from a b : ℕ) → from ≤ a → a ≤ b → (written : List ℕ) → After Wrote t from a written → After Wrote t from b (written ++ slice_range t a b)
+  after-more from a b le le' written (before, wrote, are) = (
+    before,
+    wrote,
+    ap (λ s. before ++ s) (sym (span-join t from a b le le')) ∙ sym (append_assoc before (slice_range t from a) (slice_range t a b)) ∙ ap (λ s. s ++ slice_range t a b) are,
+  )
 
 module _ (t : List ℕ) where
+  -- a value, as the sgf form writes it
+  value-stands : (at end : ℕ) → IsBracket t at → IsValueEnd t (at + 1) end → slice_range t at (end + 1) ≡ value_text (slice_range t (at + 1) end)
+  value-stands at end stands value =
+      let rises : at + 1 ≤ end = value.rises in
+      let raw : List ℕ = slice_range t (at + 1) end in
+      let first : slice_range t at (at + 1) ≡ 91 ∷ [] = span-one t at stands.within ∙ ap (λ b. b ∷ []) stands.bracket in
+      let last : slice_range t end (end + 1) ≡ 93 ∷ [] = span-one t end value.within ∙ ap (λ b. b ∷ []) value.bracket in
+      sym (span-join t at end (end + 1) (omega arith) (omega arith))
+      ∙ ap (λ s. s ++ slice_range t end (end + 1)) (sym (span-join t at (at + 1) end (omega arith) rises) ∙ ap (λ s. s ++ raw) first)
+      ∙ ap (λ s. (91 ∷ [] ++ raw) ++ s) last
+
   -- values were read, and a `[` stands at `at`
-  pub record ValuesSoFar (bracket at : ℕ) : Type 0 where
+  pub record ValuesSoFar (Wrote : List ℕ → Type 0) (bracket at : ℕ) : Type 0 where
     pub rises : bracket ≤ at
     pub reached : (n : Started) (name : List ℕ) → ComesTo t (bracket + 1) (in_value n name [] [])
-        → (m : List ℕ) × (before : List (List ℕ)) × ComesTo t (at + 1) (in_value n m before [])
-
-  pub values-begin : (bracket : ℕ) → ValuesSoFar bracket bracket
-  values-begin bracket = record { rises = omega arith; reached = λ n name h. (name, [], h) }
+        → (before : List (List ℕ)) × ComesTo t (at + 1) (in_value n name before []) × Wrote (flat_map value_text before)
 
   -- a value after them, and the white space there
-  pub record ValuesBefore (bracket at : ℕ) : Type 0 where
+  pub record ValuesBefore (Wrote : List ℕ → Type 0) (bracket at : ℕ) : Type 0 where
     pub rises : bracket < at
     pub reached : (n : Started) (name : List ℕ) → ComesTo t (bracket + 1) (in_value n name [] [])
-        → (p : Property) × ComesTo t at (after_value n p)
+        → (p : Property) × ComesTo t at (after_value n p) × (p.name ≡ name) × Wrote (flat_map value_text (values p))
 
-  pub values-step : (bracket at end next : ℕ) → ValuesSoFar bracket at → IsValueEnd t (at + 1) end → IsSpan is_white_space t (end + 1) next → ValuesBefore bracket next
+  pub values-begin : (Wrote : List ℕ → Type 0) (bracket : ℕ) → Wrote [] → ValuesSoFar Wrote bracket bracket
+  values-begin Wrote bracket none = record { rises = omega arith; reached = λ n name h. ([], h, none) }
+
+  pub values-as : (Wrote Other : List ℕ → Type 0) (bracket at : ℕ) → ((written : List ℕ) → Wrote written → Other written) → ValuesSoFar Wrote bracket at → ValuesSoFar Other bracket at
+  values-as Wrote Other bracket at to so_far =
+      record {
+        rises = so_far.rises;
+        reached = λ n name h. let (before, there, wrote) = so_far.reached n name h in (before, there, to (flat_map value_text before) wrote);
+      }
+
+  pub values-step : (Wrote : List ℕ → Type 0) (from bracket at end next : ℕ) → ValuesSoFar (After Wrote t from at) bracket at → from ≤ at → IsBracket t at → IsValueEnd t (at + 1) end
+      → IsSpan is_white_space t (end + 1) next → ValuesBefore (After Wrote t from (end + 1)) bracket next
   unfolding next_state
-  values-step bracket at end next so_far is_end white =
+  values-step Wrote from bracket at end next so_far low stands is_end white =
       record {
         rises = omega (arith, so_far.rises, is_end.rises, white.rises);
         reached = λ n name h.
-            let before = so_far.reached n name h in
+            let (before, there, wrote) = so_far.reached n name h in
             let raw : List ℕ = slice_range t (at + 1) end in
-            let p : Property = property_of before.0 before.1 raw in
-            let value : ComesTo t end (in_value n before.0 before.1 raw) =
-            units-read t (at + 1) end is_end.rises (omega (arith, is_end.within)) is_end.spelled n before.0 before.1 before.2 in
-            let closed : ComesTo t (end + 1) (after_value n p) = run-take-step t end (in_value n before.0 before.1 raw) (after_value n p) value is_end.within (rw is_end.bracket) in
-            (p, run-white t (end + 1) next (after_value n p) (stays-after_value n p) white.rises white.within white.passing closed);
+            let p : Property = property_of name before raw in
+            let value : ComesTo t end (in_value n name before raw) =
+            units-read t (at + 1) end is_end.rises (omega (arith, is_end.within)) is_end.spelled n name before there in
+            let closed : ComesTo t (end + 1) (after_value n p) = run-take-step t end (in_value n name before raw) (after_value n p) value is_end.within (rw is_end.bracket) in
+            let (more, named) = property-values name before raw in
+            let texts : flat_map value_text before ++ slice_range t at (end + 1) ≡ flat_map value_text (values p) =
+            ap (λ s. flat_map value_text before ++ s) (value-stands at end stands is_end ∙ sym (append-nil (value_text raw)))
+            ∙ sym (flat_map-append value_text before (raw ∷ [])) ∙ ap (flat_map value_text) (sym more) in (
+              p,
+              run-white t (end + 1) next (after_value n p) (stays-after_value n p) white.rises white.within white.passing closed,
+              named,
+              subst (After Wrote t from (end + 1)) texts (after-more Wrote t from at (end + 1) low (omega (arith, is_end.rises)) (flat_map value_text before) wrote),
+            );
       }
 
   -- one more value follows
-  pub values-more : (bracket at : ℕ) → ValuesBefore bracket at → at < length t → get_or t at 0 ≡ 91 → ValuesSoFar bracket at
+  pub values-more : (Wrote : List ℕ → Type 0) (bracket at : ℕ) → ValuesBefore Wrote bracket at → at < length t → get_or t at 0 ≡ 91 → ValuesSoFar Wrote bracket at
   unfolding next_state
-  values-more bracket at before lt e =
+  values-more Wrote bracket at before lt e =
       record {
         rises = omega (arith, before.rises);
         reached = λ n name h.
-            let there = before.reached n name h in
-            let p : Property = there.0 in
-            (p.name, values p, run-take-step t at (after_value n p) (in_value n p.name (values p) []) there.1 lt (rw e));
+            let (p, there, named, wrote) = before.reached n name h in (
+              values p,
+              subst (λ m. ComesTo t (at + 1) (in_value n m (values p) [])) named (run-take-step t at (after_value n p) (in_value n p.name (values p) []) there lt (rw e)),
+              wrote,
+            );
       }

@@ -6,14 +6,13 @@ ghost use Rattle.std.specs.Iterator.{YieldsFirst, YieldsFirstRef, item_count};
 ghost use Rattle.sgf_tree.specs.Tree.{Property};
 ghost use Rattle.sgf_tree.specs.Spelling.{is_white_space, is_upper, IsProperty};
 ghost use Rattle.sgf_tree.specs.inner.Progress.{IsSpan};
-ghost use Rattle.sgf_tree.specs.inner.NodeText.{properties_in, ArePropertiesIn, values_in, AreValuesIn, IsWrittenFront, IsValueAt, IsValuesEnd, IsNoPropValue, values_left};
+ghost use Rattle.sgf_tree.specs.inner.NodeText.{properties_in, ArePropertiesIn, values_in, AreValuesIn, IsValueAt, IsValuesEnd, IsNoPropValue, values_left};
 ghost use Rattle.sgf_tree.specs.inner.KeptEnds.{AreKeptEnds};
 ghost use Rattle.sgf_tree.specs.inner.TreeCode.{properties_code, values_code};
 
 use crate::layout::LongValue;
 use crate::property::PropRef;
 use crate::quick::points::past_points;
-use crate::quick::written::written_properties_end;
 use crate::reader::scan::{
     begins_value, capital_at, identifier_end, part, rest_from, skip_white_space, stands_at,
 };
@@ -48,19 +47,6 @@ impl<'c, 'a> Properties<'c, 'a> {
     {
         let rest = rest_from(text, at);
         Properties { rest, long }
-    }
-
-    /// Takes off the properties at the front that are written just as the sgf form writes them. These have no
-    /// white space between their parts, and no small letters in their identifiers. Returns their text, without the
-    /// white space before it. The text is empty if the first property isn't written like that, or if none is left.
-    pub(crate) fn written(&mut self) -> &'a [u8]
-        ensures { IsWrittenFront self.old self.new result.now }
-    {
-        let text = self.rest;
-        let start = skip_white_space(text, 0);
-        let end = written_properties_end(text, start, self.long);
-        self.rest = rest_from(text, end);
-        part(text, start, end)
     }
 }
 

@@ -7,25 +7,20 @@ pub(crate) struct OwnNodes {
     pub first: usize,
     /// The offset of the last `;`.
     pub last: usize,
-    /// The offset after the text of the last node. White space may follow.
-    pub end: usize,
     /// How many nodes these are.
     pub count: usize,
-    /// The offset of the first `;` of the last stretch.
-    pub start: usize,
-    /// Whether the sgf form writes the last stretch as it stands in the text. If not, it is one node.
-    pub written: bool,
+    /// The last stretch. It begins at `first` if it is the only one.
+    pub stretch: Stretch,
 }
 
-/// A stretch of the own nodes of a game: nodes that the sgf form writes as they stand in the text, with nothing between them, or one other node.
+/// A stretch of a text: bytes that the sgf form copies in one piece. It writes the nodes of a sequence as the texts of their stretches, one
+/// after another. Between these are white space and small letters of names.
 #[derive(Clone, Copy)]
 pub(crate) struct Stretch {
-    /// The offset of its first `;`.
+    /// The offset of its first byte.
     pub start: usize,
-    /// The offset after the text of its last node; `start` if the sgf form may not write it as it stands.
+    /// The offset after its last byte.
     pub end: usize,
-    /// Whether it is the last one of the game's own nodes.
-    pub is_last: bool,
 }
 
 /// A long raw value, in 8 bytes. Its length is kept, so that the value's end isn't searched for again.

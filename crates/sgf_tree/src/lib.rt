@@ -6,7 +6,8 @@
 //!
 //! An [`Outline`] ([`read_outline`]) keeps the sequences of a collection. A sequence is the nodes between a `(` and the next parenthesis. For
 //! each it keeps, in 20 bytes, where the sequence stands in the text, the number of its first node, and the sequence that it goes on from. If
-//! the sgf form may not copy a sequence in one piece, it keeps each stretch of it in 8 bytes. The nodes are found on the text, one after another.
+//! white space stands between parts of its nodes, or a name has small letters, it keeps in 8 bytes where each stretch without any is: the sgf
+//! form copies these. The nodes are found on the text, one after another.
 //! A [`Collection`] numbers its nodes from 0 in file order. Beside its outline it keeps, in 4 bytes, the place of each node, and for each
 //! sequence the last node below it. The properties of a node and their raw values are read from the text again when they are asked for, one
 //! after another. Reading them takes no memory.
@@ -27,6 +28,7 @@
 //! | `reader` | reading a text, and the first fault |
 //! | `reader/keeper`, `reader/games` | what a reader tells the one who keeps a part of it; reading games |
 //! | `reader/own_nodes`, `reader/properties` | adding nodes one by one to the own nodes of a game; reading the properties of a node |
+//! | `reader/stretch` | which bytes the sgf form copies |
 //! | `reader/counting` | counting games, nodes and leaves |
 //! | `reader/value` | what ends a raw value, and keeping where long values end |
 //! | `reader/mark`, `reader/scan` | the byte order mark; white space, where parts of a text end, and what stands at an offset |
@@ -58,8 +60,8 @@
 //! | a node in sgf form | `push_property`, `push_value` (`written`) |
 //!
 //! The plain code is complete without the shortcuts in `quick`. A shortcut ensures no more than the plain function that it stands in for.
-//! Outside `quick` three things are there only for speed: the ends of long values (`long`), whether a node is as written (`as_written`), which
-//! tells the sgf form what it may copy at once, and what a glance shows of a node (`NextNode::Led`, `NextNode::Empty`, `NodeRef::front`). A first reader may take `long` to be empty and `as_written` to be false.
+//! Outside `quick` two things are there only for speed: the ends of long values (`long`), and what a glance shows of a node (`NextNode::Led`,
+//! `NextNode::Empty`, `NodeRef::front`). A first reader may take `long` to be empty.
 //!
 //! Worked examples are in the crate `sgf_tree_tests`, and those that the program shows are in `tests/`.
 #![tactic(auto)]

@@ -211,7 +211,7 @@ impl<'a> Outline<'a> {
         }
     }
 
-    /// Appends the nodes of sequence `i` to `out` as the sgf form writes them. If they stand like that in the text, they are copied in one piece.
+    /// Appends the nodes of sequence `i` to `out` as the sgf form writes them. They are copied from the text stretch by stretch.
     /// If memory is refused, `out` is unchanged.
     pub fn push_sequence(&self, i: usize, out: &mut Vec<u8>) -> Result<(), MemoryFault>
         requires { i < length (sequence_starts self.now) }
@@ -227,7 +227,7 @@ impl<'a> Outline<'a> {
         pushed
     }
 
-    /// The same, but a refusal of memory may leave some of the nodes appended. If they aren't known to stand like that, it goes stretch by stretch.
+    /// The same, but a refusal of memory may leave some of the nodes appended.
     fn push_stretches(&self, i: usize, out: &mut Vec<u8>) -> Result<(), MemoryFault>
         requires { i < length (sequence_starts self.now) }
         ensures appended { OnOk result (out.new.items
@@ -243,13 +243,8 @@ impl<'a> Outline<'a> {
         let mut at = sequence.end as usize;
         'stretches: loop {
             let stretch = &self.sequences.stretches[at];
-            let start = stretch.start() as usize;
-            let end = stretch.end as usize;
-            if start < end {
-                out.extend_from_slice(part(self.text, start, end))?;
-            } else {
-                self.node_at(stretch.start()).push_to(out)?;
-            }
+            let copied = part(self.text, stretch.start() as usize, stretch.end as usize);
+            out.extend_from_slice(copied)?;
             if stretch.is_last() {
                 return Ok(());
             }

@@ -14,7 +14,6 @@
 //! | `kept`: the end of a long value is looked up | the same searches |
 //! | `front`: the first property of a node such as `;B[pd]` is recognized | `Properties::next` |
 //! | `lead`: a node is recognized that is a move and then short properties, or has no properties | `SequenceNodes::open` of `walk` |
-//! | `written`: properties that stand as the sgf form writes them are copied at once | `push_property` of `written` |
 //! | `literals`: sixteen bytes of a value are looked at together | the loop byte by byte in `text` |
 //!
 //! `#[inline(always)]` is on what runs for each node or property, and `#[inline(never)]` on the plain function behind it, so that the
@@ -29,4 +28,3 @@ pub(crate) mod name;
 pub(crate) mod points;
 pub(crate) mod properties;
 pub(crate) mod value;
-pub(crate) mod written;

@@ -22,6 +22,7 @@ mod mark;
 mod own_nodes;
 pub(crate) mod properties;
 pub(crate) mod scan;
+mod stretch;
 pub(crate) mod value;
 
 use crate::collection::Collection;

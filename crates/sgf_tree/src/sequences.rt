@@ -1,12 +1,12 @@
 //! The sequences of a collection in file order, in 20 bytes each. A sequence has the nodes between a `(` and the next parenthesis.
 
-ghost use Rattle.std.specs.Prelude.{◌≡◌, ℕ, List, None, IfOk};
+ghost use Rattle.std.specs.Prelude.{◌≡◌, ◌≤◌, ◌+◌, ◌++◌, ◌∷◌, [], ℕ, List, None, length, IfOk, OnOk};
 ghost use Rattle.sgf_tree.specs.inner.OwnNodes.{nothing};
 ghost use Rattle.sgf_tree.specs.inner.GamesRead.{whole};
-ghost use Rattle.sgf_tree.specs.inner.Outlining.{outer_by, game_by, is_written_by, stretch_by, HoldsSequences};
+ghost use Rattle.sgf_tree.specs.inner.Outlining.{outer_by, game_by, is_written_by, start_by, is_last_by, HoldsSequences};
 ghost use Rattle.sgf_tree.specs.Tree.{no_games};
 
-use crate::fault::MemoryFault;
+use crate::fault::{MAX_LENGTH, MemoryFault};
 use crate::layout::{OwnNodes, Stretch};
 use crate::reader::keeper::Keeper;
 use std::alloc::Global;
@@ -21,7 +21,7 @@ const SEQUENCE_BYTES: usize = 8;
 /// The numbers of sequences and of games are less than this. It is the flag of a sequence that begins a game of the collection.
 const ROOT: u32 = 1 << 30;
 
-/// The flag of a sequence that the sgf form writes as it stands in the text.
+/// The flag of a sequence that the sgf form copies in one piece.
 const WRITTEN: u32 = 1 << 31;
 
 /// A sequence.
@@ -31,7 +31,7 @@ pub(crate) struct Sequence {
     pub first: u32,
     /// The offset of its last `;`.
     pub last: u32,
-    /// The offset after the text of its last node, if the sgf form writes it as it stands in the text; else the index of its first stretch.
+    /// The offset after the text of its last node, if the sgf form copies it in one piece; else the index of its first stretch.
     pub end: u32,
     /// The number of its first node.
     pub number: u32,
@@ -71,26 +71,26 @@ impl Sequence {
 /// The mark of the last stretch of a sequence. Places are less than this.
 const LAST: u32 = 1 << 31;
 
-/// A stretch of a sequence that isn't written as it stands, in 8 bytes.
+/// A stretch of a sequence that has others, in 8 bytes.
 #[derive(Clone, Copy)]
 pub(crate) struct KeptStretch {
-    /// The offset of its first `;`, plus the mark if it is the last one of its sequence.
+    /// The offset of its first byte, plus the mark if it is the last one of its sequence.
     pub start_and_mark: u32,
-    /// The offset after the text of its last node; that of its first `;` if the sgf form may not write it as it stands.
+    /// The offset after its last byte.
     pub end: u32,
 }
 
 impl KeptStretch {
-    /// The offset of its first `;`.
+    /// The offset of its first byte.
     pub(crate) fn start(&self) -> u32
-        ensures { result ≡ (stretch_by self.now).start }
+        ensures { result ≡ start_by self.now }
     {
         self.start_and_mark % LAST
     }
 
     /// Whether it is the last one of its sequence.
     pub(crate) fn is_last(&self) -> bool
-        ensures { result ≡ (stretch_by self.now).is_last }
+        ensures { result ≡ is_last_by self.now }
     {
         self.start_and_mark / LAST == 1
     }
@@ -100,7 +100,7 @@ impl KeptStretch {
 #[derive(Drop)]
 pub(crate) struct Sequences {
     pub table: Vec<Sequence>,
-    /// The stretches of the sequences that the sgf form doesn't write as they stand in the text, in file order.
+    /// The stretches of the sequences that the sgf form doesn't copy in one piece, in file order.
     pub stretches: Vec<KeptStretch>,
     /// How many of them are of sequences in the table.
     pub begun: u32,
@@ -127,6 +127,26 @@ impl Sequences {
             innermost: None,
         })
     }
+
+    /// Keeps one more stretch, with the mark of the last one of a sequence or none. There are never more than bytes: a stretch has at least one.
+    fn push_stretch(&mut self, stretch: Stretch, mark: u32) -> Result<(), MemoryFault>
+        requires low { stretch.end ≤ MAX_LENGTH }
+        requires rises { stretch.start ≤ stretch.end }
+        requires mark { mark ≤ LAST }
+        ensures kept { OnOk result (self.new ≡ record self.old { stretches = self.new.stretches }) }
+        ensures few { OnOk result (length self.new.stretches.items ≤ MAX_LENGTH) }
+        ensures pushed { OnOk result (self.new.stretches.items
+            ≡ self.old.stretches.items ++ record { start_and_mark = stretch.start + mark; end = stretch.end } ∷ []) }
+    {
+        if self.stretches.len() >= MAX_LENGTH {
+            return Err(MemoryFault);
+        }
+        self.stretches.push(KeptStretch {
+            start_and_mark: stretch.start as u32 + mark,
+            end: stretch.end as u32,
+        })?;
+        Ok(())
+    }
 }
 
 impl Keeper for Sequences {
@@ -137,11 +157,7 @@ impl Keeper for Sequences {
     }
 
     fn stretch(&mut self, stretch: Stretch) -> Result<(), MemoryFault> {
-        let mark = if stretch.is_last { LAST } else { 0 };
-        self.stretches.push(KeptStretch {
-            start_and_mark: stretch.start as u32 + mark,
-            end: stretch.end as u32,
-        })?;
+        self.push_stretch(stretch, 0)?;
         Ok(())
     }
 
@@ -152,8 +168,9 @@ impl Keeper for Sequences {
             None => self.games + 1 + ROOT,
         };
         let (end, written) = if own.is_written() {
-            (own.end as u32, WRITTEN)
+            (own.stretch.end as u32, WRITTEN)
         } else {
+            self.push_stretch(own.stretch, LAST)?;
             (self.begun, 0)
         };
         self.table.push(Sequence {

@@ -1,17 +1,12 @@
 -- How the nodes and games of a text were read: words of the contracts in `reader::games` and of what a keeper keeps.
-use Rattle.std.specs.Prelude.{◌≡◌, ℕ, ◌+◌, ◌-◌, ◌<◌, ◌≤◌, ◌⊎◌, true, false, List, [], ◌∷◌, ◌++◌, length, get_or, slice_index, slice_range, Option, Some, None}
-use Rattle.sgf_tree.specs.Bytes.{semicolon}
-use Rattle.sgf_tree.specs.Tree.{Node, Games, no_games, game, node_count}
+use Rattle.std.specs.Prelude.{◌≡◌, ℕ, ◌+◌, ◌<◌, ◌≤◌, true, false, List, [], ◌∷◌, ◌++◌, length, slice_index, Option, Some, None}
+use Rattle.sgf_tree.specs.Tree.{Games, no_games, game, node_count}
 use Rattle.sgf_tree.specs.Spelling.{Spells, is_white_space}
 use Rattle.sgf_tree.specs.FileOrder.{OrderedNode, further_nodes, nodes_from}
 use Rattle.sgf_tree.specs.inner.Machine.{OpenGame, Stack, MachineState, opened, after_game, between_games, next_state, accepted, games_in}
-use Rattle.sgf_tree.specs.inner.OwnNodes.{Coming, nothing, with_game, places_of, written_of, AreStretches, EndsMarked}
+use Rattle.sgf_tree.specs.inner.OwnNodes.{Coming, nothing, with_game}
 use Rattle.sgf_tree.specs.inner.Progress.{ComesTo, IsTrueFault}
-use Rattle.sgf_tree.specs.inner.PropertiesRead.{ArePropertiesRead}
-use Rattle.sgf_tree.specs.declared.layout.OwnNodes.{OwnNodes}
-use Rattle.sgf_tree.specs.declared.layout.Stretch.{Stretch}
 use Rattle.sgf_tree.specs.declared.reader.fault.PartFault.{PartFault}
-use Rattle.sgf_tree.specs.declared.reader.properties.PartRead.{PartRead}
 
 -- whole games, and no open one
 abbrev pub whole : Games → Stack
@@ -66,47 +61,6 @@ pub record IsMarkRead (text : List ℕ) (at : ℕ) : Type 0 where
   pub reached : ComesTo text at state
   pub next : at < length text → next_state at state (slice_index text at) ≡ between_games (whole no_games) (slice_index text at)
   pub end : accepted state ≡ accepted (after_game (whole no_games))
-
--- these stretches are the nodes, and the last one is marked
-abbrev pub AreMarked : List ℕ → List Stretch → List Node → Type 0
-AreMarked text stretches nodes = AreStretches text stretches nodes × EndsMarked stretches
-
--- What is known of the own nodes of a game that were read so far, perhaps of none. The stretches `ended` have ended, and the nodes `present` are the last stretch.
-pub record AreOwnSoFar (text : List ℕ) (own : OwnNodes) (nodes : List Node) (ended : List Stretch) : Type 0 where
-  pub front : List Node
-  pub present : List Node
-  pub nodes_are : nodes ≡ front ++ present
-  pub counted : own.count ≡ length nodes
-  pub first_is : (default : Node) → 0 < length nodes → (get_or nodes 0 default).place ≡ own.first
-  pub last_is : (default : Node) → 0 < length nodes → (get_or nodes (length nodes - 1) default).place ≡ own.last
-  pub start_is : (default : Node) → 0 < length nodes → (get_or present 0 default).place ≡ own.start
-  pub some : 0 < length nodes → (0 < length present) × (own.last < own.end)
-  pub rises : own.first ≤ own.start
-  pub goes_on : own.start ≤ own.last
-  pub ends : own.last ≤ own.end
-  pub within : own.end ≤ length text
-  pub written : own.written ≡ true → slice_range text own.start own.end ≡ written_of text present
-  pub alone : own.written ≡ false → length present ≡ 1
-  pub whole_or : (own.start ≡ own.first × front ≡ [] × ended ≡ []) ⊎ (own.first < own.start)
-  pub few : length ended ≤ length front
-  pub before : (stretches : List Stretch) (rest : List Node) → AreMarked text stretches rest → AreMarked text (ended ++ stretches) (front ++ rest)
-
--- the places of the nodes, and the stretches that have ended
-abbrev pub coming_of : List Node → List Stretch → Coming
-coming_of nodes ended = record { places = places_of nodes; stretches = ended }
-
--- one more node was read, and the keeper keeps it
-pub record IsNodeTaken (kept : Type 0) (keeps : Coming → Type 0) (text : List ℕ) (own : OwnNodes) (nodes : List Node) : Type 0 where
-  pub ended : List Stretch
-  pub are : AreOwnSoFar text own nodes ended
-  pub holds : kept → keeps (coming_of nodes ended)
-
--- if the nodes before it were read, the node at `place` was read too, and the keeper keeps it
-abbrev pub TakesNode : (Stack → Coming → Type 0) → (Stack → Coming → Type 0) → List ℕ → OwnNodes → ℕ → PartRead → OwnNodes → Type 0
-TakesNode kept keeps text own place read next =
-    (stack : Stack) (nodes : List Node) (ended : List Stretch) (node : Node) → AreOwnSoFar text own nodes ended
-    → (length nodes ≡ 0 → place ≡ own.first) → own.end ≤ place → node.place ≡ place → place < length text → slice_index text place ≡ semicolon
-    → ArePropertiesRead text (place + 1) read → IsNodeTaken (kept stack (coming_of nodes ended)) (keeps stack) text next (nodes ++ node ∷ [])
 
 -- after a `(` at this stack, the own nodes of a game were read up to `end`, and the keeper keeps the game
 pub record IsGameRead (keeps : Stack → Coming → Type 0) (text : List ℕ) (end : ℕ) (stack : Stack) : Type 0 where

@@ -1,14 +1,15 @@
 -- How a table holds the sequences of a collection. Their nodes are found on the text again.
-use Rattle.std.specs.Prelude.{◌≡◌, ℕ, ◌/◌, ◌%◌, ◌==◌, ◌<◌, ◌≤◌, Bool, true, false, if◌then◌else◌, List, ◌∷◌, length, map, take, drop, get_or, slice_get, slice_range, Option, Some, None}
+use Rattle.std.specs.Prelude.{◌≡◌, ℕ, ◌/◌, ◌%◌, ◌==◌, ◌≤◌, Bool, true, false, if◌then◌else◌, List, [], ◌∷◌, ◌++◌, length, drop, get_or, slice_get, slice_range, Option, Some, None}
+use Rattle.std.specs.List.{flat_map}
 use Rattle.sgf_tree.specs.Tree.{Node, game_count, node_count}
 use Rattle.sgf_tree.specs.Spelling.{Spells}
+use Rattle.sgf_tree.specs.Written.{node_text}
 use Rattle.sgf_tree.specs.inner.Machine.{Stack, games_in}
 use Rattle.sgf_tree.specs.inner.GamesRead.{open_count, whole}
 use Rattle.sgf_tree.specs.inner.Listing.{Listed, open_list}
-use Rattle.sgf_tree.specs.inner.OwnNodes.{Coming, nothing, written_of, AreStretches, EndsMarked}
+use Rattle.sgf_tree.specs.inner.OwnNodes.{Coming, nothing}
 use Rattle.sgf_tree.specs.declared.fault.TheConstants.{MAX_LENGTH}
 use Rattle.sgf_tree.specs.declared.sequences.TheConstants.{ROOT, WRITTEN, LAST}
-use Rattle.sgf_tree.specs.declared.layout.Stretch.{Stretch}
 use Rattle.sgf_tree.specs.declared.sequences.KeptStretch.{KeptStretch}
 use Rattle.sgf_tree.specs.declared.sequences.Sequence.{Sequence}
 use Rattle.sgf_tree.specs.declared.sequences.Sequences.{Sequences}
@@ -29,47 +30,61 @@ is_written_by sequence = sequence.outer_and_flags / WRITTEN == 1
 abbrev pub nodes_of : Listed → List Node
 nodes_of sequence = sequence.first ∷ sequence.more
 
--- what is kept of a stretch
-abbrev pub stretch_by : KeptStretch → Stretch
-stretch_by kept = record { start = kept.start_and_mark % LAST; end = kept.end; is_last = kept.start_and_mark / LAST == 1 }
+-- where a kept stretch begins, and whether it is the last one of its sequence
+abbrev pub start_by : KeptStretch → ℕ
+start_by kept = kept.start_and_mark % LAST
 
-abbrev pub stretches_by : Sequences → List Stretch
-stretches_by kept = map stretch_by kept.stretches.items
+abbrev pub is_last_by : KeptStretch → Bool
+is_last_by kept = kept.start_and_mark / LAST == 1
 
--- the stretches from this index on are the nodes
-pub record HasStretches (text : List ℕ) (stretches : List Stretch) (index : ℕ) (nodes : List Node) : Type 0 where
-  pub own : List Stretch
-  pub here : take (length own) (drop index stretches) ≡ own
-  pub are : AreStretches text own nodes
-  pub marked : EndsMarked own
+-- what the sgf form copies from the text, if it copies this stretch and then `rest`
+pub record IsCopiedFirst (text : List ℕ) (kept : KeptStretch) (written rest : List ℕ) : Type 0 where
+  pub rises : start_by kept ≤ kept.end
+  pub within : kept.end ≤ length text
+  pub are : written ≡ slice_range text (start_by kept) kept.end ++ rest
+
+-- it copies these stretches, none of which is the last one of its sequence
+abbrev pub AreTold : List ℕ → List KeptStretch → List ℕ → Type 0
+AreTold text [] told = told ≡ []
+AreTold text (kept ∷ more) told = (rest : List ℕ) × IsCopiedFirst text kept told rest × (is_last_by kept ≡ false) × AreTold text more rest
+
+-- it copies these stretches up to the last one of a sequence
+abbrev pub AreWhole : List ℕ → List KeptStretch → List ℕ → Type 0
+AreWhole text [] written = ⊥
+AreWhole text (kept ∷ more) written =
+    (rest : List ℕ) × IsCopiedFirst text kept written rest × (is_last_by kept ≡ true → rest ≡ []) × (is_last_by kept ≡ false → AreWhole text more rest)
+
+-- it copies the stretches from this index on for the nodes
+abbrev pub HasStretches : List ℕ → List KeptStretch → ℕ → List Node → Type 0
+HasStretches text stretches index nodes = AreWhole text (drop index stretches) (flat_map node_text nodes)
 
 -- What the table keeps of a sequence is right. If it isn't written as it stands, `end` is the index of its first stretch.
-pub record IsKept (text : List ℕ) (stretches : List Stretch) (kept : Sequence) (sequence : Listed) : Type 0 where
+pub record IsKept (text : List ℕ) (stretches : List KeptStretch) (kept : Sequence) (sequence : Listed) : Type 0 where
   pub number_is : kept.number ≡ sequence.number
   pub outer_is : outer_by kept ≡ sequence.outer
   pub ordinal_is : sequence.outer ≡ None → game_by kept ≡ sequence.ordinal
   pub first_is : kept.first ≡ sequence.first.place
   pub last_is : kept.last ≡ (get_or (nodes_of sequence) (length sequence.more) sequence.first).place
-  pub rises : is_written_by kept ≡ true → kept.first < kept.end
+  pub rises : is_written_by kept ≡ true → kept.first ≤ kept.end
   pub within : is_written_by kept ≡ true → kept.end ≤ length text
-  pub written : is_written_by kept ≡ true → slice_range text kept.first kept.end ≡ written_of text (nodes_of sequence)
+  pub written : is_written_by kept ≡ true → slice_range text kept.first kept.end ≡ flat_map node_text (nodes_of sequence)
   pub stretched : is_written_by kept ≡ false → HasStretches text stretches kept.end (nodes_of sequence)
 
 -- the table keeps these sequences
-pub record AreKept (text : List ℕ) (stretches : List Stretch) (table : List Sequence) (sequences : List Listed) : Type 0 where
+pub record AreKept (text : List ℕ) (stretches : List KeptStretch) (table : List Sequence) (sequences : List Listed) : Type 0 where
   pub count : length table ≡ length sequences
   pub each : (index : ℕ) (kept : Sequence) (sequence : Listed) → slice_get table index ≡ Some kept → slice_get sequences index ≡ Some sequence
       → IsKept text stretches kept sequence
 
 -- what a reader keeps is right for the games of a stack, and for what has come of a further game
 pub record HoldsSequences (text : List ℕ) (kept : Sequences) (stack : Stack) (coming : Coming) : Type 0 where
-  pub are : AreKept text (stretches_by kept) kept.table.items (open_list stack.closed stack.unclosed).sequences
+  pub are : AreKept text kept.stretches.items kept.table.items (open_list stack.closed stack.unclosed).sequences
   pub nodes_counted : kept.nodes ≡ open_count stack.closed stack.unclosed
   pub games_counted : kept.games ≡ game_count stack.closed
   pub innermost_is : kept.innermost ≡ (open_list stack.closed stack.unclosed).innermost
-  pub begun_few : kept.begun ≤ open_count stack.closed stack.unclosed
-  pub begun_within : kept.begun ≤ length (stretches_by kept)
-  pub coming_are : drop kept.begun (stretches_by kept) ≡ coming.stretches
+  pub few : length kept.stretches.items ≤ MAX_LENGTH
+  pub begun_within : kept.begun ≤ length kept.stretches.items
+  pub told : AreTold text (drop kept.begun kept.stretches.items) coming.told
 
 -- the table is that of the collection that the text spells
 pub record IsOutlined (text : List ℕ) (kept : Sequences) : Type 0 where

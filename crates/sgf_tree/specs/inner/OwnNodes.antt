@@ -1,10 +1,7 @@
 -- The own nodes of a game, as a reader comes to know them.
-use Rattle.std.specs.Prelude.{◌≡◌, ℕ, ◌-◌, ◌<◌, ◌≤◌, ◌==◌, ◌&&◌, Bool, true, false, List, [], ◌∷◌, ◌++◌, length, map, get_or, slice_range}
-use Rattle.std.specs.List.{flat_map}
+use Rattle.std.specs.Prelude.{◌≡◌, ℕ, ◌-◌, ◌<◌, ◌≤◌, ◌==◌, Bool, List, [], ◌∷◌, ◌++◌, length, map, get_or, slice_range}
 use Rattle.sgf_tree.specs.Tree.{Node}
-use Rattle.sgf_tree.specs.Written.{node_text}
 use Rattle.sgf_tree.specs.inner.Machine.{OpenGame, Stack}
-use Rattle.sgf_tree.specs.inner.NodeText.{node_in}
 use Rattle.sgf_tree.specs.declared.layout.OwnNodes.{OwnNodes}
 use Rattle.sgf_tree.specs.declared.layout.Stretch.{Stretch}
 
@@ -16,61 +13,58 @@ own_of open_game = open_game.first ∷ open_game.more
 abbrev pub places_of : List Node → List ℕ
 places_of nodes = map (λ (node : Node). node.place) nodes
 
--- what the sgf form writes for the nodes of a text that are at these places
-abbrev pub written_of : List ℕ → List Node → List ℕ
-written_of text nodes = flat_map node_text (map (node_in text) (places_of nodes))
-
 -- the stack with one more open game
 abbrev pub with_game : Stack → OpenGame → Stack
 with_game stack open_game = record { closed = stack.closed; unclosed = open_game ∷ stack.unclosed }
 
--- what has come of a game that isn't on the stack yet: the places of its own nodes, and the stretches of them that have ended
+-- what has come of a game that isn't on the stack yet: the places of its own nodes, and the texts of the stretches that have ended, joined
 pub record Coming : Type 0 where
   pub places : List ℕ
-  pub stretches : List Stretch
+  pub told : List ℕ
 
 abbrev pub nothing : Coming
-nothing = record { places = []; stretches = [] }
+nothing = record { places = []; told = [] }
 
 abbrev pub with_place : Coming → ℕ → Coming
-with_place coming place = record { places = coming.places ++ place ∷ []; stretches = coming.stretches }
+with_place coming place = record { places = coming.places ++ place ∷ []; told = coming.told }
 
-abbrev pub with_stretch : Coming → Stretch → Coming
-with_stretch coming stretch = record { places = coming.places; stretches = coming.stretches ++ stretch ∷ [] }
+abbrev pub with_text : Coming → List ℕ → Coming
+with_text coming text = record { places = coming.places; told = coming.told ++ text }
 
--- these nodes are a stretch
-pub record IsStretch (text : List ℕ) (stretch : Stretch) (nodes : List Node) : Type 0 where
-  pub some : 0 < length nodes
-  pub start_is : (default : Node) → (get_or nodes 0 default).place ≡ stretch.start
-  pub rises : stretch.start ≤ stretch.end
-  pub within : stretch.end ≤ length text
-  pub written : stretch.start < stretch.end → slice_range text stretch.start stretch.end ≡ written_of text nodes
-  pub alone : stretch.end ≡ stretch.start → length nodes ≡ 1
+abbrev pub coming_of : List Node → List ℕ → Coming
+coming_of nodes told = record { places = places_of nodes; told = told }
 
--- these nodes are stretches, one after another
-pub data AreStretches (text : List ℕ) : List Stretch → List Node → Type 0 where
-  no_stretch : AreStretches text [] []
-  stretch_before : {stretch : Stretch} {stretches : List Stretch} {nodes rest : List Node} → IsStretch text stretch nodes → AreStretches text stretches rest
-      → AreStretches text (stretch ∷ stretches) (nodes ++ rest)
+-- With the present stretch after those that the keeper was told of, all that is `written` is copied. If no other one began after `first`, it was told of none.
+pub record IsCopied (keeps : List ℕ → Type 0) (text : List ℕ) (first : ℕ) (present : Stretch) (written : List ℕ) : Type 0 where
+  pub told : List ℕ
+  pub kept : keeps told
+  pub are : told ++ slice_range text present.start present.end ≡ written
+  pub alone : present.start ≡ first → told ≡ []
+  pub low : first ≤ present.start
+  pub rises : present.start ≤ present.end
+  pub within : present.end ≤ length text
 
--- the last one of them is marked, and no other is
-abbrev pub EndsMarked : List Stretch → Type 0
-EndsMarked [] = ⊥
-EndsMarked (stretch ∷ []) = stretch.is_last ≡ true
-EndsMarked (stretch ∷ next ∷ more) = (stretch.is_last ≡ false) × EndsMarked (next ∷ more)
+-- a part of a node was read, for which the sgf form writes `part`: it is copied after what was copied before
+abbrev pub Copies : (Stack → Coming → Type 0) → (Stack → Coming → Type 0) → List ℕ → Stretch → Stretch → List ℕ → Type 0
+Copies kept keeps text before after part =
+    (stack : Stack) (places : List ℕ) (first : ℕ) (written : List ℕ)
+    → IsCopied (λ told. kept stack (record { places = places; told = told })) text first before written
+    → IsCopied (λ told. keeps stack (record { places = places; told = told })) text first after (written ++ part)
 
--- whether the sgf form writes all the nodes as they stand in the text, with nothing between them
+-- the same at the beginning of the node at this place
+abbrev pub CopiesNode : (Stack → Coming → Type 0) → (Stack → Coming → Type 0) → List ℕ → ℕ → Stretch → Stretch → List ℕ → Type 0
+CopiesNode kept keeps text place before after part =
+    (stack : Stack) (places : List ℕ) (first : ℕ) (written : List ℕ)
+    → IsCopied (λ told. kept stack (record { places = places; told = told })) text first before written
+    → IsCopied (λ told. keeps stack (record { places = places ++ place ∷ []; told = told })) text first after (written ++ part)
+
+-- whether the sgf form writes all the nodes as they stand in the text
 abbrev pub is_written : OwnNodes → Bool
-is_written own = own.written && (own.start == own.first)
+is_written own = own.stretch.start == own.first
 
--- what is known of the own nodes of a game that were read, when all their stretches have ended; if all of them is one that is written, it hasn't come
-pub record AreOwnNodes (text : List ℕ) (own : OwnNodes) (nodes : List Node) (stretches : List Stretch) : Type 0 where
+-- what is known of the own nodes of a game that were read, perhaps of none
+pub record AreOwnNodes (own : OwnNodes) (nodes : List Node) : Type 0 where
   pub counted : own.count ≡ length nodes
-  pub some : 0 < length nodes
-  pub first_is : (default : Node) → (get_or nodes 0 default).place ≡ own.first
-  pub last_is : (default : Node) → (get_or nodes (length nodes - 1) default).place ≡ own.last
-  pub rises : own.first ≤ own.last
-  pub ends : own.last < own.end
-  pub within : own.end ≤ length text
-  pub written : is_written own ≡ true → (stretches ≡ []) × (slice_range text own.first own.end ≡ written_of text nodes)
-  pub stretched : is_written own ≡ false → AreStretches text stretches nodes × EndsMarked stretches
+  pub first_is : (default : Node) → 0 < length nodes → (get_or nodes 0 default).place ≡ own.first
+  pub last_is : (default : Node) → 0 < length nodes → (get_or nodes (length nodes - 1) default).place ≡ own.last
+  pub ends : own.last ≤ own.stretch.end

@@ -1,13 +1,13 @@
 -- How the properties of a node were read: words of the contracts in `reader::properties`.
-use Rattle.std.specs.Prelude.{◌≡◌, ◌≢◌, ℕ, ◌+◌, ◌<◌, ◌≤◌, false, IsTrue, List, [], ◌∷◌, length, slice_index, None}
+use Rattle.std.specs.Prelude.{◌≡◌, ◌≢◌, ℕ, ◌+◌, ◌<◌, ◌≤◌, false, IsTrue, List, [], ◌∷◌, length, slice_index, slice_range, None}
+use Rattle.std.specs.List.{flat_map}
 use Rattle.sgf_tree.specs.Bytes.{open_bracket, close_bracket}
 use Rattle.sgf_tree.specs.Tree.{Property}
+use Rattle.sgf_tree.specs.Written.{property_text}
 use Rattle.sgf_tree.specs.Spelling.{is_white_space, is_upper}
 use Rattle.sgf_tree.specs.inner.Machine.{Started, MachineState, in_node, in_name, in_value, after_value, after_node, ended, next_state, accepted}
 use Rattle.sgf_tree.specs.inner.Progress.{ComesTo, IsTrueFault, IsSpan, IsBracket, ArePlain}
-use Rattle.sgf_tree.specs.inner.NodeText.{AreWritten, IsPropertyWritten}
 use Rattle.sgf_tree.specs.declared.reader.fault.PartFault.{PartFault}
-use Rattle.sgf_tree.specs.declared.reader.properties.PartRead.{PartRead}
 
 -- after any white space at `end` comes a byte that doesn't begin a value
 pub record AreValuesEnded (text : List ℕ) (end next : ℕ) : Type 0 where
@@ -23,21 +23,25 @@ pub record IsShortProperty (text : List ℕ) (at close : ℕ) : Type 0 where
   pub within : close < length text
   pub end : slice_index text close ≡ close_bracket
 
--- the identifier that begins at `start` was read up to a `[`
-pub record IsNameRead (text : List ℕ) (start bracket : ℕ) : Type 0 where
+-- this stands from one offset to another
+abbrev pub StandsIn : List ℕ → ℕ → ℕ → List ℕ → Type 0
+StandsIn text from to written = slice_range text from to ≡ written
+
+-- The identifier that begins at `start` was read up to a `[`. `Wrote` holds of what the sgf form writes for it.
+pub record IsNameRead (Wrote : List ℕ → Type 0) (text : List ℕ) (start bracket : ℕ) : Type 0 where
   pub rises : start < bracket
   pub stands : IsBracket text bracket
   pub reached : (node : Started) → ComesTo text (start + 1) (in_name node (slice_index text start ∷ []))
-      → (name : List ℕ) × ComesTo text (bracket + 1) (in_value node name [] [])
+      → (name : List ℕ) × ComesTo text (bracket + 1) (in_value node name [] []) × Wrote name
 
--- The property whose identifier begins at `start` was read. White space may follow it, and then comes a byte that begins no value.
-pub record IsPropertyRead (text : List ℕ) (start : ℕ) (read : PartRead) : Type 0 where
-  pub rises : start < read.text_end
-  pub white_space : IsSpan is_white_space text read.text_end read.end
-  pub no_value : read.end < length text → slice_index text read.end ≢ open_bracket
+-- The property whose identifier begins at `start` was read. White space may follow it, and then comes a byte that begins no value. `Wrote` holds of
+-- what the sgf form writes for it.
+pub record IsPropertyRead (Wrote : List ℕ → Type 0) (text : List ℕ) (start text_end end : ℕ) : Type 0 where
+  pub rises : start < text_end
+  pub white_space : IsSpan is_white_space text text_end end
+  pub no_value : end < length text → slice_index text end ≢ open_bracket
   pub reached : (node : Started) → ComesTo text (start + 1) (in_name node (slice_index text start ∷ []))
-      → (property : Property) × ComesTo text read.end (after_value node property)
-  pub written : IsTrue read.as_written → IsPropertyWritten text start read.text_end
+      → (property : Property) × ComesTo text end (after_value node property) × Wrote (property_text property)
 
 -- the machine has read a node up to `end`, and takes only what may come after a node
 pub record StandsAfterNode (text : List ℕ) (end : ℕ) (whole : Started) : Type 0 where
@@ -51,15 +55,13 @@ abbrev pub with_properties : Started → List Property → Started
 with_properties node properties = record { stack = node.stack; opens = node.opens; place = node.place; properties = properties }
 
 -- The properties of a node that begin at `at`, perhaps none, were read. White space may follow them, and then comes a byte that begins no property,
--- and no value of the last property.
-pub record ArePropertiesRead (text : List ℕ) (at : ℕ) (read : PartRead) : Type 0 where
-  pub rises : at ≤ read.text_end
-  pub white_space : IsSpan is_white_space text read.text_end read.end
-  pub no_value : at < read.text_end → read.end < length text → slice_index text read.end ≢ open_bracket
-  pub no_property : read.end < length text → is_upper (slice_index text read.end) ≡ false
+-- and no value of the last property. `Wrote` holds of what the sgf form writes for them.
+pub record ArePropertiesRead (Wrote : List ℕ → Type 0) (text : List ℕ) (at text_end end : ℕ) : Type 0 where
+  pub rises : at ≤ text_end
+  pub white_space : IsSpan is_white_space text text_end end
+  pub no_property : end < length text → is_upper (slice_index text end) ≡ false
   pub reached : (node : Started) → node.properties ≡ [] → ComesTo text at (in_node node)
-      → (properties : List Property) × StandsAfterNode text read.end (with_properties node properties)
-  pub written : IsTrue read.as_written → AreWritten text at read.text_end
+      → (properties : List Property) × StandsAfterNode text end (with_properties node properties) × Wrote (flat_map property_text properties)
 
 -- if `at` is just after the `[` of a value, the fault is the first one of the text
 abbrev pub IsFaultInValue : List ℕ → ℕ → PartFault → Type 0

@@ -6,11 +6,10 @@ ghost use Rattle.std.specs.Int.Count.{count_trailing_zeros};
 ghost use Rattle.sgf_tree.specs.Bytes.{close_bracket};
 ghost use Rattle.sgf_tree.specs.Spelling.{is_white_space, is_upper};
 ghost use Rattle.sgf_tree.specs.inner.Progress.{IsSpan, IsMove};
-ghost use Rattle.sgf_tree.specs.inner.PropertiesRead.{AreValuesEnded, IsShortProperty, IsPropertyRead, ArePropertiesRead};
+ghost use Rattle.sgf_tree.specs.inner.PropertiesRead.{AreValuesEnded, IsShortProperty, StandsIn, IsPropertyRead, ArePropertiesRead};
 
 use crate::quick::name::short_name_end;
 use crate::quick::value::{NEAR, near_value_end};
-use crate::reader::properties::PartRead;
 use crate::reader::scan::{capital_at, skip_white_space};
 use std::simd::prelude::*;
 
@@ -18,50 +17,70 @@ use std::simd::prelude::*;
 /// the 16 bytes among which the `]` is searched for, and the byte after these.
 const GLANCE: usize = 20;
 
+/// How far a part of a text was read that the sgf form copies in one piece.
+#[derive(Clone, Copy)]
+pub(crate) struct ShortRead {
+    /// The offset after the part.
+    pub text_end: usize,
+    /// The offset after the white space that follows the part.
+    pub end: usize,
+}
+
+impl ShortRead {
+    /// A part that ends at `end`, with no white space after it.
+    fn to(end: usize) -> ShortRead
+        ensures { result ≡ record { text_end = end; end = end } }
+    {
+        ShortRead { text_end: end, end }
+    }
+}
+
 /// Reads at a glance the properties of a node, which begin at `at`: none, or, if `is_move`, a move and perhaps short properties, as in
 /// `B[pd]BL[921.325]`. Nearly all nodes are like that.
 #[inline(always)]
-pub(crate) fn short_properties(text: &[u8], at: usize, is_move: bool) -> Option<PartRead>
+pub(crate) fn short_properties(text: &[u8], at: usize, is_move: bool) -> Option<ShortRead>
     requires within { at ≤ length text.now }
     requires move_stands { IsTrue is_move → IsMove text.now at }
-    ensures { IfSome result (ArePropertiesRead text.now at) }
+    ensures { IfSome result (λ read. ArePropertiesRead (StandsIn text.now at read.text_end) text.now at read.text_end read.end) }
 {
     if is_move {
         let end = at + 5;
         if end < text.len() && b' ' < text[end] && text[end] < b'A' {
-            return Some(PartRead::to(end));
+            return Some(ShortRead::to(end));
         }
         return after_move(text, at);
     }
     if at < text.len() && b' ' < text[at] && text[at] < b'A' {
-        Some(PartRead::to(at))
+        Some(ShortRead::to(at))
     } else {
         None
     }
 }
 
-/// Reads the properties of a node that begin with a move at `at`, if those after it are short.
+/// Reads the properties of a node that begin with a move at `at`, if those after it are short and no white space is between them.
 // The first loop reads properties such as `BL[921.325]`, and ends most nodes. The second one reads the others.
 #[inline(always)]
-fn after_move(text: &[u8], at: usize) -> Option<PartRead>
+fn after_move(text: &[u8], at: usize) -> Option<ShortRead>
     requires { IsMove text.now at }
-    ensures { IfSome result (ArePropertiesRead text.now at) }
+    ensures { IfSome result (λ read. ArePropertiesRead (StandsIn text.now at read.text_end) text.now at read.text_end read.end) }
 {
     let mut end = at + 5;
     'near: while let Some(close) = near_property_close(text, end) {
         end = close + 1;
         if b' ' < text[end] && text[end] < b'A' {
-            return Some(PartRead::to(end));
+            return Some(ShortRead::to(end));
         }
     }
     let next = property_end(text, end)?;
-    let mut read = PartRead {
+    let mut read = ShortRead {
         text_end: end,
         end: next,
-        as_written: true,
     };
     'properties: while capital_at(text, read.end) {
-        read = read.with(read_short_property(text, read.end)?);
+        if read.text_end < read.end {
+            return None;
+        }
+        read = read_short_property(text, read.end)?;
     }
     Some(read)
 }
@@ -112,10 +131,10 @@ fn property_stops(text: &[u8], at: usize) -> u64
 /// Reads at a glance the property whose identifier begins at `start`, if it has a name of one or two letters
 /// and one short value. Nearly all properties are like that.
 #[inline(always)]
-pub(crate) fn read_short_property(text: &[u8], start: usize) -> Option<PartRead>
+pub(crate) fn read_short_property(text: &[u8], start: usize) -> Option<ShortRead>
     requires within { start < length text.now }
     requires capital { IsTrue (is_upper (slice_index text.now start)) }
-    ensures { IfSome result (IsPropertyRead text.now start) }
+    ensures { IfSome result (λ read. IsPropertyRead (StandsIn text.now start read.text_end) text.now start read.text_end read.end) }
 {
     if text.len() - start < GLANCE {
         return None;
@@ -123,10 +142,9 @@ pub(crate) fn read_short_property(text: &[u8], start: usize) -> Option<PartRead>
     let bracket = short_name_end(text, start)?;
     let close = near_value_end(text, bracket + 1)?;
     let end = property_end(text, close + 1)?;
-    Some(PartRead {
+    Some(ShortRead {
         text_end: close + 1,
         end,
-        as_written: true,
     })
 }
 

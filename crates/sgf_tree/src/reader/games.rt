@@ -1,13 +1,12 @@
 //! Reading games (SGF FF[4], EBNF: Collection, GameTree, Sequence). What is kept of them is up to a keeper.
 
-ghost use Rattle.std.specs.Prelude.{◌≡◌, ◌<◌, ◌≤◌, ◌+◌, ℕ, List, [], length, IfOk, IfErr, OnOk};
-ghost use Rattle.sgf_tree.specs.Tree.{Node, no_games};
+ghost use Rattle.std.specs.Prelude.{◌≡◌, ◌<◌, ◌≤◌, ◌+◌, ℕ, List, [], length, slice_range, IfOk, IfErr, OnOk};
+ghost use Rattle.sgf_tree.specs.Tree.{no_games};
 ghost use Rattle.sgf_tree.specs.inner.Machine.{Stack, opened};
 ghost use Rattle.sgf_tree.specs.inner.Progress.{ComesTo, IsTrueFault};
 ghost use Rattle.sgf_tree.specs.inner.KeptEnds.{AreKeptEnds};
-ghost use Rattle.sgf_tree.specs.inner.OwnNodes.{nothing};
-ghost use Rattle.sgf_tree.specs.inner.GamesRead.{open_count, coming_of, StandsBetween, AreOwnSoFar, TakesNode, IsFaultInOpened, ReadsOwnNodes, ReadsWhole};
-ghost use Rattle.sgf_tree.specs.declared.layout.Stretch.{Stretch};
+ghost use Rattle.sgf_tree.specs.inner.OwnNodes.{Coming, nothing, CopiesNode};
+ghost use Rattle.sgf_tree.specs.inner.GamesRead.{open_count, StandsBetween, IsFaultInOpened, ReadsOwnNodes, ReadsWhole};
 
 use crate::fault::{MAX_LENGTH, MemoryFault};
 use crate::layout::{LongValue, OwnNodes};
@@ -15,7 +14,7 @@ use crate::quick::moves::{TWO_MOVES, moves_in_place};
 use crate::quick::properties::short_properties;
 use crate::reader::fault::PartFault;
 use crate::reader::keeper::Keeper;
-use crate::reader::properties::{PartRead, read_properties};
+use crate::reader::properties::read_properties;
 use crate::reader::scan::{skip_white_space, stands_at};
 
 /// Reads all games, and tells `keeper` what comes: Collection = GameTree { GameTree }, and GameTree = `(` Sequence { GameTree } `)`. The first
@@ -86,51 +85,47 @@ fn read_sequence<K: Keeper>(
     'nodes: while stands_at(text, next, b';') {
         let in_place = moves_in_place(text, next);
         if in_place == TWO_MOVES {
-            own = take_node(own, next, PartRead::to(next + 6), keeper)?;
-            own = take_node(own, next + 6, PartRead::to(next + 12), keeper)?;
+            own = take_node(own, next, next + 6, keeper)?;
+            own = take_node(own, next + 6, next + 12, keeper)?;
             next += 12;
+        } else if let Some(read) = short_properties(text, next + 1, in_place % 64 == 63) {
+            own = take_node(own, next, read.text_end, keeper)?;
+            next = read.end;
         } else {
-            let read = match short_properties(text, next + 1, in_place % 64 == 63) {
-                Some(read) => read,
-                None => read_properties(text, next + 1, long)?,
-            };
-            own = take_node(own, next, read, keeper)?;
+            own = take_node(own, next, next + 1, keeper)?;
+            let read = read_properties(text, own.stretch, keeper, long)?;
+            own = own.with_stretch(read.stretch);
             next = read.end;
         }
     }
     if own.count == 0 {
         return Err(PartFault::NotSgf(next));
     }
-    if !own.is_written() {
-        keeper.stretch(own.last_stretch(true))?;
-    }
     keeper.own_nodes(own)?;
     Ok(next)
 }
 
-/// Adds a node to the own nodes of a game, and tells `keeper` of it. If a stretch begins with it, the stretch before it ends.
+/// Adds a node to the own nodes of a game, and tells `keeper` of it. The text of the node up to `end` is copied in one piece.
 #[inline(always)]
 fn take_node<K: Keeper>(
     own: OwnNodes,
     place: usize,
-    read: PartRead,
+    end: usize,
     keeper: &mut K,
 ) -> Result<OwnNodes, MemoryFault>
-    requires low { place < MAX_LENGTH }
-    requires few { (text : List ℕ) × (k : Stack) × (nodes : List Node) × (ended : List Stretch)
-        × (K.keeps text keeper.old k (coming_of nodes ended)) × (AreOwnSoFar text own nodes ended) × (length text ≤ MAX_LENGTH)
-        × (open_count k.closed k.unclosed + own.count ≤ place) }
-    ensures taken { IfOk result (λ next. (text : List ℕ) → TakesNode (K.keeps text keeper.old) (K.keeps text keeper.new) text own place read next) }
-    ensures end { IfOk result (λ next. next.end ≡ read.text_end) }
-    ensures count { IfOk result (λ next. next.count ≡ own.count + 1) }
+    requires rises { own.stretch.start ≤ own.stretch.end }
+    requires after { own.stretch.end ≤ place }
+    requires some { place < end }
+    requires low { end ≤ MAX_LENGTH }
+    requires few { (text : List ℕ) × (k : Stack) × (coming : Coming) × (K.keeps text keeper.old k coming)
+        × (open_count k.closed k.unclosed + length coming.places ≤ place) × (own.count ≡ length coming.places) }
+    ensures taken { IfOk result (λ next. next ≡ record { first = own.first; last = place; count = own.count + 1; stretch = next.stretch }) }
+    ensures rises { IfOk result (λ next. next.stretch.start ≤ next.stretch.end) }
+    ensures end { IfOk result (λ next. next.stretch.end ≡ end) }
+    ensures copied { IfOk result (λ next. (text : List ℕ) → end ≤ length text
+        → CopiesNode (K.keeps text keeper.old) (K.keeps text keeper.new) text place own.stretch next.stretch (slice_range text place end)) }
 {
-    if own.goes_on(place, read) {
-        keeper.node(place)?;
-        return Ok(own.with_node(place, read.text_end, own.start, own.written));
-    }
-    if own.count > 0 {
-        keeper.stretch(own.last_stretch(false))?;
-    }
     keeper.node(place)?;
-    Ok(own.with_node(place, read.text_end, place, read.as_written))
+    let stretch = own.stretch.then(place, end, keeper)?;
+    Ok(own.with_node(place, stretch))
 }

@@ -1,11 +1,12 @@
 //! What a reader tells the one who keeps a part of what is read.
 
-ghost use Rattle.std.specs.Prelude.{◌≡◌, ◌<◌, ◌≤◌, ◌+◌, ℕ, List, Some, length, OnOk};
+ghost use Rattle.std.specs.Prelude.{◌≡◌, ◌<◌, ◌≤◌, ◌+◌, ℕ, List, Some, length, slice_range, OnOk};
+ghost use Rattle.std.specs.List.{flat_map};
+ghost use Rattle.sgf_tree.specs.Written.{node_text};
 ghost use Rattle.sgf_tree.specs.Tree.{no_games};
 ghost use Rattle.sgf_tree.specs.inner.Machine.{OpenGame, Stack, after_game, close};
 ghost use Rattle.sgf_tree.specs.inner.GamesRead.{open_count};
-ghost use Rattle.sgf_tree.specs.inner.OwnNodes.{Coming, nothing, with_place, with_stretch, AreOwnNodes, own_of, places_of, with_game};
-ghost use Rattle.sgf_tree.specs.declared.layout.Stretch.{Stretch};
+ghost use Rattle.sgf_tree.specs.inner.OwnNodes.{Coming, nothing, with_place, with_text, coming_of, AreOwnNodes, IsCopied, own_of, with_game};
 
 use crate::fault::{MAX_LENGTH, MemoryFault};
 use crate::layout::{OwnNodes, Stretch};
@@ -24,25 +25,23 @@ pub(crate) trait Keeper: Drop {
         ensures kept { OnOk result ((text : List ℕ) (k : Stack) (coming : Coming) → keeps text self.old k coming
             → place < length text → keeps text self.new k (with_place coming place)) };
 
-    /// A stretch of the nodes that came ends. It comes before the node after it, unless all own nodes of the game are one stretch that is
-    /// written.
+    /// A stretch of the nodes ends, and others follow.
     fn stretch(&mut self, stretch: Stretch) -> Result<(), MemoryFault>
         requires low { stretch.end ≤ MAX_LENGTH }
         requires rises { stretch.start ≤ stretch.end }
-        requires few { (text : List ℕ) × (k : Stack) × (coming : Coming) × (keeps text self.old k coming)
-            × (open_count k.closed k.unclosed + length coming.stretches < MAX_LENGTH) }
         ensures kept { OnOk result ((text : List ℕ) (k : Stack) (coming : Coming) → keeps text self.old k coming
-            → keeps text self.new k (with_stretch coming stretch)) };
+            → stretch.end ≤ length text
+            → keeps text self.new k (with_text coming (slice_range text stretch.start stretch.end))) };
 
-    /// The own nodes of a game end.
+    /// The own nodes of a game end. Their last stretch hasn't come.
     fn own_nodes(&mut self, own: OwnNodes) -> Result<(), MemoryFault>
-        requires low { own.end ≤ MAX_LENGTH }
-        requires few { (text : List ℕ) × (k : Stack) × (g : OpenGame) × (stretches : List Stretch)
-            × (keeps text self.old k (record { places = places_of (own_of g); stretches = stretches }))
-            × (AreOwnNodes text own (own_of g) stretches) × (open_count k.closed k.unclosed + own.count ≤ own.end) }
-        ensures kept { OnOk result ((text : List ℕ) (k : Stack) (g : OpenGame) (stretches : List Stretch)
-            → keeps text self.old k (record { places = places_of (own_of g); stretches = stretches })
-            → AreOwnNodes text own (own_of g) stretches → g.below ≡ no_games → keeps text self.new (with_game k g) nothing) };
+        requires low { own.stretch.end ≤ MAX_LENGTH }
+        requires few { (text : List ℕ) × (k : Stack) × (g : OpenGame) × (AreOwnNodes own (own_of g))
+            × (IsCopied (λ told. keeps text self.old k (coming_of (own_of g) told)) text own.first own.stretch (flat_map node_text (own_of g)))
+            × (open_count k.closed k.unclosed + own.count ≤ own.stretch.end) }
+        ensures kept { OnOk result ((text : List ℕ) (k : Stack) (g : OpenGame) → AreOwnNodes own (own_of g)
+            → IsCopied (λ told. keeps text self.old k (coming_of (own_of g) told)) text own.first own.stretch (flat_map node_text (own_of g))
+            → g.below ≡ no_games → keeps text self.new (with_game k g) nothing) };
 
     /// The innermost open game ends. `depth` games stay open.
     fn game_ends(&mut self, depth: usize)

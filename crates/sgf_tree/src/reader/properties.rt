@@ -1,155 +1,201 @@
-//! Reading the properties of a node (SGF FF[4], EBNF: Node, Property, PropIdent).
+//! Reading the properties of a node (SGF FF[4], EBNF: Node, Property, PropIdent), and telling a keeper what the sgf form copies of them.
 
-ghost use Rattle.std.specs.Prelude.{◌≡◌, ◌↔◌, true, false, ◌<◌, ◌≤◌, ◌+◌, length, slice_index, IsTrue, IfOk, IfErr, OnOk};
+ghost use Rattle.std.specs.Prelude.{◌<◌, ◌≤◌, ◌+◌, length, slice_index, slice_range, IsTrue, IfOk, IfErr, OnOk};
 ghost use Rattle.sgf_tree.specs.Spelling.{is_upper};
-ghost use Rattle.sgf_tree.specs.inner.Progress.{IsSpan};
+ghost use Rattle.sgf_tree.specs.inner.NodeText.{name_in};
+ghost use Rattle.sgf_tree.specs.inner.OwnNodes.{Copies};
 ghost use Rattle.sgf_tree.specs.inner.PropertiesRead.{IsNameRead, IsPropertyRead, ArePropertiesRead, IsFaultInProperty, IsFaultInNode};
 ghost use Rattle.sgf_tree.specs.inner.KeptEnds.{AreKeptEnds};
 
-use crate::fault::MAX_LENGTH;
-use crate::layout::LongValue;
+use crate::fault::{MAX_LENGTH, MemoryFault};
+use crate::layout::{LongValue, Stretch};
 use crate::quick::name::short_name_end;
 use crate::quick::points::past_points;
 use crate::quick::properties::read_short_property;
 use crate::reader::fault::PartFault;
+use crate::reader::keeper::Keeper;
 use crate::reader::scan::{capital_at, letters_end, skip_white_space, stands_at};
 use crate::reader::value::read_value;
 
-/// How far a part of a text was read.
+/// How far a part of a node was read.
 #[derive(Clone, Copy)]
 pub(crate) struct PartRead {
-    /// The offset after the part.
-    pub text_end: usize,
+    /// The last stretch of what the sgf form copies. It ends where the part ends.
+    pub stretch: Stretch,
     /// The offset after the white space that follows the part.
     pub end: usize,
-    /// Whether the sgf form writes the part as it stands in the text. False says nothing.
-    pub as_written: bool,
 }
 
-impl PartRead {
-    /// A part that ends at `end`, with no white space after it, and that the sgf form writes as it stands in the text.
-    pub(crate) fn to(end: usize) -> PartRead
-        ensures { result ≡ record { text_end = end; end = end; as_written = true } }
-    {
-        PartRead {
-            text_end: end,
-            end,
-            as_written: true,
-        }
-    }
-
-    /// This part, and then the next one, which begins at its end. So the sgf form writes both as they stand only if no white space is
-    /// between them.
-    pub(crate) fn with(self, next: PartRead) -> PartRead
-        ensures text_end { result.text_end ≡ next.text_end }
-        ensures end { result.end ≡ next.end }
-        ensures written { IsTrue result.as_written ↔ (IsTrue self.as_written × (self.text_end ≡ self.end) × IsTrue next.as_written) }
-    {
-        PartRead {
-            text_end: next.text_end,
-            end: next.end,
-            as_written: self.as_written & (self.text_end == self.end) & next.as_written,
-        }
-    }
-}
-
-/// Reads the properties of a node, which begin at `at` or after white space there: Node = `;` { Property }.
+/// Reads the properties of a node, which begin at the end of `stretch` or after white space there: Node = `;` { Property }.
 #[inline(never)]
-pub(crate) fn read_properties(
+pub(crate) fn read_properties<K: Keeper>(
     text: &[u8],
-    at: usize,
+    stretch: Stretch,
+    keeper: &mut K,
     long: &mut Vec<LongValue>,
 ) -> Result<PartRead, PartFault>
     requires short { length text.now ≤ MAX_LENGTH }
-    requires within { at ≤ length text.now }
+    requires rises { stretch.start ≤ stretch.end }
+    requires within { stretch.end ≤ length text.now }
     requires kept { AreKeptEnds text.now long.old.items }
-    ensures read { IfOk result (ArePropertiesRead text.now at) }
-    ensures fault { IfErr result (IsFaultInNode text.now at) }
+    ensures rises { IfOk result (λ read. read.stretch.start ≤ read.stretch.end) }
+    ensures read { IfOk result (λ read. ArePropertiesRead (Copies (K.keeps text.now keeper.old) (K.keeps text.now keeper.new) text.now stretch read.stretch)
+        text.now stretch.end read.stretch.end read.end) }
+    ensures fault { IfErr result (IsFaultInNode text.now stretch.end) }
     ensures kept { OnOk result (AreKeptEnds text.now long.new.items) }
 {
     let mut read = PartRead {
-        text_end: at,
-        end: skip_white_space(text, at),
-        as_written: true,
+        stretch,
+        end: skip_white_space(text, stretch.end),
     };
     'properties: while capital_at(text, read.end) {
-        let property = match read_short_property(text, read.end) {
-            Some(property) => property,
-            None => read_property(text, read.end, long)?,
-        };
-        read = read.with(property);
+        if let Some(property) = read_short_property(text, read.end) {
+            let stretch = read.stretch.then(read.end, property.text_end, keeper)?;
+            read = PartRead {
+                stretch,
+                end: property.end,
+            };
+        } else {
+            read = read_property(text, read, keeper, long)?;
+        }
     }
     Ok(read)
 }
 
-/// Reads the property whose identifier begins at `start`, value after value: Property = PropIdent PropValue { PropValue }. This is the
-/// plain way.
+/// Reads the property whose identifier begins at the end of `before`, value after value: Property = PropIdent PropValue { PropValue }. This
+/// is the plain way.
 #[inline(never)]
-fn read_property(
+fn read_property<K: Keeper>(
     text: &[u8],
-    start: usize,
+    before: PartRead,
+    keeper: &mut K,
     long: &mut Vec<LongValue>,
 ) -> Result<PartRead, PartFault>
     requires short { length text.now ≤ MAX_LENGTH }
-    requires within { start < length text.now }
-    requires capital { IsTrue (is_upper (slice_index text.now start)) }
+    requires within { before.end < length text.now }
+    requires capital { IsTrue (is_upper (slice_index text.now before.end)) }
+    requires rises { before.stretch.start ≤ before.stretch.end }
+    requires after { before.stretch.end ≤ before.end }
     requires kept { AreKeptEnds text.now long.old.items }
-    ensures read { IfOk result (IsPropertyRead text.now start) }
-    ensures fault { IfErr result (IsFaultInProperty text.now start) }
+    ensures rises { IfOk result (λ read. read.stretch.start ≤ read.stretch.end) }
+    ensures read { IfOk result (λ read. IsPropertyRead (Copies (K.keeps text.now keeper.old) (K.keeps text.now keeper.new) text.now before.stretch read.stretch)
+        text.now before.end read.stretch.end read.end) }
+    ensures fault { IfErr result (IsFaultInProperty text.now before.end) }
     ensures kept { OnOk result (AreKeptEnds text.now long.new.items) }
 {
-    let name = read_name(text, start)?;
-    let mut as_written = name.as_written;
-    let mut bracket = name.end;
+    let name = read_name(text, before, keeper)?;
+    let mut read = name;
     'values: loop {
-        // The values before `last` are points. It could be `bracket`.
-        let last = past_points(text, bracket);
+        // The values before `last` are points. It could be `read.end`.
+        let last = past_points(text, read.end);
         let text_end = read_value(text, last + 1, long)? + 1;
+        let stretch = read.stretch.then(read.end, text_end, keeper)?;
         let end = skip_white_space(text, text_end);
+        read = PartRead { stretch, end };
         if !stands_at(text, end, b'[') {
-            return Ok(PartRead {
-                text_end,
-                end,
-                as_written,
-            });
+            return Ok(read);
         }
-        as_written = as_written & (end == text_end);
-        bracket = end;
     }
 }
 
-/// Reads the identifier that begins at `start`, up to the `[` after it.
+/// Reads the identifier that begins at the end of `before`, up to the `[` after it.
 #[inline(always)]
-fn read_name(text: &[u8], start: usize) -> Result<PartRead, PartFault>
-    requires within { start < length text.now }
-    requires capital { IsTrue (is_upper (slice_index text.now start)) }
-    ensures read { IfOk result (λ read. IsNameRead text.now start read.end) }
-    ensures written { IfOk result (λ read. IsTrue read.as_written → IsSpan is_upper text.now start read.end) }
-    ensures fault { IfErr result (IsFaultInProperty text.now start) }
+fn read_name<K: Keeper>(
+    text: &[u8],
+    before: PartRead,
+    keeper: &mut K,
+) -> Result<PartRead, PartFault>
+    requires short { length text.now ≤ MAX_LENGTH }
+    requires within { before.end < length text.now }
+    requires capital { IsTrue (is_upper (slice_index text.now before.end)) }
+    requires rises { before.stretch.start ≤ before.stretch.end }
+    requires after { before.stretch.end ≤ before.end }
+    ensures rises { IfOk result (λ read. read.stretch.start ≤ read.stretch.end) }
+    ensures after { IfOk result (λ read. read.stretch.end ≤ read.end) }
+    ensures read { IfOk result (λ read. IsNameRead (Copies (K.keeps text.now keeper.old) (K.keeps text.now keeper.new) text.now before.stretch read.stretch)
+        text.now before.end read.end) }
+    ensures fault { IfErr result (IsFaultInProperty text.now before.end) }
 {
-    match short_name_end(text, start) {
-        Some(end) => Ok(PartRead::to(end)),
-        None => read_far_name(text, start),
-    }
+    let Some(end) = short_name_end(text, before.end) else {
+        return read_far_name(text, before, keeper);
+    };
+    let stretch = before.stretch.then(before.end, end, keeper)?;
+    Ok(PartRead { stretch, end })
 }
 
 /// Reads an identifier (PropIdent), which may have small letters, and white space after it. This is the plain way.
 #[inline(never)]
-fn read_far_name(text: &[u8], start: usize) -> Result<PartRead, PartFault>
-    requires within { start < length text.now }
-    requires capital { IsTrue (is_upper (slice_index text.now start)) }
-    ensures read { IfOk result (λ read. IsNameRead text.now start read.end) }
-    ensures written { IfOk result (λ read. read.as_written ≡ false) }
-    ensures fault { IfErr result (IsFaultInProperty text.now start) }
+fn read_far_name<K: Keeper>(
+    text: &[u8],
+    before: PartRead,
+    keeper: &mut K,
+) -> Result<PartRead, PartFault>
+    requires short { length text.now ≤ MAX_LENGTH }
+    requires within { before.end < length text.now }
+    requires capital { IsTrue (is_upper (slice_index text.now before.end)) }
+    requires rises { before.stretch.start ≤ before.stretch.end }
+    requires after { before.stretch.end ≤ before.end }
+    ensures rises { IfOk result (λ read. read.stretch.start ≤ read.stretch.end) }
+    ensures after { IfOk result (λ read. read.stretch.end ≤ read.end) }
+    ensures read { IfOk result (λ read. IsNameRead (Copies (K.keeps text.now keeper.old) (K.keeps text.now keeper.new) text.now before.stretch read.stretch)
+        text.now before.end read.end) }
+    ensures fault { IfErr result (IsFaultInProperty text.now before.end) }
 {
-    let text_end = letters_end(text, start);
+    let text_end = letters_end(text, before.end);
     let end = skip_white_space(text, text_end);
     if !stands_at(text, end, b'[') {
         return Err(PartFault::NotSgf(end));
     }
-    Ok(PartRead {
-        text_end,
-        end,
-        as_written: false,
-    })
+    let stretch = copy_capitals(text, before.end, text_end, before.stretch, keeper)?;
+    Ok(PartRead { stretch, end })
+}
+
+/// After `stretch` the capitals between two offsets are copied, and no other bytes there.
+fn copy_capitals<K: Keeper>(
+    text: &[u8],
+    from: usize,
+    to: usize,
+    stretch: Stretch,
+    keeper: &mut K,
+) -> Result<Stretch, MemoryFault>
+    requires short { length text.now ≤ MAX_LENGTH }
+    requires goes { from ≤ to }
+    requires within { to ≤ length text.now }
+    requires rises { stretch.start ≤ stretch.end }
+    requires after { stretch.end ≤ from }
+    ensures rises { IfOk result (λ next. next.start ≤ next.end) }
+    ensures end { IfOk result (λ next. next.end ≤ to) }
+    ensures copied { IfOk result (λ next. Copies (K.keeps text.now keeper.old) (K.keeps text.now keeper.new) text.now stretch next
+        (name_in (slice_range text.now from to))) }
+{
+    let mut stretch = stretch;
+    let mut at = from;
+    'letters: while at < to {
+        stretch = copy_letter(text, at, stretch, keeper)?;
+        at += 1;
+    }
+    Ok(stretch)
+}
+
+/// After `stretch` the byte at an offset is copied if it is a capital.
+fn copy_letter<K: Keeper>(
+    text: &[u8],
+    at: usize,
+    stretch: Stretch,
+    keeper: &mut K,
+) -> Result<Stretch, MemoryFault>
+    requires short { length text.now ≤ MAX_LENGTH }
+    requires within { at < length text.now }
+    requires rises { stretch.start ≤ stretch.end }
+    requires after { stretch.end ≤ at }
+    ensures rises { IfOk result (λ next. next.start ≤ next.end) }
+    ensures end { IfOk result (λ next. next.end ≤ at + 1) }
+    ensures copied { IfOk result (λ next. Copies (K.keeps text.now keeper.old) (K.keeps text.now keeper.new) text.now stretch next
+        (name_in (slice_range text.now at (at + 1)))) }
+{
+    if !capital_at(text, at) {
+        return Ok(stretch);
+    }
+    let next = stretch.then(at, at + 1, keeper)?;
+    Ok(next)
 }

@@ -1,14 +1,13 @@
 use Rattle.std.proofs.Common.{[], ◌∷◌, ◌++◌, slice_range, arith}
 use Rattle.sgf_tree.proofs.Iterating.{values-more}
-use Rattle.sgf_tree.proofs.Points.{points-written}
-use Rattle.sgf_tree.proofs.WrittenParts.{values-none}
+use Rattle.sgf_tree.proofs.Points.{points-spelled}
 use Rattle.sgf_tree.proofs.iter.far_values_end.Goals as goal
 
 pub values-init : goal.values-init
 values-init c =
-    let t = c.args.text.now in
-    let written = points-written t c.args.at c.args.at c.past_points-end.result (values-none t c.args.at c.requires.within) c.past_points-end.ensures.points in
-    record { rises = written.rises; within = written.within; values = written.values; spelled = written.spelled }
+    let points = c.past_points-end.ensures.points in
+    let spelled = points-spelled c.args.text.now c.args.at c.past_points-end.result points in
+    record { rises = omega (arith, points.ends); within = c.past_points-end.ensures.within; values = spelled.0; spelled = spelled.1 }
 
 pub values-preserved : goal.values-preserved
 values-preserved c =

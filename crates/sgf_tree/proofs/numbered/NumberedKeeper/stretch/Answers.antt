@@ -4,8 +4,8 @@ use Rattle.sgf_tree.proofs.numbered.NumberedKeeper.stretch.Goals as goal
 pub returns : goal.returns
 returns c = record {
   kept = on_ok_weaker c.stretch.result
-      (λ kept text k coming holds. record {
-        sequences = kept text k coming holds.sequences;
+      (λ kept text k coming holds within. record {
+        sequences = kept text k coming holds.sequences within;
         places_are = holds.places_are;
         places_within = holds.places_within;
         lasts_are = holds.lasts_are;

@@ -1,21 +1,19 @@
-use Rattle.std.proofs.Common.{◌≡◌, Some, ◌∙◌, ◌++◌, [], slice_range, sym, ap, arith, append_assoc, append-nil}
+use Rattle.std.proofs.Common.{◌≡◌, List, ℕ, ◌+◌, ◌∙◌, [], ◌∷◌, ◌++◌, drop, slice_range, refl, sym, ap, arith, append_assoc, append-nil}
 use Rattle.std.specs.List.{flat_map}
-use Rattle.std.proofs.lemmas.Option.{same_Some}
 use Rattle.sgf_tree.specs.FileOrder.{nodes_at, sequence_numbers}
 use Rattle.sgf_tree.specs.Written.{node_text}
-use Rattle.sgf_tree.specs.inner.NodeText.{node_in, GoesOn}
-use Rattle.sgf_tree.specs.inner.OwnNodes.{written_of}
-use Rattle.sgf_tree.specs.inner.Outlining.{stretch_by, stretches_by}
-use Rattle.sgf_tree.proofs.Outlined.{IsEntryOf, table-length, node-in, entry-in}
-use Rattle.sgf_tree.proofs.StretchesLeft.{IsFirst, stretch-is, written-alone}
+use Rattle.sgf_tree.specs.inner.NodeText.{GoesOn}
+use Rattle.sgf_tree.specs.inner.Outlining.{start_by, AreWhole}
+use Rattle.sgf_tree.proofs.Outlined.{IsEntryOf, table-length, entry-in}
+use Rattle.sgf_tree.proofs.StretchesKept.{whole-within, whole-first}
 use Rattle.sgf_tree.proofs.outline.Outline.push_stretches.Goals as goal
-use Rattle.sgf_tree.proofs.outline.Outline.push_stretches.Goals.{After-index-sequence, After-index-stretch, After-is_last, then-start-end+in_ok-extend_from_slice-2, else-start-end+in_ok-push_to}
+use Rattle.sgf_tree.proofs.outline.Outline.push_stretches.Goals.{After-index-sequence, After-index-stretch}
 
 pub index-sequence-requires : goal.index-sequence-requires
 index-sequence-requires c = omega (arith, c.requires, table-length c.self.inside.text.now c.self.inside.sequences c.self.invariant.0 _ c.self.view_is)
 
 -- what the entry says of the sequence
-entry : (c : After-index-sequence) → IsEntryOf c.self.inside.text.now (stretches_by c.self.inside.sequences) c.args.self.now c.args.i c.index-sequence.result.now
+entry : (c : After-index-sequence) → IsEntryOf c.self.inside.text.now c.self.inside.sequences.stretches.items c.args.self.now c.args.i c.index-sequence.result.now
 entry c = entry-in c.self.inside.text.now c.self.inside.sequences c.self.invariant.0 _ c.self.view_is c.args.i c.index-sequence.result.now c.requires c.index-sequence.ensures
 
 pub part-written-requires-clause-rises : goal.part-written-requires-clause-rises
@@ -31,66 +29,54 @@ returns-then-is_written-clause-appended c =
     ∙ ap (λ t. c.args.out.now.items ++ t) (c.part-written.ensures ∙ e.written (sym c.is_written.ensures ∙ c.if-is_written.true))
 
 pub stretches-init : goal.stretches-init
-stretches-init c =
-    let e = entry (goal.at.stretches-init c).After-index-sequence in
-    let out = c.args.out.now.items in
-    record {
-      left = record {
-        nodes = nodes_at c.args.self.now (sequence_numbers c.args.self.now c.args.i);
-        has = e.stretched (sym c.is_written.ensures ∙ c.if-is_written.false);
-        placed = e.placed;
-        appended = ap (λ t. out ++ t) e.told;
-      };
-      goes_on = ([], sym (append-nil out));
-    }
+stretches-init c = record {
+  left = flat_map node_text (nodes_at c.args.self.now (sequence_numbers c.args.self.now c.args.i));
+  whole = (entry (goal.at.stretches-init c).After-index-sequence).stretched (sym c.is_written.ensures ∙ c.if-is_written.false);
+  appended = refl;
+  goes_on = ([], sym (append-nil c.args.out.now.items));
+}
 
--- the stretch at the index
-first : (c : After-index-stretch) → IsFirst c.self.inside.text.now c.args.self.now (stretches_by c.self.inside.sequences) (c.args.out.now.items ++ flat_map node_text (nodes_at c.args.self.now (sequence_numbers c.args.self.now c.args.i))) c.stretches.at c.stretches.out.items (stretch_by c.index-stretch.result.now)
-first c = stretch-is c.self.inside.text.now c.args.self.now c.self.inside.sequences _ c.stretches.at c.stretches.out.items c.stretches.invariant.left c.index-stretch.result.now c.index-stretch.ensures
+pub index-stretch-requires : goal.index-stretch-requires
+index-stretch-requires c =
+    omega (arith, whole-within c.self.inside.text.now c.self.inside.sequences.stretches.items c.stretches.at c.stretches.invariant.left c.stretches.invariant.whole, c.self.inside.sequences.stretches.ok.0)
 
-pub part-requires-clause-within : goal.part-requires-clause-within
-part-requires-clause-within c = (first (goal.at.part-requires-clause-within c).After-index-stretch).is.within
+-- the stretch at the index, and those after it
+first : (c : After-index-stretch) → AreWhole c.self.inside.text.now (c.index-stretch.result.now ∷ drop (c.stretches.at + 1) c.self.inside.sequences.stretches.items) c.stretches.invariant.left
+first c = whole-first c.self.inside.text.now c.self.inside.sequences.stretches.items c.stretches.at c.stretches.invariant.left c.index-stretch.result.now c.stretches.invariant.whole c.index-stretch.ensures
 
-pub node_at-requires : goal.node_at-requires
-node_at-requires c = let placed = (first (goal.at.node_at-requires c).After-index-stretch).placed in (placed.0, placed.1 ∙ ap Some (sym c.start.ensures))
+pub part-copied-requires-clause-rises : goal.part-copied-requires-clause-rises
+part-copied-requires-clause-rises c = let (rest, is, last, next) = first (goal.at.part-copied-requires-clause-rises c).After-index-stretch in omega (arith, is.rises, c.start.ensures)
 
--- what it appends
-pushed : (c : After-is_last) → c.if-start-end.out.items ≡ c.stretches.out.items ++ written_of c.self.inside.text.now (first (goal.at.After-is_last c).After-index-stretch).nodes
-pushed c =
-    let s = c.self.inside in
-    let out = c.stretches.out.items in
-    let stretch = stretch_by c.index-stretch.result.now in
-    let here = first (goal.at.After-is_last c).After-index-stretch in
-    elim c.if-start-end.branch [
-      | then-start-end+in_ok-extend_from_slice-2 w ↦
-          ap (λ v. v.items) w.out-is ∙ w.in_ok-extend_from_slice-2.ensures.items
-          ∙ ap (λ t. out ++ t) (w.part.ensures ∙ ap (λ k. slice_range s.text.now k stretch.end) c.start-start.ensures ∙ here.is.written (omega (arith, w.if-start-end.true, c.start-start.ensures)))
-      | else-start-end+in_ok-push_to w ↦
-          let place = here.placed in
-          let same : w.node_at.result ≡ node_in s.text.now stretch.start =
-          same_Some w.node_at.result (node_in s.text.now stretch.start) (sym (w.node_at.ensures place.0 (place.1 ∙ ap Some (sym w.start.ensures)))
-          ∙ (node-in s.text.now s.sequences c.self.invariant.0 c.args.self.now c.self.view_is place.0 stretch.start place.1).0) in
-          ap (λ v. v.items) w.out-is ∙ w.in_ok-push_to.ensures.appended
-          ∙ ap (λ t. out ++ t) (ap node_text same ∙ written-alone s.text.now stretch here.nodes here.is (omega (arith, w.if-start-end.false, c.start-start.ensures)))
-    ]
-
-goes-on : (c : After-is_last) → GoesOn c.args.out.now.items c.if-start-end.out.items
-goes-on c =
-    let before = c.stretches.invariant.goes_on in
-    let written = written_of c.self.inside.text.now (first (goal.at.After-is_last c).After-index-stretch).nodes in
-    (before.0 ++ written, pushed c ∙ ap (λ s. s ++ written) before.1 ∙ append_assoc c.args.out.now.items before.0 written)
+pub part-copied-requires-clause-within : goal.part-copied-requires-clause-within
+part-copied-requires-clause-within c = let (rest, is, last, next) = first (goal.at.part-copied-requires-clause-within c).After-index-stretch in is.within
 
 pub returns-then-is_last-clause-appended : goal.returns-then-is_last-clause-appended
 returns-then-is_last-clause-appended c =
-    let at = goal.at.returns-then-is_last-clause-appended c in pushed at.After-is_last ∙ (first at.After-index-stretch).last (sym c.is_last.ensures ∙ c.if-is_last.true)
+    let (rest, is, last, next) = first (goal.at.returns-then-is_last-clause-appended c).After-index-stretch in
+    let stretch = c.index-stretch.result.now in
+    let text : List ℕ = slice_range c.self.inside.text.now (start_by stretch) stretch.end in
+    let copied : c.part-copied.result.now ≡ text = c.part-copied.ensures ∙ ap (λ i. slice_range c.self.inside.text.now i stretch.end) c.start.ensures in
+    let all : c.stretches.invariant.left ≡ text = is.are ∙ ap (λ s. text ++ s) (last (sym c.is_last.ensures ∙ c.if-is_last.true)) ∙ append-nil text in
+    c.in_ok-extend_from_slice-2.ensures.items ∙ ap (λ s. c.stretches.out.items ++ s) (copied ∙ sym all) ∙ c.stretches.invariant.appended
 
 pub returns-then-is_last-clause-goes_on : goal.returns-then-is_last-clause-goes_on
-returns-then-is_last-clause-goes_on c = goes-on (goal.at.returns-then-is_last-clause-goes_on c).After-is_last
+returns-then-is_last-clause-goes_on c =
+    let (more, before) = c.stretches.invariant.goes_on in
+    let copied = c.part-copied.result.now in
+    (more ++ copied, c.in_ok-extend_from_slice-2.ensures.items ∙ ap (λ s. s ++ copied) before ∙ append_assoc c.args.out.now.items more copied)
 
 pub stretches-preserved : goal.stretches-preserved
 stretches-preserved c =
-    let at = goal.at.stretches-preserved c in
+    let (rest, is, last, next) = first (goal.at.stretches-preserved c).After-index-stretch in
+    let stretch = c.index-stretch.result.now in
+    let out = c.stretches.out.items in
+    let copied = c.part-copied.result.now in
+    let left : c.stretches.invariant.left ≡ copied ++ rest =
+    is.are ∙ ap (λ s. s ++ rest) (sym (c.part-copied.ensures ∙ ap (λ i. slice_range c.self.inside.text.now i stretch.end) c.start.ensures)) in
+    let (more, before) = c.stretches.invariant.goes_on in
     record {
-      left = rw (pushed at.After-is_last) ((first at.After-index-stretch).next (sym c.is_last.ensures ∙ c.if-is_last.false));
-      goes_on = goes-on at.After-is_last;
+      left = rest;
+      whole = next (sym c.is_last.ensures ∙ c.if-is_last.false);
+      appended = ap (λ s. s ++ rest) c.in_ok-extend_from_slice-2.ensures.items ∙ append_assoc out copied rest ∙ ap (λ s. out ++ s) (sym left) ∙ c.stretches.invariant.appended;
+      goes_on = (more ++ copied, c.in_ok-extend_from_slice-2.ensures.items ∙ ap (λ s. s ++ copied) before ∙ append_assoc c.args.out.now.items more copied);
     }

@@ -1,5 +1,6 @@
-use Rattle.std.proofs.Common.{◌+◌, arith}
-use Rattle.sgf_tree.proofs.ShortProperties.{after-move, read-to-more, read-to-end, so-far-more, so-far-done}
+use Rattle.std.proofs.Common.{◌≡◌, ◌+◌, subst, arith}
+use Rattle.sgf_tree.specs.inner.PropertiesRead.{StandsIn}
+use Rattle.sgf_tree.proofs.ShortProperties.{after-move, read-to-more, read-to-end, stands-join, so-far-more, so-far-done}
 use Rattle.sgf_tree.proofs.quick.properties.after_move.Goals as goal
 
 pub near-init : goal.near-init
@@ -20,9 +21,18 @@ returns-then-text-end-lt65 c =
 
 pub properties-preserved : goal.properties-preserved
 properties-preserved c =
+    let t = c.args.text.now in
+    let at = c.args.at in
+    let before = c.properties.read in
+    let so_far = c.properties.invariant in
+    let next = c.in_ok-read.read in
+    let is = c.in_ok-read.ensures in
     let (within, capital) = c.capital_at.ensures.stands c.properties-test.true in
-    so-far-more c.args.text.now c.args.at c.properties.read c.in_ok-read_short_property.field-0 c.with-read.result c.properties.invariant within capital c.in_ok-read_short_property.ensures
-    c.with-read.ensures.text_end c.with-read.ensures.end c.with-read.ensures.written.0
+    let same : before.text_end ≡ before.end = omega (arith, so_far.white_space.rises) in
+    so-far-more t at (StandsIn t at before.text_end) (StandsIn t before.end next.text_end) (StandsIn t at next.text_end) before.text_end before.end next.text_end next.end so_far within capital is
+    (λ u v first last. stands-join t at before.end next.text_end (omega (arith, so_far.rises, so_far.white_space.rises)) (omega (arith, is.rises)) u v (subst (λ i. StandsIn t at i u) same first) last)
 
 pub returns : goal.returns
-returns c = so-far-done c.args.text.now c.args.at c.properties.read c.properties.invariant (c.capital_at.ensures.other c.properties-test.false)
+returns c =
+    let read = c.properties.read in
+    so-far-done c.args.text.now c.args.at (StandsIn c.args.text.now c.args.at read.text_end) read.text_end read.end c.properties.invariant (c.capital_at.ensures.other c.properties-test.false)

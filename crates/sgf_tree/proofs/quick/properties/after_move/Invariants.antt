@@ -1,4 +1,5 @@
 use Rattle.std.proofs.Common.{◌-◌, ◌≤◌, length}
+use Rattle.sgf_tree.specs.inner.PropertiesRead.{StandsIn}
 use Rattle.sgf_tree.proofs.ShortProperties.{AreReadTo, ReadSoFar}
 use Rattle.sgf_tree.proofs.quick.properties.after_move.Given as goal
 
@@ -12,7 +13,7 @@ abbrev pub decreases-near : goal.decreases-near
 decreases-near l = length l.text - l.end
 
 abbrev pub invariant-properties : goal.invariant-properties
-invariant-properties l = ReadSoFar l.text l.at l.read
+invariant-properties l = ReadSoFar (StandsIn l.text l.at l.read.text_end) l.text l.at l.read.text_end l.read.end
 
 abbrev pub decreases-properties : goal.decreases-properties
 decreases-properties l = length l.text - l.read.end

@@ -1,7 +1,15 @@
-use Rattle.std.proofs.Common.{arith}
-use Rattle.std.proofs.lemmas.Grind.{common_steps}
-use Rattle.sgf_tree.proofs.NameEnds.{name-read, bracket-here}
+use Rattle.std.proofs.Common.{subst, arith}
+use Rattle.sgf_tree.specs.inner.OwnNodes.{Copies}
+use Rattle.sgf_tree.proofs.NameEnds.{name-read, bracket-here, capitals-are}
 use Rattle.sgf_tree.proofs.reader.properties.read_name.Goals as goal
 
-pub returns-in-Some-clause-read : goal.returns-in-Some-clause-read
-returns-in-Some-clause-read c = grind (arith, common_steps, name-read, bracket-here)
+pub returns-clause-read : goal.returns-clause-read
+returns-clause-read g c =
+    let t = c.args.text.now in
+    let keeps = g.K.Keeper.keeps t in
+    let start = c.args.before.end in
+    let end = c.in-Some.end in
+    let name = c.in-Some.ensures in
+    let Wrote = Copies (keeps c.args.keeper.now) (keeps c.then.new.keeper) t c.args.before.stretch c.in_ok-stretch.stretch in
+    name-read Wrote t start end end c.requires.within c.requires.capital name.letters (bracket-here t end name.bracket) name.bracket
+    (subst Wrote (capitals-are t start end name.capitals) (c.in_ok-stretch.ensures.copied t (omega (arith, name.bracket.within))))

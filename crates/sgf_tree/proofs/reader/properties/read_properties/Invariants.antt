@@ -1,13 +1,15 @@
-use Rattle.std.proofs.Common.{◌-◌, length}
+use Rattle.std.proofs.Common.{◌-◌, ◌≤◌, length}
 use Rattle.sgf_tree.specs.inner.KeptEnds.{AreKeptEnds}
+use Rattle.sgf_tree.specs.inner.OwnNodes.{Copies}
 use Rattle.sgf_tree.proofs.ShortProperties.{ReadSoFar}
 use Rattle.sgf_tree.proofs.reader.properties.read_properties.Given as goal
 
 abbrev pub invariant-properties : goal.invariant-properties
-invariant-properties l = record {
-  so_far : ReadSoFar l.text l.at l.read;
+invariant-properties g l = record {
+  rises : l.read.stretch.start ≤ l.read.stretch.end;
+  so_far : ReadSoFar (Copies (g.K.Keeper.keeps l.text l.fn.keeper) (g.K.Keeper.keeps l.text l.keeper) l.text l.fn.stretch l.read.stretch) l.text l.fn.stretch.end l.read.stretch.end l.read.end;
   kept : AreKeptEnds l.text l.long.items;
 }
 
 abbrev pub decreases-properties : goal.decreases-properties
-decreases-properties l = length l.text - l.read.end
+decreases-properties g l = length l.text - l.read.end

@@ -1,79 +1,78 @@
-use Rattle.std.proofs.Common.{rules, ◌≡◌, ◌+◌, IsTrue, arith}
-use Rattle.std.proofs.Math.Dec.{eqb}
-use Rattle.std.proofs.lemmas.Bool.{and_parts, eqb-true}
-use Rattle.sgf_tree.specs.Spelling.{is_upper}
-use Rattle.sgf_tree.specs.inner.NodeText.{AreValuesWritten}
-use Rattle.sgf_tree.specs.inner.Progress.{IsSpan}
-use Rattle.sgf_tree.proofs.Points.{points-read, points-written}
+use Rattle.std.proofs.Common.{rules, List, ℕ, ◌+◌, ◌++◌, slice_range, sym, subst, arith}
+use Rattle.sgf_tree.specs.inner.OwnNodes.{Copies}
+use Rattle.sgf_tree.specs.inner.PropertiesRead.{IsPropertyRead}
+use Rattle.sgf_tree.proofs.Copying.{copies-none, copies-then}
+use Rattle.sgf_tree.proofs.Points.{points-read, values-run}
 use Rattle.sgf_tree.proofs.ShortProperties.{property-read}
-use Rattle.sgf_tree.proofs.ValuesRead.{ValuesBefore, values-begin, values-step, values-more}
-use Rattle.sgf_tree.proofs.WrittenParts.{values-none, values-one}
+use Rattle.sgf_tree.proofs.ValuesRead.{After, after-none, values-as, values-begin, values-more}
 use Rattle.sgf_tree.proofs.reader.properties.read_property.Goals as goal
-use Rattle.sgf_tree.proofs.reader.properties.read_property.Goals.{After-skip_white_space-end}
 
 pub values-init : goal.values-init
-values-init c =
-    let name = c.in_ok-name.ensures.read in
+values-init g c =
+    let t = c.args.text.now in
+    let name = c.in_ok-name.ensures in
+    let keeps = g.K.Keeper.keeps t c.read_name.new.keeper in
     record {
-      stands = name.stands;
-      so_far = values-begin c.args.text.now c.in_ok-name.name.end;
-      written = λ is. (c.in_ok-name.ensures.written is, values-none c.args.text.now c.in_ok-name.name.end (omega (arith, name.stands.within)));
+      rises = name.rises;
+      after = name.after;
+      stands = name.read.stands;
+      so_far = values-begin t (Copies keeps keeps t c.in_ok-name.name.stretch c.in_ok-name.name.stretch) c.in_ok-name.name.end (copies-none keeps t c.in_ok-name.name.stretch);
       kept = c.requires.kept;
     }
 
--- points, and a value after them, were read
-read : (c : After-skip_white_space-end) → ValuesBefore c.args.text.now c.in_ok-name.name.end c.skip_white_space-end.result
-read c =
-    let t = c.args.text.now in
-    let bracket = c.in_ok-name.name.end in
-    let last = c.past_points-last.result in
-    values-step t bracket last _ c.skip_white_space-end.result
-    (points-read t bracket c.values.bracket last c.values.invariant.so_far c.past_points-last.ensures.points (c.past_points-last.ensures.stands c.values.invariant.stands))
-    c.in_ok-text_end.ensures.read c.skip_white_space-end.ensures
-
--- and they stand as the sgf form writes them
-written : (c : After-skip_white_space-end) → IsTrue c.values.as_written
-    → IsSpan is_upper c.args.text.now c.args.start c.in_ok-name.name.end × AreValuesWritten c.args.text.now c.in_ok-name.name.end (c.in_ok-text_end.field-0 + 1)
-written c is =
-    let t = c.args.text.now in
-    let bracket = c.in_ok-name.name.end in
-    let last = c.past_points-last.result in
-    let before = c.values.invariant.written is in
-    let stands = c.past_points-last.ensures.stands c.values.invariant.stands in
-    let value = c.in_ok-text_end.ensures.read in (
-      before.0,
-      values-one t bracket last c.in_ok-text_end.field-0 (points-written t bracket c.values.bracket last before.1 c.past_points-last.ensures.points)
-          stands.within stands.bracket value.rises value.within value.bracket value.spelled,
-    )
-
 pub returns-then-not-stands_at-clause-read : goal.returns-then-not-stands_at-clause-read
-returns-then-not-stands_at-clause-read c =
-    let text_end = c.in_ok-text_end.field-0 + 1 in
+returns-then-not-stands_at-clause-read g c =
+    let t = c.args.text.now in
+    let keeps = g.K.Keeper.keeps t in
+    let start = c.args.before in
+    let name = c.in_ok-name.name in
+    let read = c.values.read in
+    let so_far = c.values.invariant in
+    let next = c.in_ok-stretch.stretch in
+    let close = c.in_ok-text_end.field-0 in
     let end = c.skip_white_space-end in
-    let step = (goal.at.returns-then-not-stands_at-clause-read c).After-skip_white_space-end in
-    property-read c.args.text.now c.args.start c.in_ok-name.name.end (record { text_end = text_end; end = end.result; as_written = c.values.as_written }) c.in_ok-name.ensures.read (read step)
-    (omega (arith, c.values.invariant.so_far.rises, c.in_ok-text_end.ensures.read.rises)) end.ensures (c.stands_at.ensures.other c.if-not-stands_at.true) (written step)
+    let value = c.in_ok-text_end.ensures.read in
+    let Named = Copies (keeps c.args.keeper.now) (keeps c.read_name.new.keeper) t start.stretch name.stretch in
+    let Valued = Copies (keeps c.read_name.new.keeper) (keeps c.then.new.keeper) t name.stretch next in
+    let Wrote = Copies (keeps c.args.keeper.now) (keeps c.then.new.keeper) t start.stretch next in
+    let values = values-run t (Copies (keeps c.read_name.new.keeper) (keeps c.values.keeper) t name.stretch read.stretch) Valued name.end read.end c.past_points-last.result close end.result
+    so_far.so_far c.past_points-last.ensures.points (c.past_points-last.ensures.stands so_far.stands) value end.ensures
+    (λ w h. copies-then (keeps c.read_name.new.keeper) (keeps c.values.keeper) (keeps c.then.new.keeper) t name.stretch read.stretch next w _ h (c.in_ok-stretch.ensures.copied t (omega (arith, value.within)))) in
+    subst (λ i. IsPropertyRead Wrote t start.end i end.result) (sym c.in_ok-stretch.ensures.end)
+    (property-read Named Valued Wrote t start.end name.end (close + 1) end.result c.in_ok-name.ensures.read values
+    (omega (arith, so_far.so_far.rises, c.past_points-last.ensures.points.ends, value.rises)) end.ensures (c.stands_at.ensures.other c.if-not-stands_at.true)
+    (copies-then (keeps c.args.keeper.now) (keeps c.read_name.new.keeper) (keeps c.then.new.keeper) t start.stretch name.stretch next))
 
 pub values-preserved : goal.values-preserved
-values-preserved c =
-    let end = c.skip_white_space-end.result in
+values-preserved g c =
+    let t = c.args.text.now in
+    let keeps = g.K.Keeper.keeps t in
+    let name = c.in_ok-name.name in
+    let read = c.values.read in
+    let so_far = c.values.invariant in
+    let next = c.in_ok-stretch.stretch in
+    let end = c.skip_white_space-end in
+    let value = c.in_ok-text_end.ensures.read in
     let (within, bracket) = c.stands_at.ensures.stands c.if-not-stands_at.false in
-    let step = (goal.at.values-preserved c).After-skip_white_space-end in
+    let Valued = Copies (keeps c.read_name.new.keeper) (keeps c.then.new.keeper) t name.stretch next in
+    let values = values-run t (Copies (keeps c.read_name.new.keeper) (keeps c.values.keeper) t name.stretch read.stretch) Valued name.end read.end c.past_points-last.result c.in_ok-text_end.field-0 end.result
+    so_far.so_far c.past_points-last.ensures.points (c.past_points-last.ensures.stands so_far.stands) value end.ensures
+    (λ w h. copies-then (keeps c.read_name.new.keeper) (keeps c.values.keeper) (keeps c.then.new.keeper) t name.stretch read.stretch next w _ h (c.in_ok-stretch.ensures.copied t (omega (arith, value.within)))) in
     record {
+      rises = c.in_ok-stretch.ensures.rises;
+      after = omega (arith, c.in_ok-stretch.ensures.end, end.ensures.rises);
       stands = record { within = within; bracket = bracket };
-      so_far = values-more c.args.text.now c.in_ok-name.name.end end (read step) within bracket;
-      written = λ is.
-          let (earlier, last) = and_parts c.values.as_written (eqb end (c.in_ok-text_end.field-0 + 1)) is in
-          let same : end ≡ c.in_ok-text_end.field-0 + 1 = eqb-true end (c.in_ok-text_end.field-0 + 1) last in
-          let both = written step earlier in
-          (both.0, rw same both.1);
+      so_far = values-more t Valued name.end end.result values within bracket;
       kept = c.in_ok-text_end.ensures.kept;
     }
 
 pub returns-in_err-text_end-clause-fault : goal.returns-in_err-text_end-clause-fault
-returns-in_err-text_end-clause-fault c =
+returns-in_err-text_end-clause-fault g c =
     let t = c.args.text.now in
-    let bracket = c.in_ok-name.name.end in
-    let last = c.past_points-last.result in
-    let so_far = points-read t bracket c.values.bracket last c.values.invariant.so_far c.past_points-last.ensures.points (c.past_points-last.ensures.stands c.values.invariant.stands) in
+    let keeps = g.K.Keeper.keeps t in
+    let from = c.values.read.end in
+    let Wrote = Copies (keeps c.read_name.new.keeper) (keeps c.values.keeper) t c.in_ok-name.name.stretch c.values.read.stretch in
+    let so_far = points-read t Wrote from c.in_ok-name.name.end from c.past_points-last.result (omega arith)
+    (values-as t Wrote (After Wrote t from from) c.in_ok-name.name.end from (after-none Wrote t from) c.values.invariant.so_far)
+    c.past_points-last.ensures.points (c.past_points-last.ensures.stands c.values.invariant.stands) in
     search (rules, so_far)

@@ -1,18 +1,18 @@
-use Rattle.std.proofs.Common.{◌-◌, IsTrue, length}
-use Rattle.sgf_tree.specs.Spelling.{is_upper}
+use Rattle.std.proofs.Common.{◌-◌, ◌≤◌, length}
 use Rattle.sgf_tree.specs.inner.KeptEnds.{AreKeptEnds}
-use Rattle.sgf_tree.specs.inner.NodeText.{AreValuesWritten}
-use Rattle.sgf_tree.specs.inner.Progress.{IsSpan, IsBracket}
+use Rattle.sgf_tree.specs.inner.OwnNodes.{Copies}
+use Rattle.sgf_tree.specs.inner.Progress.{IsBracket}
 use Rattle.sgf_tree.proofs.ValuesRead.{ValuesSoFar}
 use Rattle.sgf_tree.proofs.reader.properties.read_property.Given as goal
 
 abbrev pub invariant-values : goal.invariant-values
-invariant-values l = record {
-  stands : IsBracket l.text l.bracket;
-  so_far : ValuesSoFar l.text l.initial.bracket l.bracket;
-  written : IsTrue l.as_written → IsSpan is_upper l.text l.start l.initial.bracket × AreValuesWritten l.text l.initial.bracket l.bracket;
+invariant-values g l = record {
+  rises : l.read.stretch.start ≤ l.read.stretch.end;
+  after : l.read.stretch.end ≤ l.read.end;
+  stands : IsBracket l.text l.read.end;
+  so_far : ValuesSoFar l.text (Copies (g.K.Keeper.keeps l.text l.initial.keeper) (g.K.Keeper.keeps l.text l.keeper) l.text l.initial.read.stretch l.read.stretch) l.initial.read.end l.read.end;
   kept : AreKeptEnds l.text l.long.items;
 }
 
 abbrev pub decreases-values : goal.decreases-values
-decreases-values l = length l.text - l.bracket
+decreases-values g l = length l.text - l.read.end

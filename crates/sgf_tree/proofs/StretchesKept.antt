@@ -1,0 +1,49 @@
+-- Stretches that are kept: with one more, and up to the last one of a sequence.
+use Rattle.std.proofs.Common.{◌≡◌, ℕ, ◌+◌, ◌<◌, ◌≤◌, true, false, inl, inr, List, [], ◌∷◌, ◌++◌, length, drop, get_or, slice_range, refl, sym, ap, subst, ◌∙◌, append_assoc, append-nil}
+use Rattle.std.proofs.lemmas.Bool.{cases_lt, false≢true}
+use Rattle.std.proofs.lemmas.List.{drop_all, drop_more}
+use Rattle.sgf_tree.specs.inner.Outlining.{start_by, is_last_by, IsCopiedFirst, AreTold, AreWhole}
+use Rattle.sgf_tree.specs.declared.sequences.KeptStretch.{KeptStretch}
+
+module _ (t : List ℕ) where
+  -- the text of a kept stretch
+  abbrev pub text_by : KeptStretch → List ℕ
+  text_by kept = slice_range t (start_by kept) kept.end
+
+  module _ (new : KeptStretch) (rises : start_by new ≤ new.end) (within : new.end ≤ length t) where
+    first-copied : (kept : KeptStretch) (written rest : List ℕ) → IsCopiedFirst t kept written rest → IsCopiedFirst t kept (written ++ text_by new) (rest ++ text_by new)
+    first-copied kept written rest is =
+        record { rises = is.rises; within = is.within; are = ap (λ s. s ++ text_by new) is.are ∙ append_assoc (text_by kept) rest (text_by new) }
+
+    last-copied : (told : List ℕ) → told ≡ [] → IsCopiedFirst t new (told ++ text_by new) []
+    last-copied told none = record { rises = rises; within = within; are = ap (λ s. s ++ text_by new) none ∙ sym (append-nil (text_by new)) }
+
+    -- one more, which isn't the last one of its sequence
+    pub told-more : (stretches : List KeptStretch) (told : List ℕ) → is_last_by new ≡ false → AreTold t stretches told → AreTold t (stretches ++ new ∷ []) (told ++ text_by new)
+    told-more [] told other none = ([], last-copied told none, other, refl)
+    told-more (kept ∷ more) told other (rest, is, earlier, are) =
+        (rest ++ text_by new, first-copied kept told rest is, earlier, told-more more rest other are)
+
+    -- the last one
+    pub told-whole : (stretches : List KeptStretch) (told : List ℕ) → is_last_by new ≡ true → AreTold t stretches told → AreWhole t (stretches ++ new ∷ []) (told ++ text_by new)
+    told-whole [] told last none = ([], last-copied told none, λ _. refl, λ other. absurd (false≢true (sym other ∙ last)))
+    told-whole (kept ∷ more) told last (rest, is, earlier, are) =
+        (rest ++ text_by new, first-copied kept told rest is, λ yes. absurd (false≢true (sym earlier ∙ yes)), λ _. told-whole more rest last are)
+
+  -- others after them
+  pub whole-grown : (stretches others : List KeptStretch) (written : List ℕ) → AreWhole t stretches written → AreWhole t (stretches ++ others) written
+  whole-grown [] others written none = absurd none
+  whole-grown (kept ∷ more) others written (rest, is, last, next) = (rest, is, last, λ other. whole-grown more others rest (next other))
+
+  -- there is a first one
+  pub whole-within : (stretches : List KeptStretch) (index : ℕ) (written : List ℕ) → AreWhole t (drop index stretches) written → index < length stretches
+  whole-within stretches index written whole =
+      elim (cases_lt index (length stretches)) [
+        | inl lt ↦ lt
+        | inr none ↦ absurd (subst (λ left. AreWhole t left written) (drop_all index stretches none) whole)
+      ]
+
+  pub whole-first : (stretches : List KeptStretch) (index : ℕ) (written : List ℕ) (kept : KeptStretch) → AreWhole t (drop index stretches) written → kept ≡ get_or stretches index kept
+      → AreWhole t (kept ∷ drop (index + 1) stretches) written
+  whole-first stretches index written kept whole here =
+      subst (λ left. AreWhole t left written) (drop_more stretches index kept (whole-within stretches index written whole) ∙ ap (λ first. first ∷ drop (index + 1) stretches) (sym here)) whole

@@ -1,0 +1,20 @@
+use Rattle.std.proofs.Common.{◌+◌, slice_range, subst, arith}
+use Rattle.sgf_tree.specs.inner.OwnNodes.{Copies}
+use Rattle.sgf_tree.proofs.Copying.{copies-none}
+use Rattle.sgf_tree.proofs.NameEnds.{name-capital, name-small}
+use Rattle.sgf_tree.proofs.reader.properties.copy_letter.Goals as goal
+
+pub returns-then-not-capital_at-clause-copied : goal.returns-then-not-capital_at-clause-copied
+returns-then-not-capital_at-clause-copied g c =
+    let t = c.args.text.now in
+    let keeps = g.K.Keeper.keeps t c.args.keeper.now in
+    subst (Copies keeps keeps t c.args.stretch c.args.stretch) (name-small t c.args.at c.requires.within (c.capital_at.ensures.other c.if-not-capital_at.true c.requires.within))
+    (copies-none keeps t c.args.stretch)
+
+pub returns-clause-copied : goal.returns-clause-copied
+returns-clause-copied g c =
+    let t = c.args.text.now in
+    let keeps = g.K.Keeper.keeps t in
+    subst (Copies (keeps c.args.keeper.now) (keeps c.then.new.keeper) t c.args.stretch c.in_ok-next.next)
+    (name-capital t c.args.at c.requires.within (c.capital_at.ensures.stands c.if-not-capital_at.false).1)
+    (c.in_ok-next.ensures.copied t (omega (arith, c.requires.within)))

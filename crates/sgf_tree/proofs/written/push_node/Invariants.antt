@@ -1,0 +1,12 @@
+-- With the properties that are left, the node is appended.
+use Rattle.std.proofs.Common.{◌≡◌, ◌++◌, drop}
+use Rattle.std.specs.List.{flat_map}
+use Rattle.sgf_tree.specs.Written.{property_text, node_text}
+use Rattle.sgf_tree.specs.inner.NodeText.{properties_in, GoesOn}
+use Rattle.sgf_tree.proofs.written.push_node.Given as goal
+
+abbrev pub invariant-loop-property : goal.invariant-loop-property
+invariant-loop-property l = record {
+  appended : l.out.items ++ flat_map property_text l.property-iterator ≡ l.fn.out.items ++ node_text (record { place = 0; properties = properties_in (drop 1 l.text) });
+  goes_on : GoesOn l.fn.out.items l.out.items;
+}
