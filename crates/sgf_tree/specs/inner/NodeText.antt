@@ -1,11 +1,9 @@
 -- Functions that return the properties and the raw values at the front of a text. Views of parts of the text are defined by
 -- these functions. `ArePropertiesIn` and `AreValuesIn` say that the functions agree with the grammar.
 use Rattle.std.specs.Prelude.{◌≡◌, ◌≢◌, ℕ, zero, suc, ◌+◌, ◌<◌, ◌≤◌, Bool, false, ◌||◌, ◌==◌, if◌then◌else◌, List, [], ◌∷◌, ◌++◌, length, drop, slice_range, filter, IsTrue, Option, None, Some}
-use Rattle.std.specs.List.{flat_map}
 use Rattle.sgf_tree.specs.Bytes.{semicolon, open_bracket, backslash, close_bracket}
 use Rattle.sgf_tree.specs.Tree.{Property, Node}
-use Rattle.sgf_tree.specs.Spelling.{WhiteSpace, is_white_space, is_upper, is_lower, IsPropValue, ArePropValues, IsProperty, AreProperties}
-use Rattle.sgf_tree.specs.Written.{value_text, property_text, node_text}
+use Rattle.sgf_tree.specs.Spelling.{WhiteSpace, is_white_space, is_upper, is_lower, IsPropValue, ArePropValues, AreProperties}
 
 -- a letter of an identifier
 abbrev pub is_letter : ℕ → Bool

@@ -2,7 +2,6 @@ use Rattle.std.proofs.Common.{◌≡◌, List, ℕ, ◌+◌, ◌∙◌, [], ◌�
 use Rattle.std.specs.List.{flat_map}
 use Rattle.sgf_tree.specs.FileOrder.{nodes_at, sequence_numbers}
 use Rattle.sgf_tree.specs.Written.{node_text}
-use Rattle.sgf_tree.specs.inner.NodeText.{GoesOn}
 use Rattle.sgf_tree.specs.inner.Outlining.{start_by, AreWhole}
 use Rattle.sgf_tree.proofs.Outlined.{IsEntryOf, table-length, entry-in}
 use Rattle.sgf_tree.proofs.StretchesKept.{whole-within, whole-first}

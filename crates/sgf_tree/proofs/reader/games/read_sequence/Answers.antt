@@ -1,6 +1,6 @@
-use Rattle.std.proofs.Common.{refl, ◌+◌, slice_range, sym, ap, subst, arith}
+use Rattle.std.proofs.Common.{refl, ◌+◌, sym, ap, subst, arith}
 use Rattle.std.proofs.lemmas.Result.{err_from_is_err_and}
-use Rattle.sgf_tree.specs.inner.OwnNodes.{own_of, Copies}
+use Rattle.sgf_tree.specs.inner.OwnNodes.{Copies}
 use Rattle.sgf_tree.specs.inner.Machine.{in_node}
 use Rattle.sgf_tree.specs.inner.Progress.{ComesTo}
 use Rattle.sgf_tree.specs.inner.PropertiesRead.{StandsIn, ArePropertiesRead}

@@ -1,4 +1,4 @@
-use Rattle.std.proofs.Common.{◌-◌, ◌≤◌, length, slice_range}
+use Rattle.std.proofs.Common.{◌-◌, ◌≤◌, slice_range}
 use Rattle.sgf_tree.specs.inner.NodeText.{name_in}
 use Rattle.sgf_tree.specs.inner.OwnNodes.{Copies}
 use Rattle.sgf_tree.proofs.reader.properties.copy_capitals.Given as goal

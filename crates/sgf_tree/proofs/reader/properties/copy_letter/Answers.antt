@@ -1,4 +1,4 @@
-use Rattle.std.proofs.Common.{◌+◌, slice_range, subst, arith}
+use Rattle.std.proofs.Common.{subst, arith}
 use Rattle.sgf_tree.specs.inner.OwnNodes.{Copies}
 use Rattle.sgf_tree.proofs.Copying.{copies-none}
 use Rattle.sgf_tree.proofs.NameEnds.{name-capital, name-small}

@@ -1,4 +1,4 @@
-use Rattle.std.proofs.Common.{rules, List, ℕ, ◌+◌, ◌++◌, slice_range, sym, subst, arith}
+use Rattle.std.proofs.Common.{rules, ◌+◌, sym, subst, arith}
 use Rattle.sgf_tree.specs.inner.OwnNodes.{Copies}
 use Rattle.sgf_tree.specs.inner.PropertiesRead.{IsPropertyRead}
 use Rattle.sgf_tree.proofs.Copying.{copies-none, copies-then}
