@@ -1,21 +1,19 @@
 -- How many nodes a run plays for its page: a line adds those of its judged nodes that it doesn't share with the line before it.
 use Rattle.std.proofs.lemmas.Grind.{common_steps}
-use Rattle.std.proofs.Common.{◌≡◌, ℕ, zero, suc, ◌+◌, ◌<◌, ◌≤◌, List, ◌++◌, length, take, inl, inr, refl, ap, ◌∙◌, arith, ◌-◌, drop, slice_get, Some, sym, length-append, Option, None, Result, Ok, Err, add-one, append_assoc}
-use Rattle.std.specs.List.{flat_map}
+use Rattle.std.proofs.Common.{◌≡◌, ℕ, zero, suc, ◌+◌, ◌<◌, ◌≤◌, List, length, take, inl, inr, refl, ap, ◌∙◌, arith, ◌-◌, drop, slice_get, Some, sym, length-append, Option, None, Result, Ok, Err, add-one, append_assoc}
 use Rattle.std.proofs.lemmas.Bool.{cases_Bool}
 use Rattle.sgf_tree.specs.Tree.{Games, node_count}
 use Rattle.sgf_tree.specs.FileOrder.{PlacesRise}
 use Rattle.sgf_lines.specs.Lines.{Line, lines}
-use Rattle.sgf_lines.specs.inner.Following.{Continues, numbers_before}
 use Rattle.sgf_lines.proofs.Touched.{SharesAfter, adds_fresh, judged_first, judged_shared, judged_few, fewer_in_front}
 use Rattle.std.proofs.lemmas.List.{take-append-drop, length-map, length-drop, take_all, length-take}
 use Rattle.std.proofs.Math.Seq.{take-add}
 use Rattle.std.proofs.lemmas.Option.{slice_get_within}
 use Rattle.sgf_lines.specs.Verdict.{judged_nodes}
-use Rattle.sgf_lines.specs.Plays.{different, all_judged_places, judged_places}
+use Rattle.sgf_lines.specs.Plays.{all_judged_places, judged_places}
 use Rattle.std.specs.Prelude.{true, unwrap_or}
 use Rattle.std.specs.Io.KnownBytes.{Appends}
-use Rattle.std.proofs.KnownBytes.{Appends-trans, Appends-kept}
+use Rattle.std.proofs.KnownBytes.{Appends-trans}
 use Rattle.sgf_lines.specs.Page.{limited}
 use Rattle.sgf_lines.specs.Record.{record_of, output}
 use Rattle.byte_streams.specs.Streams.{SinkState, TakesNothing}

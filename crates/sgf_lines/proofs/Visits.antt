@@ -1,11 +1,11 @@
 -- The nodes of a collection are visited in file order. Each path leads to a leaf, and keeps a front of the path before it.
 use Rattle.std.proofs.lemmas.Grind.{common_steps}
-use Rattle.std.proofs.Common.{◌≡◌, ℕ, ◌+◌, ◌<◌, ◌≤◌, List, [], ◌∷◌, ◌++◌, length, Option, Some, None, refl, sym, ap, ◌∙◌, subst, arith, length-append, suc, slice_get, option_map, true, add-zero, append_assoc, append-nil, ◌≢◌, zero, ◌-◌, map, inl, inr, take, All, add-one}
+use Rattle.std.proofs.Common.{◌≡◌, ℕ, ◌+◌, ◌<◌, ◌≤◌, List, [], ◌∷◌, ◌++◌, length, Option, Some, None, refl, sym, ap, ◌∙◌, subst, arith, length-append, suc, slice_get, option_map, true, add-zero, append_assoc, append-nil, ◌≢◌, zero, ◌-◌, map, inl, inr, All, add-one}
 use Rattle.sgf_tree.specs.Tree.{Games, node_count, Node, game, no_games}
 use Rattle.sgf_tree.specs.FileOrder.{parent_at, OrderedNode, further_nodes, nodes_from, ordered_nodes, IsLeaf}
 use Rattle.sgf_tree.proofs.OrderedNodes.{parent_at-lt, parent_at-within, length-ordered_nodes, length-further_nodes, length-nodes_from, parent_in-further, next-child}
 use Rattle.sgf_tree.proofs.Rises.{Rises, rises-append}
-use Rattle.sgf_lines.specs.Lines.{last_number, through, node_lines, lines_of_game, lines_from}
+use Rattle.sgf_lines.specs.Lines.{last_number, through, node_lines, lines_from}
 use Rattle.sgf_lines.specs.inner.PathTo.{IsPathTo, top, step, HasNoLeaf}
 use Rattle.sgf_lines.proofs.Lists.{Each, range_append, map-through, each_weaker, each_get, element}
 use Rattle.sgf_tree.proofs.Lists.{slice_get-left, slice_get-right}
@@ -16,8 +16,7 @@ use Rattle.std.proofs.Math.Seq.{take-append_seam}
 use Rattle.std.proofs.lemmas.Bool.{cases_eq, cases_lt}
 use mathlib.Core.List.{map-map}
 use Rattle.std.proofs.lemmas.Option.{slice_get-map}
-use Rattle.std.proofs.lemmas.List.Elements.{All-from_recursion}
-use Rattle.sgf_lines.specs.inner.Following.{first_after, Continues, numbers_of, numbers_before}
+use Rattle.sgf_lines.specs.inner.Following.{first_after, Continues, numbers_before}
 
 pub last_number-append : (ns : List ℕ) (m : ℕ) (ms : List ℕ) → last_number (ns ++ m ∷ ms) ≡ last_number (m ∷ ms)
 last_number-append [] m ms = refl

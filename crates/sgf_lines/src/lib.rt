@@ -58,7 +58,7 @@
 //! | TURN, PLACE and REASON of the first illegal node | `Judge::take` (`judging/judge`) |
 //! | PLACE, GAME and NODES of a row | `SequenceCursor::place`, `SequenceCursor::game`, `SequenceCursor::len` (`sequence_cursor`) |
 //! | a row; the row of counts | `Row::lay_out`; `Row::lay_out_counts` (`form/row`) |
-//! | a script, and that it stops before an illegal node | `Script::begin`, `Script::take`, `Script::text` (`form/script`); a node's commands: `push_step` (`form/commands`) |
+//! | a script; that it stops before an illegal node | `Script::begin`, `Script::say`, `Script::text` (`form/script`); `judge_line` (`judging/judged`); a node's commands: `push_step` (`form/commands`) |
 //! | a game without variations | `SgfForm::follow` (`form/sgf`); its nodes: `Outline::push_sequence` of `sgf_tree` |
 //!
 //! A run reads from a [`Source`] and writes to a [`Sink`], both of the crate `byte_streams`.

@@ -310,8 +310,8 @@ impl PrintPast {
         !self.table.may_have(print)
     }
 
-    /// Whether the colouring that a stone makes is that before the newest, as in a simple ko, and in the present stretch; `print` is its
-    /// print, and `taken` is what the stone takes off.
+    /// Whether the colouring that a stone makes is one of the newest two, and in the present stretch: the newest, after suicide of one stone,
+    /// or the one before it, in a simple ko. False says nothing. `print` is its print, and `taken` is what the stone takes off.
     fn has_near(&self, colour: Colour, point: Point, taken: &[u64], print: u64) -> bool
         requires stone { IsMove (newest_grid self.now) colour point taken.now }
         ensures { IsTrue result → Contains (present_stretch self.now) (play (newest_grid self.now) colour point) }

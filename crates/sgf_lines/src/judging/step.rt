@@ -115,7 +115,7 @@ fn take_contents<'a, P: Past>(
     })
 }
 
-/// Does the same, and returns what the node did to the board.
+/// Does the same, and returns what the node did to the board. Decides `mixed` and `two-moves`; a `bad-setup` was found by `gathered`.
 // Inlined, as `take_contents`.
 #[inline(always)]
 fn effect_of<P: Past>(

@@ -102,7 +102,7 @@ whole g c =
     let old = c.page.lines in
     elim c.page-test.branch [
       | else-page-test w ↦ rw w.lines-is (limit_met g.F.LineForm.form start.games start.index c.args.limit (g.T.Sink.state c.args.sink.now) c.page.written old.cursor.at (g.T.Sink.state c.page.sink)
-        c.page.invariant.written (g.F.LineKeeper.played old.keeper) c.page.invariant.plays (omega (arith, w.page-test.false)))
+          c.page.invariant.written (g.F.LineKeeper.played old.keeper) c.page.invariant.plays (omega (arith, w.page-test.false)))
       | then-page-test+in-Ok-false w ↦
           let same : g.F.LineKeeper.played w.next.new.self.keeper ≡ g.F.LineKeeper.played old.keeper = rw w.in-Ok-false.field-0-test at w.in-Ok-false.ensures.plays in
           let none : (w.next.new.self ≡ old) × (slice_get (lines old.cursor.at.games) (next_by old.before old.cursor.at).index ≡ None) = rw w.in-Ok-false.field-0-test at w.in-Ok-false.ensures.moved in
