@@ -354,9 +354,6 @@ def check_reasons(table):
     lists("crates/go_board/specs/*.antt", "rank_of", r" rank_of :(.*?)\n\n", r"rank_of (\w+) = (\d+)", numbered(names, 0))
     made("crates/sgf_lines_c/src/**/*.rt", "the numbers of reasons", r"((?:^ *Reason::\w+ => \d+,\n)+)",
          joined(f"        Reason::{name} => {number}," for number, name in enumerate(names, 1)))
-    proof = "crates/sgf_lines/proofs/ScriptRows.antt"
-    made(proof, "the names of reasons", r"Reason\.TheVariants\.\{([^}]*)\}", ", ".join(names))
-    made(proof, "word_within", r"((?:^word_within [^\n]* = search\n)+)", joined(f"word_within {name} = search" for name in names))
     shown("reasons", "Reasons, ", table["reason"])
     lists(MANUAL, "the reasons", r"^\.Sh REASONS(.*?)^\.Sh", r"^\.It Cm (\S+)$", reasons)
     made(HEADER, "enum sgf_lines_reason", r"^enum sgf_lines_reason \{\n(.*?)^\}", constants(["NO_REASON", *map(in_c, reasons)], 0, ["", *helps]))

@@ -64,8 +64,8 @@ BY_HAND = ["README.md", "crates/go_board/specs/Reason.antt", "crates/sgf*/specs/
            "python/sgflines.py", "tests/library.c", "tests/program.sh"]
 # and what is written then
 WRITTEN = ["README.md", "bench/compare.py", "bench/growth.py", "bench/hostile.py", "completion/_sgfsplit", "completion/sgfsplit.bash",
-           "completion/sgfsplit.fish", "crates/go_board/src/reason.rt", "crates/sgf_lines/proofs/ScriptRows.antt",
-           "crates/sgf_lines/src/form.rt", "crates/sgf_lines/src/options.rt", "crates/sgf_lines/src/run.rt",
+           "completion/sgfsplit.fish", "crates/go_board/src/reason.rt", "crates/sgf_lines/src/form.rt",
+           "crates/sgf_lines/src/options.rt", "crates/sgf_lines/src/run.rt",
            "crates/sgf_lines_c/src/answer.rt", "crates/sgfsplit_job/proofs/PlainWords.antt", "crates/sgfsplit_job/src/command.rt",
            "include/sgf_lines.h", "man/sgfsplit.1", "python/sgflines.py", "recipes/sgfsplit.py", "tests/help.sh", "tests/library.c"]
 TABLE = "tree/packaging/words.txt"
