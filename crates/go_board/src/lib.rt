@@ -43,12 +43,12 @@
 //! | reaching a colour | `fill` (`board/fill`), which clearing and the score use. `Board::reaching` (`board/flood`) goes point by point, and only the tests call it here |
 //! | clearing a colour, which captures its groups without a liberty | `Board::clear` (`board`); which stones have none: `Board::shut_stones` (`board/regions`) |
 //! | a stone: capture, then suicide | `Board::place` (`board`); shortcuts: `Board::takes_nothing_at_a_glance` (`quick/glance`), `Board::find_taken` and `Board::put`, which takes off what was found (`quick/capture`) |
-//! | the area score | `Board::score` (`board`); shortcut below side 32: `Board::score_in_halves` (`quick/both_areas`) |
+//! | the area score; an empty point that reaches both colours or neither counts for nobody | `Board::score` (`board`), by `area_of` and `count_apart` (`board/regions`); shortcut below side 32: `Board::score_in_halves`, `count_halves` (`quick/both_areas`) |
 //! | taking a turn; the reasons `over`, `turn` and `occupied` | `Referee::turn`, `Referee::reason_before_repeat` (`referee/turn`) |
 //! | `repeat` (positional superko; suicide of one stone is a case of it) | `Past::play` (`past`); shortcuts: `PrintPast::play_asked`, if `may_repeat` says that it may, and `play_on_copy` after a setup that leaves a stone without a liberty (`quick/print_past`) |
-//! | the colourings that `repeat` looks at: those since the last setup of stones | `ListPast::holds`, `stretch_has` (`past/list_past`); shortcuts: `Table::has` (`quick/print_past/table`), from `Colourings::stretch_start` (`quick/print_past/colourings`) on |
+//! | the colourings that `repeat` looks at: those since the last setup of stones | `ListPast::holds`, `stretch_has` (`past/list_past`); what a run uses: `Table::gap` and `Table::find` (`quick/print_past/table`), from `Colourings::stretch_start` (`quick/print_past/colourings`) on |
 //! | a pass; two passes end the game | `Referee::take_pass` (`referee/turn`); `Referee::over` (`referee`) |
-//! | which setup it is; passes and player after a setup of stones; a setup of the player | `Referee::setup`; `Referee::begin_anew`; `Referee::set_player` (`referee/setup`) |
+//! | which setup it is; passes and player (PL) after a setup of stones; a setup of the player (PL without stones) | `Referee::setup`; `Referee::begin_anew`; `Referee::set_player` (`referee/setup`) |
 //! | the colouring that a setup makes; the list of colourings begins anew | `Board::colour_areas` (`board/areas`); `Past::set_up` (`past`) |
 //! | undo | `Referee::undo` (`referee`) |
 //! | points and rectangles that values name | `point`, `rect` (`values`) |

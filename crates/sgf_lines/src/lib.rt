@@ -50,7 +50,7 @@
 //! | the order of the lines | `SequenceCursor::advance` (`sequence_cursor`) |
 //! | `--after`; `--limit` | `end_at`, which `SequenceCursor::seek_after` calls (`sequence_cursor`); `write_lines` (`run`) |
 //! | at most 64 MiB of a source | `read_some` (`run`) |
-//! | which values are moves, stones and players | `kind_of`; `Contents::of_lone` for a node that is recognized at a glance (`judging/contents`) |
+//! | which values are moves, stones and players; that KM, HA and others have no effect | `kind_of`; `Contents::of_lone` for a node that is recognized at a glance (`judging/contents`) |
 //! | which games are judged: GM; SZ | `is_go`; `size` (`judging/root`) |
 //! | `mixed`, `two-moves` and `bad-setup`; `bad-point` | `effect_of`; `take_move` (`judging/step`); a faulty value of a setup: `push_areas`, `last_player` (`judging/contents`) |
 //! | which values are passes; the last value of PL | `is_pass` (`node_values`); `last_player`, `with_player` (`judging/contents`) |
@@ -58,7 +58,8 @@
 //! | TURN, PLACE and REASON of the first illegal node | `Judge::take` (`judging/judge`) |
 //! | PLACE, GAME and NODES of a row | `SequenceCursor::place`, `SequenceCursor::game`, `SequenceCursor::len` (`sequence_cursor`) |
 //! | a row; the row of counts | `Row::lay_out`; `Row::lay_out_counts` (`form/row`) |
-//! | a script; that it stops before an illegal node | `Script::begin`, `Script::say`, `Script::text` (`form/script`); `judge_line` (`judging/judged`); a node's commands: `push_step` (`form/commands`) |
+//! | that a script stops before an illegal node | `judge_line` (`judging/judged`) |
+//! | a script; a node's commands | `Script::begin`, `Script::say`, `Script::text` (`form/script`); `push_step` (`form/commands`) |
 //! | a game without variations | `SgfForm::follow` (`form/sgf`); its nodes: `Outline::push_sequence` of `sgf_tree` |
 //!
 //! A run reads from a [`Source`] and writes to a [`Sink`], both of the crate `byte_streams`.
