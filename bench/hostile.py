@@ -390,6 +390,8 @@ INPUTS = {
     "areas": ("one property of whole boards of 52", lambda n: repeated(n, "(;SZ[52]AB", "[aa:ZZ]", ")"), FORMS),
     "properties": ("one node of properties", lambda n: repeated(n, "(;", "A[]", ")"), FORMS),
     "name": ("lower-case letters in a name", lambda n: repeated(n, "(;G", "a", "M[1])"), FORMS),
+    "letters": ("a name whose every second letter is in lower case", lambda n: repeated(n, "(;", "Aa", "[1])"), FORMS),
+    "gaps": ("white space between the values of a property", lambda n: repeated(n, "(;A", "[] ", ")"), FORMS),
     "root": ("a root of half the text, and variations of it", lambda n: repeated(n, "(;" + "A[]" * (n // 6), "(;B[aa])", ")"), ["list", "count"]),
     "long19": ("one line of moves on side 19, all in one stretch", lambda n: long_line(n, 19), FORMS),
     "long52": ("one line of moves on side 52, all in one stretch", lambda n: long_line(n, 52), FORMS),

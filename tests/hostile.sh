@@ -94,6 +94,10 @@ answer 'a million properties' '1 1 1 score 0 0 open' split
 { printf '(;G'; head -c 4000000 /dev/zero | tr '\0' a; printf 'M[1])'; } > input.sgf
 answer 'a huge name' '1 1 1 score 0 0 open' split
 answer 'a huge name as a game' '(;GM[1])' split --form sgf
+{ printf '(;'; times 500000 'Aa'; printf '[1])'; } > input.sgf
+answer 'a name whose every second letter is in lower case' "(;$(times 500000 A)[1])" split --form sgf
+{ printf '(;A'; times 500000 '[] '; printf ')'; } > input.sgf
+answer 'white space between values' "(;A$(times 500000 '[]'))" split --form sgf
 times 16384 "$(printf %063d 7)n" | tr n '\n' > comment
 { printf '(;SZ[3]C['; cat comment; printf ']AB[aa];W[bb])'; } > input.sgf
 timeout 60 "$SGFSPLIT" split --form gtp input.sgf > out 2> err
