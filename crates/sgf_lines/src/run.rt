@@ -9,7 +9,7 @@ ghost use Rattle.byte_streams.specs.Streams.{HasDelivered, SourceState};
 ghost use Rattle.sgf_lines.specs.Answer.{IsRun, read_failures, write_failures};
 ghost use Rattle.sgf_lines.specs.RunPlays.{IsRunWithPlays};
 ghost use Rattle.sgf_lines.specs.declared.over_lines.Before.TheVariants.{Unheld};
-ghost use Rattle.sgf_lines.specs.inner.Running.{AnswersSome, HasRead, HasReadAll, IsReading, IsStart, WritesLines, WritesPage, page_after};
+ghost use Rattle.sgf_lines.specs.inner.Running.{AnswersSome, HasRead, HasReadAll, IsReading, IsStart, MayWriteLines, WritesLines, WritesPage, page_after};
 
 use crate::fault::RunFault;
 use crate::form::LineForm;
@@ -200,9 +200,7 @@ fn write_in<T: Sink>(
     sink: &mut T,
     plays: &mut Plays,
 ) -> Result<u64, RunFault>
-    requires rise { PlacesRise cursor.at.games }
-    requires few { node_count cursor.at.games ≤ MAX_LENGTH }
-    requires sink_countable { (T.state sink.old).failures < u64.MAX }
+    requires ready { MayWriteLines cursor.at.games (T.state sink.old) }
     requires plays_countable { plays.old + MAX_LENGTH ≤ u64.MAX }
     ensures answer { WritesPage form (page_after cursor.entry.at limit) (T.state sink.old) (T.state sink.new) plays.old plays.new result }
     ensures delivered { OnOk result (HasDelivered (T.state sink.new)) }
@@ -223,9 +221,7 @@ fn write_page<F: LineForm, T: Sink>(
     sink: &mut T,
     plays: &mut Plays,
 ) -> Result<u64, RunFault>
-    requires rise { PlacesRise cursor.at.games }
-    requires few { node_count cursor.at.games ≤ MAX_LENGTH }
-    requires sink_countable { (T.state sink.old).failures < u64.MAX }
+    requires ready { MayWriteLines cursor.at.games (T.state sink.old) }
     requires plays_countable { plays.old + MAX_LENGTH ≤ u64.MAX }
     ensures answer { WritesPage F.form (page_after cursor.entry.at limit) (T.state sink.old) (T.state sink.new) plays.old plays.new result }
     ensures delivered { OnOk result (HasDelivered (T.state sink.new)) }
@@ -247,10 +243,8 @@ fn write_lines<F: LineForm, T: Sink>(
     limit: u64,
     sink: &mut T,
 ) -> Result<u64, RunFault>
-    requires rise { PlacesRise lines.old.cursor.at.games }
-    requires few { node_count lines.old.cursor.at.games ≤ MAX_LENGTH }
+    requires ready { MayWriteLines lines.old.cursor.at.games (T.state sink.old) }
     requires fresh { (lines.old.before ≡ Unheld) × (F.played lines.old.keeper ≡ 0) }
-    requires countable { (T.state sink.old).failures < u64.MAX }
     ensures answer { WritesLines F.form (page_after lines.old.cursor.at limit) (T.state sink.old) (T.state sink.new) (F.played lines.new.keeper) result }
     ensures delivered { OnOk result (HasDelivered (T.state sink.new)) }
     ensures failures { (T.state sink.new).failures ≡ (T.state sink.old).failures + write_failures result }

@@ -1,7 +1,8 @@
 -- What the parts of a run do.
-use Rattle.std.specs.Prelude.{◌≡◌, ℕ, ◌<◌, ◌≤◌, ◌+◌, List, length, drop, take, Option, Some, Result, Ok, Err, ⊤}
+use Rattle.std.specs.Prelude.{◌≡◌, ℕ, ◌<◌, ◌≤◌, ◌+◌, ◌-◌, ◌^◌, List, length, drop, take, Option, Some, Result, Ok, Err, ⊤}
 use Rattle.std.specs.Io.KnownBytes.{Appends, Consumes}
-use Rattle.sgf_tree.specs.Tree.{Games}
+use Rattle.sgf_tree.specs.FileOrder.{PlacesRise}
+use Rattle.sgf_tree.specs.Tree.{Games, node_count}
 use Rattle.sgf_tree.specs.declared.fault.TheConstants.{MAX_LENGTH}
 use Rattle.sgf_lines.specs.Lines.{Line, lines, HasNoLineAt}
 use Rattle.sgf_lines.specs.Page.{lines_asked}
@@ -51,6 +52,12 @@ IsStart games after (Ok cursor) = lines_asked (lines games) after ≡ Some (drop
 IsStart games after (Err (NoSuchLine place)) = (after ≡ Some place) × HasNoLineAt games place
 IsStart games after (Err (Memory count)) = count ≡ 0
 IsStart games after (Err _) = ⊥
+
+-- Lines of these games may be written to the sink: places tell the lines apart, and the counts of nodes and of failures have room.
+pub record MayWriteLines (games : Games) (sink : SinkState) : Type 0 where
+  pub rise : PlacesRise games
+  pub few : node_count games ≤ MAX_LENGTH
+  pub countable : sink.failures < 2 ^ 64 - 1
 
 -- what the result of writing lines says of the sink before and after, and of the number of nodes that were played
 abbrev pub WritesLines : Form → List Line → SinkState → SinkState → ℕ → Result ℕ RunFault → Type 0

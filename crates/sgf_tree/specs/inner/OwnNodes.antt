@@ -2,6 +2,7 @@
 use Rattle.std.specs.Prelude.{◌≡◌, ℕ, ◌-◌, ◌<◌, ◌≤◌, ◌==◌, Bool, List, [], ◌∷◌, ◌++◌, length, map, get_or, slice_range}
 use Rattle.sgf_tree.specs.Tree.{Node}
 use Rattle.sgf_tree.specs.inner.Machine.{OpenGame, Stack}
+use Rattle.sgf_tree.specs.declared.fault.TheConstants.{MAX_LENGTH}
 use Rattle.sgf_tree.specs.declared.layout.OwnNodes.{OwnNodes}
 use Rattle.sgf_tree.specs.declared.layout.Stretch.{Stretch}
 
@@ -43,6 +44,13 @@ pub record IsCopied (keeps : List ℕ → Type 0) (text : List ℕ) (first : ℕ
   pub low : first ≤ present.start
   pub rises : present.start ≤ present.end
   pub within : present.end ≤ length text
+
+-- The bytes from `from` to `to` may be copied after a stretch.
+pub record MayGoOn (stretch : Stretch) (from to : ℕ) : Type 0 where
+  pub rises : stretch.start ≤ stretch.end
+  pub after : stretch.end ≤ from
+  pub goes : from ≤ to
+  pub low : to ≤ MAX_LENGTH
 
 -- a part of a node was read, for which the sgf form writes `part`: it is copied after what was copied before
 abbrev pub Copies : (Stack → Coming → Type 0) → (Stack → Coming → Type 0) → List ℕ → Stretch → Stretch → List ℕ → Type 0

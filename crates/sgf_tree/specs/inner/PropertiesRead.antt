@@ -7,7 +7,9 @@ use Rattle.sgf_tree.specs.Written.{property_text}
 use Rattle.sgf_tree.specs.Spelling.{is_white_space, is_upper}
 use Rattle.sgf_tree.specs.inner.Machine.{Started, MachineState, in_node, in_name, in_value, after_value, after_node, ended, next_state, accepted}
 use Rattle.sgf_tree.specs.inner.Progress.{ComesTo, IsTrueFault, IsSpan, IsBracket, ArePlain}
+use Rattle.sgf_tree.specs.declared.fault.TheConstants.{MAX_LENGTH}
 use Rattle.sgf_tree.specs.declared.reader.fault.PartFault.{PartFault}
+use Rattle.sgf_tree.specs.declared.reader.properties.PartRead.{PartRead}
 
 -- after any white space at `end` comes a byte that doesn't begin a value
 pub record AreValuesEnded (text : List ℕ) (end next : ℕ) : Type 0 where
@@ -22,6 +24,14 @@ pub record IsShortProperty (text : List ℕ) (at close : ℕ) : Type 0 where
   pub plain : ArePlain text (at + 3) close
   pub within : close < length text
   pub end : slice_index text close ≡ close_bracket
+
+-- A property begins where the part before it ends, which is not before the end of its stretch. The text isn't too long.
+pub record BeginsProperty (text : List ℕ) (before : PartRead) : Type 0 where
+  pub short : length text ≤ MAX_LENGTH
+  pub within : before.end < length text
+  pub capital : IsTrue (is_upper (slice_index text before.end))
+  pub rises : before.stretch.start ≤ before.stretch.end
+  pub after : before.stretch.end ≤ before.end
 
 -- this stands from one offset to another
 abbrev pub StandsIn : List ℕ → ℕ → ℕ → List ℕ → Type 0

@@ -5,7 +5,7 @@ ghost use Rattle.sgf_tree.specs.Tree.{no_games};
 ghost use Rattle.sgf_tree.specs.inner.Machine.{Stack, opened};
 ghost use Rattle.sgf_tree.specs.inner.Progress.{ComesTo, IsTrueFault};
 ghost use Rattle.sgf_tree.specs.inner.KeptEnds.{AreKeptEnds};
-ghost use Rattle.sgf_tree.specs.inner.OwnNodes.{Coming, nothing, CopiesNode};
+ghost use Rattle.sgf_tree.specs.inner.OwnNodes.{Coming, nothing, CopiesNode, MayGoOn};
 ghost use Rattle.sgf_tree.specs.inner.GamesRead.{open_count, StandsBetween, IsFaultInOpened, ReadsOwnNodes, ReadsWhole};
 
 use crate::fault::{MAX_LENGTH, MemoryFault};
@@ -114,10 +114,8 @@ fn take_node<K: Keeper>(
     end: usize,
     keeper: &mut K,
 ) -> Result<OwnNodes, MemoryFault>
-    requires rises { own.stretch.start ≤ own.stretch.end }
-    requires after { own.stretch.end ≤ place }
+    requires stretch { MayGoOn own.stretch place end }
     requires some { place < end }
-    requires low { end ≤ MAX_LENGTH }
     requires few { (text : List ℕ) × (k : Stack) × (coming : Coming) × (K.keeps text keeper.old k coming)
         × (open_count k.closed k.unclosed + length coming.places ≤ place) × (own.count ≡ length coming.places) }
     ensures taken { IfOk result (λ next. next ≡ record { first = own.first; last = place; count = own.count + 1; stretch = next.stretch }) }

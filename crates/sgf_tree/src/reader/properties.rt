@@ -3,8 +3,8 @@
 ghost use Rattle.std.specs.Prelude.{◌<◌, ◌≤◌, ◌+◌, length, slice_index, slice_range, IsTrue, IfOk, IfErr, OnOk};
 ghost use Rattle.sgf_tree.specs.Spelling.{is_upper};
 ghost use Rattle.sgf_tree.specs.inner.NodeText.{name_in};
-ghost use Rattle.sgf_tree.specs.inner.OwnNodes.{Copies};
-ghost use Rattle.sgf_tree.specs.inner.PropertiesRead.{IsNameRead, IsPropertyRead, ArePropertiesRead, IsFaultInProperty, IsFaultInNode};
+ghost use Rattle.sgf_tree.specs.inner.OwnNodes.{Copies, MayGoOn};
+ghost use Rattle.sgf_tree.specs.inner.PropertiesRead.{BeginsProperty, IsNameRead, IsPropertyRead, ArePropertiesRead, IsFaultInProperty, IsFaultInNode};
 ghost use Rattle.sgf_tree.specs.inner.KeptEnds.{AreKeptEnds};
 
 use crate::fault::{MAX_LENGTH, MemoryFault};
@@ -34,9 +34,7 @@ pub(crate) fn read_properties<K: Keeper>(
     keeper: &mut K,
     long: &mut Vec<LongValue>,
 ) -> Result<PartRead, PartFault>
-    requires short { length text.now ≤ MAX_LENGTH }
-    requires rises { stretch.start ≤ stretch.end }
-    requires within { stretch.end ≤ length text.now }
+    requires stretch { MayGoOn stretch stretch.end (length text.now) }
     requires kept { AreKeptEnds text.now long.old.items }
     ensures rises { IfOk result (λ read. read.stretch.start ≤ read.stretch.end) }
     ensures read { IfOk result (λ read. ArePropertiesRead (Copies (K.keeps text.now keeper.old) (K.keeps text.now keeper.new) text.now stretch read.stretch)
@@ -71,11 +69,7 @@ fn read_property<K: Keeper>(
     keeper: &mut K,
     long: &mut Vec<LongValue>,
 ) -> Result<PartRead, PartFault>
-    requires short { length text.now ≤ MAX_LENGTH }
-    requires within { before.end < length text.now }
-    requires capital { IsTrue (is_upper (slice_index text.now before.end)) }
-    requires rises { before.stretch.start ≤ before.stretch.end }
-    requires after { before.stretch.end ≤ before.end }
+    requires begins { BeginsProperty text.now before }
     requires kept { AreKeptEnds text.now long.old.items }
     ensures rises { IfOk result (λ read. read.stretch.start ≤ read.stretch.end) }
     ensures read { IfOk result (λ read. IsPropertyRead (Copies (K.keeps text.now keeper.old) (K.keeps text.now keeper.new) text.now before.stretch read.stretch)
@@ -105,11 +99,7 @@ fn read_name<K: Keeper>(
     before: PartRead,
     keeper: &mut K,
 ) -> Result<PartRead, PartFault>
-    requires short { length text.now ≤ MAX_LENGTH }
-    requires within { before.end < length text.now }
-    requires capital { IsTrue (is_upper (slice_index text.now before.end)) }
-    requires rises { before.stretch.start ≤ before.stretch.end }
-    requires after { before.stretch.end ≤ before.end }
+    requires { BeginsProperty text.now before }
     ensures rises { IfOk result (λ read. read.stretch.start ≤ read.stretch.end) }
     ensures after { IfOk result (λ read. read.stretch.end ≤ read.end) }
     ensures read { IfOk result (λ read. IsNameRead (Copies (K.keeps text.now keeper.old) (K.keeps text.now keeper.new) text.now before.stretch read.stretch)
@@ -130,11 +120,7 @@ fn read_far_name<K: Keeper>(
     before: PartRead,
     keeper: &mut K,
 ) -> Result<PartRead, PartFault>
-    requires short { length text.now ≤ MAX_LENGTH }
-    requires within { before.end < length text.now }
-    requires capital { IsTrue (is_upper (slice_index text.now before.end)) }
-    requires rises { before.stretch.start ≤ before.stretch.end }
-    requires after { before.stretch.end ≤ before.end }
+    requires { BeginsProperty text.now before }
     ensures rises { IfOk result (λ read. read.stretch.start ≤ read.stretch.end) }
     ensures after { IfOk result (λ read. read.stretch.end ≤ read.end) }
     ensures read { IfOk result (λ read. IsNameRead (Copies (K.keeps text.now keeper.old) (K.keeps text.now keeper.new) text.now before.stretch read.stretch)
@@ -158,11 +144,8 @@ fn copy_capitals<K: Keeper>(
     stretch: Stretch,
     keeper: &mut K,
 ) -> Result<Stretch, MemoryFault>
-    requires short { length text.now ≤ MAX_LENGTH }
-    requires goes { from ≤ to }
+    requires stretch { MayGoOn stretch from to }
     requires within { to ≤ length text.now }
-    requires rises { stretch.start ≤ stretch.end }
-    requires after { stretch.end ≤ from }
     ensures rises { IfOk result (λ next. next.start ≤ next.end) }
     ensures end { IfOk result (λ next. next.end ≤ to) }
     ensures copied { IfOk result (λ next. Copies (K.keeps text.now keeper.old) (K.keeps text.now keeper.new) text.now stretch next
@@ -184,10 +167,8 @@ fn copy_letter<K: Keeper>(
     stretch: Stretch,
     keeper: &mut K,
 ) -> Result<Stretch, MemoryFault>
-    requires short { length text.now ≤ MAX_LENGTH }
+    requires stretch { MayGoOn stretch at (at + 1) }
     requires within { at < length text.now }
-    requires rises { stretch.start ≤ stretch.end }
-    requires after { stretch.end ≤ at }
     ensures rises { IfOk result (λ next. next.start ≤ next.end) }
     ensures end { IfOk result (λ next. next.end ≤ at + 1) }
     ensures copied { IfOk result (λ next. Copies (K.keeps text.now keeper.old) (K.keeps text.now keeper.new) text.now stretch next

@@ -1,7 +1,7 @@
 //! Which bytes of a text the sgf form copies, stretch by stretch.
 
 ghost use Rattle.std.specs.Prelude.{◌≡◌, ◌≤◌, List, ℕ, length, slice_range, IfOk};
-ghost use Rattle.sgf_tree.specs.inner.OwnNodes.{Copies};
+ghost use Rattle.sgf_tree.specs.inner.OwnNodes.{Copies, MayGoOn};
 
 use crate::fault::{MAX_LENGTH, MemoryFault};
 use crate::layout::Stretch;
@@ -17,10 +17,7 @@ impl Stretch {
         to: usize,
         keeper: &mut K,
     ) -> Result<Stretch, MemoryFault>
-        requires rises { self.start ≤ self.end }
-        requires after { self.end ≤ from }
-        requires goes { from ≤ to }
-        requires low { to ≤ MAX_LENGTH }
+        requires { MayGoOn self from to }
         ensures rises { IfOk result (λ next. next.start ≤ next.end) }
         ensures end { IfOk result (λ next. next.end ≡ to) }
         ensures copied { IfOk result (λ next. (text : List ℕ) → to ≤ length text

@@ -59,7 +59,7 @@ page-preserved g c =
       first = λ none. absurd (omega (arith, none));
       later = λ some. (came g at).0;
       stands = c.in-Ok-true.ensures.stands;
-      plays = one_played form g.F.LineKeeper.counts g.met.F.LineForm.counts_are games c.requires.rise start c.args.limit c.page.written c.page.lines.before c.page.lines.cursor.at old_sink
+      plays = one_played form g.F.LineKeeper.counts g.met.F.LineForm.counts_are games c.requires.ready.rise start c.args.limit c.page.written c.page.lines.before c.page.lines.cursor.at old_sink
           (g.T.Sink.state c.page.sink) c.page.invariant.written c.page.invariant.first c.page.invariant.later (omega (arith, c.page-test.true)) (g.F.LineKeeper.played c.page.lines.keeper) c.page.invariant.plays
           (g.F.LineKeeper.played new.keeper) (plays g at);
     }
@@ -76,7 +76,7 @@ returns-in-Err-put-clause-answer g c =
     rw c.in-Err-put.is at (c.put.ensures new.cursor (plays g at).1.line (stands g at).1 (before g at)) in (
       cut_short form games start c.args.limit old_sink c.page.written c.page.lines.cursor.at (g.T.Sink.state c.page.sink) c.page.invariant.written (g.T.Sink.state c.put.new.sink)
           (plays g at).1.line put.0 (omega (arith, c.page-test.true)) (found g at) put.1 put.2,
-      played_then_cut form g.F.LineKeeper.counts g.met.F.LineForm.counts_are games c.requires.rise start c.args.limit c.page.written c.page.lines.before c.page.lines.cursor.at old_sink
+      played_then_cut form g.F.LineKeeper.counts g.met.F.LineForm.counts_are games c.requires.ready.rise start c.args.limit c.page.written c.page.lines.before c.page.lines.cursor.at old_sink
           (g.T.Sink.state c.page.sink) c.page.invariant.written c.page.invariant.first c.page.invariant.later (omega (arith, c.page-test.true)) (g.F.LineKeeper.played c.page.lines.keeper) c.page.invariant.plays
           (g.F.LineKeeper.played new.keeper) (plays g at),
     )
@@ -89,7 +89,7 @@ returns-in-Err-clause-answer g c =
     let old_sink = g.T.Sink.state c.args.sink.now in (
       c.page.invariant.written.within,
       c.page.invariant.written.takes,
-      played_in_part form g.F.LineKeeper.counts g.met.F.LineForm.counts_are games c.requires.rise start c.args.limit c.page.written c.page.lines.before c.page.lines.cursor.at old_sink
+      played_in_part form g.F.LineKeeper.counts g.met.F.LineForm.counts_are games c.requires.ready.rise start c.args.limit c.page.written c.page.lines.before c.page.lines.cursor.at old_sink
           (g.T.Sink.state c.page.sink) c.page.invariant.written c.page.invariant.first c.page.invariant.later (omega (arith, c.page-test.true)) (g.F.LineKeeper.played c.page.lines.keeper) c.page.invariant.plays
           c.in-Err.field-0 (g.F.LineKeeper.played c.next.new.self.keeper) c.in-Err.ensures.plays,
     )

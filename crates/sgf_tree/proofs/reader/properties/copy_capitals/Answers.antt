@@ -12,9 +12,9 @@ letters-init g c =
     let keeps = g.K.Keeper.keeps t c.args.keeper.now in
     record {
       low = omega arith;
-      high = c.requires.goes;
-      rises = c.requires.rises;
-      after = c.requires.after;
+      high = c.requires.stretch.goes;
+      rises = c.requires.stretch.rises;
+      after = c.requires.stretch.after;
       copied = subst (Copies keeps keeps t c.args.stretch c.args.stretch) (ap name_in (sym (span-none t c.args.from))) (copies-none keeps t c.args.stretch);
     }
 

@@ -13,7 +13,7 @@ properties-init g c =
     let stretch = c.args.stretch in
     let keeps = g.K.Keeper.keeps t c.args.keeper.now in
     record {
-      rises = c.requires.rises;
+      rises = c.requires.stretch.rises;
       so_far = so-far-begin t stretch.end (Copies keeps keeps t stretch stretch) c.skip_white_space.result c.skip_white_space.ensures (copies-none keeps t stretch);
       kept = c.requires.kept;
     }
