@@ -1,51 +1,16 @@
--- Keys: words and their bits, and what keys that agree tell.
-use Rattle.std.proofs.Common.{◌≡◌, ◌≢◌, ℕ, suc, ◌+◌, ◌-◌, ◌*◌, ◌/◌, ◌%◌, ◌^◌, ◌<◌, ◌≤◌, ◌==◌, ◌&&◌, Bool, nat_lt, if◌then◌else◌, bit_xor, length, inl, inr, refl, sym, ap, subst, ◌∙◌, arith}
-use Rattle.std.specs.Int.{bit_at}
+-- Keys of colourings: their words, and what keys that agree tell.
+use Rattle.std.proofs.Common.{◌≡◌, ℕ, suc, ◌+◌, ◌-◌, ◌*◌, ◌/◌, ◌%◌, ◌^◌, ◌<◌, ◌≤◌, ◌==◌, ◌&&◌, nat_lt, if◌then◌else◌, length, inl, inr, refl, sym, ap, subst, ◌∙◌, arith}
 use Rattle.std.proofs.lemmas.Bool.{cases_lt, false≢true, lt-ltb}
-use Rattle.std.proofs.lemmas.Nat.Bits.{bit_at_xor, bit_at-lt, same_from_bits_below}
+use Rattle.std.proofs.lemmas.Nat.Bits.{same_from_bits_below}
 use Rattle.go_board.specs.declared.stones.Cell.{Cell}
 use Rattle.go_board.specs.declared.stones.Cell.TheVariants.{Black, White, Empty}
 use Rattle.go_board.specs.Colour.{same_cell}
 use Rattle.go_board.specs.Grid.{Grid, cell_at}
 use Rattle.go_board.specs.inner.Key.{has_stone, key_bit, key_bits}
 use Rattle.go_board.specs.inner.Rows.{has_bit}
-use Rattle.go_board.specs.inner.Trie.{Agree}
+use Rattle.key_trie.specs.Key.{Agree}
 use Rattle.go_board.proofs.ChangesLemmas.{one_colouring}
 use Rattle.go_board.proofs.StoneRowsLemmas.{bit_same}
-
--- Words that differ.
-
-pub same_bit : (a b i : ℕ) → bit_at (bit_xor a b) i ≡ 0 → has_bit a i ≡ has_bit b i
-same_bit a b i e =
-    let parts : (bit_at a i + bit_at b i) % 2 ≡ 0 = sym (bit_at_xor a b i) ∙ e in
-    let low : bit_at a i < 2 = bit_at-lt a i in
-    let high : bit_at b i < 2 = bit_at-lt b i in
-    let same : bit_at a i ≡ bit_at b i = grind arith in
-    ap (λ n. n == 1) same
-
-pub other_bits : (a b i : ℕ) → bit_at (bit_xor a b) i ≡ 1 → has_bit a i ≢ has_bit b i
-other_bits a b i e same =
-    let parts : (bit_at a i + bit_at b i) % 2 ≡ 1 = sym (bit_at_xor a b i) ∙ e in
-    let one : bit_at a i ≡ bit_at b i = bit_same a b i same in
-    let low : bit_at a i < 2 = bit_at-lt a i in
-    grind arith
-
--- one word more of two keys
-module _ (x y : ℕ → Bool) (a b index : ℕ) (is_a : (col : ℕ) → col < 64 → has_bit a col ≡ x (64 * index + col)) (is_b : (col : ℕ) → col < 64 → has_bit b col ≡ y (64 * index + col)) (before : Agree x y (64 * index)) where
-  pub agree_farther : (n : ℕ) → n ≤ 64 → ((i : ℕ) → i < n → bit_at (bit_xor a b) i ≡ 0) → Agree x y (64 * index + n)
-  agree_farther n few same = record {
-    each = λ p h. elim (cases_lt p (64 * index)) [
-      | inl low ↦ before.each p low
-      | inr high ↦
-          let col = p - 64 * index in
-          let at : 64 * index + col ≡ p = omega (arith, high) in
-          let less : col < n = omega (arith, high, h) in
-          subst (λ m. x m ≡ y m) at (sym (is_a col (omega (arith, less, few))) ∙ same_bit a b col (same col less) ∙ is_b col (omega (arith, less, few)))
-    ];
-  }
-
-  pub parts_there : (col : ℕ) → col < 64 → bit_at (bit_xor a b) col ≡ 1 → x (64 * index + col) ≢ y (64 * index + col)
-  parts_there col low e same = other_bits a b col e (is_a col low ∙ same ∙ sym (is_b col low))
 
 -- The front of a key: the print, and the start of the stretch.
 

@@ -30,7 +30,6 @@ pub mod ChangesLemmas
 pub mod ColouringsLemmas
 pub mod FilterLemmas
 pub mod TableLemmas
-pub mod TrieLemmas
 pub mod KeyLemmas
 pub mod StoneRowsLemmas
 pub mod GlanceLemmas

@@ -1,14 +1,12 @@
 -- The table by which colourings are looked up.
 use Rattle.std.proofs.Common.{◌≡◌, ◌⊎◌, ℕ, zero, suc, ◌+◌, ◌-◌, ◌*◌, ◌<◌, ◌≤◌, ◌^◌, bit_xor, Bool, true, false, if◌then◌else◌, List, [], ◌∷◌, ◌++◌, Option, None, Some, IfSome, IsSome, length, length-append, get_or, drop, reverse, Contains, inl, inr, refl, sym, ap, subst, ◌∙◌, arith}
 use Rattle.std.specs.Int.{bit_at}
-use Rattle.std.specs.Vec.{vec_capacity}
 use Rattle.std.proofs.lemmas.Bool.{cases_lt, cases_Bool, eq-eqb, ne_eqb, false≢true}
 use Rattle.std.proofs.lemmas.List.{reverse-append}
 use Rattle.std.proofs.lemmas.Option.{same_Some}
 use Rattle.go_board.specs.declared.quick.print_past.key.TheConstants.{WIDTH}
 use Rattle.go_board.specs.declared.quick.print_past.table.Gap.{Gap}
 use Rattle.go_board.specs.declared.quick.print_past.table.Table.{Table}
-use Rattle.go_board.specs.declared.quick.print_past.trie.Node.{Node}
 use Rattle.go_board.specs.Grid.{Grid}
 use Rattle.go_board.specs.Past.{Held, stretch_of, AllHaveSide}
 use Rattle.go_board.specs.inner.Changes.{first_grid, IsNumber, HasNumber}
@@ -16,12 +14,15 @@ use Rattle.go_board.specs.inner.Key.{key_bits, start_of, since, keys_of}
 use Rattle.go_board.specs.inner.Print.{print_of, prints_of}
 use Rattle.go_board.specs.inner.Rows.{has_bit}
 use Rattle.go_board.specs.inner.Table.{IsGap, IsTable}
-use Rattle.go_board.specs.inner.Trie.{Agree, IsTrie, IsTrieOf, IsNearest, IsParting, without_newest}
+use Rattle.key_trie.specs.declared.trie.Trie.{Trie}
+use Rattle.key_trie.specs.Key.{Agree}
+use Rattle.key_trie.specs.Trie.{nodes_of, item_count, room_of, IsTrie, IsNearest, IsParting}
 use Rattle.go_board.proofs.FilterLemmas.{filter_more}
-use Rattle.go_board.proofs.KeyLemmas.{same_bit, other_bits, print_bit, front_same, front_agrees, whole_same}
+use Rattle.go_board.proofs.KeyLemmas.{print_bit, front_same, front_agrees, whole_same}
 use Rattle.go_board.proofs.PrintLemmas.{print_small}
 use Rattle.go_board.proofs.PrintPastLemmas.{same_length, print-number}
-use Rattle.go_board.proofs.TrieLemmas.{agree_self, agree_less, parts_as, trie_length, trie_same}
+use Rattle.key_trie.proofs.KeyLemmas.{same_bit, other_bits}
+use Rattle.key_trie.proofs.TrieLemmas.{agree_self, agree_less, parts_as, trie_same, opening_same}
 
 -- The newest colouring is at its number, and so are the others.
 
@@ -153,19 +154,11 @@ pub keys-print : (next : Held) (held : List Held) (print place : ℕ) → print_
 keys-print next held print place is h = print_at (next ∷ held) (length held) next.colouring (omega arith) (at-newest next held) place h ∙ ap (λ m. has_bit m place) is
 
 -- with one colouring more, and with one less, the others have the same keys
-pub linked_before : (n : ℕ) (next : Held) (held : List Held) (nodes : List Node) → n ≤ length held → IsTrieOf WIDTH n (keys_of held) nodes → IsTrieOf WIDTH n (keys_of (next ∷ held)) nodes
-linked_before n next held nodes few trie = trie_same WIDTH n (keys_of held) (keys_of (next ∷ held)) nodes (λ i h. sym (keys-older next held i (omega (arith, h, few)))) trie
+pub linked_before : (next : Held) (held : List Held) (trie : Trie) → item_count trie ≤ length held → IsTrie WIDTH (keys_of held) trie → IsTrie WIDTH (keys_of (next ∷ held)) trie
+linked_before next held trie few is = trie_same WIDTH (item_count trie) (keys_of held) (keys_of (next ∷ held)) (nodes_of trie) (λ i h. sym (keys-older next held i (omega (arith, h, few)))) is
 
-pub linked_after : (n : ℕ) (newest : Held) (older : List Held) (nodes : List Node) → n ≤ length older → IsTrieOf WIDTH n (keys_of (newest ∷ older)) nodes → IsTrieOf WIDTH n (keys_of older) nodes
-linked_after n newest older nodes few trie = trie_same WIDTH n (keys_of (newest ∷ older)) (keys_of older) nodes (λ i h. keys-older newest older i (omega (arith, h, few))) trie
-
-pub linked_back : (newest : Held) (older : List Held) (nodes : List Node) → length nodes ≡ length older + 1 → IsTrie (keys_of (newest ∷ older)) nodes → (length (without_newest nodes) ≡ length older) × IsTrie (keys_of older) (without_newest nodes)
-linked_back newest older nodes all trie =
-    let next : length nodes ≡ suc (length older) = omega (arith, all) in
-    let whole : IsTrieOf WIDTH (suc (length older)) (keys_of (newest ∷ older)) nodes = subst (λ m. IsTrieOf WIDTH m (keys_of (newest ∷ older)) nodes) next trie in
-    let back = linked_after (length older) newest older (without_newest nodes) (omega arith) whole.3 in
-    let count : length (without_newest nodes) ≡ length older = trie_length WIDTH (length older) (keys_of older) (without_newest nodes) back in
-    (count, subst (λ m. IsTrieOf WIDTH m (keys_of older) (without_newest nodes)) (sym count) back)
+pub linked_after : (newest : Held) (older : List Held) (trie : Trie) → item_count trie ≤ length older → IsTrie WIDTH (keys_of (newest ∷ older)) trie → IsTrie WIDTH (keys_of older) trie
+linked_after newest older trie few is = trie_same WIDTH (item_count trie) (keys_of (newest ∷ older)) (keys_of older) (nodes_of trie) (λ i h. keys-older newest older i (omega (arith, h, few))) is
 
 -- What a table of these colourings tells.
 module _ (held : List Held) (table : Table) (is : IsTable held table) where
@@ -186,7 +179,7 @@ module _ (held : List Held) (table : Table) (is : IsTable held table) where
       (subst (λ x. Agree (key_bits start print any) x 128) (key there.0 there.1) (front_agrees start start print print any there.0 refl refl), key any)
 
   -- What the item tells that a look-up finds, if the stretch has the colouring: it has the same key.
-  module _ (all : length table.nodes.items ≡ length table.prints.items) (start print near : ℕ) (grid : Grid) (starts : start ≡ start_of held) (printed : print ≡ print_of grid) (n : IsNearest (keys_of held) table.nodes.items (key_bits start print grid) WIDTH near) (has : Contains (stretch_of held) grid) where
+  module _ (all : item_count table.trie ≡ length table.prints.items) (start print near : ℕ) (grid : Grid) (starts : start ≡ start_of held) (printed : print ≡ print_of grid) (n : IsNearest (keys_of held) table.trie (key_bits start print grid) WIDTH near) (has : Contains (stretch_of held) grid) where
     found : (g : Grid) → IsNumber held near g → Agree (key_bits (start_of (since near held)) (print_of g) g) (key_bits start print grid) WIDTH
     found g at =
         let h = has_number held grid has in
@@ -210,9 +203,9 @@ module _ (held : List Held) (table : Table) (is : IsTable held table) where
         whole_same (start_of (since near held)) start (print_of g) print g grid one_side few cells cells' (found g at)
 
   -- Where the next colouring comes in, if its print parts it from the item that a look-up for the print finds.
-  pub gap_parts : (next : Held) (print near place : ℕ) (any : Grid) (key : ℕ → Bool) → print_of next.colouring ≡ print → length table.nodes.items ≡ length held → key ≡ key_bits 0 print any → IsNearest (keys_of (next ∷ held)) table.nodes.items key 64 near → place < 64
+  pub gap_parts : (next : Held) (print near place : ℕ) (any : Grid) (key : ℕ → Bool) → print_of next.colouring ≡ print → item_count table.trie ≡ length held → key ≡ key_bits 0 print any → IsNearest (keys_of (next ∷ held)) table.trie key 64 near → place < 64
       → ((p : ℕ) → p < place → bit_at (bit_xor print (get_or table.prints.items near 0)) p ≡ 0) → bit_at (bit_xor print (get_or table.prints.items near 0)) place ≡ 1
-      → Agree key (keys_of (next ∷ held) (length held)) (place + 1) × IsParting (length table.nodes.items) (keys_of (next ∷ held)) (keys_of (next ∷ held) (length held)) near place
+      → Agree key (keys_of (next ∷ held) (length held)) (place + 1) × IsParting (item_count table.trie) (keys_of (next ∷ held)) (keys_of (next ∷ held) (length held)) near place
   gap_parts next print near place any key is_print all is_key n low same differ =
       let other = get_or table.prints.items near 0 in
       let near_in : near < length held = omega (arith, n.there, all) in
@@ -227,7 +220,7 @@ module _ (held : List Held) (table : Table) (is : IsTable held table) where
 
 -- the same prints, and a trie of as many colourings or of more
 pub tabled_with : (held : List Held) (table after : Table) → IsTable held table → after.prints.items ≡ table.prints.items → after.filter ≡ table.filter
-    → length table.prints.items ≤ vec_capacity after.nodes → vec_capacity after.nodes < 2 ^ 32 → length after.nodes.items ≤ length table.prints.items → IsTrie (keys_of held) after.nodes.items → IsTable held after
+    → length table.prints.items ≤ room_of after.trie → room_of after.trie < 2 ^ 32 → item_count after.trie ≤ length table.prints.items → IsTrie WIDTH (keys_of held) after.trie → IsTable held after
 tabled_with held table after is prints filter room most few trie = record {
   printed = rw prints is.printed;
   few = rw prints few;
@@ -239,7 +232,7 @@ tabled_with held table after is prints filter room most few trie = record {
 
 -- one colouring more
 pub tabled_more : (held : List Held) (table after : Table) (next : Held) (print : ℕ) → IsTable held table → print ≡ print_of next.colouring → after.prints.items ≡ table.prints.items ++ print ∷ [] → after.filter ≡ table.filter
-    → length table.prints.items < vec_capacity after.nodes → vec_capacity after.nodes < 2 ^ 32 → length after.nodes.items ≤ length table.prints.items + 1 → IsTrie (keys_of (next ∷ held)) after.nodes.items → IsTable (next ∷ held) after
+    → length table.prints.items < room_of after.trie → room_of after.trie < 2 ^ 32 → item_count after.trie ≤ length table.prints.items + 1 → IsTrie WIDTH (keys_of (next ∷ held)) after.trie → IsTable (next ∷ held) after
 tabled_more held table after next print is printed pushed filter room most few trie =
     let count : length after.prints.items ≡ length table.prints.items + 1 = ap (λ (xs : List ℕ). length xs) pushed ∙ length-append table.prints.items (print ∷ []) in
     record {
@@ -258,8 +251,8 @@ printed_back prints left last newest older parts printed =
     cc
 
 -- if a gap opens, no colouring of the present stretch has its print
-gap_lacks : (held : List Held) (nodes : List Node) (print : ℕ) (gap : Gap) (g : Grid) → IsGap held nodes print gap → print ≡ print_of g → ¬ Contains (stretch_of held) g
-gap_lacks held nodes print gap g is printed has =
+gap_lacks : (held : List Held) (trie : Trie) (print : ℕ) (gap : Gap) (g : Grid) → IsGap held trie print gap → print ≡ print_of g → ¬ Contains (stretch_of held) g
+gap_lacks held trie print gap g is printed has =
     let h = has_number held g has in
     let next : Held = record { colouring = g; begins = false } in
     (is.opens next (sym printed)).part.best h.0 (omega (arith, is.all, h.1)) (record {
@@ -268,6 +261,11 @@ gap_lacks held nodes print gap g is printed has =
           print_at (next ∷ held) h.0 g (omega (arith, h.1)) (at-older next held h.1 h.3) p fits ∙ sym (keys-print next held (print_of g) p refl fits);
     })
 
-pub gap_found : (held : List Held) (nodes : List Node) (print : ℕ) (gap : Option Gap) → IfSome gap (IsGap held nodes print) → (g : Grid) → IsSome gap → print ≡ print_of g → ¬ Contains (stretch_of held) g
-gap_found held nodes print None is g some same = absurd (false≢true some)
-gap_found held nodes print (Some one) is g some same = gap_lacks held nodes print one g is same
+pub gap_found : (held : List Held) (trie : Trie) (print : ℕ) (gap : Option Gap) → IfSome gap (IsGap held trie print) → (g : Grid) → IsSome gap → print ≡ print_of g → ¬ Contains (stretch_of held) g
+gap_found held trie print None is g some same = absurd (false≢true some)
+gap_found held trie print (Some one) is g some same = gap_lacks held trie print one g is same
+
+-- with the same nodes, a gap is at the same slot
+pub gap_same : (held : List Held) (one other : Trie) (print : ℕ) (gap : Option Gap) → nodes_of other ≡ nodes_of one → IfSome gap (IsGap held one print) → IfSome gap (IsGap held other print)
+gap_same held one other print None same is = is
+gap_same held one other print (Some gap) same is = record { all = rw same is.all; low = is.low; opens = λ next printed. opening_same same (is.opens next printed) }

@@ -11,7 +11,6 @@ pub mod Groups
 pub mod Earlier
 pub mod Print
 pub mod Changes
-pub mod Trie
 pub mod Key
 pub mod Filter
 pub mod Table

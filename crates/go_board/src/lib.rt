@@ -15,7 +15,7 @@
 //! ```
 //!
 //! The code outside `quick` plays by the rules and can be read by itself, with `ListPast` as the past. `quick` has faster ways to the
-//! same answers, and may be skipped. `sgf_lines` judges with the past of `quick`, `PrintPast`.
+//! same answers, and may be skipped. `sgf_lines` judges with the past of `quick`, `PrintPast`. Only that past uses the crate `key_trie`.
 //!
 //! | Module | What it has |
 //! |---|---|

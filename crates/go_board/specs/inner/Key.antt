@@ -1,6 +1,6 @@
 -- What a colouring is looked up by, as a string of bits: the words of the print, of the stretch, and of each row of the board.
 use Rattle.std.specs.Prelude.{ℕ, zero, suc, ◌/◌, ◌%◌, Bool, false, ◌==◌, ◌&&◌, nat_lt, if◌then◌else◌, List, [], ◌∷◌, length, drop, ◌-◌}
-use Rattle.go_board.specs.declared.quick.print_past.key.Key.{Key}
+use Rattle.go_board.specs.declared.quick.print_past.key.ColouringKey.{ColouringKey}
 use Rattle.go_board.specs.declared.stones.Cell.{Cell}
 use Rattle.go_board.specs.declared.stones.Cell.TheVariants.{Black, White}
 use Rattle.go_board.specs.Colour.{same_cell}
@@ -26,7 +26,7 @@ abbrev pub key_bits : ℕ → ℕ → Grid → ℕ → Bool
 key_bits start print grid place = key_bit start print grid (place / 64) (place % 64)
 
 -- the bits of a key as it is kept
-abbrev pub bits_of : Key → ℕ → Bool
+abbrev pub bits_of : ColouringKey → ℕ → Bool
 bits_of key = key_bits key.start key.print key.board.now
 
 -- the number of the first colouring of the newest stretch of these colourings, newest first

@@ -8,7 +8,7 @@
 //! | `print`, `powers`, `bytes` | the print of a colouring, a number in base 31; the numbers that it is made from |
 //! | `table` | how a past colouring is looked up, and what that costs |
 //! | `filter` | a filter of prints, which answers most look-ups |
-//! | `key`, `trie` | a colouring as a key, which is a string of bits; the trie of keys |
+//! | `key` | a colouring as a key, which is a string of bits; the crate `key_trie` has the trie of keys |
 
 mod bytes;
 mod changes;
@@ -19,7 +19,6 @@ mod key;
 mod powers;
 mod print;
 mod table;
-mod trie;
 
 ghost use Rattle.std.specs.Prelude.{◌≡◌, ◌≢◌, ◌<◌, ◌↔◌, false, IsTrue, IsSome, IfSome, OnOk, OnErr, Contains, length};
 ghost use Rattle.go_board.specs.declared.stones.Cell.TheVariants.{Empty};
@@ -33,6 +32,7 @@ ghost use Rattle.go_board.specs.inner.Groups.{IsMove};
 ghost use Rattle.go_board.specs.inner.Print.{print_of, IsPrintedMove};
 ghost use Rattle.go_board.specs.inner.Rows.{is_set};
 ghost use Rattle.go_board.specs.inner.Table.{IsGap, IsTable};
+ghost use Rattle.key_trie.specs.Trie.{item_count};
 
 use crate::board::Board;
 use crate::board::regions::no_rows;
@@ -363,7 +363,7 @@ fn add_stone(
     requires table { IsTable (all_of colourings.old) table.old }
     requires emptied { IsEmptied (all_of colourings.old) emptied.old }
     requires stone { IsPrintedMove (newest_grid colourings.old) colour point taken.now print }
-    requires gap { IfSome gap (IsGap (all_of colourings.old) table.old.nodes.items print) }
+    requires gap { IfSome gap (IsGap (all_of colourings.old) table.old.trie print) }
     ensures ok { OnOk result (colourings.new ≡ with_next colourings.old (play (newest_grid colourings.old) colour point) false) }
     ensures err { OnErr result (colourings.new ≡ colourings.old) }
     ensures table { IsTable (all_of colourings.new) table.new }
@@ -390,7 +390,7 @@ fn has_made(
     print: u64,
 ) -> bool
     requires table { IsTable (all_of colourings.now) table.now }
-    requires all { length table.now.nodes.items ≡ length table.now.prints.items }
+    requires all { item_count table.now.trie ≡ length table.now.prints.items }
     requires lacks { (grid : Grid) → IsSome gap → print ≡ print_of grid → ¬ Contains (present_stretch colourings.now) grid }
     requires one_side { HaveSide (newest_grid colourings.now).side colourings.now }
     requires stone { IsPrintedMove (newest_grid colourings.now) colour point taken.now print }

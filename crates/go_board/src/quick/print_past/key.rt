@@ -1,15 +1,14 @@
-//! What a colouring is looked up by, as a string of bits: first its print, then the number of the first colouring of its stretch,
+//! What a colouring is looked up by in a trie, as a string of bits: first its print, then the number of the first colouring of its stretch,
 //! then what stands on each row. So colourings with another print, and those of other stretches, part from it at the first bits.
 
-ghost use Rattle.std.specs.Prelude.{◌≡◌, ◌≢◌, ℕ, ◌+◌, ◌*◌, ◌/◌, ◌%◌, ◌<◌, ◌≤◌, Bool, MatchOption};
+ghost use Rattle.std.specs.Prelude.{◌≡◌};
 ghost use Rattle.go_board.specs.inner.Key.{key_bits, bits_of};
-ghost use Rattle.go_board.specs.inner.Rows.{has_bit};
-ghost use Rattle.go_board.specs.inner.Trie.{Agree};
 
 use crate::board::Board;
 use crate::board::stone_rows::has_column;
 use crate::size::MAX_ROWS;
 use crate::stones::Colour;
+use key_trie::Key;
 
 /// The bits of a word.
 pub(crate) const WORD: u32 = 64;
@@ -22,19 +21,19 @@ pub(crate) const WIDTH: u32 = FRONT + 2 * WORD * MAX_ROWS as u32;
 
 /// The key of a colouring.
 #[derive(Drop)]
-pub(crate) struct Key<'a> {
+pub(crate) struct ColouringKey<'a> {
     /// The number of the first colouring of its stretch.
     start: u64,
     print: u64,
     board: &'a Board,
 }
 
-impl<'a> Key<'a> {
+impl<'a> ColouringKey<'a> {
     /// The key of a colouring, from the number of the first colouring of its stretch, its print and its board.
-    pub(crate) fn new(start: usize, print: u64, board: &'a Board) -> Key<'a>
+    pub(crate) fn new(start: usize, print: u64, board: &'a Board) -> ColouringKey<'a>
         ensures { bits_of result ≡ key_bits start print board.now }
     {
-        Key {
+        ColouringKey {
             start: start as u64,
             print,
             board,
@@ -42,10 +41,19 @@ impl<'a> Key<'a> {
     }
 
     /// The bit at a place.
-    #[inline(always)]
-    pub(crate) fn bit(&self, place: u32) -> bool
+    #[inline(never)]
+    fn later_bit(&self, place: u32) -> bool
         ensures { result ≡ bits_of self.now place }
     {
+        has_column(self.word(place / WORD), (place % WORD) as usize)
+    }
+}
+
+impl<'a> Key for ColouringKey<'a> {
+    ghost bits = { bits_of };
+
+    #[inline(always)]
+    fn bit(&self, place: u32) -> bool {
         // nearly all nodes of a trie stand at bits of the print
         if place < WORD {
             return has_column(self.print, place as usize);
@@ -53,18 +61,7 @@ impl<'a> Key<'a> {
         self.later_bit(place)
     }
 
-    /// The same, for any place.
-    #[inline(never)]
-    fn later_bit(&self, place: u32) -> bool
-        ensures { result ≡ bits_of self.now place }
-    {
-        has_column(self.word(place / WORD), (place % WORD) as usize)
-    }
-
-    /// A word of the key.
-    fn word(&self, index: u32) -> u64
-        ensures { (col : ℕ) → col < 64 → has_bit result col ≡ bits_of self.now (64 * index + col) }
-    {
+    fn word(&self, index: u32) -> u64 {
         if index == 0 {
             return self.print;
         }
@@ -82,19 +79,4 @@ impl<'a> Key<'a> {
         };
         self.board.columns_of(row as u8, colour)
     }
-}
-
-/// The first place where two keys differ, before the end of the word number `count`; None if they are the same so far.
-pub(crate) fn first_difference(one: &Key<'_>, other: &Key<'_>, count: u32) -> Option<u32>
-    requires { count ≤ 106 }
-    ensures { MatchOption result (Agree (bits_of one.now) (bits_of other.now) (64 * count))
-        (λ place. (place < 64 * count) × Agree (bits_of one.now) (bits_of other.now) place × (bits_of one.now place ≢ bits_of other.now place)) }
-{
-    'words: for index in 0..count {
-        let apart = one.word(index) ^ other.word(index);
-        if apart != 0 {
-            return Some(WORD * index + apart.trailing_zeros());
-        }
-    }
-    None
 }

@@ -1,7 +1,7 @@
 //! The table by which colourings are looked up.
 //!
-//! A look-up walks down a trie of keys (see `trie` and `key`) by the bits of the colouring that is looked up. It ends at one past
-//! colouring, and compares with that one alone: first the start of the stretch and the print, and if these are equal, all points.
+//! A look-up walks down a trie of keys (see `key`, and the crate `key_trie`) by the bits of the colouring that is looked up. It ends at one
+//! past colouring, and compares with that one alone: first the start of the stretch and the print, and if these are equal, all points.
 //! So it costs at most one past colouring worked out, and one walk of at most `WIDTH` steps down, whatever was played before. `gap`, which
 //! comes before it, takes at most two walks by the bits of the print.
 //! To put a colouring into the trie costs at most two colourings worked out, its own and that at the end of its walk, and this only if
@@ -11,26 +11,23 @@
 //! This is so once `link` has put all colourings into the trie. `gap` calls it first: the past asks `gap` for a stone that `may_have`
 //! doesn't answer (see `filter`). `has` asks no trie: it compares one by one.
 
-ghost use Rattle.std.specs.Prelude.{◌≡◌, ◌↔◌, ◌+◌, ◌<◌, ◌≤◌, ◌^◌, [], ◌∷◌, List, length, slice_index, IsTrue, IsFalse, IfSome, IfOk, OnOk, OnErr, Contains};
-ghost use Rattle.std.specs.Vec.{vec_capacity};
-ghost use Rattle.go_board.specs.declared.quick.print_past.trie.Node.{Node};
+ghost use Rattle.std.specs.Prelude.{◌≡◌, ◌↔◌, ◌+◌, ◌<◌, ◌≤◌, [], ◌∷◌, List, length, slice_index, IsTrue, IsFalse, IfSome, IfOk, OnOk, Contains};
 ghost use Rattle.go_board.specs.Grid.{Grid};
 ghost use Rattle.go_board.specs.Past.{Held, all_of, present_stretch, stretch_of, HaveSide};
 ghost use Rattle.go_board.specs.inner.Changes.{IsNumber};
 ghost use Rattle.go_board.specs.inner.Key.{bits_of, keys_of};
 ghost use Rattle.go_board.specs.inner.Print.{print_of, prints_of};
 ghost use Rattle.go_board.specs.inner.Table.{HasRoomForNext, IsGap, IsTable};
-ghost use Rattle.go_board.specs.inner.Trie.{Agree};
+ghost use Rattle.key_trie.specs.Key.{Agree};
+ghost use Rattle.key_trie.specs.Trie.{item_count, nodes_of};
 
 use crate::board::Board;
 use crate::board::stone_rows::has_column;
 use crate::fault::MemoryFault;
 use crate::quick::print_past::colourings::Colourings;
 use crate::quick::print_past::filter::Filter;
-use crate::quick::print_past::key::{FRONT, Key, WIDTH, WORD, first_difference};
-use crate::quick::print_past::trie::{
-    Node, Slot, descend, insert, kid, nearest, opening, part, plant, repeat, take_back,
-};
+use crate::quick::print_past::key::{ColouringKey, FRONT, WIDTH, WORD};
+use key_trie::{Slot, Trie, first_difference};
 use std::alloc::Global;
 
 /// The number of colourings that a new table has room for.
@@ -40,17 +37,14 @@ const FIRST_ROOM: usize = 256;
 /// that one out takes one step. Without this look, fights take 1.3 times as long (the workload `awkward` of docs/PERF.md).
 const NEAR: usize = 2;
 
-/// The most colourings that a table has room for: each number of a node is below 2^32.
-const MOST: usize = 0xffff_ffff;
-
 /// The prints of colourings, oldest first, and a trie of their keys. Most colourings are never looked up, and no look-up comes before
 /// they are taken back. So a colouring is put into the trie only when a look-up comes. There is always room for all of them, so this
 /// takes no memory.
 #[derive(Drop)]
 pub(crate) struct Table {
     prints: Vec<u64>,
-    /// The nodes of the oldest colourings. The newest ones may not be in the trie yet.
-    nodes: Vec<Node>,
+    /// The trie of the oldest colourings. The newest ones may not be in it yet.
+    trie: Trie,
     /// A filter of the prints.
     filter: Filter,
 }
@@ -72,7 +66,7 @@ impl Table {
         prints.push(print)?;
         Ok(Table {
             prints,
-            nodes: Vec::with_capacity(alloc, FIRST_ROOM)?,
+            trie: Trie::new(alloc)?,
             filter: Filter::new(),
         })
     }
@@ -98,11 +92,11 @@ impl Table {
     pub(crate) fn reserve(&mut self) -> Result<(), MemoryFault>
         requires { (held : List Held) × IsTable held self.old }
         ensures table { (held : List Held) → IsTable held self.old → IsTable held self.new }
-        ensures nodes { self.new.nodes.items ≡ self.old.nodes.items }
+        ensures trie { nodes_of self.new.trie ≡ nodes_of self.old.trie }
         ensures ok { OnOk result (HasRoomForNext self.new) }
     {
-        if self.prints.len() >= self.nodes.capacity() {
-            make_room(&mut self.nodes)?;
+        if self.prints.len() >= self.trie.room() {
+            self.trie.make_room()?;
         }
         self.prints.reserve(1)?;
         Ok(())
@@ -111,10 +105,10 @@ impl Table {
     /// Adds a colouring with this print, and puts it into the trie if its gap there is known. There must be room for it.
     #[inline(always)]
     pub(crate) fn push(&mut self, print: u64, gap: Option<Gap>)
-        requires table { (held : List Held) × (next : Held) × IsTable held self.old × IfSome gap (IsGap held self.old.nodes.items print)
+        requires table { (held : List Held) × (next : Held) × IsTable held self.old × IfSome gap (IsGap held self.old.trie print)
             × (print ≡ print_of next.colouring) }
         requires room { HasRoomForNext self.old }
-        ensures { (held : List Held) (next : Held) → IsTable held self.old → IfSome gap (IsGap held self.old.nodes.items print)
+        ensures { (held : List Held) (next : Held) → IsTable held self.old → IfSome gap (IsGap held self.old.trie print)
             → print ≡ print_of next.colouring → IsTable (next ∷ held) self.new }
     {
         self.prints.push_reserved(print);
@@ -122,7 +116,7 @@ impl Table {
             return;
         };
         let bit = has_column(print, gap.place as usize);
-        insert(&mut self.nodes, gap.slot, gap.place, bit);
+        self.trie.insert(gap.slot, gap.place, bit);
     }
 
     /// Takes back the newest colouring.
@@ -130,8 +124,8 @@ impl Table {
         requires { (newest : Held) × (older : List Held) × IsTable (newest ∷ older) self.old }
         ensures { (newest : Held) (older : List Held) → IsTable (newest ∷ older) self.old → IsTable older self.new }
     {
-        if self.nodes.len() == self.prints.len() {
-            take_back(&mut self.nodes);
+        if self.trie.len() == self.prints.len() {
+            self.trie.take_back();
         }
         let _ = self.prints.pop();
         self.filter.go_back(self.prints.len());
@@ -143,7 +137,7 @@ impl Table {
         requires table { (held : List Held) × IsTable held self.old }
         ensures { (held : List Held) → prints_of held ≡ print ∷ [] → IsTable held self.new }
     {
-        self.nodes.clear();
+        self.trie.clear();
         self.prints.truncate(1);
         self.prints[0] = print;
         self.filter.go_back(0);
@@ -176,19 +170,19 @@ impl Table {
     pub(crate) fn gap(&mut self, colourings: &Colourings, print: u64) -> Option<Gap>
         requires { IsTable (all_of colourings.now) self.old }
         ensures table { IsTable (all_of colourings.now) self.new }
-        ensures all { length self.new.nodes.items ≡ length self.new.prints.items }
-        ensures gap { IfSome result (IsGap (all_of colourings.now) self.new.nodes.items print) }
+        ensures all { item_count self.new.trie ≡ length self.new.prints.items }
+        ensures gap { IfSome result (IsGap (all_of colourings.now) self.new.trie print) }
     {
         self.link(colourings);
-        let key = Key::new(0, print, colourings.newest());
-        let from = descend(&self.nodes, &key, WORD);
-        let apart = print ^ self.prints[kid(&self.nodes, from) as usize];
+        let key = ColouringKey::new(0, print, colourings.newest());
+        let from = self.trie.descend(&key, WORD);
+        let apart = print ^ self.prints[self.trie.kid(from) as usize];
         if apart == 0 {
             return None;
         }
         let place = apart.trailing_zeros();
         Some(Gap {
-            slot: opening(&self.nodes, &key, from, place),
+            slot: self.trie.opening(&key, from, place),
             place,
         })
     }
@@ -211,14 +205,14 @@ impl Table {
     /// The same by the trie, which must have all colourings. If none has the print, no colouring is worked out.
     pub(crate) fn find(&self, colourings: &Colourings, board: &Board, print: u64) -> bool
         requires table { IsTable (all_of colourings.now) self.now }
-        requires all { length self.now.nodes.items ≡ length self.now.prints.items }
+        requires all { item_count self.now.trie ≡ length self.now.prints.items }
         requires side { HaveSide board.now.side colourings.now }
         requires print { print ≡ print_of board.now }
         ensures { IsTrue result ↔ Contains (present_stretch colourings.now) board.now }
     {
         let start = colourings.stretch_start();
-        let key = Key::new(start, print, board);
-        let near = nearest(&self.nodes, &key, WIDTH);
+        let key = ColouringKey::new(start, print, board);
+        let near = self.trie.nearest(&key, WIDTH);
         if near < start || self.prints[near] != print {
             return false;
         }
@@ -229,13 +223,18 @@ impl Table {
     }
 
     /// The front of the key of the colouring with this number, and for its rest the bits of a board.
-    fn key_of<'a>(&self, colourings: &Colourings, number: usize, board: &'a Board) -> Key<'a>
+    fn key_of<'a>(
+        &self,
+        colourings: &Colourings,
+        number: usize,
+        board: &'a Board,
+    ) -> ColouringKey<'a>
         requires table { IsTable (all_of colourings.now) self.now }
         requires number { number < length (all_of colourings.now) }
         ensures front { Agree (bits_of result) (keys_of (all_of colourings.now) number) FRONT }
         ensures whole { IsNumber (all_of colourings.now) number board.now → bits_of result ≡ keys_of (all_of colourings.now) number }
     {
-        Key::new(colourings.start_at(number), self.prints[number], board)
+        ColouringKey::new(colourings.start_at(number), self.prints[number], board)
     }
 
     /// Puts all colourings into the trie.
@@ -243,9 +242,9 @@ impl Table {
     pub(crate) fn link(&mut self, colourings: &Colourings)
         requires { IsTable (all_of colourings.now) self.old }
         ensures table { IsTable (all_of colourings.now) self.new }
-        ensures all { length self.new.nodes.items ≡ length self.new.prints.items }
+        ensures all { item_count self.new.trie ≡ length self.new.prints.items }
     {
-        'each: while self.nodes.len() < self.prints.len() {
+        'each: while self.trie.len() < self.prints.len() {
             self.link_next(colourings);
         }
     }
@@ -253,21 +252,21 @@ impl Table {
     /// Puts the oldest colouring that isn't there yet into the trie.
     fn link_next(&mut self, colourings: &Colourings)
         requires table { IsTable (all_of colourings.now) self.old }
-        requires more { length self.old.nodes.items < length self.old.prints.items }
+        requires more { item_count self.old.trie < length self.old.prints.items }
         ensures table { IsTable (all_of colourings.now) self.new }
-        ensures next { length self.new.nodes.items ≡ length self.old.nodes.items + 1 }
+        ensures next { item_count self.new.trie ≡ item_count self.old.trie + 1 }
         ensures prints { self.new.prints.items ≡ self.old.prints.items }
     {
-        let number = self.nodes.len();
+        let number = self.trie.len();
         if number == 0 {
-            plant(&mut self.nodes);
+            self.trie.plant();
             return;
         }
         let key = self.key_of(colourings, number, colourings.newest());
-        let near = nearest(&self.nodes, &key, FRONT);
+        let near = self.trie.nearest(&key, FRONT);
         let other = self.key_of(colourings, near, colourings.newest());
         match first_difference(&key, &other, FRONT / WORD) {
-            Some(place) => part(&mut self.nodes, &key, place),
+            Some(place) => self.trie.part(&key, place),
             None => self.link_by_board(colourings),
         }
     }
@@ -275,39 +274,21 @@ impl Table {
     /// The same, by all bits of the keys.
     fn link_by_board(&mut self, colourings: &Colourings)
         requires table { IsTable (all_of colourings.now) self.old }
-        requires more { length self.old.nodes.items < length self.old.prints.items }
-        requires some { 0 < length self.old.nodes.items }
+        requires more { item_count self.old.trie < length self.old.prints.items }
+        requires some { 0 < item_count self.old.trie }
         ensures table { IsTable (all_of colourings.now) self.new }
-        ensures next { length self.new.nodes.items ≡ length self.old.nodes.items + 1 }
+        ensures next { item_count self.new.trie ≡ item_count self.old.trie + 1 }
         ensures prints { self.new.prints.items ≡ self.old.prints.items }
     {
-        let next = self.nodes.len();
+        let next = self.trie.len();
         let board = colourings.board_at(next);
         let key = self.key_of(colourings, next, &board);
-        let near = nearest(&self.nodes, &key, WIDTH);
+        let near = self.trie.nearest(&key, WIDTH);
         let past = colourings.board_at(near);
         let other = self.key_of(colourings, near, &past);
         match first_difference(&key, &other, WIDTH / WORD) {
-            Some(place) => part(&mut self.nodes, &key, place),
-            None => repeat(&mut self.nodes),
+            Some(place) => self.trie.part(&key, place),
+            None => self.trie.repeat(),
         }
     }
-}
-
-/// Makes room for more nodes: twice as many, and some more.
-#[inline(never)]
-fn make_room(nodes: &mut Vec<Node>) -> Result<(), MemoryFault>
-    requires { vec_capacity nodes.old < 2 ^ 32 }
-    ensures items { nodes.new.items ≡ nodes.old.items }
-    ensures ok { OnOk result (vec_capacity nodes.old < vec_capacity nodes.new) }
-    ensures err { OnErr result (vec_capacity nodes.new ≡ vec_capacity nodes.old) }
-    ensures most { vec_capacity nodes.new < 2 ^ 32 }
-{
-    let room = nodes.capacity();
-    if room >= MOST {
-        return Err(MemoryFault);
-    }
-    let wanted = MOST.min(2 * room + FIRST_ROOM);
-    nodes.reserve_exact(wanted - nodes.len())?;
-    Ok(())
 }

@@ -4,6 +4,7 @@ use Rattle.go_board.specs.declared.points.Point.{Point}
 use Rattle.go_board.specs.Clearing.{play}
 use Rattle.go_board.specs.Past.{Held, PastColourings, all_of, newest_grid}
 use Rattle.go_board.proofs.RepeatLemmas.{emptied_by_play}
+use Rattle.go_board.proofs.TableLemmas.{gap_same}
 use Rattle.go_board.proofs.quick.print_past.add_stone.Goals as goal
 
 abbrev next_of : PastColourings → Colour → Point → Held
@@ -25,7 +26,7 @@ push-requires-clause-table c =
       all_of was,
       next_of was c.args.colour c.args.point,
       c.reserve-2.ensures.table (all_of was) c.requires.table,
-      rw c.reserve-2.ensures.nodes c.requires.gap,
+      gap_same (all_of was) c.args.table.now.trie c.reserve-2.new.self.trie c.args.print c.args.gap c.reserve-2.ensures.trie c.requires.gap,
       c.requires.stone.print,
     )
 
@@ -34,7 +35,7 @@ returns-clause-table c =
     let was = c.args.colourings.now in
     let next = next_of was c.args.colour c.args.point in
     rw c.in_ok-add_stone.ensures.ok
-    (c.push.ensures (all_of was) next (c.reserve-2.ensures.table (all_of was) c.requires.table) (rw c.reserve-2.ensures.nodes c.requires.gap) c.requires.stone.print)
+    (c.push.ensures (all_of was) next (c.reserve-2.ensures.table (all_of was) c.requires.table) (gap_same (all_of was) c.args.table.now.trie c.reserve-2.new.self.trie c.args.print c.args.gap c.reserve-2.ensures.trie c.requires.gap) c.requires.stone.print)
 
 pub returns-clause-emptied : goal.returns-clause-emptied
 returns-clause-emptied c =

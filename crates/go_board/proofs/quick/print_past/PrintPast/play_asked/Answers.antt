@@ -8,7 +8,7 @@ use Rattle.go_board.proofs.quick.print_past.PrintPast.play_asked.Goals as goal
 use Rattle.go_board.proofs.quick.print_past.PrintPast.play_asked.Goals.{Joined-not-is_new, then-not-is_new+else-has_near+else-has_made, else-not-is_new}
 
 pub has_made-requires-clause-lacks : goal.has_made-requires-clause-lacks
-has_made-requires-clause-lacks c = gap_found (all_of c.self.inside.colourings) c.gap-gap.new.self.nodes.items c.args.print c.gap-gap.result c.gap-gap.ensures.gap
+has_made-requires-clause-lacks c = gap_found (all_of c.self.inside.colourings) c.gap-gap.new.self.trie c.args.print c.gap-gap.result c.gap-gap.ensures.gap
 
 -- the stone brings no colouring back
 never : (c : Joined-not-is_new) → Contains (present_stretch c.args.self.now) (play (newest_grid c.args.self.now) c.args.colour c.args.point) → ⊥

@@ -5,16 +5,15 @@ use Rattle.go_board.specs.declared.quick.print_past.key.TheConstants.{WIDTH}
 use Rattle.go_board.specs.Grid.{Grid}
 use Rattle.go_board.specs.Past.{all_of}
 use Rattle.go_board.specs.inner.Key.{key_bits, keys_of}
-use Rattle.go_board.specs.inner.Trie.{IsNearest}
+use Rattle.key_trie.specs.Trie.{IsNearest}
 use Rattle.go_board.proofs.TableLemmas.{tabled, side-number, has_colouring, found_front, found_whole}
 use Rattle.go_board.proofs.quick.print_past.table.Table.find.Goals as goal
 use Rattle.go_board.proofs.quick.print_past.table.Table.find.Goals.{After-nearest-near, then-near-start-via-then-near-start, then-near-start-via-else-near-start+then-index-print}
 
-nearest_is : (c : After-nearest-near) → IsNearest (keys_of (all_of c.args.colourings.now)) c.args.self.now.nodes.items (key_bits c.stretch_start-start.result c.args.print c.args.board.now) WIDTH c.nearest-near.result
+nearest_is : (c : After-nearest-near) → IsNearest (keys_of (all_of c.args.colourings.now)) c.args.self.now.trie (key_bits c.stretch_start-start.result c.args.print c.args.board.now) WIDTH c.nearest-near.result
 nearest_is c =
-    let found = rw c.deref.ensures.value at c.nearest-near.ensures in
-    subst (λ (key : ℕ → Bool). IsNearest (keys_of (all_of c.args.colourings.now)) c.args.self.now.nodes.items key WIDTH c.nearest-near.result) c.new-key.ensures
-    (found.nearest (keys_of (all_of c.args.colourings.now)) c.requires.table.linked)
+    subst (λ (key : ℕ → Bool). IsNearest (keys_of (all_of c.args.colourings.now)) c.args.self.now.trie key WIDTH c.nearest-near.result) c.new-key.ensures
+    (c.nearest-near.ensures.nearest WIDTH (keys_of (all_of c.args.colourings.now)) c.requires.table.linked (omega arith))
 
 pub returns-then-near-start : goal.returns-then-near-start
 returns-then-near-start c = (

@@ -7,30 +7,28 @@ use Rattle.std.proofs.lemmas.Nat.Bits.{bit_at-trailing_zeros}
 use Rattle.go_board.specs.declared.quick.print_past.key.TheConstants.{WIDTH}
 use Rattle.go_board.specs.Past.{Held, all_of}
 use Rattle.go_board.specs.inner.Key.{bits_of, keys_of}
-use Rattle.go_board.specs.inner.Trie.{IsNearest, IsTrie, IsWayTo, kid_of}
+use Rattle.key_trie.specs.Trie.{item_count, kid_at, IsNearest, IsTrie, IsWayTo}
 use Rattle.go_board.proofs.PrintLemmas.{print_small}
 use Rattle.go_board.proofs.TableLemmas.{tabled, gap_parts, linked_before, number_there, print_there}
-use Rattle.go_board.proofs.TrieLemmas.{way_nearest}
+use Rattle.key_trie.proofs.TrieLemmas.{way_nearest}
 use Rattle.go_board.proofs.quick.print_past.table.Table.gap.Goals as goal
 
 pub returns-clause-gap : goal.returns-clause-gap
 returns-clause-gap c =
     let t = c.link.new.self in
     let held = all_of c.args.colourings.now in
-    let nodes = t.nodes.items in
+    let trie = t.trie in
     let is = c.link.ensures.table in
-    let count : length nodes ≡ length held = c.link.ensures.all ∙ tabled held t is in
+    let count : item_count trie ≡ length held = c.link.ensures.all ∙ tabled held t is in
     let key = bits_of c.new-key.result in
     let from = c.descend-from.result in
-    let near = kid_of nodes from.node from.side in
-    let walked = rw c.deref.ensures.value at c.descend-from.ensures in
-    let opened = rw c.deref-3.ensures.value at c.opening.ensures in
-    let linked : (next : Held) → IsTrie (keys_of (next ∷ held)) nodes = λ next. linked_before (length nodes) next held nodes (omega (arith, count)) is.linked in
-    let walk : (next : Held) → IsWayTo (keys_of (next ∷ held)) nodes key 64 from = λ next. record { way = walked.way (keys_of (next ∷ held)) (linked next); stop = walked.stop } in
-    let found : (next : Held) → IsNearest (keys_of (next ∷ held)) nodes key 64 near = λ next. way_nearest WIDTH (keys_of (next ∷ held)) nodes (linked next) from (walk next) (omega arith) in
-    let low : near < length nodes = (found (record { colouring = c.newest.result.now; begins = false })).there in
+    let near = kid_at trie from in
+    let linked : (next : Held) → IsTrie WIDTH (keys_of (next ∷ held)) trie = λ next. linked_before next held trie (omega (arith, count)) is.linked in
+    let walk : (next : Held) → IsWayTo (keys_of (next ∷ held)) trie key 64 from = λ next. c.descend-from.ensures.way WIDTH (keys_of (next ∷ held)) (linked next) in
+    let found : (next : Held) → IsNearest (keys_of (next ∷ held)) trie key 64 near = λ next. way_nearest WIDTH (keys_of (next ∷ held)) trie (linked next) from (walk next) (omega arith) in
+    let low : near < item_count trie = (found (record { colouring = c.newest.result.now; begins = false })).there in
     let there = number_there held near (omega (arith, low, count)) in
-    let item : c.kid.result ≡ near = rw c.deref-2.ensures.value at c.kid.ensures in
+    let item : c.kid.result ≡ near = c.kid.ensures in
     let print : c.index.result.now ≡ get_or t.prints.items near 0 =
     c.index.ensures ∙ ap (λ n. get_or t.prints.items n c.index.result.now) item ∙ get_or_default_zero t.prints.items near c.index.result.now (omega (arith, low, is.few)) in
     let near_fits : c.index.result.now < 2 ^ 64 = subst (λ n. n < 2 ^ 64) (sym (print ∙ print_there held t is near there.0 (omega (arith, low, count)) there.1)) (print_small there.0) in
@@ -45,5 +43,5 @@ returns-clause-gap c =
       opens = λ next same.
           let parts = gap_parts held t is next c.args.print near place c.newest.result.now key same count c.new-key.ensures (found next) lowest.0
           (λ p h. ap (λ n. bit_at (bit_xor c.args.print n) p) (sym print) ∙ lowest.2 p h) (ap (λ n. bit_at (bit_xor c.args.print n) place) (sym print) ∙ lowest.1) in
-          opened.opening (keys_of (next ∷ held)) (keys_of (next ∷ held) (length held)) 64 (linked next) (walk next) lowest.0 parts.0 parts.1;
+          c.opening.ensures.opening WIDTH (keys_of (next ∷ held)) (keys_of (next ∷ held) (length held)) 64 (linked next) (walk next) lowest.0 parts.0 parts.1;
     }

@@ -3,7 +3,7 @@ use Rattle.std.proofs.lemmas.Grind.{get_or_default_zero}
 use Rattle.go_board.specs.Past.{all_of}
 use Rattle.go_board.specs.inner.Changes.{IsNumber}
 use Rattle.go_board.specs.inner.Key.{bits_of, keys_of}
-use Rattle.go_board.specs.inner.Trie.{Agree}
+use Rattle.key_trie.specs.Key.{Agree}
 use Rattle.go_board.proofs.TableLemmas.{tabled, key_made}
 use Rattle.go_board.proofs.quick.print_past.table.Table.key_of.Goals as goal
 use Rattle.go_board.proofs.quick.print_past.table.Table.key_of.Goals.{After-new}

@@ -1,22 +1,22 @@
-use Rattle.std.proofs.Common.{length, refl, subst, ◌∙◌, arith}
+use Rattle.std.proofs.Common.{refl, subst, arith}
 use Rattle.go_board.specs.declared.quick.print_past.key.TheConstants.{WIDTH}
 use Rattle.go_board.specs.Past.{all_of}
 use Rattle.go_board.specs.inner.Key.{bits_of, keys_of}
-use Rattle.go_board.specs.inner.Trie.{Agree, IsNearest}
+use Rattle.key_trie.specs.Key.{Agree}
+use Rattle.key_trie.specs.Trie.{item_count, IsNearest}
 use Rattle.go_board.proofs.TableLemmas.{tabled_with}
-use Rattle.go_board.proofs.TrieLemmas.{agree_back, agree_on, agree_self, parts_as}
+use Rattle.key_trie.proofs.TrieLemmas.{agree_back, agree_on, agree_self, parts_as}
 use Rattle.go_board.proofs.quick.print_past.table.Table.link_by_board.Goals as goal
 use Rattle.go_board.proofs.quick.print_past.table.Table.link_by_board.Goals.{After-key_of-other}
 
 -- the nearest colouring in the trie, and the bits of its key and of the next one's
 module _ (c : After-key_of-other) where
-  pub nearest_is : IsNearest (keys_of (all_of c.args.colourings.now)) c.args.self.now.nodes.items (bits_of c.key_of-key.result) WIDTH c.nearest-near.result
-  nearest_is = let found = rw c.deref.ensures.value at c.nearest-near.ensures in found.nearest (keys_of (all_of c.args.colourings.now)) c.requires.table.linked
+  pub nearest_is : IsNearest (keys_of (all_of c.args.colourings.now)) c.args.self.now.trie (bits_of c.key_of-key.result) WIDTH c.nearest-near.result
+  nearest_is = c.nearest-near.ensures.nearest WIDTH (keys_of (all_of c.args.colourings.now)) c.requires.table.linked (omega arith)
 
-  pub own : Agree (bits_of c.key_of-key.result) (keys_of (all_of c.args.colourings.now) (length c.args.self.now.nodes.items)) WIDTH
+  pub own : Agree (bits_of c.key_of-key.result) (keys_of (all_of c.args.colourings.now) (item_count c.args.self.now.trie)) WIDTH
   own =
-      let count = c.len-next.ensures ∙ c.args.self.now.nodes.ok.0 in
-      let same = rw count at (c.key_of-key.ensures.whole c.board_at-board.ensures) in
+      let same = rw c.len-next.ensures at (c.key_of-key.ensures.whole c.board_at-board.ensures) in
       subst (λ x. Agree (bits_of c.key_of-key.result) x WIDTH) same (agree_self (bits_of c.key_of-key.result) WIDTH)
 
   pub other : Agree (bits_of c.key_of-other.result) (keys_of (all_of c.args.colourings.now) c.nearest-near.result) WIDTH
@@ -30,9 +30,9 @@ returns-in-Some-clause-table c =
     let keys = keys_of held in
     let w = (goal.at.returns-in-Some-clause-table c).After-key_of-other in
     let apart = c.in-Some.ensures in
-    let parts = parts_as (nearest_is w) (keys (length t.nodes.items)) _ c.in-Some.place apart.0 (own w) (other w) apart.1 apart.2 in
-    tabled_with held t (record t { nodes = c.part.new.nodes }) is refl refl (omega (arith, is.room, c.part.ensures.room)) (omega (arith, is.most, c.part.ensures.room)) (omega (arith, c.part.ensures.more, c.requires.more))
-    (c.part.ensures.trie keys c.nearest-near.result is.linked parts.0 parts.1)
+    let parts = parts_as (nearest_is w) (keys (item_count t.trie)) _ c.in-Some.place apart.0 (own w) (other w) apart.1 apart.2 in
+    tabled_with held t (record t { trie = c.part.new.self }) is refl refl (omega (arith, is.room, c.part.ensures.room)) (omega (arith, is.most, c.part.ensures.room)) (omega (arith, c.part.ensures.more, c.requires.more))
+    (c.part.ensures.trie WIDTH keys c.nearest-near.result is.linked (omega (arith, apart.0)) parts.0 parts.1)
 
 pub returns-in-None-clause-table : goal.returns-in-None-clause-table
 returns-in-None-clause-table c =
@@ -40,5 +40,5 @@ returns-in-None-clause-table c =
     let held = all_of c.args.colourings.now in
     let is = c.requires.table in
     let w = (goal.at.returns-in-None-clause-table c).After-key_of-other in
-    tabled_with held t (record t { nodes = c.repeat.new.nodes }) is refl refl (omega (arith, is.room, c.repeat.ensures.room)) (omega (arith, is.most, c.repeat.ensures.room)) (omega (arith, c.repeat.ensures.more, c.requires.more))
-    (c.repeat.ensures.trie (keys_of held) c.nearest-near.result is.linked (nearest_is w).there (agree_on (agree_back (other w)) (agree_on (agree_back c.in-None.ensures) (own w))))
+    tabled_with held t (record t { trie = c.repeat.new.self }) is refl refl (omega (arith, is.room, c.repeat.ensures.room)) (omega (arith, is.most, c.repeat.ensures.room)) (omega (arith, c.repeat.ensures.more, c.requires.more))
+    (c.repeat.ensures.trie WIDTH (keys_of held) c.nearest-near.result is.linked (nearest_is w).there (agree_on (agree_back (other w)) (agree_on (agree_back c.in-None.ensures) (own w))))

@@ -1,13 +1,14 @@
 use Rattle.std.proofs.Common.{◌≡◌, ◌≤◌, ◌+◌, ◌-◌, ◌++◌, ◌∷◌, [], List, ℕ, Option, Some, length, length-append, reverse, get_or, ap, sym, subst, ◌∙◌, arith, rules}
 use Rattle.std.specs.Option.{option_to_list}
-use Rattle.std.specs.Vec.{vec_capacity}
 use Rattle.go_board.specs.declared.quick.print_past.table.Table.{Table}
-use Rattle.go_board.specs.declared.quick.print_past.trie.Node.{Node}
+use Rattle.go_board.specs.declared.quick.print_past.key.TheConstants.{WIDTH}
+use Rattle.key_trie.specs.declared.trie.Trie.{Trie}
 use Rattle.go_board.specs.inner.Key.{keys_of}
 use Rattle.go_board.specs.inner.Filter.{IsFilter}
 use Rattle.go_board.specs.inner.Print.{prints_of}
-use Rattle.go_board.specs.inner.Trie.{IsTrie, without_newest}
-use Rattle.go_board.proofs.TableLemmas.{tabled, printed_back, linked_after, linked_back}
+use Rattle.go_board.specs.inner.Table.{IsTable}
+use Rattle.key_trie.specs.Trie.{item_count, room_of, IsTrie}
+use Rattle.go_board.proofs.TableLemmas.{tabled, printed_back, linked_after}
 use Rattle.go_board.proofs.quick.print_past.table.Table.pop.Goals as goal
 use Rattle.go_board.proofs.quick.print_past.table.Table.pop.Goals.{then-len, else-len}
 
@@ -28,34 +29,27 @@ returns c = λ newest older is.
           (rw filter (subst (λ (xs : List ℕ). IsFilter xs t.filter) parts is.filtered)),
     )
     in
+    let table_of : (after.prints.items ≡ t.prints.items) → (after.filter ≡ t.filter) → (room_of after.trie ≡ room_of t.trie) → (item_count after.trie ≤ length older) → IsTrie WIDTH (keys_of (newest ∷ older)) after.trie
+    → IsTable older (record { prints = c.pop.new.self; trie = after.trie; filter = c.go_back.new.self }) = λ same filter room few linked.
+    let print = popped same filter in
+    record {
+      printed = print.0;
+      few = omega (arith, print.1, few);
+      linked = linked_after newest older after.trie few linked;
+      room = omega (arith, room, is.room, print.1, all);
+      most = omega (arith, room, is.most);
+      filtered = print.2;
+    }
+    in
     elim c.if-len.branch [
       | then-len w ↦
-          let same = ap (λ (x : Table). x.prints.items) w.self-is in
-          let nodes : after.nodes.items ≡ without_newest t.nodes.items = ap (λ (x : Table). x.nodes.items) w.self-is ∙ w.take_back.ensures.back in
-          let room : vec_capacity after.nodes ≡ vec_capacity t.nodes = ap (λ (x : Table). vec_capacity x.nodes) w.self-is ∙ w.take_back.ensures.room in
-          let both : length t.nodes.items ≡ length older + 1 = omega (arith, w.if-len.true, c.len.ensures, c.len-2.ensures, t.nodes.ok.0, t.prints.ok.0, all) in
-          let back = linked_back newest older t.nodes.items both is.linked in
-          let print = popped same (ap (λ (x : Table). x.filter) w.self-is) in
-          record {
-            printed = print.0;
-            few = omega (arith, print.1, back.0, ap (λ (xs : List Node). length xs) nodes);
-            linked = subst (λ (xs : List Node). IsTrie (keys_of older) xs) (sym nodes) back.1;
-            room = omega (arith, room, is.room, print.1, all);
-            most = omega (arith, room, is.most);
-            filtered = print.2;
-          }
+          let trie : after.trie ≡ w.take_back.new.self = ap (λ (x : Table). x.trie) w.self-is in
+          table_of (ap (λ (x : Table). x.prints.items) w.self-is) (ap (λ (x : Table). x.filter) w.self-is) (ap room_of trie ∙ w.take_back.ensures.room)
+          (omega (arith, ap item_count trie, w.take_back.ensures.fewer, w.if-len.true, c.len.ensures, c.len-2.ensures, t.prints.ok.0, all))
+          (subst (λ (x : Trie). IsTrie WIDTH (keys_of (newest ∷ older)) x) (sym trie) (w.take_back.ensures.trie WIDTH (keys_of (newest ∷ older)) is.linked))
       | else-len w ↦
-          let same = ap (λ (x : Table). x.prints.items) w.self-is in
-          let few : length t.nodes.items ≤ length older = omega (arith, w.if-len.false, c.len.ensures, c.len-2.ensures, t.nodes.ok.0, t.prints.ok.0, all, is.few) in
-          let nodes : after.nodes.items ≡ t.nodes.items = ap (λ (x : Table). x.nodes.items) w.self-is in
-          let room : vec_capacity after.nodes ≡ vec_capacity t.nodes = ap (λ (x : Table). vec_capacity x.nodes) w.self-is in
-          let print = popped same (ap (λ (x : Table). x.filter) w.self-is) in
-          record {
-            printed = print.0;
-            few = omega (arith, print.1, few, ap (λ (xs : List Node). length xs) nodes);
-            linked = subst (λ (xs : List Node). IsTrie (keys_of older) xs) (sym nodes) (linked_after (length t.nodes.items) newest older t.nodes.items few is.linked);
-            room = omega (arith, room, is.room, print.1, all);
-            most = omega (arith, room, is.most);
-            filtered = print.2;
-          }
+          let trie : after.trie ≡ t.trie = ap (λ (x : Table). x.trie) w.self-is in
+          table_of (ap (λ (x : Table). x.prints.items) w.self-is) (ap (λ (x : Table). x.filter) w.self-is) (ap room_of trie)
+          (omega (arith, ap item_count trie, w.if-len.false, c.len.ensures, c.len-2.ensures, t.prints.ok.0, all, is.few))
+          (subst (λ (x : Trie). IsTrie WIDTH (keys_of (newest ∷ older)) x) (sym trie) is.linked)
     ]

@@ -1,4 +1,6 @@
 use Rattle.std.proofs.Common.{[], refl, rules}
+use Rattle.go_board.specs.declared.quick.print_past.key.TheConstants.{WIDTH}
+use Rattle.go_board.specs.inner.Key.{keys_of}
 use Rattle.go_board.proofs.FilterLemmas.{filter_any}
 use Rattle.go_board.proofs.quick.print_past.table.Table.reset.Goals as goal
 
@@ -8,7 +10,7 @@ returns c = λ held printed.
     record {
       printed = search (rules, printed);
       few = search rules;
-      linked = rw c.clear.ensures.items refl;
+      linked = c.clear.ensures.trie WIDTH (keys_of held);
       room = search rules;
       most = search rules;
       filtered = filter_any _ _ (c.go_back.ensures [] t.prints.items refl c.requires.table.1.filtered);

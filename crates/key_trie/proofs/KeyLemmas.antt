@@ -1,0 +1,49 @@
+-- Words and their bits: where two keys differ.
+use Rattle.std.proofs.Common.{◌≡◌, ◌≢◌, ℕ, zero, suc, ◌+◌, ◌-◌, ◌*◌, ◌%◌, ◌<◌, ◌≤◌, ◌==◌, Bool, bit_xor, inl, inr, sym, ap, subst, ◌∙◌, refl, arith}
+use Rattle.std.specs.Int.{bit_at}
+use Rattle.std.proofs.lemmas.Bool.{cases_lt, false≢true}
+use Rattle.std.proofs.lemmas.Nat.Bits.{bit_at_xor, bit_at-lt}
+use Rattle.key_trie.specs.Key.{Agree}
+
+-- Words that differ.
+
+pub same_bit : (a b i : ℕ) → bit_at (bit_xor a b) i ≡ 0 → (bit_at a i == 1) ≡ (bit_at b i == 1)
+same_bit a b i e =
+    let parts : (bit_at a i + bit_at b i) % 2 ≡ 0 = sym (bit_at_xor a b i) ∙ e in
+    let low : bit_at a i < 2 = bit_at-lt a i in
+    let high : bit_at b i < 2 = bit_at-lt b i in
+    let same : bit_at a i ≡ bit_at b i = grind arith in
+    ap (λ n. n == 1) same
+
+one_bit : (x y : ℕ) → x < 2 → y < 2 → (x == 1) ≡ (y == 1) → x ≡ y
+one_bit zero zero h g e = refl
+one_bit zero (suc zero) h g e = absurd (false≢true e)
+one_bit zero (suc (suc y)) h g e = absurd (omega (arith, g))
+one_bit (suc zero) zero h g e = absurd (false≢true (sym e))
+one_bit (suc zero) (suc zero) h g e = refl
+one_bit (suc zero) (suc (suc y)) h g e = absurd (omega (arith, g))
+one_bit (suc (suc x)) y h g e = absurd (omega (arith, h))
+
+pub other_bits : (a b i : ℕ) → bit_at (bit_xor a b) i ≡ 1 → (bit_at a i == 1) ≢ (bit_at b i == 1)
+other_bits a b i e same =
+    let parts : (bit_at a i + bit_at b i) % 2 ≡ 1 = sym (bit_at_xor a b i) ∙ e in
+    let one : bit_at a i ≡ bit_at b i = one_bit (bit_at a i) (bit_at b i) (bit_at-lt a i) (bit_at-lt b i) same in
+    let low : bit_at a i < 2 = bit_at-lt a i in
+    grind arith
+
+-- one word more of two keys
+module _ (x y : ℕ → Bool) (a b index : ℕ) (is_a : (col : ℕ) → col < 64 → (bit_at a col == 1) ≡ x (64 * index + col)) (is_b : (col : ℕ) → col < 64 → (bit_at b col == 1) ≡ y (64 * index + col)) (before : Agree x y (64 * index)) where
+  pub agree_farther : (n : ℕ) → n ≤ 64 → ((i : ℕ) → i < n → bit_at (bit_xor a b) i ≡ 0) → Agree x y (64 * index + n)
+  agree_farther n few same = record {
+    each = λ p h. elim (cases_lt p (64 * index)) [
+      | inl low ↦ before.each p low
+      | inr high ↦
+          let col = p - 64 * index in
+          let at : 64 * index + col ≡ p = omega (arith, high) in
+          let less : col < n = omega (arith, high, h) in
+          subst (λ m. x m ≡ y m) at (sym (is_a col (omega (arith, less, few))) ∙ same_bit a b col (same col less) ∙ is_b col (omega (arith, less, few)))
+    ];
+  }
+
+  pub parts_there : (col : ℕ) → col < 64 → bit_at (bit_xor a b) col ≡ 1 → x (64 * index + col) ≢ y (64 * index + col)
+  parts_there col low e same = other_bits a b col e (is_a col low ∙ same ∙ sym (is_b col low))

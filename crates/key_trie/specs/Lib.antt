@@ -1,0 +1,3 @@
+-- What the public contracts cite.
+pub mod Key
+pub mod Trie

@@ -1,0 +1,268 @@
+//! The trie: walks down it, and one item more or less.
+
+ghost use Rattle.std.specs.Prelude.{◌≡◌, ℕ, ◌+◌, ◌<◌, ◌≤◌, ◌^◌, Bool, length, IfOk, OnOk, OnErr};
+ghost use Rattle.std.specs.Vec.{vec_capacity};
+ghost use Rattle.key_trie.specs.Key.{Agree};
+ghost use Rattle.key_trie.specs.Trie.{nodes_of, item_count, room_of, kid_of, IsIn, kid_at, HasRoom, IsTrie, IsWayTo, IsNearest, IsParting, IsOpening, with_named, without_newest};
+
+use crate::key::{Key, MAX_WIDTH};
+use crate::node::{Node, lone_node, parted_node};
+use std::alloc::{AllocError, Global};
+
+/// The number of items that a new trie has room for.
+const FIRST_ROOM: usize = 256;
+
+/// The most items that a trie has: each number of an item is below 2^32.
+const MOST: usize = 0xffff_ffff;
+
+/// A side of a node, for the bits that are clear or for those that are set. It names a node below, or an item.
+#[derive(Clone, Copy)]
+pub struct Slot {
+    pub(crate) node: u32,
+    pub(crate) side: bool,
+}
+
+/// A trie of items with keys, numbered from 0.
+#[derive(Drop)]
+pub struct Trie {
+    nodes: Vec<Node>,
+}
+
+impl Trie {
+    /// A trie of no items, with room for 256. `AllocError` comes if memory for it was refused.
+    #[inline]
+    pub fn new(alloc: Global) -> Result<Trie, AllocError>
+        ensures trie { IfOk result (λ trie. (width : ℕ) (keys : ℕ → ℕ → Bool) → IsTrie width keys trie) }
+        ensures none { IfOk result (λ trie. item_count trie ≡ 0) }
+        ensures room { IfOk result (λ trie. (256 ≤ room_of trie) × (room_of trie < 2 ^ 32)) }
+    {
+        Ok(Trie {
+            nodes: Vec::with_capacity(alloc, FIRST_ROOM)?,
+        })
+    }
+
+    /// The number of items. The next item gets this number.
+    #[inline]
+    pub fn len(&self) -> usize
+        ensures { result ≡ item_count self.now }
+    {
+        self.nodes.len()
+    }
+
+    /// The number of items that there is room for, those in the trie included.
+    #[inline]
+    pub fn room(&self) -> usize
+        ensures { result ≡ room_of self.now }
+    {
+        self.nodes.capacity()
+    }
+
+    /// Makes room for more items: for twice as many and 256 more, but for 2^32 - 1 at most. `AllocError` comes if memory for this was refused,
+    /// and if there is room for the most already. Then nothing is changed.
+    #[inline(never)]
+    pub fn make_room(&mut self) -> Result<(), AllocError>
+        requires { room_of self.old < 2 ^ 32 }
+        ensures items { nodes_of self.new ≡ nodes_of self.old }
+        ensures ok { OnOk result (room_of self.old < room_of self.new) }
+        ensures err { OnErr result (room_of self.new ≡ room_of self.old) }
+        ensures most { room_of self.new < 2 ^ 32 }
+    {
+        let room = self.nodes.capacity();
+        if room >= MOST {
+            return Err(AllocError);
+        }
+        let wanted = MOST.min(2 * room + FIRST_ROOM);
+        self.nodes.reserve_exact(wanted - self.nodes.len())?;
+        Ok(())
+    }
+
+    /// Forgets all items. The room stays.
+    #[inline]
+    pub fn clear(&mut self)
+        ensures trie { (width : ℕ) (keys : ℕ → ℕ → Bool) → IsTrie width keys self.new }
+        ensures none { item_count self.new ≡ 0 }
+        ensures room { room_of self.new ≡ room_of self.old }
+    {
+        self.nodes.clear();
+    }
+
+    /// What a slot names: the number of a node, which is also that of its item.
+    #[inline]
+    pub fn kid(&self, slot: Slot) -> u32
+        requires { IsIn self.now slot }
+        ensures { result ≡ kid_at self.now slot }
+    {
+        kid(&self.nodes, slot)
+    }
+
+    /// The slot where the walk by the bits of a key ends, before the place `end`. The walk takes at most `end` steps.
+    pub fn descend<K: Key>(&self, key: &K, end: u32) -> Slot
+        requires trie { (width : ℕ) × (keys : ℕ → ℕ → Bool) × IsTrie width keys self.now }
+        requires some { 0 < item_count self.now }
+        ensures there { IsIn self.now result }
+        ensures way { (width : ℕ) (keys : ℕ → ℕ → Bool) → IsTrie width keys self.now → IsWayTo keys self.now (K.bits key.now) end result }
+    {
+        let nodes = self.nodes.as_slice();
+        let mut slot = Slot {
+            node: 0,
+            side: false,
+        };
+        let mut depth: u32 = 0;
+        let mut below = kid(nodes, slot);
+        let mut deeper = u32::from(nodes[below as usize].depth);
+        'down: while depth < deeper && deeper <= end {
+            slot = Slot {
+                node: below,
+                side: key.bit(deeper - 1),
+            };
+            depth = deeper;
+            below = kid(nodes, slot);
+            deeper = u32::from(nodes[below as usize].depth);
+        }
+        slot
+    }
+
+    /// The slot where an item comes in that parts at a place. Up to that place, the item has the bits of `key`; `from` is where the walk by
+    /// them ends before some place behind. This takes at most one walk.
+    pub fn opening<K: Key>(&self, key: &K, from: Slot, place: u32) -> Slot
+        requires trie { (width : ℕ) × (keys : ℕ → ℕ → Bool) × IsTrie width keys self.now }
+        requires from { IsIn self.now from }
+        ensures there { IsIn self.now result }
+        ensures opening { (width : ℕ) (keys : ℕ → ℕ → Bool) (bits : ℕ → Bool) (end : ℕ) → IsTrie width keys self.now
+            → IsWayTo keys self.now (K.bits key.now) end from → place < end → Agree (K.bits key.now) bits (place + 1)
+            → IsParting (item_count self.now) keys bits (kid_at self.now from) place
+            → IsOpening keys self.now bits result place }
+    {
+        // mostly the item parts from the others behind all places of the walk
+        if u32::from(self.nodes[from.node as usize].depth) <= place {
+            return from;
+        }
+        self.descend(key, place)
+    }
+
+    /// The item that is as `key` at least as far as any other is, as far as `end`. (Behind that place it may be any item that is so.) This
+    /// takes one walk.
+    pub fn nearest<K: Key>(&self, key: &K, end: u32) -> usize
+        requires trie { (width : ℕ) × (keys : ℕ → ℕ → Bool) × IsTrie width keys self.now }
+        requires some { 0 < item_count self.now }
+        ensures there { result < item_count self.now }
+        ensures nearest { (width : ℕ) (keys : ℕ → ℕ → Bool) → IsTrie width keys self.now → end ≤ width
+            → IsNearest keys self.now (K.bits key.now) end result }
+    {
+        self.kid(self.descend(key, end)) as usize
+    }
+
+    /// Adds the first item. There must be room for it.
+    #[inline]
+    pub fn plant(&mut self)
+        requires none { item_count self.old ≡ 0 }
+        requires room { 0 < room_of self.old }
+        ensures trie { (width : ℕ) (keys : ℕ → ℕ → Bool) → IsTrie width keys self.new }
+        ensures one { item_count self.new ≡ 1 }
+        ensures room { room_of self.new ≡ room_of self.old }
+    {
+        self.nodes.push_reserved(lone_node(0));
+    }
+
+    /// Adds an item whose key equals that of an earlier one. There must be room for it.
+    #[inline]
+    pub fn repeat(&mut self)
+        requires some { 0 < item_count self.old }
+        requires room { HasRoom self.old }
+        ensures trie { (width : ℕ) (keys : ℕ → ℕ → Bool) (item : ℕ) → IsTrie width keys self.old → item < item_count self.old
+            → Agree (keys item) (keys (item_count self.old)) width → IsTrie width keys self.new }
+        ensures more { item_count self.new ≡ item_count self.old + 1 }
+        ensures room { room_of self.new ≡ room_of self.old }
+    {
+        let number = self.nodes.len() as u32;
+        self.nodes.push_reserved(lone_node(number));
+    }
+
+    /// Adds an item that parts from the others at a place. Up to that place, the item has the bits of `key`. There must be room for it. This
+    /// takes one walk.
+    pub fn part<K: Key>(&mut self, key: &K, place: u32)
+        requires trie { (width : ℕ) × (keys : ℕ → ℕ → Bool) × IsTrie width keys self.old }
+        requires some { 0 < item_count self.old }
+        requires room { HasRoom self.old }
+        requires within { place < MAX_WIDTH }
+        ensures trie { (width : ℕ) (keys : ℕ → ℕ → Bool) (item : ℕ) → IsTrie width keys self.old → place < width
+            → Agree (K.bits key.now) (keys (item_count self.old)) (place + 1)
+            → IsParting (item_count self.old) keys (keys (item_count self.old)) item place → IsTrie width keys self.new }
+        ensures more { item_count self.new ≡ item_count self.old + 1 }
+        ensures room { room_of self.new ≡ room_of self.old }
+    {
+        let slot = self.descend(key, place);
+        self.insert(slot, place, key.bit(place));
+    }
+
+    /// Adds an item that comes in at a slot: there it parts from the others at a place. It has that bit there. There must be room for it.
+    #[inline]
+    pub fn insert(&mut self, slot: Slot, place: u32, bit: bool)
+        requires slot { IsIn self.old slot }
+        requires room { HasRoom self.old }
+        requires within { place < MAX_WIDTH }
+        ensures trie { (width : ℕ) (keys : ℕ → ℕ → Bool) → IsTrie width keys self.old → place < width
+            → IsOpening keys self.old (keys (item_count self.old)) slot place → keys (item_count self.old) place ≡ bit
+            → IsTrie width keys self.new }
+        ensures more { item_count self.new ≡ item_count self.old + 1 }
+        ensures room { room_of self.new ≡ room_of self.old }
+    {
+        let number = self.nodes.len() as u32;
+        let node = parted_node(place, slot, bit, number, self.kid(slot));
+        name(&mut self.nodes, slot, number);
+        self.nodes.push_reserved(node);
+    }
+
+    /// Takes the newest item back. The slot that named its node names again what it named before.
+    #[inline]
+    pub fn take_back(&mut self)
+        requires trie { (width : ℕ) × (keys : ℕ → ℕ → Bool) × IsTrie width keys self.old }
+        requires some { 0 < item_count self.old }
+        requires few { item_count self.old ≤ 2 ^ 32 }
+        ensures back { nodes_of self.new ≡ without_newest (nodes_of self.old) }
+        ensures trie { (width : ℕ) (keys : ℕ → ℕ → Bool) → IsTrie width keys self.old → IsTrie width keys self.new }
+        ensures fewer { item_count self.old ≡ item_count self.new + 1 }
+        ensures room { room_of self.new ≡ room_of self.old }
+    {
+        let newest = self.nodes.pop().unwrap();
+        let number = self.nodes.len() as u32;
+        if newest.up == number {
+            return;
+        }
+        let slot = Slot {
+            node: newest.up,
+            side: newest.up_side,
+        };
+        let below = if newest.off == number {
+            newest.on
+        } else {
+            newest.off
+        };
+        name(&mut self.nodes, slot, below);
+    }
+}
+
+/// What a slot names.
+#[inline]
+fn kid(nodes: &[Node], slot: Slot) -> u32
+    requires { slot.node < length nodes.now }
+    ensures { result ≡ kid_of nodes.now slot.node slot.side }
+{
+    let node = nodes[slot.node as usize];
+    if slot.side { node.on } else { node.off }
+}
+
+/// Lets a slot name something else.
+#[inline]
+fn name(nodes: &mut Vec<Node>, slot: Slot, kid: u32)
+    requires { slot.node < length nodes.old.items }
+    ensures named { nodes.new.items ≡ with_named nodes.old.items slot.node slot.side kid }
+    ensures room { vec_capacity nodes.new ≡ vec_capacity nodes.old }
+{
+    let node = &mut nodes[slot.node as usize];
+    if slot.side {
+        node.on = kid;
+    } else {
+        node.off = kid;
+    }
+}
