@@ -1,15 +1,15 @@
 //! What a colouring is looked up by, as a string of bits: first its print, then the number of the first colouring of its stretch,
 //! then what stands on each row. So colourings with another print, and those of other stretches, part from it at the first bits.
 
-ghost use Rattle.std.specs.Prelude.{◌≡◌, ◌≢◌, ℕ, ◌+◌, ◌*◌, ◌/◌, ◌%◌, ◌<◌, ◌≤◌, Bool, MatchOption};
+ghost use Rattle.std.specs.Prelude.{◌≡◌, ◌≢◌, ℕ, ◌+◌, ◌*◌, ◌/◌, ◌%◌, ◌<◌, ◌≤◌, MatchOption};
 ghost use Rattle.go_board.specs.inner.Key.{key_bits, bits_of};
-ghost use Rattle.go_board.specs.inner.Rows.{has_bit};
+ghost use Rattle.board_points.specs.Rows.{has_bit};
 ghost use Rattle.go_board.specs.inner.Trie.{Agree};
 
 use crate::board::Board;
-use crate::board::stone_rows::has_column;
-use crate::size::MAX_ROWS;
 use crate::stones::Colour;
+use board_points::MAX_ROWS;
+use board_points::columns::has_column;
 
 /// The bits of a word.
 pub(crate) const WORD: u32 = 64;

@@ -11,7 +11,7 @@
 //! This is so once `link` has put all colourings into the trie. `gap` calls it first: the past asks `gap` for a stone that `may_have`
 //! doesn't answer (see `filter`). `has` asks no trie: it compares one by one.
 
-ghost use Rattle.std.specs.Prelude.{◌≡◌, ◌↔◌, ◌+◌, ◌<◌, ◌≤◌, ◌^◌, [], ◌∷◌, List, length, slice_index, IsTrue, IsFalse, IfSome, IfOk, OnOk, OnErr, Contains};
+ghost use Rattle.std.specs.Prelude.{◌≡◌, ◌↔◌, ◌+◌, ◌<◌, ◌≤◌, ◌^◌, [], ◌∷◌, List, length, IsTrue, IsFalse, IfSome, IfOk, OnOk, OnErr, Contains};
 ghost use Rattle.std.specs.Vec.{vec_capacity};
 ghost use Rattle.go_board.specs.declared.quick.print_past.trie.Node.{Node};
 ghost use Rattle.go_board.specs.Grid.{Grid};
@@ -23,7 +23,6 @@ ghost use Rattle.go_board.specs.inner.Table.{HasRoomForNext, IsGap, IsTable};
 ghost use Rattle.go_board.specs.inner.Trie.{Agree};
 
 use crate::board::Board;
-use crate::board::stone_rows::has_column;
 use crate::fault::MemoryFault;
 use crate::quick::print_past::colourings::Colourings;
 use crate::quick::print_past::filter::Filter;
@@ -31,6 +30,7 @@ use crate::quick::print_past::key::{FRONT, Key, WIDTH, WORD, first_difference};
 use crate::quick::print_past::trie::{
     Node, Slot, descend, insert, kid, nearest, opening, part, plant, repeat, take_back,
 };
+use board_points::columns::has_column;
 use std::alloc::Global;
 
 /// The number of colourings that a new table has room for.
