@@ -5,21 +5,25 @@
 # keeps of it, and the peak of one long game. If the variable TURNS names a program that prints the same times of another referee, the
 # two run by turns. The least time of ROUNDS runs (5) is printed for each.
 # The programs aren't crates of this repository, so that the gate doesn't prove them. They are built in the folder that BENCH_FOLDER
-# names, beside copies of go_board and key_trie. The first run proves all four, which takes minutes. A later run in the same folder takes seconds.
+# names, beside copies of board_points, key_trie and go_board. The first run proves all five, which takes minutes. A later run in the same folder
+# takes seconds.
 # Numbers from a busy machine are worth little.
 set -eu
 top=$(cd "$(dirname "$0")/.." && pwd)
 folder=${BENCH_FOLDER:-${TMPDIR:-/tmp}/sgfsplit-bench-board}
 for name in board memory; do
-    mkdir -p "$folder/crates/go_board" "$folder/crates/key_trie" "$folder/crates/bench_$name/src" "$folder/crates/bench_$name/specs"
+    mkdir -p "$folder/crates/bench_$name/src" "$folder/crates/bench_$name/specs"
     cp "$top/bench/board/$([ $name = board ] && echo main || echo memory).rt.in" "$folder/crates/bench_$name/src/main.rt"
     : > "$folder/crates/bench_$name/specs/Lib.antt"
 done
 cp "$top/HANDLES" "$folder/HANDLES"
-printf 'key_trie:\ngo_board: key_trie\nbench_board: go_board\nbench_memory: go_board\n' > "$folder/crates.txt"
-for part in go_board/src go_board/specs go_board/proofs key_trie/src key_trie/specs key_trie/proofs; do
-    rm -rf "$folder/crates/$part"
-    cp -R "$top/crates/$part" "$folder/crates/$part"
+printf 'board_points:\nkey_trie:\ngo_board: board_points key_trie\nbench_board: board_points go_board\nbench_memory: board_points go_board\n' > "$folder/crates.txt"
+for library in board_points key_trie go_board; do
+    mkdir -p "$folder/crates/$library"
+    for part in src specs proofs; do
+        rm -rf "$folder/crates/$library/$part"
+        cp -R "$top/crates/$library/$part" "$folder/crates/$library/$part"
+    done
 done
 for name in board memory; do
     cd "$folder/crates/bench_$name"

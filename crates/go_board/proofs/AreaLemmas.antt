@@ -1,26 +1,15 @@
 -- An area coloured row by row.
-use Rattle.std.proofs.Common.{◌≡◌, ℕ, ◌+◌, ◌-◌, ◌*◌, ◌%◌, ◌^◌, ◌<◌, ◌≤◌, ◌&&◌, true, nat_le, List, [], ◌∷◌, fold, length, get_or, take, refl, ◌∙◌, arith}
+use Rattle.std.proofs.Common.{◌≡◌, ℕ, ◌+◌, ◌<◌, ◌≤◌, ◌&&◌, true, nat_le, List, [], ◌∷◌, fold, length, get_or, take, refl, ◌∙◌, arith}
 use Rattle.std.proofs.lemmas.Grind.{common_steps}
 use Rattle.std.proofs.Math.Bool.{and-true}
 use Rattle.std.proofs.lemmas.List.Sums.{fold_more}
 use Rattle.std.proofs.lemmas.Bool.{leb-true, le-leb, and_from, and_parts}
-use Rattle.std.proofs.Math.Nat.{mod-eq_of_lt}
-use Rattle.std.proofs.lemmas.Nat.{pow_below}
-use Rattle.std.proofs.lemmas.Nat.Bits.{bit_at_mask_inside, bit_at_mask_below, bit_at_mask_above}
-use Rattle.go_board.specs.declared.points.Point.{Point}
-use Rattle.go_board.specs.declared.points.Rect.{Rect}
+use Rattle.board_points.specs.declared.points.Point.{Point}
+use Rattle.board_points.specs.declared.points.Rect.{Rect}
 use Rattle.go_board.specs.declared.referee.plays.SetupOp.{SetupOp}
 use Rattle.go_board.specs.Grid.{Grid}
 use Rattle.go_board.specs.State.{is_in, with_area}
-use Rattle.go_board.specs.inner.Rows.{has_bit}
-use Rattle.go_board.proofs.RegionLemmas.{same_bools}
-
--- the columns from one to another
-pub column_word : (k : ℕ) → k < 64 → 1 * 2 ^ k % 2 ^ 64 ≡ 2 ^ k
-column_word k low = grind (arith, common_steps, mod-eq_of_lt, pow_below)
-
-pub columns_between : (first last k : ℕ) → first ≤ last → last < 63 → has_bit (1 * 2 ^ (last + 1) % 2 ^ 64 - 1 * 2 ^ first % 2 ^ 64) k ≡ (nat_le first k && nat_le k last)
-columns_between first last k ordered few = grind (arith, common_steps, and_from, and_parts, bit_at_mask_above, bit_at_mask_below, bit_at_mask_inside, column_word, le-leb, leb-true, nat_le, same_bools)
+use Rattle.board_points.specs.Rows.{has_bit}
 
 -- in the rows of an area the columns between its sides are its points
 pub area_columns : (area : Rect) (columns : ℕ) (p : Point) → ((k : ℕ) → has_bit columns k ≡ (nat_le area.first.col k && nat_le k area.last.col)) → area.first.row ≤ p.row → p.row ≤ area.last.row → has_bit columns p.col ≡ is_in area p

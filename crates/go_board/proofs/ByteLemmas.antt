@@ -6,7 +6,7 @@ use Rattle.std.proofs.lemmas.List.FromFn.{get_or-map-range_with_len}
 use Rattle.go_board.specs.declared.quick.print_past.bytes.TheConstants.{NUMBERS}
 use Rattle.go_board.specs.inner.Print.{word_number}
 use Rattle.go_board.proofs.PrintLemmas.{in_base-same}
-use Rattle.go_board.proofs.WordLemmas.{bit_at-mod}
+use Rattle.board_points.proofs.WordLemmas.{bit_at-mod}
 
 all_numbers : NUMBERS ≡ map (word_number 8) (range_with_len 0 256)
 all_numbers = refl

@@ -6,22 +6,22 @@ use Rattle.std.proofs.lemmas.List.{append-nil, take-append-drop, length-set}
 use Rattle.std.proofs.lemmas.List.Elements.{All-nil, All-push, All-head, All-tail, All-weaker}
 use Rattle.go_board.specs.declared.stones.Cell.{Cell}
 use Rattle.go_board.specs.declared.stones.Cell.TheVariants.{Black, White, Empty}
-use Rattle.go_board.specs.declared.points.Point.{Point}
+use Rattle.board_points.specs.declared.points.Point.{Point}
 use Rattle.go_board.specs.declared.quick.print_past.changes.Change.{Change}
 use Rattle.go_board.specs.declared.stones.Colour.{Colour}
 use Rattle.go_board.specs.Colour.{same_cell, stone_of}
-use Rattle.go_board.specs.Point.{IsOn, index_of}
+use Rattle.board_points.specs.Point.{IsOn, index_of}
 use Rattle.go_board.specs.Grid.{Grid, cell_at, grid_of}
 use Rattle.go_board.specs.Clearing.{play}
 use Rattle.go_board.specs.inner.Groups.{IsMove, TakesOff}
 use Rattle.go_board.specs.inner.Regions.{with_row}
-use Rattle.go_board.specs.inner.Rows.{has_bit}
+use Rattle.board_points.specs.Rows.{has_bit}
 use Rattle.go_board.specs.inner.Changes.{with_change, after_changes, AddsRow, AreOn, IsChangeOn, IsRowOf, IsSameRow, HasRow, KeepRows, MakeOne}
 use Rattle.go_board.proofs.RuleLemmas.{false_from_Decides}
 use Rattle.go_board.proofs.GridLemmas.{cell_at-grid_of, length-grid_of, cell_at-with_cell_elsewhere}
 use Rattle.go_board.proofs.GroupLemmas.{grid_of-cells}
-use Rattle.go_board.proofs.GrowLemmas.{row_below}
-use Rattle.go_board.proofs.WordLemmas.{has_bit-zero}
+use Rattle.board_points.proofs.GrowLemmas.{row_below}
+use Rattle.board_points.proofs.WordLemmas.{has_bit-zero}
 
 -- two colourings of one side with the same on each point are one
 pub one_colouring : (g h : Grid) → g.side ≡ h.side → length g.cells ≡ g.side * g.side → length h.cells ≡ h.side * h.side → ((p : Point) → IsOn g.side p → cell_at g p ≡ cell_at h p) → g ≡ h

@@ -6,14 +6,14 @@ use Rattle.std.proofs.lemmas.List.{get_or_append_left, get_or-set_same, get_or-s
 use Rattle.std.proofs.lemmas.List.Elements.{All-push}
 use Rattle.go_board.specs.declared.quick.print_past.emptied.Emptied.{Emptied}
 use Rattle.go_board.specs.declared.quick.print_past.emptied.OldRow.{OldRow}
-use Rattle.go_board.specs.declared.points.Point.{Point}
+use Rattle.board_points.specs.declared.points.Point.{Point}
 use Rattle.go_board.specs.Past.{Held}
 use Rattle.go_board.specs.inner.Emptied.{HasAllEmptied, HasHistory, HasRowsBelow, IsBelow, IsEmptied, IsLogged}
 use Rattle.go_board.specs.inner.Key.{oldest}
-use Rattle.go_board.specs.inner.Rows.{has_bit, is_set, IsAmong}
+use Rattle.board_points.specs.Rows.{has_bit, is_set, IsAmong}
 use Rattle.go_board.proofs.RepeatLemmas.{HasAllEmptied-more}
-use Rattle.go_board.proofs.TakenLemmas.{AddedBelow}
-use Rattle.go_board.proofs.WordLemmas.{has_bit-or}
+use Rattle.board_points.proofs.RowLemmas.{AddedBelow}
+use Rattle.board_points.proofs.WordLemmas.{has_bit-or}
 
 oldest-same : (count : ℕ) (x : Held) (xs : List Held) → count ≤ length xs → oldest count (x ∷ xs) ≡ oldest count xs
 oldest-same count x xs le = let next : suc (length xs) - count ≡ suc (length xs - count) = omega (arith, le) in ap (λ n. drop n (x ∷ xs)) next

@@ -1,14 +1,12 @@
--- The definitions, computed on worked examples: small boards, and texts that name points.
-use Rattle.std.proofs.Common.{◌≡◌, ◌%◌, ◌^◌, true, false, [], ◌∷◌, refl, Some, None}
+-- The definitions, computed on worked examples: small boards.
+use Rattle.std.proofs.Common.{◌≡◌, ◌%◌, ◌^◌, true, false, [], ◌∷◌, refl}
 use Rattle.go_board.specs.declared.stones.Cell.TheVariants.{Black as B, White as W, Empty as E}
 use Rattle.go_board.specs.declared.stones.Colour.TheVariants.{Black, White}
-use Rattle.go_board.specs.Point.{points}
+use Rattle.board_points.specs.Point.{points}
 use Rattle.go_board.specs.Grid.{Grid, empty_grid, with_cell}
 use Rattle.go_board.specs.Reaching.{reaches, reaching_within, spread}
 use Rattle.go_board.specs.Clearing.{clear, play, cleared_cell, has_unreaching}
 use Rattle.go_board.specs.Score.{score_of, counts_for}
-use Rattle.go_board.specs.Values.{point_value, rect_value}
-use Rattle.go_board.specs.Vertex.{vertex_of}
 use Rattle.go_board.specs.inner.Print.{print_of}
 
 -- a black stone in the corner between two white ones
@@ -66,41 +64,6 @@ before_capture = record { side = 2; cells = E ∷ W ∷ W ∷ B ∷ [] }
 capture_comes_first : (play before_capture Black (record { col = 0; row = 0 })).cells ≡ B ∷ E ∷ E ∷ B ∷ []
 unfolding before_capture reaching_within spread points reaches clear cleared_cell play
 capture_comes_first = refl
-
--- `ZZ`, `Aa`, `aA`
-ZZ_on_52 : point_value (90 ∷ 90 ∷ []) 52 ≡ Some (record { col = 51; row = 51 })
-unfolding point_value
-ZZ_on_52 = refl
-
-Aa_on_26 : point_value (65 ∷ 97 ∷ []) 26 ≡ None
-unfolding point_value
-Aa_on_26 = refl
-
-Aa_on_27 : point_value (65 ∷ 97 ∷ []) 27 ≡ Some (record { col = 26; row = 0 })
-unfolding point_value
-Aa_on_27 = refl
-
-aA_on_25 : point_value (97 ∷ 65 ∷ []) 25 ≡ None
-unfolding point_value
-aA_on_25 = refl
-
--- `aa:ca` is the top row, `ab:ba` has its corners the wrong way round
-top_row : rect_value (97 ∷ 97 ∷ 58 ∷ 99 ∷ 97 ∷ []) 3 ≡ Some (record { first = record { col = 0; row = 0 }; last = record { col = 2; row = 0 } })
-unfolding rect_value
-top_row = refl
-
-other_corners : rect_value (97 ∷ 98 ∷ 58 ∷ 98 ∷ 97 ∷ []) 3 ≡ None
-unfolding rect_value
-other_corners = refl
-
--- J1 and Z25
-J1_on_9 : vertex_of (record { col = 8; row = 8 }) 9 ≡ record { letter = 74; row = 1 }
-unfolding vertex_of
-J1_on_9 = refl
-
-Z25_on_25 : vertex_of (record { col = 24; row = 0 }) 25 ≡ record { letter = 90; row = 25 }
-unfolding vertex_of
-Z25_on_25 = refl
 
 -- the low 14 bits of prints: black on `me` alone and on `yy` alone, white on `ca` alone
 black_on_me : print_of (with_cell (empty_grid 25) (record { col = 12; row = 4 }) B) % 2 ^ 14 ≡ 1

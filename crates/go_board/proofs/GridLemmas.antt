@@ -1,5 +1,5 @@
--- Reading the grids and markings that functions of the points make, and grids after a point was set.
-use Rattle.std.proofs.Common.{◌≡◌, ◌≢◌, ℕ, ◌*◌, Bool, false, length, get_or, refl, ap, ◌∙◌, Decides, rules, replicate, zero, suc, arith}
+-- Reading the grids that functions of the points make, and grids after a point was set.
+use Rattle.std.proofs.Common.{◌≡◌, ◌≢◌, ℕ, ◌*◌, length, refl, ap, ◌∙◌, Decides, rules, arith}
 use Rattle.std.proofs.lemmas.Grind.{common_steps}
 use Rattle.std.proofs.lemmas.List.{length-map, get_or-set_same, get_or-set_other}
 use Rattle.std.proofs.lemmas.Bool.Decides.{same_from_decides}
@@ -7,12 +7,11 @@ use denote.Enum.Bare.{sameb, same_true, true_same}
 use Rattle.go_board.specs.contracts.stones.Cell.{the_type}
 use Rattle.go_board.specs.declared.stones.Cell.{Cell}
 use Rattle.go_board.specs.declared.stones.Cell.TheVariants.{Black, White, Empty}
-use Rattle.go_board.specs.declared.points.Point.{Point}
+use Rattle.board_points.specs.declared.points.Point.{Point}
 use Rattle.go_board.specs.Colour.{same_cell}
-use Rattle.go_board.specs.Point.{IsOn, points}
+use Rattle.board_points.specs.Point.{IsOn, points}
 use Rattle.go_board.specs.Grid.{Grid, cell_at, with_cell, grid_of}
-use Rattle.go_board.specs.Marking.{is_marked, marking_of}
-use Rattle.go_board.proofs.PointLemmas.{index_below, index_of-injective, length-points, get_or-map-points}
+use Rattle.board_points.proofs.PointLemmas.{index_below, index_of-injective, length-points, get_or-map-points}
 
 pub Decides-same_cell : (a b : Cell) → Decides (same_cell a b) (a ≡ b)
 Decides-same_cell Black Black = (λ _. refl, λ _. refl)
@@ -45,20 +44,8 @@ cell_at-grid_of side colour p h = get_or-map-points colour side p Empty h
 pub length-grid_of : (side : ℕ) (colour : Point → Cell) → length (grid_of side colour).cells ≡ side * side
 length-grid_of side colour = length-map (points side) colour ∙ length-points side
 
-pub is_marked-marking_of : (side : ℕ) (test : Point → Bool) (p : Point) → IsOn side p → is_marked (marking_of side test) p ≡ test p
-is_marked-marking_of side test p h = get_or-map-points test side p false h
-
-pub length-marking_of : (side : ℕ) (test : Point → Bool) → length (marking_of side test).marks ≡ side * side
-length-marking_of side test = length-map (points side) test ∙ length-points side
-
 pub cell_at-with_cell : (g : Grid) (p : Point) (c : Cell) → IsOn g.side p → length g.cells ≡ g.side * g.side → cell_at (with_cell g p c) p ≡ c
 cell_at-with_cell g p c h all = grind (arith, common_steps, get_or-set_same, index_below)
 
 pub cell_at-with_cell_elsewhere : (g : Grid) (p q : Point) (c : Cell) → IsOn g.side p → IsOn g.side q → q ≢ p → cell_at (with_cell g p c) q ≡ cell_at g q
 cell_at-with_cell_elsewhere g p q c hp hq other = grind (arith, common_steps, get_or-set_other, index_of-injective)
-
--- a list of one value, read with that value for what is after its end
-pub get_or-replicate_default : {X : Type 0} (n i : ℕ) (d : X) → get_or (replicate n d) i d ≡ d
-get_or-replicate_default zero i d = refl
-get_or-replicate_default (suc n) zero d = refl
-get_or-replicate_default (suc n) (suc i) d = get_or-replicate_default n i d

@@ -7,12 +7,12 @@ use Rattle.go_board.specs.declared.stones.Cell.{Cell}
 use Rattle.go_board.specs.declared.stones.Cell.TheVariants.{Black as BlackStone, White as WhiteStone, Empty}
 use Rattle.go_board.specs.declared.stones.Colour.{Colour}
 use Rattle.go_board.specs.declared.stones.Colour.TheVariants.{Black, White}
-use Rattle.go_board.specs.declared.points.Point.{Point}
+use Rattle.board_points.specs.declared.points.Point.{Point}
 use Rattle.go_board.specs.Colour.{opponent, stone_of, same_cell}
-use Rattle.go_board.specs.Point.{IsOn, point_at}
+use Rattle.board_points.specs.Point.{IsOn, point_at}
 use Rattle.go_board.specs.Grid.{Grid, cell_at, grid_of}
 use Rattle.go_board.specs.Reaching.{Leads, Reaches}
-use Rattle.go_board.proofs.PointLemmas.{is_map-points, index_of-point_at, IsOn-point_at}
+use Rattle.board_points.proofs.PointLemmas.{is_map-points, index_of-point_at, IsOn-point_at}
 use Rattle.go_board.proofs.GridLemmas.{Decides-same_cell, cell_at-grid_of, length-grid_of}
 
 -- a point has that colour or not

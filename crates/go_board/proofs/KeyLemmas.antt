@@ -7,7 +7,7 @@ use Rattle.go_board.specs.declared.stones.Cell.TheVariants.{Black, White, Empty}
 use Rattle.go_board.specs.Colour.{same_cell}
 use Rattle.go_board.specs.Grid.{Grid, cell_at}
 use Rattle.go_board.specs.inner.Key.{has_stone, key_bit, key_bits}
-use Rattle.go_board.specs.inner.Rows.{has_bit}
+use Rattle.board_points.specs.Rows.{has_bit}
 use Rattle.key_trie.specs.Key.{Agree}
 use Rattle.go_board.proofs.ChangesLemmas.{one_colouring}
 use Rattle.go_board.proofs.StoneRowsLemmas.{bit_same}

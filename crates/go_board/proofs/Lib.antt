@@ -1,20 +1,14 @@
 mod Examples
-pub mod PointLemmas
-pub mod VertexLemmas
 pub mod GridLemmas
 pub mod ReachingLemmas
 pub mod RuleLemmas
 pub mod GroupLemmas
 pub mod SettledLemmas
-pub mod SearchLemmas
-pub mod WordLemmas
-pub mod CarryLemmas
-pub mod GrowLemmas
-pub mod LinkedLemmas
+pub mod FloodLemmas
 pub mod RegionLemmas
-pub mod HalvesLemmas
+pub mod BothAreasLemmas
 pub mod LibertyLemmas
-pub mod CountLemmas
+pub mod ScoreLemmas
 pub mod SweepLemmas
 pub mod ListPastLemmas
 pub mod EarlierLemmas

@@ -1,29 +1,27 @@
 -- What the rows of words tell of a grid: whether a stone reaches empty, or its group has no liberty, and which stones of a colour don't reach empty.
-use Rattle.std.proofs.Common.{◌≡◌, Decides, inl, inr, ℕ, ◌≤◌, ◌&&◌, Bool, true, false, not, List, [], ◌∷◌, length, refl, sym, ap, ◌∙◌, arith, subst, ◌<◌, slice_index, bit_and}
+use Rattle.std.proofs.Common.{◌≡◌, Decides, inl, inr, ℕ, ◌≤◌, ◌&&◌, Bool, true, false, not, List, [], ◌∷◌, length, refl, sym, ap, ◌∙◌, arith, subst, ◌<◌, slice_index}
 use Rattle.std.proofs.lemmas.Grind.{common_steps}
 use Rattle.std.proofs.lemmas.Bool.{and_parts, and_from, false≢true, cases_Bool}
 use Rattle.go_board.specs.declared.stones.Cell.{Cell}
 use Rattle.go_board.specs.declared.stones.Cell.TheVariants.{Empty}
 use Rattle.go_board.specs.declared.stones.Colour.{Colour}
 use Rattle.go_board.specs.declared.stones.Colour.TheVariants.{Black, White}
-use Rattle.go_board.specs.declared.points.Point.{Point}
+use Rattle.board_points.specs.declared.points.Point.{Point}
 use Rattle.go_board.specs.Colour.{opponent, stone_of, same_cell}
-use Rattle.go_board.specs.Point.{IsOn}
+use Rattle.board_points.specs.Point.{IsOn}
 use Rattle.go_board.specs.Grid.{Grid, cell_at}
 use Rattle.go_board.specs.inner.Groups.{AllReach, is_shut, IsWithoutLiberty}
-use Rattle.go_board.specs.inner.Rows.{is_set, IsAmong, IsClosed, Grows, has_bit}
-use Rattle.go_board.specs.inner.Regions.{AreRowsOf, IsDifference, HaveLiberty}
-use Rattle.go_board.specs.inner.Linked.{IsFree, HasLiberty, IsLiberty, IsShutIn}
+use Rattle.board_points.specs.Rows.{is_set, IsAmong, IsClosed, Grows, has_bit, AreRowsOf, IsDifference}
+use Rattle.board_points.specs.Linked.{HaveLiberty, IsFree, HasLiberty, IsLiberty, IsShutIn}
 use Rattle.go_board.specs.Reaching.{Leads, reaches, Reaches}
 use Rattle.go_board.specs.Clearing.{has_unreaching}
 use Rattle.go_board.proofs.GridLemmas.{Decides-same_cell}
 use Rattle.go_board.proofs.SettledLemmas.{both_reach, AllReach-settled}
 use Rattle.go_board.proofs.ReachingLemmas.{Decides-reaches, path_by_step}
 use Rattle.go_board.proofs.GroupLemmas.{stone_of≢Empty, neither_stone}
-use Rattle.go_board.proofs.PointLemmas.{AreAdjacent-sym}
-use Rattle.go_board.proofs.GrowLemmas.{Grows-none, row_below}
-use Rattle.go_board.proofs.WordLemmas.{in_the_other, has_bit-and}
-use Rattle.go_board.proofs.RegionLemmas.{same_bools}
+use Rattle.board_points.proofs.PointLemmas.{AreAdjacent-sym}
+use Rattle.board_points.proofs.GrowLemmas.{Grows-none}
+use Rattle.board_points.proofs.WordLemmas.{in_the_other, same_bools}
 
 -- a stone with a liberty reaches empty
 pub liberty_reaches : (g : Grid) (k : Colour) (own others : List ℕ) → length own ≡ g.side → AreRowsOf g.side (λ p. same_cell (cell_at g p) (stone_of k)) own → AreRowsOf g.side (λ p. same_cell (cell_at g p) (stone_of (opponent k))) others → (p : Point) → IsOn g.side p → HasLiberty own others p → Reaches g Empty p
@@ -95,20 +93,6 @@ rows_of_colour g k d rows is are = subst (λ c. AreRowsOf g.side (λ p. same_cel
 -- the rows of the other colour
 pub rows_of_opponent : (g : Grid) (k d : Colour) (rows : List ℕ) → d ≡ opponent k → AreRowsOf g.side (λ p. same_cell (cell_at g p) (stone_of d)) rows → AreRowsOf g.side (λ p. same_cell (cell_at g p) (stone_of (opponent k))) rows
 rows_of_opponent g k d rows is are = subst (λ c. AreRowsOf g.side (λ p. same_cell (cell_at g p) (stone_of c)) rows) is are
-
--- a word has the stones of a row that have a liberty
-pub record AreAlive (own others : List ℕ) (row alive : ℕ) : Type 0 where
-  pub from : (col : ℕ) → has_bit alive col ≡ true → (has_bit (slice_index own row) col ≡ true) × HasLiberty own others (record { col = col; row = row })
-  pub to : (col : ℕ) → col < 64 → has_bit (slice_index own row) col ≡ true → HasLiberty own others (record { col = col; row = row }) → has_bit alive col ≡ true
-
-pub AreAlive-row : (own others : List ℕ) (row wide : ℕ) → ((col : ℕ) → has_bit wide col ≡ true → HasLiberty own others (record { col = col; row = row })) → ((col : ℕ) → col < 64 → HasLiberty own others (record { col = col; row = row }) → has_bit wide col ≡ true) → AreAlive own others row (bit_and (slice_index own row) wide)
-AreAlive-row own others row wide from to = grind (arith, common_steps, and_from, and_parts, has_bit-and, slice_index)
-
-pub HaveLiberty-all : (own others alive : List ℕ) → length alive ≡ length own → ((r : ℕ) → r < length own → AreAlive own others r (slice_index alive r)) → HaveLiberty own others alive
-HaveLiberty-all own others alive long each = record {
-  from = λ q is. (each q.row (rw (← long) (row_below alive q is))).from q.col is;
-  to = λ q low stone free. (each q.row (row_below own q stone)).to q.col low stone free;
-}
 
 empty_apart : (k : Colour) (c : Cell) → c ≡ Empty → same_cell c (stone_of k) ≡ false
 empty_apart k c is = grind (arith, common_steps)

@@ -11,15 +11,15 @@ use Rattle.std.proofs.lemmas.List.{take_all, get_or-set_same, get_or-set_other, 
 use Rattle.std.proofs.lemmas.List.Sums.{fold_more}
 use Rattle.go_board.specs.declared.stones.Cell.{Cell}
 use Rattle.go_board.specs.declared.stones.Cell.TheVariants.{Black, White, Empty}
-use Rattle.go_board.specs.declared.points.Point.{Point}
+use Rattle.board_points.specs.declared.points.Point.{Point}
 use Rattle.go_board.specs.Colour.{same_cell}
-use Rattle.go_board.specs.Point.{IsOn, index_of}
+use Rattle.board_points.specs.Point.{IsOn, index_of}
 use Rattle.go_board.specs.Grid.{Grid, cell_at, with_cell}
 use Rattle.go_board.specs.inner.Print.{code, print_of, in_base, row_number, word_number, row_within, number_within}
-use Rattle.go_board.specs.inner.Rows.{has_bit, is_set}
-use Rattle.go_board.proofs.PointLemmas.{index_below}
+use Rattle.board_points.specs.Rows.{has_bit, is_set}
+use Rattle.board_points.proofs.PointLemmas.{index_below}
 use Rattle.go_board.proofs.StoneRowsLemmas.{bit_same}
-use Rattle.go_board.proofs.WordLemmas.{bit_at-there, bit_at-gone, bit_at-mod, has_bit-and, has_bit-zero}
+use Rattle.board_points.proofs.WordLemmas.{bit_at-there, bit_at-gone, bit_at-mod, has_bit-and, has_bit-zero}
 
 pub in_base-more : (base n : ℕ) (d : ℕ → ℕ) → in_base base (n + 1) d ≡ base * in_base base n d + d n
 in_base-more base n d = let next : n + 1 ≡ suc n = omega arith in ap (λ m. in_base base m d) next

@@ -4,14 +4,15 @@ use Rattle.std.proofs.lemmas.Grind.{common_steps}
 use Rattle.std.proofs.lemmas.List.Sums.{count_by-le-length, sum_by-cons}
 use Rattle.std.proofs.lemmas.Bool.Decides.{Decides-and, Decides-or, Decides-at, Decides-like}
 use Rattle.go_board.specs.declared.stones.Cell.{Cell}
-use Rattle.go_board.specs.declared.points.Point.{Point}
+use Rattle.board_points.specs.declared.points.Point.{Point}
 use Rattle.go_board.specs.Colour.{same_cell}
-use Rattle.go_board.specs.Point.{IsOn, AreAdjacent, point_at}
+use Rattle.board_points.specs.Point.{IsOn, AreAdjacent, point_at}
 use Rattle.go_board.specs.Grid.{Grid, cell_at}
-use Rattle.go_board.specs.Marking.{Marking, is_marked}
+use Rattle.board_points.specs.Marking.{Marking, is_marked}
 use Rattle.go_board.specs.Reaching.{Leads, Reaches, leads_on, spread, reaching_within, reaches}
-use Rattle.go_board.proofs.PointLemmas.{Decides-some_point, Decides-are_adjacent, index_of-point_at, IsOn-point_at}
-use Rattle.go_board.proofs.GridLemmas.{Decides-same_cell, is_marked-marking_of, length-marking_of}
+use Rattle.board_points.proofs.PointLemmas.{Decides-some_point, Decides-are_adjacent, index_of-point_at, IsOn-point_at}
+use Rattle.go_board.proofs.GridLemmas.{Decides-same_cell}
+use Rattle.board_points.proofs.MarkingLemmas.{is_marked-marking_of, length-marking_of}
 
 -- p reaches the colour k in at most n steps
 Within : Grid → Cell → ℕ → Point → Type 0

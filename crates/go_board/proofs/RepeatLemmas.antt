@@ -4,17 +4,17 @@ use Rattle.std.specs.Result.{IsErr}
 use Rattle.std.proofs.lemmas.Bool.{cases_Bool, false≢true}
 use Rattle.go_board.specs.declared.stones.Cell.TheVariants.{Empty}
 use Rattle.go_board.specs.declared.stones.Colour.{Colour}
-use Rattle.go_board.specs.declared.points.Point.{Point}
+use Rattle.board_points.specs.declared.points.Point.{Point}
 use Rattle.go_board.specs.Colour.{same_cell, stone_of}
-use Rattle.go_board.specs.Point.{IsOn}
+use Rattle.board_points.specs.Point.{IsOn}
 use Rattle.go_board.specs.Grid.{Grid, cell_at}
 use Rattle.go_board.specs.Clearing.{play}
 use Rattle.go_board.specs.Past.{Held, PastColourings, all_of, newest_grid, with_next, stretch_of, present_stretch, AllHaveSide, HaveSide, IsPlayed}
 use Rattle.go_board.specs.Reason.{WasEmptied}
 use Rattle.go_board.specs.inner.Emptied.{HasEmptied, HasAllEmptied, IsLastStone}
 use Rattle.go_board.specs.inner.Groups.{IsMove}
-use Rattle.go_board.specs.inner.Rows.{is_set, IsAmong}
-use Rattle.go_board.proofs.PointLemmas.{same_or_not}
+use Rattle.board_points.specs.Rows.{is_set, IsAmong}
+use Rattle.board_points.proofs.PointLemmas.{same_or_not}
 use Rattle.go_board.proofs.GridLemmas.{Decides-same_cell, cell_at-with_cell, cell_at-with_cell_elsewhere}
 use Rattle.go_board.proofs.GroupLemmas.{stone_of≢Empty}
 use Rattle.go_board.proofs.SettledLemmas.{side_play}

@@ -6,14 +6,14 @@ use Rattle.std.proofs.lemmas.Bool.Decides.{Decides-and, Decides-or, Decides-not,
 use Rattle.go_board.specs.declared.stones.Cell.{Cell}
 use Rattle.go_board.specs.declared.stones.Cell.TheVariants.{Empty}
 use Rattle.go_board.specs.declared.stones.Colour.{Colour}
-use Rattle.go_board.specs.declared.points.Point.{Point}
+use Rattle.board_points.specs.declared.points.Point.{Point}
 use Rattle.go_board.specs.Colour.{stone_of}
-use Rattle.go_board.specs.Point.{IsOn}
+use Rattle.board_points.specs.Point.{IsOn}
 use Rattle.go_board.specs.Grid.{Grid, cell_at}
 use Rattle.go_board.specs.Reaching.{Reaches}
 use Rattle.go_board.specs.Clearing.{cleared_cell, clear, HasUnreaching, has_unreaching}
 use Rattle.go_board.specs.Score.{CountsFor, counts_for}
-use Rattle.go_board.proofs.PointLemmas.{Decides-some_point}
+use Rattle.board_points.proofs.PointLemmas.{Decides-some_point}
 use Rattle.go_board.proofs.GridLemmas.{Decides-same_cell, cell_at-grid_of, length-grid_of}
 use Rattle.go_board.proofs.ReachingLemmas.{Decides-reaches}
 

@@ -6,14 +6,14 @@ use Rattle.std.proofs.lemmas.Bool.Decides.{not_from_Decides}
 use Rattle.go_board.specs.declared.stones.Cell.{Cell}
 use Rattle.go_board.specs.declared.stones.Cell.TheVariants.{Empty}
 use Rattle.go_board.specs.declared.stones.Colour.{Colour}
-use Rattle.go_board.specs.declared.points.Point.{Point}
+use Rattle.board_points.specs.declared.points.Point.{Point}
 use Rattle.go_board.specs.Colour.{opponent, stone_of}
-use Rattle.go_board.specs.Point.{IsOn}
+use Rattle.board_points.specs.Point.{IsOn}
 use Rattle.go_board.specs.Grid.{Grid, cell_at, with_cell, empty_grid}
 use Rattle.go_board.specs.Reaching.{Leads, Reaches, reaches}
 use Rattle.go_board.specs.Clearing.{cleared_cell, clear, play, has_unreaching}
 use Rattle.go_board.specs.inner.Groups.{AllReach}
-use Rattle.go_board.proofs.GridLemmas.{get_or-replicate_default}
+use Rattle.board_points.proofs.MarkingLemmas.{get_or-replicate_default}
 use Rattle.go_board.proofs.ReachingLemmas.{Decides-reaches}
 use Rattle.go_board.proofs.RuleLemmas.{side-clear, cell_at-clear, emptied, kept, others_kept, Decides-has_unreaching}
 use Rattle.go_board.proofs.GroupLemmas.{coloured_or_not, stone_of≢Empty, Reaches-Leads, grid_of-cells}

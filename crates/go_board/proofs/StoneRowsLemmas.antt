@@ -1,27 +1,24 @@
 -- The rows of the stones of a board: the grid that they make, and points of a row coloured anew.
-use Rattle.std.proofs.Common.{◌≡◌, ◌≢◌, ◌↔◌, inl, inr, ℕ, ◌*◌, ◌<◌, ◌≤◌, ◌^◌, ◌%◌, ◌==◌, ◌&&◌, Bool, true, false, not, cond, List, length, get_or, set, take, replicate, bit_and, bit_or, w64, refl, sym, ap, ◌∙◌, arith, subst, rules}
+use Rattle.std.proofs.Common.{◌≡◌, ◌≢◌, ◌↔◌, inl, inr, ℕ, ◌*◌, ◌<◌, ◌≤◌, ◌^◌, ◌==◌, ◌&&◌, Bool, true, false, not, cond, List, length, get_or, set, take, replicate, bit_and, bit_or, w64, refl, sym, ap, ◌∙◌, arith, subst, rules}
 use Rattle.std.proofs.lemmas.Grind.{common_steps}
 use Rattle.std.specs.Int.{bit_at, bit_not}
-use Rattle.std.proofs.Math.Bool.{or-true, and-true, and-false}
 use Rattle.std.proofs.lemmas.Bool.{false≢true}
 use Rattle.std.proofs.lemmas.Bool.Decides.{Decides-eqb}
-use Rattle.std.proofs.lemmas.Nat.{mod_below, pow_pos}
 use Rattle.std.proofs.lemmas.Nat.Bits.{same_from_bits}
 use Rattle.std.proofs.lemmas.List.{ext_get_or, get_or-take, length-set, length-take-le, length-replicate}
 use Rattle.go_board.specs.declared.stones.Cell.{Cell}
 use Rattle.go_board.specs.declared.stones.Cell.TheVariants.{Black, White, Empty}
-use Rattle.go_board.specs.declared.points.Point.{Point}
+use Rattle.board_points.specs.declared.points.Point.{Point}
 use Rattle.go_board.specs.Colour.{same_cell}
-use Rattle.go_board.specs.Point.{IsOn, index_of}
+use Rattle.board_points.specs.Point.{IsOn, index_of}
 use Rattle.go_board.specs.Grid.{Grid, cell_at, with_cell, empty_grid}
-use Rattle.go_board.specs.inner.Rows.{has_bit, is_set}
-use Rattle.go_board.specs.inner.Regions.{AreRowsOf, AreStones, grid_with, stone_in, with_columns, with_row}
-use Rattle.go_board.proofs.WordLemmas.{has_bit-zero, has_bit-or, has_bit-less, bit_at-there, bit_at-gone}
-use Rattle.go_board.proofs.GrowLemmas.{row_below, set_there, set_elsewhere}
-use Rattle.go_board.proofs.SearchLemmas.{is_set-none}
-use Rattle.go_board.proofs.RegionLemmas.{set_bit_there, set_bit_elsewhere, same_bools}
-use Rattle.go_board.proofs.PointLemmas.{one_point, same_or_not}
-use Rattle.go_board.proofs.GridLemmas.{get_or-replicate_default, cell_at-grid_of, length-grid_of, cell_at-with_cell, cell_at-with_cell_elsewhere}
+use Rattle.board_points.specs.Rows.{has_bit, is_set, AreRowsOf}
+use Rattle.go_board.specs.inner.Regions.{AreStones, grid_with, stone_in, with_columns, with_row}
+use Rattle.board_points.proofs.WordLemmas.{has_bit-or, has_bit-less, bit_at-there, bit_at-gone, same_bools}
+use Rattle.board_points.proofs.GrowLemmas.{row_below, set_there, set_elsewhere}
+use Rattle.board_points.proofs.MarkingLemmas.{is_set-none, get_or-replicate_default}
+use Rattle.board_points.proofs.PointLemmas.{one_point, same_or_not}
+use Rattle.go_board.proofs.GridLemmas.{cell_at-grid_of, length-grid_of, cell_at-with_cell, cell_at-with_cell_elsewhere}
 use Rattle.go_board.proofs.GroupLemmas.{grid_of-cells, same_colours}
 
 -- what stands on a point by its bits, and its bits by what stands there
@@ -163,25 +160,6 @@ columns_set word columns c = grind (arith, common_steps, has_bit-or)
 
 pub columns_cleared : (word columns c : ℕ) → word < 2 ^ 64 → columns < 2 ^ 64 → has_bit (bit_and word (bit_not w64 columns)) c ≡ cond (has_bit columns c) false (has_bit word c)
 columns_cleared word columns c low low_columns = grind (arith, common_steps, has_bit-less)
-
--- a word without the bit of a column
-abbrev bit_of : ℕ → ℕ
-bit_of col = 1 * 2 ^ col % 2 ^ 64
-
-small : (col : ℕ) → bit_of col < 2 ^ 64
-small col = mod_below (1 * 2 ^ col) (2 ^ 64) (pow_pos 64)
-
-bit_there : (col : ℕ) → col < 64 → has_bit (bit_of col) col ≡ true
-bit_there col low = set_bit_there 0 col true refl low ∙ or-true (has_bit 0 col)
-
-bit_elsewhere : (col : ℕ) → col < 64 → (k : ℕ) → k ≢ col → has_bit (bit_of col) k ≡ false
-bit_elsewhere col low k other = set_bit_elsewhere 0 col low k other ∙ has_bit-zero k
-
-pub without_there : (word col : ℕ) → word < 2 ^ 64 → col < 64 → has_bit (bit_and word (bit_not w64 (bit_of col))) col ≡ false
-without_there word col fits low = grind (arith, common_steps, and-false, bit_there, has_bit-less, small)
-
-pub without_elsewhere : (word col : ℕ) → word < 2 ^ 64 → col < 64 → (k : ℕ) → k ≢ col → has_bit (bit_and word (bit_not w64 (bit_of col))) k ≡ has_bit word k
-without_elsewhere word col fits low k other = grind (arith, common_steps, and-true, bit_elsewhere, has_bit-less, small)
 
 -- a board on which nothing stands
 pub AreStones-none : (side : ℕ) (black white : List ℕ) → side ≤ 52 → black ≡ replicate 52 0 → white ≡ replicate 52 0 → AreStones side black white × (grid_with side black white ≡ empty_grid side)

@@ -1,26 +1,23 @@
 -- Grids coloured row by row, and cleared ones.
-use Rattle.std.proofs.Common.{◌≡◌, ◌≢◌, ℕ, ◌+◌, ◌*◌, ◌^◌, ◌<◌, ◌≤◌, ◌==◌, ◌&&◌, Bool, cond, w64, true, false, nat_lt, List, length, refl, sym, ap, subst, ◌∙◌, arith, IsTrue, rules}
+use Rattle.std.proofs.Common.{◌≡◌, ℕ, ◌+◌, ◌*◌, ◌<◌, ◌≤◌, ◌==◌, ◌&&◌, Bool, cond, true, false, nat_lt, List, length, refl, sym, ap, subst, ◌∙◌, arith, IsTrue, rules}
 use Rattle.std.proofs.lemmas.Grind.{common_steps}
-use Rattle.std.specs.Int.{trailing_zeros}
 use Rattle.std.proofs.Math.Bool.{and-false}
-use Rattle.std.proofs.lemmas.Nat.Bits.{bit_at-trailing_zeros}
-use Rattle.std.proofs.lemmas.Bool.{and_parts, and_from, true≢false, false≢true, false_from_ne_true}
+use Rattle.std.proofs.lemmas.Bool.{and_parts, and_from, true≢false, false_from_ne_true}
 use Rattle.std.proofs.lemmas.Bool.Decides.{Decides-eqb, Decides-ltb, nat_tests}
 use Rattle.go_board.specs.declared.stones.Cell.{Cell}
 use Rattle.go_board.specs.declared.stones.Cell.TheVariants.{Empty}
 use Rattle.go_board.specs.declared.stones.Colour.{Colour}
-use Rattle.go_board.specs.declared.points.Point.{Point}
-use Rattle.go_board.specs.Point.{IsOn}
+use Rattle.board_points.specs.declared.points.Point.{Point}
+use Rattle.board_points.specs.Point.{IsOn}
 use Rattle.go_board.specs.Grid.{Grid, cell_at, grid_of}
 use Rattle.go_board.specs.Clearing.{cleared_cell, clear}
 use Rattle.go_board.specs.inner.Groups.{is_shut, IsWithout}
-use Rattle.go_board.specs.inner.Rows.{has_bit, is_set, IsPart}
-use Rattle.go_board.specs.inner.Regions.{AreRowsOf, with_columns}
+use Rattle.board_points.specs.Rows.{has_bit, is_set, AreRowsOf}
+use Rattle.go_board.specs.inner.Regions.{with_columns}
 use Rattle.go_board.proofs.GridLemmas.{cell_at-grid_of, length-grid_of}
 use Rattle.go_board.proofs.GroupLemmas.{grid_of-cells, same_colours}
-use Rattle.go_board.proofs.RegionLemmas.{same_bools}
-use Rattle.go_board.proofs.GrowLemmas.{row_below}
-use Rattle.go_board.proofs.WordLemmas.{le_from_part, has_bit-zero}
+use Rattle.board_points.proofs.WordLemmas.{same_bools, has_bit-zero}
+use Rattle.board_points.proofs.GrowLemmas.{row_below}
 
 -- a board without the stones of a colour that are shut in is cleared
 pub without_shut : (g h : Grid) (k : Colour) (shut : List ℕ) → length g.cells ≡ g.side * g.side → AreRowsOf g.side (is_shut g k) shut → IsWithout g h (λ p. IsTrue (is_set shut p)) → h ≡ clear g k
@@ -33,29 +30,6 @@ without_shut g h k shut all are is =
     cell : (p : Point) → IsOn g.side p → (b : Bool) → is_shut g k p ≡ b → cleared_cell g k p ≡ cell_at h p
     cell p on true gone = ap (λ b. cond b Empty (cell_at g p)) gone ∙ sym (is.emptied p on (are.on p on ∙ gone))
     cell p on false left = ap (λ b. cond b Empty (cell_at g p)) left ∙ sym (is.kept p on (λ gone. true≢false (sym gone ∙ are.on p on ∙ left)))
-
--- the lowest column of what is left
-pub lowest_left : (columns left : ℕ) → left ≢ 0 → columns < 2 ^ 64 → IsPart (has_bit left) (has_bit columns) → (has_bit left (trailing_zeros w64 left) ≡ true) × (trailing_zeros w64 left < 64)
-lowest_left columns left some low part =
-    let found = bit_at-trailing_zeros w64 left (omega (arith, some)) (omega (arith, low, le_from_part left columns part)) in
-    (ap (λ n. n == 1) found.1, found.0)
-
--- what is left without its lowest column
-module _ (columns left next : ℕ) (some : left ≢ 0) (low : columns < 2 ^ 64) (part : IsPart (has_bit left) (has_bit columns)) (there : has_bit next (trailing_zeros w64 left) ≡ false) (elsewhere : (k : ℕ) → k ≢ trailing_zeros w64 left → has_bit next k ≡ has_bit left k) where
-  abbrev lowest : ℕ
-  lowest = trailing_zeros w64 left
-
-  set : has_bit left lowest ≡ true
-  set = (lowest_left columns left some low part).0
-
-  next_within : IsPart (has_bit next) (has_bit left)
-  next_within = grind (arith, common_steps)
-
-  pub next_smaller : next < left
-  next_smaller =
-      let at_most = le_from_part next left next_within in
-      let differs : next ≢ left = λ same. false≢true (sym there ∙ ap (λ w. has_bit w lowest) same ∙ set) in
-      omega (arith, differs)
 
 -- the grid with the cell on the points of a set in the rows before one
 abbrev pub painted : Grid → (Point → Bool) → Cell → ℕ → Grid

@@ -12,7 +12,7 @@ use Rattle.go_board.specs.Past.{Held, stretch_of, AllHaveSide}
 use Rattle.go_board.specs.inner.Changes.{first_grid, IsNumber, HasNumber}
 use Rattle.go_board.specs.inner.Key.{key_bits, start_of, since, keys_of}
 use Rattle.go_board.specs.inner.Print.{print_of, prints_of}
-use Rattle.go_board.specs.inner.Rows.{has_bit}
+use Rattle.board_points.specs.Rows.{has_bit}
 use Rattle.go_board.specs.inner.Table.{IsGap, IsTable}
 use Rattle.key_trie.specs.declared.trie.Trie.{Trie}
 use Rattle.key_trie.specs.Key.{Agree}

@@ -1,27 +1,25 @@
 -- A move on a grid where every stone reaches empty: taking off the groups without a liberty beside the stone, or else its own where that
 -- has none, is the whole move. What is taken off, as rows.
-use Rattle.std.proofs.Common.{◌≡◌, ◌⊎◌, inl, inr, ◌*◌, ◌+◌, ◌<◌, ◌≤◌, ◌||◌, true, false, ℕ, List, [], length, slice_index, slice_set, bit_or, refl, sym, ap, subst, ◌∙◌, arith, ◌≢◌, Bool, ◌∷◌, IsTrue, rules}
+use Rattle.std.proofs.Common.{◌≡◌, ◌⊎◌, inl, inr, ◌*◌, ◌≤◌, ◌||◌, true, false, ℕ, List, [], length, refl, sym, subst, ◌∙◌, arith, ◌≢◌, Bool, ◌∷◌, IsTrue, rules}
 use Rattle.std.proofs.lemmas.Grind.{common_steps}
-use Rattle.std.proofs.Math.Bool.{or-false}
-use Rattle.std.proofs.lemmas.Bool.{cases_Bool, cases_lt, or_cases, or_left, or_right, false≢true}
-use Rattle.std.proofs.lemmas.List.{length-set, get_or_past, get_or-set_other}
+use Rattle.std.proofs.lemmas.Bool.{cases_Bool, or_cases, or_left, or_right, false≢true}
+use Rattle.std.proofs.lemmas.List.{length-set, get_or_past}
 use Rattle.go_board.specs.declared.stones.Cell.{Cell}
 use Rattle.go_board.specs.declared.stones.Cell.TheVariants.{Empty}
 use Rattle.go_board.specs.declared.stones.Colour.{Colour}
-use Rattle.go_board.specs.declared.points.Point.{Point}
+use Rattle.board_points.specs.declared.points.Point.{Point}
 use Rattle.go_board.specs.Colour.{stone_of, opponent}
-use Rattle.go_board.specs.Point.{IsOn, index_of, AreAdjacent}
+use Rattle.board_points.specs.Point.{IsOn, index_of, AreAdjacent}
 use Rattle.go_board.specs.Grid.{Grid, cell_at, with_cell}
 use Rattle.go_board.specs.Clearing.{play, has_unreaching, clear}
-use Rattle.go_board.specs.inner.Rows.{has_bit, is_set, IsAmong}
+use Rattle.board_points.specs.Rows.{is_set, IsAmong}
 use Rattle.go_board.specs.inner.Groups.{AreShutGroups, IsTakenOrReaches, IsWithout, AllLive, TakesOff, IsWithoutLiberty, AllReach, ReachBeside, AreTakenOrReachBeside}
 use Rattle.go_board.specs.declared.stones.Colour.TheVariants.{Black, White}
 use Rattle.go_board.specs.Reaching.{Leads, Reaches}
-use Rattle.go_board.proofs.PointLemmas.{same_or_not, AreAdjacent-sym}
+use Rattle.board_points.proofs.PointLemmas.{same_or_not, AreAdjacent-sym}
 use Rattle.go_board.proofs.GridLemmas.{cell_at-with_cell, cell_at-with_cell_elsewhere}
 use Rattle.go_board.proofs.ChangesLemmas.{one_colouring}
-use Rattle.go_board.proofs.RegionLemmas.{written_more}
-use Rattle.go_board.proofs.WordLemmas.{has_bit-or, has_bit-zero}
+use Rattle.board_points.proofs.WordLemmas.{has_bit-zero}
 use Rattle.go_board.proofs.ReachingLemmas.{Leads-on, Leads-next, path_by_step}
 use Rattle.go_board.proofs.RuleLemmas.{side-clear, length-clear, cell_at-clear, emptied, kept, others_kept}
 use Rattle.go_board.proofs.GroupLemmas.{coloured_or_not, stone_of≢Empty}
@@ -205,27 +203,6 @@ taken_still g k a b p among each = λ stone. elim (each stone) [ inl taken ↦ i
 -- the point of a stone emptied again
 pub taken_away : (g : Grid) (p : Point) (stone : Cell) → IsOn g.side p → length g.cells ≡ g.side * g.side → cell_at g p ≡ Empty → with_cell (with_cell g p stone) p Empty ≡ g
 taken_away g p stone on all free = grind (arith, common_steps, cell_at-with_cell, cell_at-with_cell_elsewhere, h, length-set, long, one_colouring, same_or_not)
-
--- the rows before one have the points of others, too
-pub record AddedBelow (old rows : List ℕ) (row : ℕ) (new : List ℕ) : Type 0 where
-  pub added : (r : ℕ) → r < row → slice_index new r ≡ bit_or (slice_index old r) (slice_index rows r)
-  pub same : (r : ℕ) → row ≤ r → slice_index new r ≡ slice_index old r
-
-pub added_next : (old rows now : List ℕ) (row : ℕ) → row < length now → AddedBelow old rows row now → AddedBelow old rows (row + 1) (slice_set now row (bit_or (slice_index now row) (slice_index rows row)))
-added_next old rows now row low is = record {
-  added = written_more (λ r w. w ≡ bit_or (slice_index old r) (slice_index rows r)) now row _ low is.added (ap (λ w. bit_or w (slice_index rows row)) (is.same row (omega arith)));
-  same = λ r above. get_or-set_other now row r _ 0 (omega (arith, above)) ∙ is.same r (omega (arith, above));
-}
-
-pub added_all : (old rows new : List ℕ) → AddedBelow old rows (length rows) new → (p : Point) → is_set new p ≡ (is_set old p || is_set rows p)
-added_all old rows new each p =
-    elim (cases_lt p.row (length rows)) [
-      | inl below ↦ ap (λ w. has_bit w p.col) (each.added p.row below) ∙ has_bit-or (slice_index old p.row) (slice_index rows p.row) p.col
-      | inr above ↦
-          ap (λ w. has_bit w p.col) (each.same p.row above)
-          ∙ sym (or-false (is_set old p))
-          ∙ ap (λ b. is_set old p || b) (sym (ap (λ w. has_bit w p.col) (get_or_past rows p.row 0 above) ∙ has_bit-zero p.col))
-    ]
 
 -- one grid without the points of a set is the other grid without them
 pub same_without : (g h i : Grid) (rows : List ℕ) → length g.cells ≡ g.side * g.side → IsWithout g h (λ p. is_set rows p ≡ true) → IsWithout g i (λ p. is_set rows p ≡ true) → h ≡ i

@@ -4,9 +4,9 @@ use Rattle.std.specs.List.{list_any}
 use Rattle.go_board.specs.declared.stones.Cell.{Cell}
 use Rattle.go_board.specs.declared.stones.Cell.TheVariants.{Empty}
 use Rattle.go_board.specs.declared.stones.Colour.{Colour}
-use Rattle.go_board.specs.declared.points.Point.{Point}
+use Rattle.board_points.specs.declared.points.Point.{Point}
 use Rattle.go_board.specs.Colour.{opponent, stone_of, same_cell}
-use Rattle.go_board.specs.Point.{IsOn, points}
+use Rattle.board_points.specs.Point.{IsOn, points}
 use Rattle.go_board.specs.Grid.{Grid, cell_at, with_cell, grid_of}
 use Rattle.go_board.specs.Reaching.{Reaches, reaches}
 

@@ -2,8 +2,8 @@
 use Rattle.std.specs.Prelude.{ℕ, ◌*◌, List, map, replicate, slice_index_or, slice_set}
 use Rattle.go_board.specs.declared.stones.Cell.{Cell}
 use Rattle.go_board.specs.declared.stones.Cell.TheVariants.{Empty}
-use Rattle.go_board.specs.declared.points.Point.{Point}
-use Rattle.go_board.specs.Point.{index_of, points}
+use Rattle.board_points.specs.declared.points.Point.{Point}
+use Rattle.board_points.specs.Point.{index_of, points}
 
 -- the side, and a cell for each point, row by row from the top, from left to right
 pub record Grid : Type 0 where

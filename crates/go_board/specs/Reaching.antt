@@ -4,11 +4,11 @@
 use Rattle.std.specs.Prelude.{◌≡◌, ℕ, zero, suc, ◌*◌, Bool, ◌&&◌, ◌||◌, List, [], ◌∷◌}
 use Rattle.std.specs.List.{list_any}
 use Rattle.go_board.specs.declared.stones.Cell.{Cell}
-use Rattle.go_board.specs.declared.points.Point.{Point}
+use Rattle.board_points.specs.declared.points.Point.{Point}
 use Rattle.go_board.specs.Colour.{same_cell}
-use Rattle.go_board.specs.Point.{IsOn, AreAdjacent, are_adjacent, points}
+use Rattle.board_points.specs.Point.{IsOn, AreAdjacent, are_adjacent, points}
 use Rattle.go_board.specs.Grid.{Grid, cell_at}
-use Rattle.go_board.specs.Marking.{Marking, is_marked, marking_of}
+use Rattle.board_points.specs.Marking.{Marking, is_marked, marking_of}
 
 -- The path leads from the point to a point of the wanted colour. Each point of the path is on the grid and adjacent to the point
 -- before it. All points but the last have the colour `own`.

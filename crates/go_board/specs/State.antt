@@ -2,13 +2,13 @@
 use Rattle.std.specs.Prelude.{◌≡◌, ℕ, ◌+◌, Bool, ◌&&◌, ◌==◌, nat_le, if◌then◌else◌, Option, Some, List, [], ◌∷◌, fold}
 use Rattle.go_board.specs.declared.stones.Colour.{Colour}
 use Rattle.go_board.specs.declared.stones.Colour.TheVariants.{Black}
-use Rattle.go_board.specs.declared.points.Point.{Point}
-use Rattle.go_board.specs.declared.points.Rect.{Rect}
+use Rattle.board_points.specs.declared.points.Point.{Point}
+use Rattle.board_points.specs.declared.points.Rect.{Rect}
 use Rattle.go_board.specs.declared.referee.plays.Play.{Play}
 use Rattle.go_board.specs.declared.referee.plays.Play.TheVariants.{Pass, Stone}
 use Rattle.go_board.specs.declared.referee.plays.SetupOp.{SetupOp}
 use Rattle.go_board.specs.Colour.{opponent}
-use Rattle.go_board.specs.Point.{IsOn}
+use Rattle.board_points.specs.Point.{IsOn}
 use Rattle.go_board.specs.Grid.{Grid, cell_at, empty_grid, grid_of}
 use Rattle.go_board.specs.Clearing.{play}
 

@@ -1,11 +1,5 @@
 -- Words of private contracts, views and invariants.
-pub mod Rows
-pub mod Fill
-pub mod Linked
 pub mod Regions
-pub mod Halves
-pub mod Glance
-pub mod Search
 pub mod Flood
 pub mod Groups
 pub mod Earlier

@@ -1,19 +1,28 @@
 //! The board: reading and setting points, moves and the score (Tromp-Taylor).
 
+ghost use Rattle.std.specs.Prelude.{◌≡◌, IsTrue, false, ◌*◌, ◌<◌, ◌≤◌, ◌↔◌, ℕ, length};
+ghost use Rattle.go_board.specs.declared.stones.Cell.TheVariants.{Empty};
+ghost use Rattle.go_board.specs.declared.stones.Colour.TheVariants.{Black, White};
+ghost use Rattle.board_points.specs.declared.points.Point.{Point};
+ghost use Rattle.go_board.specs.Clearing.{has_unreaching, clear, play};
+ghost use Rattle.go_board.specs.Grid.{Grid, cell_at, with_cell, empty_grid};
+ghost use Rattle.board_points.specs.Point.{IsOn};
+ghost use Rattle.go_board.specs.Colour.{same_cell, stone_of};
+ghost use Rattle.go_board.specs.Score.{score_of};
+ghost use Rattle.board_points.specs.Rows.{has_bit};
+ghost use Rattle.go_board.specs.inner.Regions.{AreStones, grid_with, with_columns, with_row};
+
 mod areas;
-pub(crate) mod fill;
 mod flood;
-pub(crate) mod liberty;
 pub(crate) mod regions;
-mod search;
 pub(crate) mod stone_rows;
 
-use crate::board::regions::{columns_left, count_apart, no_rows, with_column};
 use crate::board::stone_rows::{cell_in, with_columns};
-use crate::points::Point;
-use crate::quick::both_areas::HALF;
-use crate::size::{MAX_POINTS, MAX_ROWS, Size};
 use crate::stones::{Cell, Colour};
+use board_points::columns::{columns_left, with_column};
+use board_points::quick::halves::HALF;
+use board_points::rows::{count_apart, no_rows};
+use board_points::{MAX_POINTS, MAX_ROWS, Point, Size};
 use std::marker::Model;
 
 /// A square board, and what stands on its points.
@@ -30,11 +39,6 @@ pub struct Board {
 }
 
 impl Model for Board {
-    ghost use Rattle.std.specs.Prelude.{◌≡◌, IsTrue, false};
-    ghost use Rattle.go_board.specs.Clearing.{has_unreaching};
-    ghost use Rattle.go_board.specs.Grid.{Grid};
-    ghost use Rattle.go_board.specs.inner.Regions.{AreStones, grid_with};
-
     ghost Value = { Grid };
 
     ghost view = { λ b. grid_with b.size b.black b.white };
@@ -44,20 +48,6 @@ impl Model for Board {
 }
 
 impl Board {
-    ghost use Rattle.std.specs.Prelude.{◌≡◌, ◌*◌, ◌<◌, ◌≤◌, ◌↔◌, ℕ, IsTrue, false, length};
-    ghost use Rattle.go_board.specs.declared.stones.Cell.TheVariants.{Empty};
-    ghost use Rattle.go_board.specs.declared.stones.Colour.TheVariants.{Black, White};
-    ghost use Rattle.go_board.specs.declared.points.Point.{Point};
-    ghost use Rattle.go_board.specs.Point.{IsOn};
-    ghost use Rattle.go_board.specs.Colour.{same_cell, stone_of};
-    ghost use Rattle.go_board.specs.Grid.{cell_at, with_cell, empty_grid};
-    ghost use Rattle.go_board.specs.Marking.{is_marked, marked_count};
-    ghost use Rattle.go_board.specs.Reaching.{Reaches};
-    ghost use Rattle.go_board.specs.Clearing.{clear, play, has_unreaching};
-    ghost use Rattle.go_board.specs.Score.{score_of};
-    ghost use Rattle.go_board.specs.inner.Regions.{with_columns, with_row};
-    ghost use Rattle.go_board.specs.inner.Rows.{has_bit};
-
     /// The board of that size without stones.
     pub fn empty(size: Size) -> Board
         ensures { result ≡ empty_grid size }

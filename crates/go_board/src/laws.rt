@@ -1,33 +1,25 @@
 //! What the words of the contracts mean. Each function here does nothing: its contract is a law, and is proved.
 
-ghost use Rattle.std.specs.Prelude.{◌≡◌, ◌≢◌, ◌≤◌, ◌*◌, ◌↔◌, ◌∷◌, if◌then◌else◌, IsTrue, ℕ, List, Option, Some, None, false, length, map, slice_get};
+ghost use Rattle.std.specs.Prelude.{◌≡◌, ◌≢◌, ◌*◌, ◌↔◌, ◌∷◌, if◌then◌else◌, IsTrue, List, Option, Some, None, length, map};
 ghost use Rattle.go_board.specs.declared.stones.Cell.{Cell};
 ghost use Rattle.go_board.specs.declared.stones.Cell.TheVariants.{Empty};
 ghost use Rattle.go_board.specs.declared.stones.Colour.{Colour};
-ghost use Rattle.go_board.specs.declared.points.Point.{Point};
+ghost use Rattle.board_points.specs.declared.points.Point.{Point};
 ghost use Rattle.go_board.specs.declared.reason.Reason.{Reason};
 ghost use Rattle.go_board.specs.declared.reason.Reason.TheVariants.{Repeat};
 ghost use Rattle.go_board.specs.declared.referee.plays.Play.{Play};
 ghost use Rattle.go_board.specs.declared.referee.plays.Play.TheVariants.{Stone};
 ghost use Rattle.go_board.specs.declared.referee.plays.SetupOp.{SetupOp};
-ghost use Rattle.go_board.specs.declared.vertices.TheConstants.{MAX_VERTEX_SIDE};
 ghost use Rattle.go_board.specs.Colour.{stone_of};
-ghost use Rattle.go_board.specs.Point.{IsOn, index_of, points};
+ghost use Rattle.board_points.specs.Point.{IsOn, points};
 ghost use Rattle.go_board.specs.Grid.{Grid, cell_at, with_cell};
 ghost use Rattle.go_board.specs.Reaching.{Reaches, reaches};
 ghost use Rattle.go_board.specs.Clearing.{clear, play, HasUnreaching, has_unreaching};
 ghost use Rattle.go_board.specs.Score.{CountsFor, counts_for};
-ghost use Rattle.go_board.specs.Vertex.{vertex_of};
 ghost use Rattle.go_board.specs.State.{State, is_in, with_area, set_up, turned};
 ghost use Rattle.go_board.specs.Reason.{Forbids, IsFirstReason, WasEmptied, reason_of};
 
-/// The points of a grid are listed once each: each point at its index, and nowhere else.
-pub fn listing()
-    ensures length { (side : ℕ) → length (points side) ≡ side * side }
-    ensures once { (side index : ℕ) (point : Point)
-        → ((slice_get (points side) index ≡ Some point)
-        ↔ (IsOn side point × (index ≡ index_of side point))) }
-{}
+pub use board_points::laws::{listing, naming};
 
 /// The cells of a grid are what stands on its points, in the order of the points.
 /// So two grids are equal if they have the same side and the same cell at each point.
@@ -87,13 +79,6 @@ pub fn unreaching()
 pub fn moving()
     ensures { (grid : Grid) (colour : Colour) (point : Point)
         → ¬ HasUnreaching (play grid colour point) }
-{}
-
-/// Different points have different vertices.
-#[tactic(auto, using(crate::proofs::VertexLemmas::vertex_of_injective))]
-pub fn naming()
-    ensures { (side : ℕ) (point other : Point) → side ≤ MAX_VERTEX_SIDE → IsOn side point → IsOn side other
-        → vertex_of point side ≡ vertex_of other side → point ≡ other }
 {}
 
 /// `reason_of` returns exactly the first reason, in the order of checking, that holds of a turn, and none exactly if none holds.

@@ -14,22 +14,19 @@
 //! referee.undo();
 //! ```
 //!
+//! Points, and sets of points as rows of bits, are the crate `board_points`.
+//!
 //! The code outside `quick` plays by the rules and can be read by itself, with `ListPast` as the past. `quick` has faster ways to the
 //! same answers, and may be skipped. `sgf_lines` judges with the past of `quick`, `PrintPast`. Only that past uses the crate `key_trie`.
 //!
 //! | Module | What it has |
 //! |---|---|
 //! | `stones` | players and what stands on a point |
-//! | `size` | the side of a board |
-//! | `points` | points and rectangles, and the four neighbours of a point |
-//! | `values` | the points and rectangles that SGF property values name |
-//! | `vertices` | points as the Go Text Protocol writes them |
-//! | `marks`, `steps` | a set of points of a board; a count of work |
+//! | `steps` | a count of work |
 //! | `board` | the board: reading, setting, moves, score |
 //! | `board/stone_rows` | the stones of a row as bits |
-//! | `board/flood`, `board/search` | the flood that counts its steps, and its worklist |
-//! | `board/regions`, `board/fill` | sets of points as rows of bits; filling them, which shows the score and who reaches empty |
-//! | `board/liberty` | which points of a row have a liberty |
+//! | `board/flood` | the flood that counts its steps |
+//! | `board/regions` | sets of points by what stands on them; filling these shows the score and who reaches empty |
 //! | `board/areas` | colouring the rectangles of a setup, and emptying sets of points |
 //! | `past` | the colourings that a game has been through; `past/list_past` keeps them as they are |
 //! | `reason`, `fault` | why a turn, or a node, is illegal; the errors |
@@ -39,11 +36,10 @@
 //!
 //! | Rule (docs/RULES.md) | Function, and its module |
 //! |---|---|
-//! | the side of a board | `Size::new` (`size`) |
-//! | reaching a colour | `fill` (`board/fill`), which clearing and the score use. `Board::reaching` (`board/flood`) goes point by point, and only the tests call it here |
+//! | reaching a colour | `fill` of `board_points`, which clearing and the score use. `Board::reaching` (`board/flood`) goes point by point, and only the tests call it here |
 //! | clearing a colour, which captures its groups without a liberty | `Board::clear` (`board`); which stones have none: `Board::shut_stones` (`board/regions`) |
 //! | a stone: capture, then suicide | `Board::place` (`board`); shortcuts: `Board::takes_nothing_at_a_glance` (`quick/glance`), `Board::find_taken` and `Board::put`, which takes off what was found (`quick/capture`) |
-//! | the area score; an empty point that reaches both colours or neither counts for nobody | `Board::score` (`board`), by `area_of` and `count_apart` (`board/regions`); shortcut below side 32: `Board::score_in_halves`, `count_halves` (`quick/both_areas`) |
+//! | the area score; an empty point that reaches both colours or neither counts for nobody | `Board::score` (`board`), by `area_of` (`board/regions`) and `count_apart` of `board_points`; shortcut below side 32: `Board::score_in_halves` (`quick/both_areas`) |
 //! | taking a turn; the reasons `over`, `turn` and `occupied` | `Referee::turn`, `Referee::reason_before_repeat` (`referee/turn`) |
 //! | `repeat` (positional superko; suicide of one stone is a case of it) | `Past::play` (`past`); shortcuts: `PrintPast::play_asked`, if `may_repeat` says that it may, and `play_on_copy` after a setup that leaves a stone without a liberty (`quick/print_past`) |
 //! | the colourings that `repeat` looks at: those since the last setup of stones | `ListPast::holds`, `stretch_has` (`past/list_past`); what a run uses: `Table::gap` and `Table::find` (`quick/print_past/table`), from `Colourings::stretch_start` (`quick/print_past/colourings`) on |
@@ -51,8 +47,6 @@
 //! | which setup it is; passes and player (PL) after a setup of stones; a setup of the player (PL without stones) | `Referee::setup`; `Referee::begin_anew`; `Referee::set_player` (`referee/setup`) |
 //! | the colouring that a setup makes; the list of colourings begins anew | `Board::colour_areas` (`board/areas`); `Past::set_up` (`past`) |
 //! | undo | `Referee::undo` (`referee`) |
-//! | points and rectangles that values name | `point`, `rect` (`values`) |
-//! | vertices | `vertex` (`vertices`) |
 //!
 //! A point *reaches* a colour if a path of adjacent points of the point's own colour leads
 //! from it to a point of that colour. A stone that reaches empty has a liberty.
@@ -66,29 +60,21 @@
 mod board;
 mod fault;
 pub mod laws;
-mod marks;
 mod past;
-mod points;
 mod quick;
 mod reason;
 mod referee;
-mod size;
 mod steps;
 mod stones;
-mod values;
-mod vertices;
 
 pub use board::Board;
+pub use board_points::{
+    MAX_POINTS, MAX_SIDE, MAX_VERTEX_SIDE, Marks, Point, Rect, Size, Vertex, point, rect, vertex,
+};
 pub use fault::{MemoryFault, TurnFault};
-pub use marks::Marks;
 pub use past::{ListPast, Past};
-pub use points::{Point, Rect};
 pub use quick::PrintPast;
 pub use reason::Reason;
 pub use referee::{Play, Referee, SetupOp};
-pub use size::{MAX_POINTS, MAX_SIDE, Size};
 pub use steps::Steps;
 pub use stones::{Cell, Colour};
-pub use values::{point, rect};
-pub use vertices::naming::vertex;
-pub use vertices::{MAX_VERTEX_SIDE, Vertex};

@@ -4,16 +4,16 @@ mod list_past;
 
 ghost use Rattle.std.specs.Prelude.{◌≡◌, ◌<◌, ◌↔◌, ◌∷◌, true, false, All, fold, length, IsTrue, IfOk, OnOk, OnErr, Contains};
 ghost use Rattle.go_board.specs.declared.stones.Cell.TheVariants.{Empty};
-ghost use Rattle.go_board.specs.Point.{IsOn, IsRectOn};
+ghost use Rattle.board_points.specs.Point.{IsOn, IsRectOn};
 ghost use Rattle.go_board.specs.Grid.{cell_at};
 ghost use Rattle.go_board.specs.State.{with_area};
 ghost use Rattle.go_board.specs.Past.{PastColourings, newest_grid, only, with_next, present_stretch, HaveSide, IsPlayed};
 
 use crate::board::Board;
 use crate::fault::MemoryFault;
-use crate::points::Point;
 use crate::referee::SetupOp;
 use crate::stones::Colour;
+use board_points::Point;
 pub use list_past::ListPast;
 use std::alloc::Global;
 

@@ -4,7 +4,7 @@
 //! |---|---|
 //! | `both_areas`: on a small board, one filling finds the areas of both colours | `Board::score` |
 //! | `glance`: the rows around most stones show that these take nothing off | `Board::place` |
-//! | `capture`, `group`: only a stone's group and the groups beside it can be left without a liberty | `Board::place` |
+//! | `capture`: only a stone's group and the groups beside it can be left without a liberty | `Board::place` |
 //! | `print_past`: a past colouring is looked up by its print, in a trie | `ListPast` |
 //!
 //! Most stones take nothing off and can't repeat a colouring. `#[inline(always)]` stands on the functions that such a stone goes
@@ -14,7 +14,6 @@
 pub(crate) mod both_areas;
 pub(crate) mod capture;
 mod glance;
-mod group;
 mod print_past;
 
 pub use print_past::PrintPast;

@@ -1,6 +1,6 @@
 //! Why a node or a turn is illegal.
 
-ghost use Rattle.std.specs.Prelude.{◌≡◌};
+ghost use Rattle.std.specs.Prelude.{◌≡◌, Some};
 ghost use Rattle.go_board.specs.Reason.{word_of};
 
 use std::fmt;
@@ -46,9 +46,6 @@ impl Reason {
 }
 
 impl fmt::Display for Reason {
-    ghost use Rattle.std.specs.Prelude.{Some};
-    ghost use Rattle.go_board.specs.Reason.{word_of};
-
     ghost output = { λ reason. Some (word_of reason) };
 
     fn fmt<W: fmt::Write>(&self, f: &mut fmt::Formatter<W>) -> fmt::Result {

@@ -2,6 +2,12 @@
 //! call, and whether the call was a turn (`Earlier`). `undo` restores these. If the call added a colouring to the past, `undo`
 //! removes it.
 
+ghost use Rattle.std.specs.Prelude.{reverse, ◌≡◌, ◌<◌, ◌≤◌, ◌∷◌, length, IfOk, OnOk, OnErr};
+ghost use Rattle.go_board.specs.declared.stones.Colour.TheVariants.{Black, White};
+ghost use Rattle.go_board.specs.State.{States, HaveBegun, begun, followed_by, is_over};
+ghost use Rattle.go_board.specs.Score.{score_of};
+ghost use Rattle.go_board.specs.inner.Earlier.{states_of, IsRefereeKept};
+
 mod plays;
 mod setup;
 mod turn;
@@ -9,8 +15,8 @@ mod turn;
 use crate::board::Board;
 use crate::fault::MemoryFault;
 use crate::past::Past;
-use crate::size::Size;
 use crate::stones::Colour;
+use board_points::Size;
 pub use plays::{Play, SetupOp};
 use std::alloc::Global;
 use std::marker::Model;
@@ -44,10 +50,6 @@ struct Earlier {
 }
 
 impl<P: Past> Model for Referee<P> {
-    ghost use Rattle.std.specs.Prelude.{reverse};
-    ghost use Rattle.go_board.specs.State.{States};
-    ghost use Rattle.go_board.specs.inner.Earlier.{states_of, IsRefereeKept};
-
     ghost Value = { States };
 
     ghost view = { λ r. states_of (P.held r.past) r.player r.passes r.turns r.earlier.items };
@@ -56,11 +58,6 @@ impl<P: Past> Model for Referee<P> {
 }
 
 impl<P: Past> Referee<P> {
-    ghost use Rattle.std.specs.Prelude.{◌≡◌, ◌<◌, ◌≤◌, ◌∷◌, length, IfOk, OnOk, OnErr};
-    ghost use Rattle.go_board.specs.declared.stones.Colour.TheVariants.{Black, White};
-    ghost use Rattle.go_board.specs.Score.{score_of};
-    ghost use Rattle.go_board.specs.State.{HaveBegun, begun, followed_by, is_over};
-
     /// A referee at the beginning of a game: the board is empty, and Black
     /// must move. `MemoryFault` comes only if memory was refused.
     pub fn new(alloc: Global, size: Size) -> Result<Referee<P>, MemoryFault>

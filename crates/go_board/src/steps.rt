@@ -1,6 +1,6 @@
 //! A count of work.
 
-ghost use Rattle.std.specs.Prelude.{◌≡◌, ◌+◌, ◌<◌};
+ghost use Rattle.std.specs.Prelude.{◌≡◌, ◌+◌, ◌<◌, ℕ};
 
 use std::marker::Model;
 
@@ -11,8 +11,6 @@ pub struct Steps {
 }
 
 impl Model for Steps {
-    ghost use Rattle.std.specs.Prelude.{ℕ};
-
     ghost Value = { ℕ };
 
     ghost view = { λ s. s.count };

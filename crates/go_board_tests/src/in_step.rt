@@ -2,7 +2,7 @@
 
 ghost use Rattle.std.specs.Prelude.{◌≡◌, ◌≤◌, length};
 ghost use Rattle.go_board.specs.Past.{HaveSide};
-ghost use Rattle.go_board.specs.Point.{IsOn};
+ghost use Rattle.board_points.specs.Point.{IsOn};
 
 use crate::given::{at, next_number, size};
 use go_board::{

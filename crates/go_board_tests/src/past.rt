@@ -2,7 +2,7 @@
 
 ghost use Rattle.std.specs.Prelude.{◌≡◌};
 ghost use Rattle.go_board.specs.Past.{only, HaveSide};
-ghost use Rattle.go_board.specs.Point.{IsOn};
+ghost use Rattle.board_points.specs.Point.{IsOn};
 
 use crate::given::{at, size};
 use go_board::{Board, Cell, ListPast, MemoryFault, Past, Point, PrintPast};

@@ -9,10 +9,10 @@ use Rattle.std.proofs.lemmas.List.{take_all, length-drop, append-nil, append_ass
 use Rattle.memchr.specs.Find.{IsFirstByte}
 use Rattle.sgf_lines.specs.Script.{text_rows, comment_row, play_command, stone_commands}
 use Rattle.go_board.specs.declared.stones.Colour.{Colour}
-use Rattle.go_board.specs.declared.points.Point.{Point}
+use Rattle.board_points.specs.declared.points.Point.{Point}
 use Rattle.go_board.specs.declared.referee.plays.Play.TheVariants.{Stone}
 use Rattle.go_board.specs.Colour.{stone_of, same_cell}
-use Rattle.go_board.specs.Point.{points}
+use Rattle.board_points.specs.Point.{points}
 use Rattle.go_board.specs.Grid.{Grid, cell_at}
 use Rattle.sgf_lines.specs.inner.Cutting.{commands_at}
 

@@ -2,12 +2,12 @@
 use Rattle.std.proofs.Common.{◌≡◌, ℕ, List, [], ◌∷◌, map, Option, Some, None, refl}
 use Rattle.std.specs.Prelude.{codes, option_map}
 use Rattle.sgf_tree.specs.Tree.{Node, Games, no_games, game}
-use Rattle.go_board.specs.Point.{points}
+use Rattle.board_points.specs.Point.{points}
 use Rattle.go_board.specs.Reaching.{reaches, reaching_within, spread}
 use Rattle.go_board.specs.Clearing.{clear, play, cleared_cell}
 use Rattle.go_board.specs.Score.{score_of, counts_for}
 use Rattle.go_board.specs.State.{with_area}
-use Rattle.go_board.specs.Values.{point_value, rect_value}
+use Rattle.board_points.specs.Values.{point_value, rect_value}
 use Rattle.sgf_lines.specs.Lines.{lines}
 use Rattle.sgf_lines.specs.Page.{page}
 use Rattle.sgf_lines.specs.Plays.{touched_places, all_judged_places}

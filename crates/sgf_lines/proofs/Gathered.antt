@@ -16,10 +16,10 @@ use Rattle.sgf_tree.specs.declared.walk.NextNode.TheVariants.{Led, Empty as Empt
 use Rattle.sgf_tree.specs.Lead.{IsOtherName, IsLedBy}
 use Rattle.go_board.specs.declared.stones.Colour.{Colour}
 use Rattle.go_board.specs.declared.stones.Cell.{Cell}
-use Rattle.go_board.specs.declared.points.Rect.{Rect}
+use Rattle.board_points.specs.declared.points.Rect.{Rect}
 use Rattle.go_board.specs.declared.referee.plays.SetupOp.{SetupOp}
-use Rattle.go_board.specs.Point.{IsRectOn}
-use Rattle.go_board.specs.Values.{rect_value}
+use Rattle.board_points.specs.Point.{IsRectOn}
+use Rattle.board_points.specs.Values.{rect_value}
 use Rattle.sgf_lines.specs.declared.judging.contents.Moves.{Moves}
 use Rattle.sgf_lines.specs.declared.judging.contents.Moves.TheVariants.{Several}
 use Rattle.sgf_lines.specs.declared.judging.contents.Setup.{Setup}

@@ -11,16 +11,16 @@ use Rattle.sgf_tree.specs.Tree.{Property, Node}
 use Rattle.go_board.specs.declared.stones.Cell.{Cell}
 use Rattle.go_board.specs.declared.stones.Cell.TheVariants.{Empty}
 use Rattle.go_board.specs.declared.stones.Colour.{Colour}
-use Rattle.go_board.specs.declared.points.Point.{Point}
-use Rattle.go_board.specs.declared.vertices.TheConstants.{MAX_VERTEX_SIDE}
+use Rattle.board_points.specs.declared.points.Point.{Point}
+use Rattle.board_points.specs.declared.vertices.TheConstants.{MAX_VERTEX_SIDE}
 use Rattle.go_board.specs.declared.reason.Reason.{Reason}
 use Rattle.go_board.specs.declared.referee.plays.Play.{Play}
 use Rattle.go_board.specs.declared.referee.plays.Play.TheVariants.{Stone}
 use Rattle.go_board.specs.declared.referee.plays.SetupOp.{SetupOp}
-use Rattle.go_board.specs.Point.{IsOn, points}
+use Rattle.board_points.specs.Point.{IsOn, points}
 use Rattle.go_board.specs.Grid.{Grid, empty_grid}
 use Rattle.go_board.specs.Clearing.{play, has_unreaching}
-use Rattle.go_board.specs.Values.{coordinate, point_value}
+use Rattle.board_points.specs.Values.{coordinate, point_value}
 use Rattle.go_board.specs.State.{State, with_area, set_up, turned}
 use Rattle.go_board.specs.Reason.{reason_of}
 use Rattle.sgf_lines.specs.Lines.{Line}

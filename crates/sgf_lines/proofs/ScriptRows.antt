@@ -16,10 +16,10 @@ use Rattle.sgf_lines.proofs.Lists.{Each, each_append}
 use Rattle.sgf_tree.specs.Number.{magnitude_of}
 use Rattle.go_board.specs.declared.stones.Colour.{Colour}
 use Rattle.go_board.specs.declared.stones.Colour.TheVariants.{Black, White}
-use Rattle.go_board.specs.declared.points.Point.{Point}
-use Rattle.go_board.specs.Point.{IsOn}
-use Rattle.go_board.specs.declared.vertices.Vertex.{Vertex}
-use Rattle.go_board.specs.Vertex.{column_letters, vertex_of}
+use Rattle.board_points.specs.declared.points.Point.{Point}
+use Rattle.board_points.specs.Point.{IsOn}
+use Rattle.board_points.specs.declared.vertices.Vertex.{Vertex}
+use Rattle.board_points.specs.Vertex.{column_letters, vertex_of}
 use Rattle.std.proofs.lemmas.Bool.{and_parts, cases_eq}
 use Rattle.std.proofs.lemmas.Bool.Decides.{nat_tests}
 use Rattle.std.proofs.lemmas.Fmt.{decimal_digit, decimal_step}

@@ -8,7 +8,7 @@ use Rattle.std.proofs.lemmas.Bool.Decides.{nat_tests}
 use Rattle.std.proofs.lemmas.List.{map-append, take-map, length-map}
 use Rattle.std.proofs.lemmas.List.Folds.{position_or_len_push}
 use Rattle.sgf_tree.specs.Tree.{Node}
-use Rattle.go_board.specs.declared.vertices.TheConstants.{MAX_VERTEX_SIDE}
+use Rattle.board_points.specs.declared.vertices.TheConstants.{MAX_VERTEX_SIDE}
 use Rattle.go_board.specs.declared.reason.Reason.{Reason}
 use Rattle.go_board.specs.Grid.{Grid}
 use Rattle.go_board.specs.State.{State}

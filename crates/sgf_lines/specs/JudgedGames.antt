@@ -2,7 +2,7 @@
 use Rattle.std.specs.Prelude.{ℕ, Bool, true, false, ◌==◌, ◌&&◌, nat_le, if◌then◌else◌, Option, Some, None, List, [], ◌∷◌, codes, ℤ, pos, negsuc}
 use Rattle.sgf_tree.specs.Tree.{Property, Node}
 use Rattle.sgf_tree.specs.Number.{number_of}
-use Rattle.go_board.specs.declared.size.TheConstants.{MAX_SIDE}
+use Rattle.board_points.specs.declared.size.TheConstants.{MAX_SIDE}
 use Rattle.sgf_lines.specs.NodeContents.{first_value}
 
 -- the properties of a line's first node, the root of its game

@@ -5,7 +5,7 @@ use Rattle.go_board.specs.declared.stones.Colour.TheVariants.{Black, White}
 use Rattle.go_board.specs.declared.referee.plays.Play.{Play}
 use Rattle.go_board.specs.declared.referee.plays.Play.TheVariants.{Pass, Stone}
 use Rattle.go_board.specs.declared.referee.plays.SetupOp.{SetupOp}
-use Rattle.go_board.specs.Values.{point_value, rect_value}
+use Rattle.board_points.specs.Values.{point_value, rect_value}
 use Rattle.sgf_lines.specs.NodeContents.{Stones}
 
 -- a pass is the empty value, or `tt` on a board of side 19 or less

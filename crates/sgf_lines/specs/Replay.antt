@@ -7,13 +7,13 @@ use Rattle.sgf_tree.specs.Number.{magnitude_of}
 use Rattle.go_board.specs.declared.stones.Cell.TheVariants.{Empty}
 use Rattle.go_board.specs.declared.stones.Colour.{Colour}
 use Rattle.go_board.specs.declared.stones.Colour.TheVariants.{Black, White}
-use Rattle.go_board.specs.declared.points.Point.{Point}
-use Rattle.go_board.specs.declared.vertices.Vertex.{Vertex}
-use Rattle.go_board.specs.declared.vertices.TheConstants.{MAX_VERTEX_SIDE}
+use Rattle.board_points.specs.declared.points.Point.{Point}
+use Rattle.board_points.specs.declared.vertices.Vertex.{Vertex}
+use Rattle.board_points.specs.declared.vertices.TheConstants.{MAX_VERTEX_SIDE}
 use Rattle.go_board.specs.Colour.{same_cell}
 use Rattle.go_board.specs.Grid.{Grid, cell_at, empty_grid}
 use Rattle.go_board.specs.Clearing.{play}
-use Rattle.go_board.specs.Vertex.{column_letters}
+use Rattle.board_points.specs.Vertex.{column_letters}
 
 -- `#`
 abbrev pub number_sign : ℕ

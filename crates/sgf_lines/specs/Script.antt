@@ -6,16 +6,16 @@ use Rattle.sgf_tree.specs.Bytes.{line_feed}
 use Rattle.sgf_tree.specs.Text.{text_of}
 use Rattle.go_board.specs.declared.stones.Colour.{Colour}
 use Rattle.go_board.specs.declared.stones.Colour.TheVariants.{Black, White}
-use Rattle.go_board.specs.declared.points.Point.{Point}
+use Rattle.board_points.specs.declared.points.Point.{Point}
 use Rattle.go_board.specs.declared.referee.plays.Play.{Play}
 use Rattle.go_board.specs.declared.referee.plays.Play.TheVariants.{Pass, Stone}
-use Rattle.go_board.specs.declared.vertices.Vertex.{Vertex}
-use Rattle.go_board.specs.declared.vertices.TheConstants.{MAX_VERTEX_SIDE}
+use Rattle.board_points.specs.declared.vertices.Vertex.{Vertex}
+use Rattle.board_points.specs.declared.vertices.TheConstants.{MAX_VERTEX_SIDE}
 use Rattle.go_board.specs.Colour.{stone_of, same_cell}
-use Rattle.go_board.specs.Point.{points}
+use Rattle.board_points.specs.Point.{points}
 use Rattle.go_board.specs.Grid.{Grid, cell_at}
 use Rattle.go_board.specs.Clearing.{has_unreaching}
-use Rattle.go_board.specs.Vertex.{vertex_of}
+use Rattle.board_points.specs.Vertex.{vertex_of}
 use Rattle.go_board.specs.State.{State}
 use Rattle.sgf_lines.specs.Lines.{Line}
 use Rattle.sgf_lines.specs.NodeContents.{Move, Stones, moves, stones, first_value}

@@ -4,7 +4,7 @@
 
 ghost use Rattle.std.specs.Prelude.{◌≡◌, true, false, IfOk, OnOk};
 ghost use Rattle.go_board.specs.Past.{only, with_next, HaveSide};
-ghost use Rattle.go_board.specs.Point.{IsOn};
+ghost use Rattle.board_points.specs.Point.{IsOn};
 
 use crate::seen::Seen;
 use go_board::{Board, Cell, MemoryFault, Past, Point, Size};

@@ -9,7 +9,7 @@ use Rattle.go_board.specs.Grid.{Grid, cell_at}
 use Rattle.go_board.specs.Clearing.{has_unreaching}
 use Rattle.go_board.specs.Past.{Held}
 use Rattle.go_board.specs.inner.Regions.{with_row}
-use Rattle.go_board.specs.inner.Rows.{has_bit}
+use Rattle.board_points.specs.Rows.{has_bit}
 
 -- the first of these colourings
 abbrev pub first_grid : List Held → Option Grid

@@ -1,8 +1,8 @@
 -- Points that were emptied in a game. A stone that stays can bring a colouring back only on such a point.
 use Rattle.std.specs.Prelude.{◌+◌, ◌<◌, ◌≤◌, All, length, reverse, slice_set, ◌≡◌, ◌≢◌, ℕ, Bool, if◌then◌else◌, IsFalse, IsTrue, IfSome, Option, Contains, List, [], ◌∷◌}
 use Rattle.go_board.specs.declared.stones.Cell.TheVariants.{Empty}
-use Rattle.go_board.specs.declared.points.Point.{Point}
-use Rattle.go_board.specs.Point.{IsOn}
+use Rattle.board_points.specs.declared.points.Point.{Point}
+use Rattle.board_points.specs.Point.{IsOn}
 use Rattle.go_board.specs.Grid.{Grid, cell_at}
 use Rattle.go_board.specs.Past.{Held, PastColourings, all_of, newest_grid, stretch_of}
 use Rattle.go_board.specs.declared.quick.print_past.emptied.Emptied.{Emptied}
@@ -10,7 +10,7 @@ use Rattle.go_board.specs.declared.quick.print_past.emptied.OldRow.{OldRow}
 use Rattle.go_board.specs.declared.quick.print_past.table.Table.{Table}
 use Rattle.go_board.specs.inner.Table.{IsTable}
 use Rattle.go_board.specs.inner.Key.{oldest}
-use Rattle.go_board.specs.inner.Rows.{is_set}
+use Rattle.board_points.specs.Rows.{is_set}
 
 -- the set has each point that has a stone on the grid `before` and none on the grid `after`
 abbrev pub HasEmptied : (Point → Bool) → Grid → Grid → Type 0

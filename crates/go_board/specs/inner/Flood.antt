@@ -1,12 +1,12 @@
 -- A flood from the points of a colour.
 use Rattle.std.specs.Prelude.{◌≡◌, ◌⊎◌, ◌*◌, IsTrue, Contains, length}
 use Rattle.go_board.specs.declared.stones.Cell.{Cell}
-use Rattle.go_board.specs.declared.points.Point.{Point}
-use Rattle.go_board.specs.Point.{IsOn, AreAdjacent}
+use Rattle.board_points.specs.declared.points.Point.{Point}
+use Rattle.board_points.specs.Point.{IsOn, AreAdjacent}
 use Rattle.go_board.specs.Grid.{Grid, cell_at}
-use Rattle.go_board.specs.Marking.{is_marked}
+use Rattle.board_points.specs.Marking.{is_marked}
 use Rattle.go_board.specs.Reaching.{Reaches}
-use Rattle.go_board.specs.inner.Search.{Searched}
+use Rattle.board_points.specs.Search.{Searched}
 
 -- The second point reaches the wanted colour by a step to the first, which reaches it: that has the wanted colour, or both have
 -- the same colour.

@@ -2,13 +2,13 @@
 use Rattle.std.specs.Prelude.{◌≡◌, ◌≢◌, ◌⊎◌, ◌≤◌, ℕ, Bool, ◌&&◌, false, not, IsTrue, IsFalse, List, length}
 use Rattle.go_board.specs.declared.stones.Cell.TheVariants.{Empty}
 use Rattle.go_board.specs.declared.stones.Colour.{Colour}
-use Rattle.go_board.specs.declared.points.Point.{Point}
+use Rattle.board_points.specs.declared.points.Point.{Point}
 use Rattle.go_board.specs.Colour.{opponent, stone_of, same_cell}
-use Rattle.go_board.specs.Point.{IsOn, AreAdjacent}
+use Rattle.board_points.specs.Point.{IsOn, AreAdjacent}
 use Rattle.go_board.specs.Grid.{Grid, cell_at, with_cell}
 use Rattle.go_board.specs.Reaching.{Reaches, reaches}
 use Rattle.go_board.specs.Clearing.{has_unreaching, play}
-use Rattle.go_board.specs.inner.Rows.{is_set, IsAmong}
+use Rattle.board_points.specs.Rows.{is_set, IsAmong}
 
 -- The points that pass the test are stones of one colour. Each stone of that
 -- colour beside such a point passes, too. No point beside these stones is empty.

@@ -7,7 +7,7 @@ use Rattle.go_board.specs.Colour.{same_cell}
 use Rattle.go_board.specs.Grid.{Grid, cell_at}
 use Rattle.go_board.specs.Past.{Held}
 use Rattle.go_board.specs.inner.Print.{print_of}
-use Rattle.go_board.specs.inner.Rows.{has_bit}
+use Rattle.board_points.specs.Rows.{has_bit}
 
 -- the point with this row and column has such a stone; outside of the grid there is none
 abbrev pub has_stone : Grid → Cell → ℕ → ℕ → Bool

@@ -5,12 +5,12 @@ use Rattle.std.specs.List.{fold}
 use Rattle.go_board.specs.declared.stones.Cell.{Cell}
 use Rattle.go_board.specs.declared.stones.Cell.TheVariants.{Black, White, Empty}
 use Rattle.go_board.specs.declared.stones.Colour.{Colour}
-use Rattle.go_board.specs.declared.points.Point.{Point}
+use Rattle.board_points.specs.declared.points.Point.{Point}
 use Rattle.go_board.specs.Grid.{Grid, cell_at}
 use Rattle.go_board.specs.Clearing.{play}
 use Rattle.go_board.specs.Past.{Held}
 use Rattle.go_board.specs.inner.Groups.{IsMove}
-use Rattle.go_board.specs.inner.Rows.{has_bit}
+use Rattle.board_points.specs.Rows.{has_bit}
 
 -- the digit that a cell is in the print
 abbrev pub code : Cell → ℕ

@@ -1,24 +1,18 @@
 -- Sets of a board's points by what stands on them, as rows of words.
-use Rattle.std.specs.Prelude.{◌≡◌, ◌==◌, ◌<◌, ◌≤◌, ℕ, length, Bool, false, not, ◌&&◌, ◌||◌, IsTrue, if◌then◌else◌, List, count_by}
+use Rattle.std.specs.Prelude.{◌≡◌, ◌==◌, ◌≤◌, ℕ, length, Bool, false, ◌&&◌, ◌||◌, IsTrue, if◌then◌else◌, List}
 use Rattle.go_board.specs.declared.stones.Cell.{Cell}
 use Rattle.go_board.specs.declared.stones.Cell.TheVariants.{Black, White, Empty}
-use Rattle.go_board.specs.declared.size.TheConstants.{MAX_ROWS}
-use Rattle.go_board.specs.declared.points.Point.{Point}
+use Rattle.board_points.specs.declared.size.TheConstants.{MAX_ROWS}
+use Rattle.board_points.specs.declared.points.Point.{Point}
 use Rattle.go_board.specs.Colour.{same_cell}
-use Rattle.go_board.specs.Point.{IsOn, points}
+use Rattle.board_points.specs.Point.{IsOn}
 use Rattle.go_board.specs.Grid.{Grid, cell_at, grid_of}
 use Rattle.go_board.specs.Reaching.{reaches}
-use Rattle.go_board.specs.inner.Linked.{HasLiberty}
-use Rattle.go_board.specs.inner.Rows.{has_bit, is_set}
+use Rattle.board_points.specs.Rows.{has_bit, is_set}
 
 -- the cell is one of the two
 abbrev pub is_either : Cell → Cell → Cell → Bool
 is_either cell one other = same_cell cell one || same_cell cell other
-
--- the rows have exactly the points of the grid that pass a test
-pub record AreRowsOf (side : ℕ) (test : Point → Bool) (rows : List ℕ) : Type 0 where
-  pub on : (point : Point) → IsOn side point → is_set rows point ≡ test point
-  pub off : (point : Point) → IsTrue (is_set rows point) → IsOn side point
 
 -- what stands on a point, by the rows of the black stones and those of the white ones
 abbrev pub stone_in : List ℕ → List ℕ → Point → Cell
@@ -52,18 +46,3 @@ with_row grid row black white =
 -- a point of the wanted colour, or one of the colour `own` that reaches it
 abbrev pub reaches_through_own : Grid → Cell → Cell → Point → Bool
 reaches_through_own grid own wanted point = is_either (cell_at grid point) own wanted && reaches grid wanted point
-
--- how many points of a square are in the set `rows` and not in the set `others`
-unfoldable pub count_apart : ℕ → List ℕ → List ℕ → ℕ
-count_apart side rows others = count_by (λ point. is_set rows point && not (is_set others point)) (points side)
-
--- `left` has the points of `rows` that aren't in `others`
-pub record IsDifference (rows others left : List ℕ) : Type 0 where
-  pub on : (point : Point) → point.row < length rows → point.col < 64
-      → is_set left point ≡ (is_set rows point && not (is_set others point))
-  pub off : (point : Point) → IsTrue (is_set left point) → IsTrue (is_set rows point)
-
--- `alive` has the stones of `own` that have an empty point beside them
-pub record HaveLiberty (own others alive : List ℕ) : Type 0 where
-  pub from : (stone : Point) → IsTrue (is_set alive stone) → IsTrue (is_set own stone) × HasLiberty own others stone
-  pub to : (stone : Point) → stone.col < 64 → IsTrue (is_set own stone) → HasLiberty own others stone → IsTrue (is_set alive stone)

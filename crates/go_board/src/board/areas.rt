@@ -1,20 +1,18 @@
 //! Colouring areas of a board, and emptying sets of its points.
 
-ghost use Rattle.std.specs.Prelude.{◌≡◌, ◌<◌, ◌≤◌, ℕ, ◌&&◌, IsTrue, length, nat_le};
-ghost use Rattle.go_board.specs.declared.points.Point.{Point};
-ghost use Rattle.go_board.specs.Point.{IsOn};
+ghost use Rattle.std.specs.Prelude.{◌≡◌, ◌≤◌, IsTrue, length, All, fold};
+ghost use Rattle.board_points.specs.declared.points.Point.{Point};
+ghost use Rattle.board_points.specs.Point.{IsOn, IsRectOn};
 ghost use Rattle.go_board.specs.inner.Groups.{IsWithout};
-ghost use Rattle.go_board.specs.inner.Rows.{has_bit, is_set};
+ghost use Rattle.board_points.specs.Rows.{is_set};
+ghost use Rattle.go_board.specs.State.{with_area};
 
 use crate::board::Board;
 use crate::referee::SetupOp;
 use crate::stones::Cell;
+use board_points::columns::columns_between;
 
 impl Board {
-    ghost use Rattle.std.specs.Prelude.{◌≡◌, All, fold};
-    ghost use Rattle.go_board.specs.Point.{IsRectOn};
-    ghost use Rattle.go_board.specs.State.{with_area};
-
     /// Colours areas in order, whatever stood there. Nothing is cleared.
     pub(crate) fn colour_areas(&mut self, ops: &[SetupOp])
         requires { All (λ op. IsRectOn self.old.side op.area) ops.now }
@@ -52,13 +50,4 @@ impl Board {
             }
         }
     }
-}
-
-/// The columns from one to another, both included.
-fn columns_between(first: u8, last: u8) -> u64
-    requires ordered { first ≤ last }
-    requires few { last < 63 }
-    ensures { (col : ℕ) → has_bit result col ≡ (nat_le first col && nat_le col last) }
-{
-    (1 << last + 1) - (1 << first)
 }

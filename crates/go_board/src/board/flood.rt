@@ -1,20 +1,18 @@
 //! Which points reach a colour (Tromp-Taylor), by a flood from the points of that colour.
 
 ghost use Rattle.std.specs.Prelude.{◌≡◌, ◌⊎◌, ◌*◌, ◌+◌, ◌≤◌, ◌↔◌, IsTrue, length};
-ghost use Rattle.go_board.specs.declared.points.Point.{Point};
-ghost use Rattle.go_board.specs.Point.{IsOn};
+ghost use Rattle.board_points.specs.declared.points.Point.{Point};
+ghost use Rattle.board_points.specs.Point.{IsOn};
 ghost use Rattle.go_board.specs.Grid.{cell_at};
-ghost use Rattle.go_board.specs.Marking.{is_marked, marked_count};
+ghost use Rattle.board_points.specs.Marking.{is_marked, marked_count};
 ghost use Rattle.go_board.specs.Reaching.{Reaches};
 ghost use Rattle.go_board.specs.inner.Flood.{ReachesThrough};
-ghost use Rattle.go_board.specs.inner.Search.{Finds, nothing_found};
+ghost use Rattle.board_points.specs.Search.{Finds, nothing_found};
 
 use crate::board::Board;
-use crate::board::search::Search;
-use crate::marks::Marks;
-use crate::points::Point;
 use crate::steps::Steps;
 use crate::stones::Cell;
+use board_points::{Marks, Point, Search};
 
 impl Board {
     /// The points that reach a colour (Tromp-Taylor); points of that colour are among them. Adds one step for each marked point:

@@ -1,11 +1,12 @@
 //! The stones of a row as words with a bit for each column: one word for the black stones, one for the white ones.
 
-ghost use Rattle.std.specs.Prelude.{◌≡◌, ◌≢◌, ◌<◌, false, ℕ, if◌then◌else◌};
+ghost use Rattle.std.specs.Prelude.{◌≡◌, ◌<◌, ℕ, if◌then◌else◌};
 ghost use Rattle.go_board.specs.declared.stones.Cell.TheVariants.{Black, White, Empty};
 ghost use Rattle.go_board.specs.Colour.{same_cell};
-ghost use Rattle.go_board.specs.inner.Rows.{has_bit};
+ghost use Rattle.board_points.specs.Rows.{has_bit};
 
 use crate::stones::Cell;
+use board_points::columns::has_column;
 
 /// What stands in a column, by the words of the row.
 pub(crate) fn cell_in(black: u64, white: u64, col: usize) -> Cell
@@ -22,14 +23,6 @@ pub(crate) fn cell_in(black: u64, white: u64, col: usize) -> Cell
     }
 }
 
-/// Whether a word has the bit of a column.
-pub(crate) fn has_column(word: u64, col: usize) -> bool
-    requires { col < 64 }
-    ensures { result ≡ has_bit word col }
-{
-    word >> col & 1 == 1
-}
-
 /// The word of the stones of one kind, once some columns have a cell.
 pub(crate) fn with_columns(word: u64, columns: u64, cell: Cell, stone: Cell) -> u64
     ensures { (col : ℕ) → has_bit result col
@@ -40,14 +33,4 @@ pub(crate) fn with_columns(word: u64, columns: u64, cell: Cell, stone: Cell) -> 
     } else {
         word & !columns
     }
-}
-
-/// The word without the bit of a column.
-#[tactic(auto, using(crate::proofs::StoneRowsLemmas::without_there, crate::proofs::StoneRowsLemmas::without_elsewhere))]
-pub(crate) fn without_column(word: u64, col: usize) -> u64
-    requires { col < 64 }
-    ensures there { has_bit result col ≡ false }
-    ensures elsewhere { (other : ℕ) → other ≢ col → has_bit result other ≡ has_bit word other }
-{
-    word & !(1 << col)
 }

@@ -1,7 +1,7 @@
 //! The plain past: all colourings in one vector. Positional superko compares with each of them.
 
-ghost use Rattle.std.specs.Prelude.{◌↔◌, IsTrue, Contains, reverse};
-ghost use Rattle.go_board.specs.Past.{stretch_of};
+ghost use Rattle.std.specs.Prelude.{◌↔◌, IsTrue, Contains, reverse, ◌≡◌, OnOk, OnErr};
+ghost use Rattle.go_board.specs.Past.{stretch_of, Held, PastColourings, with_next};
 
 use crate::board::Board;
 use crate::fault::MemoryFault;
@@ -25,17 +25,12 @@ struct Kept {
 }
 
 impl Model for Kept {
-    ghost use Rattle.go_board.specs.Past.{Held};
-
     ghost Value = { Held };
 
     ghost view = { λ k. record { colouring = k.board; begins = k.begins } };
 }
 
 impl Model for ListPast {
-    ghost use Rattle.std.specs.Prelude.{reverse};
-    ghost use Rattle.go_board.specs.Past.{PastColourings};
-
     ghost Value = { PastColourings };
 
     ghost view = { λ p. record { newest = p.newest; older = reverse p.older.items } };
@@ -76,9 +71,6 @@ impl Past for ListPast {
 }
 
 impl ListPast {
-    ghost use Rattle.std.specs.Prelude.{◌≡◌, OnOk, OnErr};
-    ghost use Rattle.go_board.specs.Past.{with_next};
-
     /// Adds a colouring, which begins a stretch or continues the present one.
     fn add(&mut self, board: &Board, begins: bool) -> Result<(), MemoryFault>
         ensures ok { OnOk result (self.new ≡ with_next self.old board.now begins) }

@@ -1,19 +1,19 @@
 //! What a stone takes off, as rows of bits: the groups beside it that it captures, or its own group by suicide. `Board::place` is the
 //! plain way.
 
-ghost use Rattle.std.specs.Prelude.{◌≡◌, ◌↔◌, ◌||◌, ◌≤◌, IsTrue, IsFalse, false, length};
-ghost use Rattle.go_board.specs.declared.points.Point.{Point};
-ghost use Rattle.go_board.specs.Point.{IsOn};
+ghost use Rattle.std.specs.Prelude.{◌≡◌, ◌↔◌, IsTrue, IsFalse, false};
+ghost use Rattle.board_points.specs.declared.points.Point.{Point};
+ghost use Rattle.board_points.specs.Point.{IsOn};
 ghost use Rattle.go_board.specs.Colour.{stone_of};
 ghost use Rattle.go_board.specs.Grid.{cell_at};
 ghost use Rattle.go_board.specs.Clearing.{play};
 ghost use Rattle.go_board.specs.inner.Groups.{AddsGroup, AddsShut, AreShutGroups, AreTakenOrReachBeside, IsAsked, IsEmptyOnSettled, TakesOff};
-ghost use Rattle.go_board.specs.inner.Rows.{is_set, HasNoPoint};
+ghost use Rattle.board_points.specs.Rows.{is_set, HasNoPoint};
 
 use crate::board::Board;
-use crate::points::Point;
-use crate::quick::group::add_if_shut;
 use crate::stones::{Cell, Colour};
+use board_points::Point;
+use board_points::quick::group::add_if_shut;
 
 impl Board {
     /// Finds what a stone on an empty point takes off, by capture or else by suicide. `taken` must be empty, and becomes the points taken off.
@@ -89,16 +89,5 @@ impl Board {
         self.set(point, colour.stone());
         self.empty_set(taken);
         self.restore(true);
-    }
-}
-
-/// Adds the points of a set to another set, which has at least as many rows.
-pub(crate) fn add_points(rows: &[u64], all: &mut [u64])
-    requires { length rows.now ≤ length all.old }
-    ensures both { (p : Point) → is_set all.new p ≡ (is_set all.old p || is_set rows.now p) }
-    ensures rows { length all.new ≡ length all.old }
-{
-    for row in 0..rows.len() {
-        all[row] |= rows[row];
     }
 }

@@ -20,33 +20,32 @@ mod powers;
 mod print;
 mod table;
 
-ghost use Rattle.std.specs.Prelude.{◌≡◌, ◌≢◌, ◌<◌, ◌↔◌, false, IsTrue, IsSome, IfSome, OnOk, OnErr, Contains, length};
+ghost use Rattle.std.specs.Prelude.{◌≡◌, ◌≢◌, ◌<◌, ◌↔◌, false, IsTrue, IsSome, IfSome, OnOk, OnErr, Contains, length, IsFalse};
 ghost use Rattle.go_board.specs.declared.stones.Cell.TheVariants.{Empty};
-ghost use Rattle.go_board.specs.declared.points.Point.{Point};
-ghost use Rattle.go_board.specs.Point.{IsOn};
+ghost use Rattle.board_points.specs.declared.points.Point.{Point};
+ghost use Rattle.go_board.specs.declared.stones.Colour.{Colour};
+ghost use Rattle.board_points.specs.Point.{IsOn};
 ghost use Rattle.go_board.specs.Grid.{Grid, cell_at};
 ghost use Rattle.go_board.specs.Clearing.{play};
-ghost use Rattle.go_board.specs.Past.{all_of, newest_grid, with_next, present_stretch, HaveSide};
-ghost use Rattle.go_board.specs.inner.Emptied.{IsEmptied};
-ghost use Rattle.go_board.specs.inner.Groups.{IsMove};
+ghost use Rattle.go_board.specs.Past.{all_of, newest_grid, with_next, present_stretch, HaveSide, PastColourings, IsPlayed};
+ghost use Rattle.go_board.specs.inner.Emptied.{IsEmptied, IsPrintPast, IsLastStone};
+ghost use Rattle.go_board.specs.inner.Groups.{IsMove, IsEmptyOnSettled, TakesOff};
 ghost use Rattle.go_board.specs.inner.Print.{print_of, IsPrintedMove};
-ghost use Rattle.go_board.specs.inner.Rows.{is_set};
+ghost use Rattle.board_points.specs.Rows.{is_set};
 ghost use Rattle.go_board.specs.inner.Table.{IsGap, IsTable};
 ghost use Rattle.key_trie.specs.Trie.{item_count};
 
 use crate::board::Board;
-use crate::board::regions::no_rows;
 use crate::fault::MemoryFault;
 use crate::past::Past;
-use crate::points::Point;
-use crate::quick::capture::add_points;
 use crate::quick::print_past::colourings::Colourings;
 use crate::quick::print_past::emptied::Emptied;
 use crate::quick::print_past::print::{has_point, print_after_taking, print_of};
 use crate::quick::print_past::table::{Gap, Table};
 use crate::referee::SetupOp;
-use crate::size::MAX_ROWS;
 use crate::stones::Colour;
+use board_points::rows::{add_points, no_rows};
+use board_points::{MAX_ROWS, Point};
 use std::alloc::Global;
 use std::marker::Model;
 
@@ -68,9 +67,6 @@ pub struct PrintPast {
 }
 
 impl Model for PrintPast {
-    ghost use Rattle.go_board.specs.Past.{PastColourings};
-    ghost use Rattle.go_board.specs.inner.Emptied.{IsPrintPast};
-
     ghost Value = { PastColourings };
 
     ghost view = { λ p. p.colourings };
@@ -146,19 +142,6 @@ impl Past for PrintPast {
 }
 
 impl PrintPast {
-    ghost use Rattle.std.specs.Prelude.{◌≡◌, ◌↔◌, false, IsFalse, IsTrue, IsSome, OnOk, OnErr, Contains};
-    ghost use Rattle.go_board.specs.declared.stones.Cell.TheVariants.{Empty};
-    ghost use Rattle.go_board.specs.Point.{IsOn};
-    ghost use Rattle.go_board.specs.Grid.{Grid, cell_at};
-    ghost use Rattle.go_board.specs.Clearing.{play};
-    ghost use Rattle.go_board.specs.Past.{newest_grid, with_next, present_stretch, HaveSide, IsPlayed};
-    ghost use Rattle.go_board.specs.declared.stones.Colour.{Colour};
-    ghost use Rattle.go_board.specs.inner.Groups.{IsEmptyOnSettled, IsMove, TakesOff};
-    ghost use Rattle.go_board.specs.inner.Emptied.{IsLastStone};
-    ghost use Rattle.go_board.specs.inner.Print.{print_of, IsPrintedMove};
-    ghost use Rattle.go_board.specs.declared.points.Point.{Point};
-    ghost use Rattle.go_board.specs.inner.Rows.{is_set};
-
     /// Puts the colourings of the present stretch into the trie, if there are several. After a setup this would cost more: to work out
     /// a colouring, one goes back over later ones, and a setup may have changed all rows.
     fn link_stretch(&mut self)

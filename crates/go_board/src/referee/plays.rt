@@ -1,7 +1,7 @@
 //! Turns and setup operations, as plain data.
 
-use crate::points::{Point, Rect};
 use crate::stones::Cell;
+use board_points::{Point, Rect};
 
 /// A player's turn.
 #[derive(Clone, Copy, Debug, PartialEq, Eq)]

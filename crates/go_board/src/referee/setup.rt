@@ -1,16 +1,16 @@
 //! A referee's setups.
 
+ghost use Rattle.std.specs.Prelude.{◌≡◌, ◌<◌, ◌⊎◌, All, IsSome, OnOk, OnErr, fold, length};
+ghost use Rattle.board_points.specs.Point.{IsRectOn};
+ghost use Rattle.go_board.specs.State.{followed_by, set_up, with_area};
+ghost use Rattle.go_board.specs.inner.Earlier.{with_setup};
+
 use crate::fault::MemoryFault;
 use crate::past::Past;
 use crate::referee::{Referee, SetupOp};
 use crate::stones::Colour;
 
 impl<P: Past> Referee<P> {
-    ghost use Rattle.std.specs.Prelude.{◌≡◌, ◌<◌, ◌⊎◌, All, IsSome, OnOk, OnErr, fold, length};
-    ghost use Rattle.go_board.specs.Point.{IsRectOn};
-    ghost use Rattle.go_board.specs.State.{followed_by, set_up, with_area};
-    ghost use Rattle.go_board.specs.inner.Earlier.{with_setup};
-
     /// Sets up stones or the player (SGF FF[4]).
     ///
     /// - With operations: these colour their areas in order, whatever stood there, and nothing is cleared. A new stretch begins,

@@ -1,23 +1,23 @@
 //! A referee's turns. The past plays the stones (`Past::play`), and doesn't play one that would repeat a colouring made since the last
 //! setup of stones (positional superko).
 
+ghost use Rattle.std.specs.Prelude.{◌≡◌, ◌≢◌, ◌↔◌, if◌then◌else◌, None, Some, IfNone, IfOk, IfSome, IsErrOf, OnOk, OnErr};
+ghost use Rattle.go_board.specs.declared.reason.Reason.{Reason};
+ghost use Rattle.go_board.specs.declared.reason.Reason.TheVariants.{Repeat};
+ghost use Rattle.go_board.specs.declared.referee.plays.Play.TheVariants.{Pass, Stone};
+ghost use Rattle.board_points.specs.Point.{IsOn};
+ghost use Rattle.go_board.specs.State.{IsPlayOn, followed_by, turned};
+ghost use Rattle.go_board.specs.Reason.{reason_of};
+ghost use Rattle.go_board.specs.inner.Earlier.{MayOnlyRepeat};
+
 use crate::fault::{MemoryFault, TurnFault};
 use crate::past::Past;
-use crate::points::Point;
 use crate::reason::Reason;
 use crate::referee::{Play, Referee};
 use crate::stones::{Cell, Colour};
+use board_points::Point;
 
 impl<P: Past> Referee<P> {
-    ghost use Rattle.std.specs.Prelude.{◌≡◌, ◌≢◌, ◌↔◌, if◌then◌else◌, None, Some, IfNone, IfOk, IfSome, IsErrOf, OnOk, OnErr};
-    ghost use Rattle.go_board.specs.declared.reason.Reason.{Reason};
-    ghost use Rattle.go_board.specs.declared.reason.Reason.TheVariants.{Repeat};
-    ghost use Rattle.go_board.specs.declared.referee.plays.Play.TheVariants.{Pass, Stone};
-    ghost use Rattle.go_board.specs.Point.{IsOn};
-    ghost use Rattle.go_board.specs.State.{IsPlayOn, followed_by, turned};
-    ghost use Rattle.go_board.specs.Reason.{reason_of};
-    ghost use Rattle.go_board.specs.inner.Earlier.{MayOnlyRepeat};
-
     /// Takes a player's turn (Tromp-Taylor). A stone's point must be on the board. After a refusal nothing is changed.
     ///
     /// - `Illegal`: the first of `Over`, `Turn`, `Occupied` and `Repeat` that holds. This refusal comes even if memory is refused.

@@ -2,12 +2,12 @@
 use Rattle.std.specs.Prelude.{◌≡◌, ℕ, if◌then◌else◌, List, [], ◌++◌, codes, take}
 use Rattle.std.specs.List.{flat_map}
 use Rattle.go_board.specs.declared.stones.Colour.{Colour}
-use Rattle.go_board.specs.declared.points.Point.{Point}
+use Rattle.board_points.specs.declared.points.Point.{Point}
 use Rattle.go_board.specs.declared.referee.plays.Play.TheVariants.{Stone}
 use Rattle.go_board.specs.Colour.{stone_of, same_cell}
-use Rattle.go_board.specs.Point.{points}
+use Rattle.board_points.specs.Point.{points}
 use Rattle.go_board.specs.Grid.{Grid, cell_at}
-use Rattle.go_board.specs.declared.vertices.Vertex.{Vertex}
+use Rattle.board_points.specs.declared.vertices.Vertex.{Vertex}
 use Rattle.sgf_lines.specs.Script.{colour_letter, vertex_text, play_command}
 
 -- the command for a point, if the point has that colour

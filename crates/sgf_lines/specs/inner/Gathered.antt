@@ -8,7 +8,7 @@ use Rattle.go_board.specs.declared.stones.Colour.{Colour}
 use Rattle.go_board.specs.declared.stones.Colour.TheVariants.{Black, White}
 use Rattle.go_board.specs.declared.stones.Cell.TheVariants.{Black as BlackStone, White as WhiteStone, Empty}
 use Rattle.go_board.specs.declared.referee.plays.SetupOp.{SetupOp}
-use Rattle.go_board.specs.Point.{IsRectOn}
+use Rattle.board_points.specs.Point.{IsRectOn}
 use Rattle.sgf_lines.specs.declared.judging.contents.Moves.{Moves}
 use Rattle.sgf_lines.specs.declared.judging.contents.Moves.TheVariants.{Nothing, One, Several}
 use Rattle.sgf_lines.specs.declared.judging.contents.Setup.{Setup}

@@ -1,7 +1,7 @@
 //! The commands of a node in the script of a line (Go Text Protocol, version 2).
 
 ghost use Rattle.std.specs.Prelude.{◌≡◌, ℕ, List, [], ◌∷◌, ◌++◌, ◌+◌, ◌≤◌, ◌<◌, ◌*◌, OnOk, option_copied};
-ghost use Rattle.go_board.specs.Point.{IsOn};
+ghost use Rattle.board_points.specs.Point.{IsOn};
 ghost use Rattle.go_board.specs.declared.referee.plays.Play.TheVariants.{Stone};
 ghost use Rattle.go_board.specs.State.{IsPlayOn};
 ghost use Rattle.sgf_tree.specs.Text.{text_of};

@@ -2,7 +2,7 @@
 
 ghost use Rattle.std.specs.Prelude.{◌≡◌, ◌<◌, ◌⊎◌, ◌∷◌, ◌++◌, [], List, length, All, IfOk, IsSome, Ok};
 ghost use Rattle.sgf_tree.specs.Tree.{Node, Property, told_property};
-ghost use Rattle.go_board.specs.Point.{IsRectOn};
+ghost use Rattle.board_points.specs.Point.{IsRectOn};
 ghost use Rattle.go_board.specs.State.{set_up as set_up_rule};
 ghost use Rattle.sgf_lines.specs.NodeValues.{move_value as move_value_rule};
 ghost use Rattle.sgf_lines.specs.Step.{step, move_step};

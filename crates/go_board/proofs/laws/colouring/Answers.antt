@@ -1,5 +1,5 @@
 use Rattle.std.proofs.Common.{sym, ap, ◌∙◌, refl, subst}
-use Rattle.go_board.specs.Point.{IsOn}
+use Rattle.board_points.specs.Point.{IsOn}
 use Rattle.go_board.specs.Grid.{Grid, cell_at, grid_of}
 use Rattle.go_board.proofs.GroupLemmas.{grid_of-cells}
 use Rattle.go_board.proofs.laws.colouring.Goals as goal

@@ -8,12 +8,10 @@ ghost use Rattle.go_board.specs.inner.Changes.{after_changes, AddsRow, AreOn, Ke
 ghost use Rattle.go_board.specs.inner.Groups.{IsMove};
 
 use crate::board::Board;
-use crate::board::regions::all_columns;
-use crate::board::stone_rows::{has_column, without_column};
-use crate::points::Point;
 use crate::quick::print_past::print::columns_in;
-use crate::size::MAX_ROWS;
 use crate::stones::Colour;
+use board_points::columns::{all_columns, has_column, without_column};
+use board_points::{MAX_ROWS, Point};
 
 /// One step in this many keeps all rows of the colouring before it. So an older colouring
 /// can be worked out from the next such step, or else from the newest colouring.

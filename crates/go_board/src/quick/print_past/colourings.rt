@@ -1,21 +1,20 @@
 //! Past colourings. The newest is kept whole. An older one is kept as the rows that lead back to it.
 
-ghost use Rattle.std.specs.Prelude.{◌≡◌, ◌+◌, ◌-◌, ◌*◌, ◌<◌, ◌≤◌, ◌↔◌, ◌∷◌, [], false, IsTrue, IfOk, MatchOption, OnOk, OnErr, if◌then◌else◌, length, map, replicate, take, drop};
+ghost use Rattle.std.specs.Prelude.{◌≡◌, ◌+◌, ◌-◌, ◌*◌, ◌<◌, ◌≤◌, ◌↔◌, ◌∷◌, [], false, IsTrue, IfOk, MatchOption, OnOk, OnErr, length, replicate, ◌==◌, reverse};
 ghost use Rattle.std.specs.Vec.{vec_capacity};
 ghost use Rattle.go_board.specs.Clearing.{play};
-ghost use Rattle.go_board.specs.Past.{Held, all_of, newest_grid, only, with_next, present_stretch};
-ghost use Rattle.go_board.specs.inner.Changes.{is_full, IsEndOf, IsNumber};
+ghost use Rattle.go_board.specs.Past.{all_of, newest_grid, only, with_next, PastColourings};
+ghost use Rattle.go_board.specs.inner.Changes.{is_full, IsEndOf, IsNumber, held_before, IsPast};
 ghost use Rattle.go_board.specs.inner.Groups.{IsEmptyOnSettled, IsMove};
 ghost use Rattle.go_board.specs.inner.Key.{start_of, since};
 
 use crate::board::Board;
 use crate::fault::MemoryFault;
-use crate::points::Point;
 use crate::quick::print_past::changes::{
     Change, FULL, Older, is_full, keep_rows, put_kept, take_back,
 };
-use crate::size::MAX_ROWS;
 use crate::stones::Colour;
+use board_points::{MAX_ROWS, Point};
 use std::alloc::Global;
 use std::marker::Model;
 
@@ -38,12 +37,7 @@ pub(crate) struct Colourings {
 }
 
 impl Model for Colourings {
-    ghost use Rattle.std.specs.Prelude.{◌==◌, length, reverse};
-    ghost use Rattle.go_board.specs.Past.{PastColourings};
-
     ghost Value = { PastColourings };
-
-    ghost use Rattle.go_board.specs.inner.Changes.{held_before, IsPast};
 
     ghost view = { λ p. record {
       newest = record { colouring = p.newest; begins = p.stretch_start == length (reverse p.older.items) };

@@ -5,14 +5,14 @@
 
 ghost use Rattle.std.specs.Prelude.{◌≡◌, ◌+◌, ◌≤◌, ◌||◌, List, [], ◌∷◌, length, IsFalse, OnOk};
 ghost use Rattle.std.specs.Vec.{vec_capacity};
-ghost use Rattle.go_board.specs.declared.points.Point.{Point};
+ghost use Rattle.board_points.specs.declared.points.Point.{Point};
 ghost use Rattle.go_board.specs.Past.{Held};
 ghost use Rattle.go_board.specs.inner.Emptied.{HasEmptied, IsEmptied};
-ghost use Rattle.go_board.specs.inner.Rows.{is_set};
+ghost use Rattle.board_points.specs.Rows.{is_set};
 
-use crate::board::regions::no_rows;
 use crate::fault::MemoryFault;
-use crate::size::MAX_ROWS;
+use board_points::MAX_ROWS;
+use board_points::rows::no_rows;
 use std::alloc::Global;
 
 /// A row of the set as it was before a step.

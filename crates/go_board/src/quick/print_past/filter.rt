@@ -8,8 +8,7 @@
 ghost use Rattle.std.specs.Prelude.{◌≡◌, ◌≢◌, ℕ, ◌++◌, ◌<◌, List, length, slice_index, IsFalse};
 ghost use Rattle.go_board.specs.inner.Filter.{IsFilter, word_of, column_of};
 
-use crate::board::regions::with_column;
-use crate::board::stone_rows::has_column;
+use board_points::columns::{has_column, with_column};
 
 /// How many words of 64 bits there are.
 const WORDS: usize = 128;

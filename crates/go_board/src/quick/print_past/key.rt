@@ -5,9 +5,9 @@ ghost use Rattle.std.specs.Prelude.{◌≡◌};
 ghost use Rattle.go_board.specs.inner.Key.{key_bits, bits_of};
 
 use crate::board::Board;
-use crate::board::stone_rows::has_column;
-use crate::size::MAX_ROWS;
 use crate::stones::Colour;
+use board_points::MAX_ROWS;
+use board_points::columns::has_column;
 use key_trie::Key;
 
 /// The bits of a word.

@@ -10,20 +10,19 @@
 ghost use Rattle.std.specs.Prelude.{◌≡◌, ◌<◌, ◌≤◌, ◌+◌, ◌-◌, ◌*◌, ◌%◌, ◌^◌, ℕ, IsTrue, slice_index};
 ghost use Rattle.go_board.specs.declared.stones.Cell.TheVariants.{Empty};
 ghost use Rattle.go_board.specs.Colour.{stone_of};
-ghost use Rattle.go_board.specs.Point.{IsOn, index_of};
+ghost use Rattle.board_points.specs.Point.{IsOn, index_of};
 ghost use Rattle.go_board.specs.Grid.{cell_at, with_cell};
 ghost use Rattle.go_board.specs.Clearing.{play};
 ghost use Rattle.go_board.specs.inner.Groups.{IsMove};
 ghost use Rattle.go_board.specs.inner.Print.{number_within, print_of, word_number};
-ghost use Rattle.go_board.specs.inner.Rows.{has_bit, is_set};
+ghost use Rattle.board_points.specs.Rows.{has_bit, is_set};
 
 use crate::board::Board;
-use crate::board::stone_rows::{has_column, without_column};
-use crate::points::Point;
 use crate::quick::print_past::bytes::byte_number;
 use crate::quick::print_past::powers::{power, small_power};
-use crate::size::MAX_SIDE;
 use crate::stones::Colour;
+use board_points::columns::{has_column, without_column};
+use board_points::{MAX_SIDE, Point};
 
 /// The print of a board.
 pub(crate) fn print_of(board: &Board) -> u64

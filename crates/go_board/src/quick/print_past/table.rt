@@ -22,11 +22,11 @@ ghost use Rattle.key_trie.specs.Key.{Agree};
 ghost use Rattle.key_trie.specs.Trie.{item_count, nodes_of};
 
 use crate::board::Board;
-use crate::board::stone_rows::has_column;
 use crate::fault::MemoryFault;
 use crate::quick::print_past::colourings::Colourings;
 use crate::quick::print_past::filter::Filter;
 use crate::quick::print_past::key::{ColouringKey, FRONT, WIDTH, WORD};
+use board_points::columns::has_column;
 use key_trie::{Slot, Trie, first_difference};
 use std::alloc::Global;
 

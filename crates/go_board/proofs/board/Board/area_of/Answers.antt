@@ -2,7 +2,7 @@ use Rattle.std.proofs.Common.{◌≡◌, sym, subst, rules}
 use Rattle.go_board.specs.declared.stones.Cell.TheVariants.{Empty}
 use Rattle.go_board.specs.Colour.{same_cell, stone_of}
 use Rattle.go_board.specs.Grid.{cell_at}
-use Rattle.go_board.specs.inner.Regions.{AreRowsOf}
+use Rattle.board_points.specs.Rows.{AreRowsOf}
 use Rattle.go_board.proofs.LibertyLemmas.{rows_of_opponent}
 use Rattle.go_board.proofs.RegionLemmas.{region_is, filled_reaches, AreRowsOf-filled}
 use Rattle.go_board.proofs.board.Board.area_of.Goals as goal

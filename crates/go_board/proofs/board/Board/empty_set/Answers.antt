@@ -3,7 +3,7 @@ use Rattle.go_board.specs.declared.stones.Cell.TheVariants.{Empty}
 use Rattle.go_board.specs.Grid.{Grid}
 use Rattle.go_board.specs.inner.Groups.{IsWithout}
 use Rattle.go_board.specs.inner.Regions.{with_columns}
-use Rattle.go_board.specs.inner.Rows.{has_bit, is_set}
+use Rattle.board_points.specs.Rows.{has_bit, is_set}
 use Rattle.go_board.proofs.SweepLemmas.{painted_none, painted_more, painted_same, painted_empty}
 use Rattle.go_board.proofs.board.Board.empty_set.Goals as goal
 use Rattle.go_board.proofs.board.Board.empty_set.Goals.{then-columns-ne0, else-columns-ne0}

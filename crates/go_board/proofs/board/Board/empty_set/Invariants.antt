@@ -1,6 +1,6 @@
 use Rattle.std.proofs.Common.{◌≡◌}
 use Rattle.go_board.specs.declared.stones.Cell.TheVariants.{Empty}
-use Rattle.go_board.specs.inner.Rows.{is_set}
+use Rattle.board_points.specs.Rows.{is_set}
 use Rattle.go_board.proofs.SweepLemmas.{painted}
 use Rattle.go_board.proofs.board.Board.empty_set.Given as goal
 

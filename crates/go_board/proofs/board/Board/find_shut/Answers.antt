@@ -1,7 +1,7 @@
 use Rattle.std.proofs.Common.{inl, inr, sym, ap, ◌∙◌, subst, rules}
 use Rattle.std.proofs.lemmas.Bool.{cases_Bool, or_left, or_right, false≢true}
 use Rattle.go_board.specs.inner.Groups.{AreShutGroups}
-use Rattle.go_board.specs.inner.Rows.{is_set}
+use Rattle.board_points.specs.Rows.{is_set}
 use Rattle.go_board.proofs.GridLemmas.{Decides-same_cell}
 use Rattle.go_board.proofs.LibertyLemmas.{rows_of_opponent, Reaches-liberty, IsWithoutLiberty-shut}
 use Rattle.go_board.proofs.TakenLemmas.{AreShutGroups-both}

@@ -1,5 +1,5 @@
 use Rattle.std.proofs.Common.{Contains, take}
-use Rattle.go_board.specs.Point.{IsOn}
+use Rattle.board_points.specs.Point.{IsOn}
 use Rattle.go_board.specs.inner.Groups.{AddsShut, IsTakenOrReaches}
 use Rattle.go_board.proofs.board.Board.find_shut_beside.Given as goal
 

@@ -2,8 +2,8 @@ use Rattle.std.proofs.Common.{◌≡◌, false, inl, inr, ap, sym, ◌∙◌, su
 use Rattle.std.proofs.lemmas.Bool.{false≢true}
 use Rattle.go_board.specs.declared.stones.Cell.TheVariants.{Empty}
 use Rattle.go_board.specs.Colour.{opponent, stone_of}
-use Rattle.go_board.specs.declared.points.Point.{Point}
-use Rattle.go_board.specs.inner.Rows.{is_set}
+use Rattle.board_points.specs.declared.points.Point.{Point}
+use Rattle.board_points.specs.Rows.{is_set}
 use Rattle.go_board.specs.Grid.{Grid, cell_at, with_cell}
 use Rattle.go_board.proofs.GridLemmas.{cell_at-with_cell}
 use Rattle.go_board.specs.Clearing.{has_unreaching}

@@ -1,6 +1,6 @@
 use Rattle.std.proofs.Common.{◌<◌, sym, ap, ◌∙◌, arith}
 use Rattle.std.proofs.lemmas.Bool.{eqb-true}
-use Rattle.go_board.specs.inner.Rows.{has_bit}
+use Rattle.board_points.specs.Rows.{has_bit}
 use Rattle.go_board.proofs.GridLemmas.{same_stones}
 use Rattle.go_board.proofs.board.Board.has_same_row.Goals as goal
 

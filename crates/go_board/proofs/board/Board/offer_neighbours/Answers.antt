@@ -2,11 +2,11 @@ use Rattle.std.proofs.Common.{◌≡◌, ◌⊎◌, inl, inr, sym, subst, arith}
 use Rattle.std.specs.List.{Contains}
 use Rattle.std.proofs.lemmas.List.{take_all}
 use Rattle.std.proofs.lemmas.List.Elements.{Contains-get_or}
-use Rattle.go_board.specs.declared.points.Point.{Point}
-use Rattle.go_board.specs.Point.{IsOn}
+use Rattle.board_points.specs.declared.points.Point.{Point}
+use Rattle.board_points.specs.Point.{IsOn}
 use Rattle.go_board.specs.Grid.{cell_at}
-use Rattle.go_board.proofs.PointLemmas.{origin, Contains-take_more}
-use Rattle.go_board.proofs.SearchLemmas.{Finds-then, Finds-same}
+use Rattle.board_points.proofs.PointLemmas.{origin, Contains-take_more}
+use Rattle.board_points.proofs.SearchLemmas.{Finds-then, Finds-same}
 use Rattle.go_board.proofs.board.Board.offer_neighbours.Goals as goal
 
 pub loop-to-preserved : goal.loop-to-preserved

@@ -1,6 +1,6 @@
 use Rattle.std.proofs.Common.{Contains, take}
 use Rattle.go_board.specs.inner.Flood.{ReachesThrough}
-use Rattle.go_board.specs.inner.Search.{Finds}
+use Rattle.board_points.specs.Search.{Finds}
 use Rattle.go_board.proofs.board.Board.offer_neighbours.Given as goal
 
 abbrev pub invariant-loop-to : goal.invariant-loop-to

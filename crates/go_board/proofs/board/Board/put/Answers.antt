@@ -1,12 +1,12 @@
 use Rattle.std.proofs.Common.{◌≡◌, ◌*◌, ap, ◌∙◌, List, ℕ, length, true, subst}
 use Rattle.std.proofs.lemmas.List.{length-set}
-use Rattle.go_board.specs.declared.points.Point.{Point}
+use Rattle.board_points.specs.declared.points.Point.{Point}
 use Rattle.go_board.specs.declared.stones.Colour.{Colour}
 use Rattle.go_board.specs.Colour.{stone_of}
-use Rattle.go_board.specs.Point.{index_of}
+use Rattle.board_points.specs.Point.{index_of}
 use Rattle.go_board.specs.Grid.{Grid, with_cell}
 use Rattle.go_board.specs.Clearing.{play, has_unreaching}
-use Rattle.go_board.specs.inner.Rows.{is_set}
+use Rattle.board_points.specs.Rows.{is_set}
 use Rattle.go_board.specs.inner.Groups.{IsWithout, TakesOff}
 use Rattle.go_board.proofs.SettledLemmas.{settled_by_play}
 use Rattle.go_board.proofs.TakenLemmas.{same_without}

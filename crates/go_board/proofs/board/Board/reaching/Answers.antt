@@ -1,9 +1,9 @@
 use Rattle.std.proofs.Common.{◌≡◌, length, sym, ap, ◌∙◌, subst, arith, IsTrue}
 use Rattle.std.proofs.lemmas.List.{length_push}
 use Rattle.go_board.specs.Grid.{cell_at}
-use Rattle.go_board.specs.Marking.{is_marked, marked_count}
-use Rattle.go_board.specs.Point.{IsOn}
-use Rattle.go_board.proofs.SearchLemmas.{IsUnderWay-step, complete}
+use Rattle.board_points.specs.Marking.{is_marked, marked_count}
+use Rattle.board_points.specs.Point.{IsOn}
+use Rattle.go_board.proofs.FloodLemmas.{IsUnderWay-step, complete}
 use Rattle.go_board.proofs.board.Board.reaching.Goals as goal
 
 pub loop-point-preserved : goal.loop-point-preserved

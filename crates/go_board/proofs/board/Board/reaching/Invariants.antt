@@ -1,5 +1,5 @@
 use Rattle.std.proofs.Common.{◌≡◌, ◌+◌, ◌*◌, ◌-◌, length}
-use Rattle.go_board.specs.Marking.{marked_count}
+use Rattle.board_points.specs.Marking.{marked_count}
 use Rattle.go_board.specs.inner.Flood.{IsUnderWay}
 use Rattle.go_board.proofs.board.Board.reaching.Given as goal
 

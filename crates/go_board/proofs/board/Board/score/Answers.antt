@@ -1,7 +1,7 @@
 use Rattle.std.proofs.Common.{ap, ◌∙◌}
 use Rattle.go_board.specs.declared.stones.Colour.TheVariants.{Black, White}
-use Rattle.go_board.specs.inner.Regions.{count_apart}
-use Rattle.go_board.proofs.CountLemmas.{score_by_rows}
+use Rattle.board_points.specs.Rows.{count_apart}
+use Rattle.go_board.proofs.ScoreLemmas.{score_by_rows}
 use Rattle.go_board.proofs.board.Board.score.Goals as goal
 
 pub returns-clause-black : goal.returns-clause-black

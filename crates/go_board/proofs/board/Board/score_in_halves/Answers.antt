@@ -2,11 +2,12 @@ use Rattle.std.proofs.Common.{◌≡◌, ap, sym, subst, ◌∙◌, length, rule
 use Rattle.go_board.specs.declared.stones.Cell.TheVariants.{Empty}
 use Rattle.go_board.specs.declared.stones.Colour.TheVariants.{Black, White}
 use Rattle.go_board.specs.Colour.{stone_of}
-use Rattle.go_board.specs.Point.{IsOn}
-use Rattle.go_board.specs.inner.Regions.{AreRowsOf, count_apart, reaches_through_own}
-use Rattle.go_board.specs.inner.Halves.{low_halves, high_halves}
-use Rattle.go_board.proofs.CountLemmas.{score_by_rows}
-use Rattle.go_board.proofs.HalvesLemmas.{stones_within, areas}
+use Rattle.board_points.specs.Point.{IsOn}
+use Rattle.board_points.specs.Rows.{AreRowsOf, count_apart}
+use Rattle.go_board.specs.inner.Regions.{reaches_through_own}
+use Rattle.board_points.specs.Halves.{low_halves, high_halves}
+use Rattle.go_board.proofs.ScoreLemmas.{score_by_rows}
+use Rattle.go_board.proofs.BothAreasLemmas.{stones_within, areas}
 use Rattle.go_board.proofs.board.Board.score_in_halves.Goals as goal
 use Rattle.go_board.proofs.board.Board.score_in_halves.Goals.{After-fill}
 

@@ -1,7 +1,7 @@
 use Rattle.std.proofs.Common.{◌≡◌, ◌<◌}
-use Rattle.go_board.specs.Point.{index_of}
+use Rattle.board_points.specs.Point.{index_of}
 use Rattle.go_board.specs.Grid.{cell_at}
-use Rattle.go_board.specs.inner.Search.{Finds, nothing_found}
+use Rattle.board_points.specs.Search.{Finds, nothing_found}
 use Rattle.go_board.proofs.board.Board.search_from.Given as goal
 
 abbrev pub invariant-loop-index : goal.invariant-loop-index

@@ -1,7 +1,7 @@
 use Rattle.std.proofs.Common.{◌≡◌, true, ◌∙◌, refl, subst}
 use Rattle.std.proofs.Math.Bool.{or-true}
-use Rattle.go_board.specs.inner.Rows.{has_bit}
-use Rattle.go_board.proofs.WordLemmas.{has_bit-zero}
+use Rattle.board_points.specs.Rows.{has_bit}
+use Rattle.board_points.proofs.WordLemmas.{has_bit-zero}
 use Rattle.go_board.proofs.StoneRowsLemmas.{one_coloured}
 use Rattle.go_board.proofs.board.Board.set.Goals as goal
 

@@ -3,7 +3,7 @@ use Rattle.go_board.proofs.GlanceLemmas.{all_live}
 use Rattle.go_board.proofs.TakenLemmas.{takes_nothing}
 use Rattle.go_board.proofs.board.Board.takes_nothing_at_a_glance.Goals as goal
 use Rattle.go_board.proofs.board.Board.takes_nothing_at_a_glance.Goals.{After-rows_of-others}
-use Rattle.go_board.specs.inner.Glance.{LeavesAllAlive}
+use Rattle.board_points.specs.Glance.{LeavesAllAlive}
 use Rattle.go_board.specs.inner.Groups.{TakesOff}
 use Rattle.std.proofs.Common.{[]}
 

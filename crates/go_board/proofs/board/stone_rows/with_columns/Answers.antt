@@ -1,5 +1,5 @@
 use Rattle.std.proofs.Common.{cond, sym, ap, ◌∙◌}
-use Rattle.go_board.specs.inner.Rows.{has_bit}
+use Rattle.board_points.specs.Rows.{has_bit}
 use Rattle.go_board.proofs.GridLemmas.{same_cell-eq}
 use Rattle.go_board.proofs.StoneRowsLemmas.{columns_set, columns_cleared}
 use Rattle.go_board.proofs.board.stone_rows.with_columns.Goals as goal

@@ -1,6 +1,6 @@
 use Rattle.std.proofs.Common.{false}
 use Rattle.go_board.specs.declared.stones.Colour.{Colour}
-use Rattle.go_board.specs.declared.points.Point.{Point}
+use Rattle.board_points.specs.declared.points.Point.{Point}
 use Rattle.go_board.specs.Clearing.{play}
 use Rattle.go_board.specs.Past.{Held, PastColourings, all_of, newest_grid}
 use Rattle.go_board.proofs.RepeatLemmas.{emptied_by_play}

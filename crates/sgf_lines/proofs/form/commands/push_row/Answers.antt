@@ -1,7 +1,7 @@
 use Rattle.std.proofs.Common.{◌≡◌, Some, slice_get, ◌*◌, ◌+◌, [], subst, arith}
-use Rattle.go_board.specs.declared.points.Point.{Point}
-use Rattle.go_board.specs.Point.{points}
-use Rattle.go_board.proofs.PointLemmas.{slice_get-points}
+use Rattle.board_points.specs.declared.points.Point.{Point}
+use Rattle.board_points.specs.Point.{points}
+use Rattle.board_points.proofs.PointLemmas.{slice_get-points}
 use Rattle.sgf_lines.specs.inner.Cutting.{commands_at, AreAppended}
 use Rattle.sgf_lines.proofs.Joins.{joins}
 use Rattle.sgf_lines.proofs.form.commands.push_row.Goals as goal

@@ -3,7 +3,7 @@ use Rattle.std.proofs.lemmas.Bool.{or_parts}
 use Rattle.go_board.specs.Grid.{Grid}
 use Rattle.go_board.specs.Past.{PastColourings, all_of, newest_grid}
 use Rattle.go_board.specs.inner.Emptied.{HasAllEmptied}
-use Rattle.go_board.specs.inner.Rows.{is_set}
+use Rattle.board_points.specs.Rows.{is_set}
 use Rattle.go_board.proofs.EmptiedLemmas.{history_all}
 use Rattle.go_board.proofs.RepeatLemmas.{never_back, last_stone_put}
 use Rattle.go_board.proofs.quick.print_past.PrintPast.may_repeat.Goals as goal

@@ -5,7 +5,7 @@ use Rattle.std.proofs.lemmas.List.Elements.{All-get_or}
 use Rattle.go_board.specs.declared.quick.print_past.changes.Change.{Change}
 use Rattle.go_board.specs.Grid.{Grid}
 use Rattle.go_board.specs.inner.Changes.{IsChangeOn}
-use Rattle.go_board.specs.inner.Rows.{has_bit}
+use Rattle.board_points.specs.Rows.{has_bit}
 use Rattle.go_board.proofs.ChangesLemmas.{IsMade, after-side, made-whole, made-more, made-passed}
 use Rattle.go_board.proofs.quick.print_past.changes.take_back.Goals as goal
 use Rattle.go_board.proofs.quick.print_past.changes.take_back.Goals.{then-has_column, else-has_column}

@@ -2,7 +2,7 @@ use Rattle.std.proofs.Common.{◌-◌, ◌%◌, ◌^◌, ap, sym, ◌∙◌, ari
 use Rattle.std.specs.Int.{trailing_zeros}
 use Rattle.go_board.specs.inner.Print.{word_number}
 use Rattle.go_board.proofs.PrintLemmas.{no_column, one_column}
-use Rattle.go_board.proofs.SweepLemmas.{lowest_left}
+use Rattle.board_points.proofs.ColumnLemmas.{lowest_left}
 use Rattle.go_board.proofs.quick.print_past.print.number_of.Goals as goal
 
 pub returns-then-columns-eq0 : goal.returns-then-columns-eq0

@@ -1,6 +1,6 @@
 use Rattle.std.proofs.Common.{◌≡◌, ℕ, ◌*◌, ◌-◌, ◌%◌, ◌^◌, ap, ◌∙◌, sym, arith}
 use Rattle.go_board.specs.Colour.{stone_of}
-use Rattle.go_board.specs.Point.{index_of}
+use Rattle.board_points.specs.Point.{index_of}
 use Rattle.go_board.specs.inner.Print.{code}
 use Rattle.go_board.proofs.PrintLemmas.{stone_added}
 use Rattle.go_board.proofs.quick.print_past.print.print_after_stone.Goals as goal

@@ -2,11 +2,11 @@ use Rattle.std.proofs.Common.{◌≡◌, ◌≢◌, ◌*◌, true, false, length
 use Rattle.std.proofs.lemmas.Bool.{false≢true}
 use Rattle.std.proofs.lemmas.List.{length-set}
 use Rattle.go_board.specs.Colour.{stone_of}
-use Rattle.go_board.specs.Point.{index_of}
+use Rattle.board_points.specs.Point.{index_of}
 use Rattle.go_board.specs.Grid.{with_cell}
 use Rattle.go_board.specs.Clearing.{play}
 use Rattle.go_board.specs.inner.Print.{print_of}
-use Rattle.go_board.specs.inner.Rows.{is_set}
+use Rattle.board_points.specs.Rows.{is_set}
 use Rattle.go_board.proofs.GridLemmas.{cell_at-with_cell_elsewhere}
 use Rattle.go_board.proofs.PrintLemmas.{print_left}
 use Rattle.go_board.proofs.TakenLemmas.{takes_nothing-alone}

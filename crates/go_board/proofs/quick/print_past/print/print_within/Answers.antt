@@ -3,7 +3,7 @@ use Rattle.std.proofs.lemmas.Bool.{and_parts}
 use Rattle.std.proofs.lemmas.Nat.{mul-mod}
 use Rattle.go_board.specs.inner.Print.{in_base, row_within, word_number}
 use Rattle.go_board.proofs.PrintLemmas.{digit_more, in_base-more, none_within, row_within_words, sum_of_both}
-use Rattle.go_board.proofs.WordLemmas.{has_bit-and}
+use Rattle.board_points.proofs.WordLemmas.{has_bit-and}
 use Rattle.go_board.proofs.quick.print_past.print.print_within.Goals as goal
 use Rattle.go_board.proofs.quick.print_past.print.print_within.Goals.{then-within-ne0, else-within-ne0}
 

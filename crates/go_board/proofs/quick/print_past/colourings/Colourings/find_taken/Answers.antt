@@ -1,5 +1,5 @@
 use Rattle.std.proofs.Common.{rules}
-use Rattle.go_board.proofs.LinkedLemmas.{none_in_front}
+use Rattle.board_points.proofs.LinkedLemmas.{none_in_front}
 use Rattle.go_board.proofs.quick.print_past.colourings.Colourings.find_taken.Goals as goal
 
 pub find_taken-requires-clause-none : goal.find_taken-requires-clause-none

@@ -4,10 +4,10 @@ use Rattle.std.proofs.lemmas.List.{length-set, set-get_or}
 use Rattle.go_board.specs.declared.quick.print_past.emptied.Emptied.{Emptied}
 use Rattle.go_board.specs.declared.quick.print_past.emptied.OldRow.{OldRow}
 use Rattle.go_board.specs.inner.Emptied.{HasAllEmptied}
-use Rattle.go_board.specs.inner.Rows.{is_set}
+use Rattle.board_points.specs.Rows.{is_set}
 use Rattle.go_board.proofs.EmptiedLemmas.{IsAddedBelow, history_all, logged_more, logged_next, logged_row}
 use Rattle.go_board.proofs.RepeatLemmas.{HasAllEmptied-more}
-use Rattle.go_board.proofs.TakenLemmas.{AddedBelow, added_all, added_next}
+use Rattle.board_points.proofs.RowLemmas.{AddedBelow, added_all, added_next}
 use Rattle.go_board.proofs.quick.print_past.emptied.Emptied.add.Goals.{then-word-old, else-word-old}
 use Rattle.go_board.proofs.quick.print_past.emptied.Emptied.add.Goals as goal
 

@@ -2,7 +2,7 @@ use Rattle.std.proofs.Common.{◌≡◌, ◌∷◌, length, refl, subst, sym, �
 use Rattle.go_board.specs.declared.quick.print_past.key.TheConstants.{WIDTH}
 use Rattle.go_board.specs.declared.quick.print_past.table.Table.{Table}
 use Rattle.go_board.specs.inner.Key.{keys_of}
-use Rattle.go_board.specs.inner.Rows.{has_bit}
+use Rattle.board_points.specs.Rows.{has_bit}
 use Rattle.key_trie.specs.Trie.{IsOpening}
 use Rattle.go_board.proofs.TableLemmas.{keys-print, linked_before, tabled, tabled_more}
 use Rattle.go_board.proofs.quick.print_past.table.Table.push.Goals as goal

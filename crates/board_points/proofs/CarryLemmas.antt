@@ -1,0 +1,180 @@
+-- Widening a set of columns: a sum carries from a column on as far as there is region, and steps go back from there.
+use Rattle.std.proofs.Common.{◌≡◌, ◌⊎◌, inl, inr, ℕ, zero, suc, ◌+◌, ◌-◌, ◌*◌, ◌/◌, ◌%◌, ◌^◌, ◌<◌, ◌≤◌, Bool, true, false, not, bit_and, bit_or, w64, sym, ap, ◌∙◌, arith, rules}
+use Rattle.std.proofs.lemmas.Grind.{common_steps}
+use Rattle.std.specs.Int.{bit_at, bit_not}
+use Rattle.std.proofs.Math.Nat.{add-mod, add-mod_left, mod-eq_of_lt, two-pow-succ}
+use Rattle.std.proofs.lemmas.Bool.{or_cases, or_left, or_right, and_parts, and_from, false≢true, cases_lt, cases_Bool}
+use Rattle.std.proofs.lemmas.Nat.{mod-pow-add, mod_below, pow_pos}
+use Rattle.board_points.specs.Rows.{has_bit}
+use Rattle.board_points.specs.inner.Columns.{IsPart, HasBeside, HasNext, IsWidened}
+use Rattle.board_points.proofs.WordLemmas.{has_bit-or, has_bit-and, has_bit-without, has_bit-low, has_bit-right, bit_at-there, bit_at-gone, column_below}
+
+-- a word with one column more of it
+low-more : (n c : ℕ) → n % 2 ^ suc c ≡ bit_at n c * 2 ^ c + n % 2 ^ c
+low-more n c =
+    let width : suc c ≡ 1 + c = omega arith in ap (λ k. n % 2 ^ k) width ∙ mod-pow-add n 1 c
+
+low-set : (n c : ℕ) → has_bit n c ≡ true → n % 2 ^ suc c ≡ 2 ^ c + n % 2 ^ c
+low-set n c is = grind (arith, common_steps, bit_at-there, low-more)
+
+low-unset : (n c : ℕ) → has_bit n c ≡ false → n % 2 ^ suc c ≡ n % 2 ^ c
+low-unset n c none = grind (arith, common_steps, bit_at-gone, low-more)
+
+low-below : (n c : ℕ) → n % 2 ^ c < 2 ^ c
+low-below n c = mod_below n (2 ^ c) (pow_pos c)
+
+-- where nothing is carried into a column of the one word alone, the sum has it
+sum_has : (region seed c : ℕ) → has_bit region c ≡ true → has_bit seed c ≡ false → region % 2 ^ c + seed % 2 ^ c < 2 ^ c → has_bit (region + seed) c ≡ true
+sum_has region seed c is none low =
+    elim (cases_Bool (has_bit (region + seed) c)) [
+      | inl there ↦ there
+      | inr lacks ↦
+          let double = two-pow-succ c in
+          let first = low-set region c is in
+          let second = low-unset seed c none in
+          let fits : region % 2 ^ suc c + seed % 2 ^ suc c < 2 ^ suc c = omega (arith, double, first, second, low) in
+          let whole : (region + seed) % 2 ^ suc c ≡ region % 2 ^ suc c + seed % 2 ^ suc c = add-mod region seed (2 ^ suc c) ∙ mod-eq_of_lt fits in
+          let less = low-unset (region + seed) c lacks in
+          let below = low-below (region + seed) c in
+          absurd (omega (arith, first, second, whole, less, below))
+    ]
+
+-- where something is carried into a column of the one word alone, the sum lacks it
+sum_lacks : (region seed c : ℕ) → has_bit region c ≡ true → has_bit seed c ≡ false → 2 ^ c ≤ region % 2 ^ c + seed % 2 ^ c → has_bit (region + seed) c ≡ false
+sum_lacks region seed c is none carries =
+    elim (cases_Bool (has_bit (region + seed) c)) [
+      | inl there ↦
+          let double = two-pow-succ c in
+          let first = low-set region c is in
+          let second = low-unset seed c none in
+          let region_low = low-below region c in
+          let seed_low = low-below seed c in
+          let rest = region % 2 ^ c + seed % 2 ^ c - 2 ^ c in
+          let all : region % 2 ^ suc c + seed % 2 ^ suc c ≡ 2 ^ suc c + rest = omega (arith, double, first, second, carries) in
+          let fits : rest < 2 ^ suc c = omega (arith, double, region_low, seed_low, carries) in
+          let whole : (region + seed) % 2 ^ suc c ≡ rest = add-mod region seed (2 ^ suc c) ∙ ap (λ n. n % 2 ^ suc c) all ∙ add-mod_left (2 ^ suc c) rest ∙ mod-eq_of_lt fits in
+          let more = low-set (region + seed) c there in
+          absurd (omega (arith, whole, more, region_low, seed_low, carries))
+      | inr lacks ↦ lacks
+    ]
+
+module _ (region seed : ℕ) (low : region < 2 ^ 64) (part : IsPart (has_bit seed) (has_bit region)) where
+  -- what a sum carries to: the columns of the seed, and those of the region that the sum lacks
+  abbrev pub carried : ℕ
+  carried = bit_or (bit_and region (bit_not w64 ((region + seed) % 2 ^ 64))) seed
+
+  carried-within : IsPart (has_bit carried) (has_bit region)
+  carried-within c is = grind (arith, common_steps, and_parts, has_bit-and, has_bit-or, or_cases)
+
+  carried-kept : IsPart (has_bit seed) (has_bit carried)
+  carried-kept c is = has_bit-or _ seed c ∙ or_right _ _ is
+
+  sum_fits : (region + seed) % 2 ^ 64 < 2 ^ 64
+  sum_fits = mod_below (region + seed) (2 ^ 64) (pow_pos 64)
+
+  -- a column that isn't one of the seed has something carried into it
+  far_or_own : (c : ℕ) → has_bit carried c ≡ true → ((has_bit region c ≡ true) × (has_bit seed c ≡ false) × (2 ^ c ≤ region % 2 ^ c + seed % 2 ^ c)) ⊎ (has_bit seed c ≡ true)
+  far_or_own c is =
+      elim (cases_Bool (has_bit seed c)) [
+        | inl own ↦ inr own
+        | inr none ↦
+            elim (or_cases _ _ (sym (has_bit-or _ seed c) ∙ is)) [
+              | inl far ↦
+                  (let in_room = (and_parts _ _ (sym (has_bit-and region _ c) ∙ far)).0 in
+                  let column = column_below 64 region c low in_room in
+                  elim (cases_lt (region % 2 ^ c + seed % 2 ^ c) (2 ^ c)) [
+                    | inl quiet ↦
+                        let sum_there : has_bit ((region + seed) % 2 ^ 64) c ≡ true = has_bit-low (region + seed) c column ∙ sum_has region seed c in_room none quiet in
+                        absurd (false≢true (sym (ap (λ b. not b) sum_there) ∙ (and_parts _ _ (sym (has_bit-without region ((region + seed) % 2 ^ 64) c sum_fits column) ∙ far)).1))
+                    | inr carries ↦ inl (in_room, none, carries)
+                  ])
+              | inr own ↦ inr own
+            ]
+      ]
+
+  module _ (set : ℕ → Bool) (beside : HasBeside (has_bit region) set) (there : IsPart (has_bit seed) set) where
+    -- where something is carried into a column, the set has the one before it
+    carry_from : (c : ℕ) → 2 ^ c ≤ region % 2 ^ c + seed % 2 ^ c → (d : ℕ) × (d + 1 ≡ c) × (set d ≡ true)
+    carry_from zero carries =
+        let first = low-below region 0 in
+        let second = low-below seed 0 in
+        let unit : 2 ^ 0 ≡ 1 = omega arith in
+        absurd (omega (arith, first, second, unit, carries))
+    carry_from (suc c) carries =
+        let double = two-pow-succ c in
+        let region_low = low-below region c in
+        let seed_low = low-below seed c in (
+          c,
+          omega arith,
+          elim (cases_Bool (has_bit seed c)) [
+            | inl own ↦ there c own
+            | inr none ↦
+                let second = low-unset seed c none in
+                elim (cases_Bool (has_bit region c)) [
+                  | inl is ↦
+                      let first = low-set region c is in
+                      let before = carry_from c (omega (arith, double, first, second, carries)) in
+                      beside c before.0 (inr before.1) is before.2
+                  | inr lacks ↦
+                      let first = low-unset region c lacks in
+                      absurd (omega (arith, double, first, second, carries, region_low, seed_low))
+                ]
+          ],
+        )
+
+    carried-least : IsPart (has_bit carried) set
+    carried-least c is = grind (arith, common_steps, carry_from, far_or_own)
+
+  -- from each column something is carried into the next
+  carries-next : (c : ℕ) → has_bit carried c ≡ true → 2 ^ suc c ≤ region % 2 ^ suc c + seed % 2 ^ suc c
+  carries-next c is = grind (arith, common_steps, far_or_own, low-set, low-unset, two-pow-succ)
+
+  carried-next : HasNext (has_bit region) (has_bit carried)
+  carried-next c is in_room =
+      let column = column_below 64 region (suc c) low in_room in
+      elim (cases_Bool (has_bit seed (suc c))) [
+        | inl own ↦ carried-kept (suc c) own
+        | inr none ↦
+            let lacks : has_bit ((region + seed) % 2 ^ 64) (suc c) ≡ false = has_bit-low (region + seed) (suc c) column ∙ sum_lacks region seed (suc c) in_room none (carries-next c is) in
+            has_bit-or _ seed (suc c)
+            ∙ or_left _ _
+            (has_bit-without region ((region + seed) % 2 ^ 64) (suc c) sum_fits column
+            ∙ and_from _ _ in_room (ap (λ b. not b) lacks))
+      ]
+
+  pub IsWidened-carried : IsWidened region seed carried
+  IsWidened-carried = search (rules, carried-kept, carried-least, carried-next, carried-within)
+
+-- a set with the columns before its own that there is region for
+abbrev pub with_before : ℕ → ℕ → ℕ
+with_before word region = bit_or word (bit_and region (word / 2 ^ 1))
+
+module _ (region seed word : ℕ) (widened : IsWidened region seed word) where
+  before_or_own : (c : ℕ) → has_bit (with_before word region) c ≡ true → (has_bit word c ≡ true) ⊎ ((has_bit region c ≡ true) × (has_bit word (suc c) ≡ true))
+  before_or_own c is = grind (arith, common_steps, and_parts, has_bit-and, has_bit-or, has_bit-right, or_cases)
+
+  keeps : IsPart (has_bit word) (has_bit (with_before word region))
+  keeps c is = has_bit-or word _ c ∙ or_left _ _ is
+
+  pub IsWidened-before : IsWidened region seed (with_before word region)
+  IsWidened-before = record {
+    within = λ c is. elim (before_or_own c is) [ inl own ↦ widened.within c own | inr far ↦ far.0 ];
+    kept = λ c is. keeps c (widened.kept c is);
+    next = λ c is in_room.
+        keeps (suc c)
+        (elim (before_or_own c is) [ inl own ↦ widened.next c own in_room | inr far ↦ far.1 ]);
+    least = λ set beside part c is.
+        elim (before_or_own c is) [
+          | inl own ↦ widened.least set beside part c own
+          | inr far ↦ beside c (suc c) (inl (omega arith)) far.0 (widened.least set beside part (suc c) far.1)
+        ];
+  }
+
+  pub HasBeside-before : with_before word region ≡ word → HasBeside (has_bit region) (has_bit word)
+  HasBeside-before same c d (inl right) in_room is =
+      ap (λ w. has_bit w c) (sym same)
+      ∙ has_bit-or word _ c
+      ∙ or_right _ _ (has_bit-and region _ c ∙ and_from _ _ in_room (has_bit-right word c ∙ ap (has_bit word) (omega (arith, right)) ∙ is))
+  HasBeside-before same c d (inr left) in_room is =
+      let at : c ≡ suc d = omega (arith, left) in
+      ap (has_bit word) at ∙ widened.next d is (ap (has_bit region) (sym at) ∙ in_room)

@@ -1,0 +1,92 @@
+-- Words as sets of columns: the columns of a row, those between two of them, and a word with a column added or taken.
+use Rattle.std.proofs.Common.{◌≡◌, ◌≢◌, inl, inr, ℕ, ◌+◌, ◌-◌, ◌*◌, ◌^◌, ◌%◌, ◌<◌, ◌==◌, ◌||◌, ◌&&◌, Bool, true, false, not, bit_and, bit_or, w64, refl, sym, ap, ◌∙◌, arith, ◌≤◌, nat_le}
+use Rattle.std.proofs.lemmas.Grind.{common_steps}
+use Rattle.std.proofs.lemmas.Bool.{or_right, and_parts, and_from, false≢true, cases_lt, leb-true, le-leb}
+use Rattle.std.specs.Int.{bit_not, trailing_zeros}
+use Rattle.std.proofs.Math.Nat.{mod-eq_of_lt}
+use Rattle.std.proofs.lemmas.Nat.{pow_below, mod_below, pow_pos}
+use Rattle.std.proofs.lemmas.Nat.Bits.{bit_at_set_same, bit_at_set_other, bit_at_mask_inside, bit_at_mask_above, bit_at_mask_below, bit_at-trailing_zeros}
+use Rattle.board_points.specs.Rows.{has_bit}
+use Rattle.board_points.specs.inner.Columns.{IsPart}
+use Rattle.board_points.proofs.WordLemmas.{has_bit-and, has_bit-without, has_bit-zero, has_bit-less, same_bools, le_from_part}
+use Rattle.std.proofs.Math.Bool.{or-true, and-true, and-false}
+
+-- a word with one bit set
+pub set_bit_there : (word col : ℕ) (b : Bool) → b ≡ true → col < 64 → has_bit (bit_or word (1 * 2 ^ col % 2 ^ 64)) col ≡ (has_bit word col || b)
+set_bit_there word col b is low =
+    ap (λ n. n == 1) (bit_at_set_same w64 word col low) ∙ sym (or_right (has_bit word col) b is)
+
+pub set_bit_elsewhere : (word col : ℕ) → col < 64 → (k : ℕ) → k ≢ col → has_bit (bit_or word (1 * 2 ^ col % 2 ^ 64)) k ≡ has_bit word k
+set_bit_elsewhere word col low k other = ap (λ n. n == 1) (bit_at_set_other w64 word col low k other)
+
+-- the columns of a row that aren't in a set
+mask_is : (side : ℕ) → side < 64 → 1 * 2 ^ side % 2 ^ 64 - 1 ≡ 2 ^ side - 2 ^ 0
+mask_is side small = grind (arith, common_steps, mod-eq_of_lt, pow_below)
+
+pub others_within : (word side col : ℕ) → word < 2 ^ 64 → side < 64 → col < side → has_bit (bit_and (1 * 2 ^ side % 2 ^ 64 - 1) (bit_not w64 word)) col ≡ not (has_bit word col)
+others_within word side col low small below =
+    let inside : has_bit (1 * 2 ^ side % 2 ^ 64 - 1) col ≡ true = ap (λ n. has_bit n col) (mask_is side small) ∙ ap (λ n. n == 1) (bit_at_mask_inside 0 side col (omega arith) below) in
+    has_bit-without (1 * 2 ^ side % 2 ^ 64 - 1) word col low (omega (arith, below, small)) ∙ ap (λ b. b && not (has_bit word col)) inside
+
+pub others_off : (word side col : ℕ) → side < 64 → has_bit (bit_and (1 * 2 ^ side % 2 ^ 64 - 1) (bit_not w64 word)) col ≡ true → col < side
+others_off word side col small is =
+    elim (cases_lt col side) [
+      | inl below ↦ below
+      | inr past ↦
+          let outside : has_bit (1 * 2 ^ side % 2 ^ 64 - 1) col ≡ false = ap (λ n. has_bit n col) (mask_is side small) ∙ ap (λ n. n == 1) (bit_at_mask_above 0 side col past) in
+          absurd (false≢true (sym outside ∙ (and_parts _ _ (sym (has_bit-and _ _ col) ∙ is)).0))
+    ]
+
+-- the columns of a row that aren't in a set
+abbrev pub AreOthers : ℕ → ℕ → ℕ → Type 0
+AreOthers side word others =
+    ((col : ℕ) → col < side → has_bit others col ≡ not (has_bit word col)) × ((col : ℕ) → has_bit others col ≡ true → col < side)
+
+-- a word without the bit of a column
+abbrev bit_of : ℕ → ℕ
+bit_of col = 1 * 2 ^ col % 2 ^ 64
+
+small : (col : ℕ) → bit_of col < 2 ^ 64
+small col = mod_below (1 * 2 ^ col) (2 ^ 64) (pow_pos 64)
+
+bit_there : (col : ℕ) → col < 64 → has_bit (bit_of col) col ≡ true
+bit_there col low = set_bit_there 0 col true refl low ∙ or-true (has_bit 0 col)
+
+bit_elsewhere : (col : ℕ) → col < 64 → (k : ℕ) → k ≢ col → has_bit (bit_of col) k ≡ false
+bit_elsewhere col low k other = set_bit_elsewhere 0 col low k other ∙ has_bit-zero k
+
+pub without_there : (word col : ℕ) → word < 2 ^ 64 → col < 64 → has_bit (bit_and word (bit_not w64 (bit_of col))) col ≡ false
+without_there word col fits low = grind (arith, common_steps, and-false, bit_there, has_bit-less, small)
+
+pub without_elsewhere : (word col : ℕ) → word < 2 ^ 64 → col < 64 → (k : ℕ) → k ≢ col → has_bit (bit_and word (bit_not w64 (bit_of col))) k ≡ has_bit word k
+without_elsewhere word col fits low k other = grind (arith, common_steps, and-true, bit_elsewhere, has_bit-less, small)
+
+-- the columns from one to another
+pub column_word : (k : ℕ) → k < 64 → 1 * 2 ^ k % 2 ^ 64 ≡ 2 ^ k
+column_word k low = grind (arith, common_steps, mod-eq_of_lt, pow_below)
+
+pub columns_between : (first last k : ℕ) → first ≤ last → last < 63 → has_bit (1 * 2 ^ (last + 1) % 2 ^ 64 - 1 * 2 ^ first % 2 ^ 64) k ≡ (nat_le first k && nat_le k last)
+columns_between first last k ordered few = grind (arith, common_steps, and_from, and_parts, bit_at_mask_above, bit_at_mask_below, bit_at_mask_inside, column_word, le-leb, leb-true, nat_le, same_bools)
+
+-- the lowest column of what is left
+pub lowest_left : (columns left : ℕ) → left ≢ 0 → columns < 2 ^ 64 → IsPart (has_bit left) (has_bit columns) → (has_bit left (trailing_zeros w64 left) ≡ true) × (trailing_zeros w64 left < 64)
+lowest_left columns left some low part =
+    let found = bit_at-trailing_zeros w64 left (omega (arith, some)) (omega (arith, low, le_from_part left columns part)) in
+    (ap (λ n. n == 1) found.1, found.0)
+
+-- what is left without its lowest column
+module _ (columns left next : ℕ) (some : left ≢ 0) (low : columns < 2 ^ 64) (part : IsPart (has_bit left) (has_bit columns)) (there : has_bit next (trailing_zeros w64 left) ≡ false) (elsewhere : (k : ℕ) → k ≢ trailing_zeros w64 left → has_bit next k ≡ has_bit left k) where
+  abbrev lowest : ℕ
+  lowest = trailing_zeros w64 left
+
+  set : has_bit left lowest ≡ true
+  set = (lowest_left columns left some low part).0
+
+  next_within : IsPart (has_bit next) (has_bit left)
+  next_within = grind (arith, common_steps)
+
+  pub next_smaller : next < left
+  next_smaller =
+      let at_most = le_from_part next left next_within in
+      let differs : next ≢ left = λ same. false≢true (sym there ∙ ap (λ w. has_bit w lowest) same ∙ set) in
+      omega (arith, differs)

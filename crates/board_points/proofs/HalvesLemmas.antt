@@ -1,0 +1,143 @@
+-- Sets of points in the halves of words.
+use Rattle.std.proofs.Common.{◌≡◌, ◌≢◌, inl, inr, ℕ, ◌+◌, ◌-◌, ◌*◌, ◌/◌, ◌%◌, ◌^◌, ◌<◌, ◌≤◌, ◌==◌, ◌&&◌, true, nat_lt, List, slice_index, sym, ap, ◌∙◌, arith, length, subst}
+use Rattle.std.proofs.lemmas.Grind.{common_steps}
+use Rattle.std.proofs.lemmas.Bool.{and_parts, and_from, cases_lt}
+use Rattle.std.proofs.lemmas.Bool.Decides.{Decides-ltb}
+use Rattle.std.proofs.Math.ListN.{get_or-map}
+use Rattle.std.proofs.lemmas.Nat.{mod_below, pow_pos}
+use Rattle.std.proofs.lemmas.Nat.Bits.{bit_at_cat_high}
+use Rattle.std.proofs.lemmas.List.{length-map}
+use Rattle.board_points.specs.declared.points.Point.{Point}
+use Rattle.board_points.specs.Point.{AreAdjacent}
+use Rattle.board_points.specs.Rows.{has_bit, is_set, IsAmong, IsClosed}
+use Rattle.board_points.specs.Halves.{low_halves, high_halves, AreOthersPaired}
+use Rattle.board_points.proofs.WordLemmas.{same_bools, bit_at-mod, column_below}
+use Rattle.board_points.proofs.ColumnLemmas.{AreOthers}
+use Rattle.board_points.proofs.RowLemmas.{AreRowsOf-others}
+use Rattle.board_points.proofs.CountLemmas.{below_from_bits}
+
+-- a column of a half
+has_bit-low_half : (word col : ℕ) → has_bit (word % 2 ^ 32) col ≡ (nat_lt col 32 && has_bit word col)
+has_bit-low_half word col =
+    same_bools _ _
+    (λ is.
+    let low : col < 32 = column_below 32 (word % 2 ^ 32) col (mod_below word (2 ^ 32) (pow_pos 32)) is in
+    and_from _ _ ((Decides-ltb col 32).1 low) (sym (ap (λ n. n == 1) (bit_at-mod word 32 col low)) ∙ is))
+    (λ is.
+    let both = and_parts _ _ is in
+    ap (λ n. n == 1) (bit_at-mod word 32 col ((Decides-ltb col 32).0 both.0)) ∙ both.1)
+
+has_bit-high_half : (word col : ℕ) → has_bit (word / 2 ^ 32) col ≡ has_bit word (32 + col)
+has_bit-high_half word col =
+    let whole : word ≡ (word / 2 ^ 32) * 2 ^ 32 + word % 2 ^ 32 = omega arith in
+    let back : 32 + col - 32 ≡ col = omega arith in
+    sym (ap (λ n. has_bit n (32 + col)) whole
+    ∙ ap (λ n. n == 1) (bit_at_cat_high (word / 2 ^ 32) 32 (word % 2 ^ 32) (32 + col) (mod_below word (2 ^ 32) (pow_pos 32)) (omega arith))
+    ∙ ap (has_bit (word / 2 ^ 32)) back)
+
+-- the point of the words that has a point of the high halves, and back
+abbrev pub shifted : Point → Point
+shifted p = record { col = 32 + p.col; row = p.row }
+
+abbrev pub unshifted : Point → Point
+unshifted p = record { col = p.col - 32; row = p.row }
+
+there_and_back : (p : Point) → 32 ≤ p.col → shifted (unshifted p) ≡ p
+there_and_back p from = grind (arith, common_steps)
+
+pub back_again : (p : Point) → unshifted (shifted p) ≡ p
+back_again p = grind (arith, common_steps)
+
+pub in_low : (rows : List ℕ) (p : Point) → is_set (low_halves rows) p ≡ (nat_lt p.col 32 && is_set rows p)
+in_low rows p = grind (arith, common_steps, get_or-map, has_bit-low_half)
+
+pub in_high : (rows : List ℕ) (p : Point) → is_set (high_halves rows) p ≡ is_set rows (shifted p)
+in_high rows p = grind (arith, common_steps, get_or-map, has_bit-high_half)
+
+pub low_from : (rows : List ℕ) (p : Point) → p.col < 32 → is_set rows p ≡ true → is_set (low_halves rows) p ≡ true
+low_from rows p low is = in_low rows p ∙ and_from _ _ ((Decides-ltb p.col 32).1 low) is
+
+pub low_parts : (rows : List ℕ) (p : Point) → is_set (low_halves rows) p ≡ true → (p.col < 32) × (is_set rows p ≡ true)
+low_parts rows p is = let both = and_parts _ _ (sym (in_low rows p) ∙ is) in ((Decides-ltb p.col 32).0 both.0, both.1)
+
+pub high_from : (rows : List ℕ) (p : Point) → 32 ≤ p.col → is_set rows p ≡ true → is_set (high_halves rows) (unshifted p) ≡ true
+high_from rows p from is = in_high rows (unshifted p) ∙ ap (is_set rows) (there_and_back p from) ∙ is
+
+-- where both halves of some rows are among those of others, the rows are
+pub among_by_halves : (some all : List ℕ) → IsAmong (is_set (low_halves some)) (is_set (low_halves all)) → IsAmong (is_set (high_halves some)) (is_set (high_halves all)) → IsAmong (is_set some) (is_set all)
+among_by_halves some all low high =
+    λ p is.
+    elim (cases_lt p.col 32) [
+      | inl below ↦ (low_parts all p (low p (low_from some p below is))).1
+      | inr from ↦
+          ap (is_set all) (sym (there_and_back p from))
+          ∙ sym (in_high all (unshifted p))
+          ∙ high (unshifted p) (high_from some p from is)
+    ]
+
+-- points that are adjacent in a half
+adjacent_shifted : (p q : Point) → AreAdjacent p q → AreAdjacent (shifted p) (shifted q)
+adjacent_shifted p q (inl column) = inl (ap (λ n. 32 + n) column.0, column.1)
+adjacent_shifted p q (inr (row, inl next)) = inr (row, inl (omega (arith, next)))
+adjacent_shifted p q (inr (row, inr next)) = inr (row, inr (omega (arith, next)))
+
+pub adjacent_unshifted : (p q : Point) → 32 ≤ p.col → 32 ≤ q.col → AreAdjacent p q → AreAdjacent (unshifted p) (unshifted q)
+adjacent_unshifted p q from_p from_q (inl column) = inl (ap (λ n. n - 32) column.0, column.1)
+adjacent_unshifted p q from_p from_q (inr (row, inl next)) = inr (row, inl (omega (arith, next, from_p, from_q)))
+adjacent_unshifted p q from_p from_q (inr (row, inr next)) = inr (row, inr (omega (arith, next, from_p, from_q)))
+
+-- beside a point of the one half, past an empty column, is no point of the other
+pub stays_low : (p q : Point) → AreAdjacent p q → p.col < 32 → p.col ≢ 31 → q.col < 32
+stays_low p q (inl column) below apart = omega (arith, column.0, below)
+stays_low p q (inr (row, inl next)) below apart = omega (arith, next, below, apart)
+stays_low p q (inr (row, inr next)) below apart = omega (arith, next, below)
+
+pub stays_high : (p q : Point) → AreAdjacent p q → 32 ≤ p.col → q.col ≢ 31 → 32 ≤ q.col
+stays_high p q (inl column) from apart = omega (arith, column.0, from)
+stays_high p q (inr (row, inl next)) from apart = omega (arith, next, from)
+stays_high p q (inr (row, inr next)) from apart = omega (arith, next, from, apart)
+
+-- a closed set, and each of its halves
+module _ (region rows : List ℕ) (closed : IsClosed (is_set region) (is_set rows)) where
+  pub IsClosed-low : IsClosed (is_set (low_halves region)) (is_set (low_halves rows))
+  IsClosed-low p q adjacent there is =
+      let at = low_parts region p there in
+      low_from rows p at.0 (closed p q adjacent at.1 (low_parts rows q is).1)
+
+  pub IsClosed-high : IsClosed (is_set (high_halves region)) (is_set (high_halves rows))
+  IsClosed-high p q adjacent there is =
+      in_high rows p
+      ∙ closed (shifted p) (shifted q) (adjacent_shifted p q adjacent) (sym (in_high region p) ∙ there) (sym (in_high rows q) ∙ is)
+
+-- so are the halves of a part of a set
+pub among_low : (some all : List ℕ) → IsAmong (is_set some) (is_set all) → IsAmong (is_set (low_halves some)) (is_set (low_halves all))
+among_low some all part p is = let at = low_parts some p is in low_from all p at.0 (part p at.1)
+
+pub among_high : (some all : List ℕ) → IsAmong (is_set some) (is_set all) → IsAmong (is_set (high_halves some)) (is_set (high_halves all))
+among_high some all part p is = in_high all p ∙ part (shifted p) (sym (in_high some p) ∙ is)
+
+-- a word of few columns
+pub fits_half : (word side : ℕ) → side < 32 → ((col : ℕ) → has_bit word col ≡ true → col < side) → word < 2 ^ 32
+fits_half word side small each =
+    subst (λ n. n < 2 ^ 32) (below_from_bits word 32 (λ col is. let below = each col is in omega (arith, below, small))) (mod_below word (2 ^ 32) (pow_pos 32))
+
+-- the words of two sets, row by row
+abbrev pub IsPair : List ℕ → List ℕ → ℕ → ℕ → Type 0
+IsPair black white row word = (word % 2 ^ 32 ≡ slice_index black row) × (word / 2 ^ 32 ≡ slice_index white row)
+
+abbrev pub IsPairOfOthers : ℕ → List ℕ → List ℕ → ℕ → ℕ → Type 0
+IsPairOfOthers side black white row word =
+    AreOthers side (slice_index white row) (word % 2 ^ 32) × AreOthers side (slice_index black row) (word / 2 ^ 32)
+
+pub others_paired_all : (black white rows : List ℕ) → length rows ≡ length black → length rows ≡ length white → ((r : ℕ) → r < length rows → IsPairOfOthers (length black) black white r (slice_index rows r)) → AreOthersPaired black white rows
+others_paired_all black white rows long_black long_white each = record {
+  low = AreRowsOf-others white (low_halves rows) (length-map rows (λ w. w % 2 ^ 32) ∙ long_white)
+      (λ r below.
+      let within : r < length rows = omega (arith, below, long_white) in
+      subst (AreOthers (length white) (slice_index white r)) (sym (get_or-map (λ w. w % 2 ^ 32) rows r 0))
+      (subst (λ n. AreOthers n (slice_index white r) (slice_index rows r % 2 ^ 32)) (sym long_black ∙ long_white) (each r within).0));
+  high = AreRowsOf-others black (high_halves rows) (length-map rows (λ w. w / 2 ^ 32) ∙ long_black)
+      (λ r below.
+      let within : r < length rows = omega (arith, below, long_black) in
+      subst (AreOthers (length black) (slice_index black r)) (sym (get_or-map (λ w. w / 2 ^ 32) rows r 0)) (each r within).1);
+}

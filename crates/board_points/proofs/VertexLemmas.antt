@@ -1,0 +1,31 @@
+-- Different points have different vertices.
+use Rattle.std.proofs.Common.{◌≡◌, ℕ, ◌-◌, ◌<◌, ◌≤◌, map, refl, sym, ap, ◌∙◌, arith, nat_lt, if◌then◌else◌, slice_index}
+use Rattle.std.proofs.lemmas.Grind.{common_steps}
+use Rattle.std.specs.List.{range_with_len}
+use Rattle.std.proofs.lemmas.List.{get_or-map}
+use Rattle.std.proofs.lemmas.List.FromFn.{get_or-range_with_len}
+use Rattle.board_points.specs.declared.points.Point.{Point}
+use Rattle.board_points.specs.declared.vertices.Vertex.{Vertex}
+use Rattle.board_points.specs.Point.{IsOn}
+use Rattle.board_points.specs.Vertex.{column_letters, vertex_of}
+
+-- the column of a letter
+column_of : ℕ → ℕ
+column_of letter = if nat_lt letter 73 then letter - 65 else letter - 66
+
+columns_in_order : map column_of column_letters ≡ range_with_len 0 25
+unfolding column_of
+columns_in_order = refl
+
+column_of-letter : (col : ℕ) → col < 25 → column_of (slice_index column_letters col) ≡ col
+column_of-letter col below = grind (arith, common_steps, column_of, columns_in_order, get_or-map, get_or-range_with_len)
+
+pub vertex_of_injective : (side : ℕ) (p q : Point) → side ≤ 25 → IsOn side p → IsOn side q → vertex_of p side ≡ vertex_of q side → p ≡ q
+unfolding vertex_of
+vertex_of_injective side p q letters hp hq same =
+    let row : side - p.row ≡ side - q.row = ap (λ (v : Vertex). v.row) same in
+    let letter : slice_index column_letters p.col ≡ slice_index column_letters q.col = ap (λ (v : Vertex). v.letter) same in
+    let rows : p.row ≡ q.row = omega arith in
+    let cols : p.col ≡ q.col =
+    sym (column_of-letter p.col (omega arith)) ∙ ap column_of letter ∙ column_of-letter q.col (omega arith) in
+    ap (λ a. record { col = a; row = p.row }) cols ∙ ap (λ b. record { col = q.col; row = b }) rows

@@ -1,0 +1,119 @@
+-- Words as sets of columns: what the operations on words make of their bits.
+use Rattle.std.proofs.Common.{◌≡◌, inl, inr, ℕ, zero, suc, ◌+◌, ◌-◌, ◌*◌, ◌/◌, ◌%◌, ◌^◌, ◌<◌, ◌≤◌, ◌==◌, ◌||◌, ◌&&◌, min, max, Bool, true, false, not, bit_and, bit_or, w64, refl, sym, ap, ◌∙◌, arith, subst, rules}
+use Rattle.std.proofs.lemmas.Grind.{common_steps}
+use Rattle.std.specs.Int.{bit_at, bit_not}
+use Rattle.std.proofs.lemmas.Bool.{not-false, false_from_ne_true, false≢true, cases_lt, eqb-true, eqb-false}
+use Rattle.std.proofs.lemmas.Nat.{le_or_l, and_mask, mod_below, pow_pos}
+use Rattle.std.proofs.lemmas.Nat.Bits.{bit_at_and, bit_at_or, bit_at_not, bit_at-lt, bit_at-suc, bit_at-zero, bit_at_above, bit_at_ones, bit_at_cat_high, bit_at_cat_low, same_from_bits}
+use Rattle.board_points.specs.Rows.{has_bit}
+use Rattle.board_points.specs.inner.Columns.{IsPart}
+
+-- what holds of each two bits
+by_bits : (P : ℕ → ℕ → Type 0) → P zero zero → P zero (suc zero) → P (suc zero) zero → P (suc zero) (suc zero) → (x y : ℕ) → x < 2 → y < 2 → P x y
+by_bits P none second first both zero zero hx hy = none
+by_bits P none second first both zero (suc zero) hx hy = second
+by_bits P none second first both zero (suc (suc y)) hx hy = absurd (omega arith)
+by_bits P none second first both (suc zero) zero hx hy = first
+by_bits P none second first both (suc zero) (suc zero) hx hy = both
+by_bits P none second first both (suc zero) (suc (suc y)) hx hy = absurd (omega arith)
+by_bits P none second first both (suc (suc x)) y hx hy = absurd (omega arith)
+
+test_max : (x y : ℕ) → x < 2 → y < 2 → (max x y == 1) ≡ ((x == 1) || (y == 1))
+test_max = by_bits (λ x y. (max x y == 1) ≡ ((x == 1) || (y == 1))) refl refl refl refl
+
+test_min : (x y : ℕ) → x < 2 → y < 2 → (min x y == 1) ≡ ((x == 1) && (y == 1))
+test_min = by_bits (λ x y. (min x y == 1) ≡ ((x == 1) && (y == 1))) refl refl refl refl
+
+max_part : (x y : ℕ) → x < 2 → y < 2 → ((x == 1) ≡ true → (y == 1) ≡ true) → max x y ≡ y
+max_part = grind (arith, common_steps, by_bits)
+
+pub has_bit-or : (a b c : ℕ) → has_bit (bit_or a b) c ≡ (has_bit a c || has_bit b c)
+has_bit-or a b c = ap (λ n. n == 1) (bit_at_or a b c) ∙ test_max (bit_at a c) (bit_at b c) (bit_at-lt a c) (bit_at-lt b c)
+
+pub has_bit-and : (a b c : ℕ) → has_bit (bit_and a b) c ≡ (has_bit a c && has_bit b c)
+has_bit-and a b c = ap (λ n. n == 1) (bit_at_and a b c) ∙ test_min (bit_at a c) (bit_at b c) (bit_at-lt a c) (bit_at-lt b c)
+
+-- a bit of the one word and not of the other
+test_without : (a b : ℕ) → a < 2 → b < 2 → (min a (1 - b) == 1) ≡ ((a == 1) && not (b == 1))
+test_without = by_bits (λ a b. (min a (1 - b) == 1) ≡ ((a == 1) && not (b == 1))) refl refl refl refl
+
+pub has_bit-without : (word other c : ℕ) → other < 2 ^ 64 → c < 64 → has_bit (bit_and word (bit_not w64 other)) c ≡ (has_bit word c && not (has_bit other c))
+has_bit-without word other c low column = search (rules, bit_at-lt, bit_at_and, bit_at_not, test_without)
+
+-- the same in every column, of words
+pub has_bit-less : (word other c : ℕ) → word < 2 ^ 64 → other < 2 ^ 64 → has_bit (bit_and word (bit_not w64 other)) c ≡ (has_bit word c && not (has_bit other c))
+has_bit-less word other c low few =
+    elim (cases_lt c 64) [
+      | inl inside ↦ has_bit-without word other c few inside
+      | inr past ↦
+          let none = ap (λ n. n == 1) (bit_at_above word 64 c low past) in
+          has_bit-and word _ c ∙ ap (λ b. b && has_bit (bit_not w64 other) c) none ∙ sym (ap (λ b. b && not (has_bit other c)) none)
+    ]
+
+-- what isn't in a set isn't in a part of it
+pub not_in_part : (some all : ℕ → Bool) (k : ℕ) → IsPart some all → all k ≡ false → some k ≡ false
+not_in_part some all k part none = false_from_ne_true (some k) (λ is. false≢true (sym none ∙ part k is))
+
+-- where nothing of the one is left without the other, what is in the one is in the other
+pub in_the_other : (x y : Bool) → x ≡ true → (x && not y) ≡ false → y ≡ true
+in_the_other true y is none = not-false y none
+in_the_other false y is none = absurd (false≢true is)
+
+-- the bit of a column that is there, and of one that isn't
+pub bit_at-there : (n c : ℕ) → has_bit n c ≡ true → bit_at n c ≡ 1
+bit_at-there n c is = eqb-true (bit_at n c) 1 is
+
+pub bit_at-gone : (n c : ℕ) → has_bit n c ≡ false → bit_at n c ≡ 0
+bit_at-gone n c none = let other = eqb-false (bit_at n c) 1 none in omega (arith, bit_at-lt n c, other)
+
+pub has_bit-zero : (c : ℕ) → has_bit 0 c ≡ false
+has_bit-zero c = ap (λ n. n == 1) (bit_at-zero c)
+
+-- a column of a word of k bits is below k
+pub column_below : (k a c : ℕ) → a < 2 ^ k → has_bit a c ≡ true → c < k
+column_below k a c low is = grind (arith, common_steps, bit_at_above)
+
+min_one : (x : ℕ) → x < 2 → min x 1 ≡ x
+min_one zero h = refl
+min_one (suc zero) h = refl
+min_one (suc (suc x)) h = absurd (omega arith)
+
+-- the low bits stay where the others are cut off
+pub bit_at-mod : (n k i : ℕ) → i < k → bit_at (n % 2 ^ k) i ≡ bit_at n i
+bit_at-mod n k i low =
+    ap (λ m. bit_at m i) (sym (and_mask n k))
+    ∙ bit_at_and n (2 ^ k - 1) i
+    ∙ ap (λ b. min (bit_at n i) b) (bit_at_ones k i low)
+    ∙ min_one (bit_at n i) (bit_at-lt n i)
+
+-- bits shifted by one column
+pub has_bit-low : (n c : ℕ) → c < 64 → has_bit (n % 2 ^ 64) c ≡ has_bit n c
+has_bit-low n c low = ap (λ x. x == 1) (bit_at-mod n 64 c low)
+
+pub has_bit-left : (a c : ℕ) → c + 1 < 64 → has_bit (a * 2 ^ 1 % 2 ^ 64) (c + 1) ≡ has_bit a c
+has_bit-left a c low =
+    has_bit-low (a * 2 ^ 1) (c + 1) low
+    ∙ ap (λ x. x == 1) (ap (λ n. bit_at n (c + 1)) (omega arith) ∙ bit_at_cat_high a 1 0 (c + 1) (omega arith) (omega arith) ∙ ap (bit_at a) (omega arith))
+
+has_bit-left_first : (a : ℕ) → has_bit (a * 2 ^ 1 % 2 ^ 64) 0 ≡ false
+has_bit-left_first a = grind (arith, common_steps, bit_at-zero, bit_at_cat_low, has_bit-low)
+
+pub from_left : (a c : ℕ) → has_bit (a * 2 ^ 1 % 2 ^ 64) c ≡ true → (d : ℕ) × (d + 1 ≡ c) × (has_bit a d ≡ true)
+from_left a zero is = absurd (false≢true (sym (has_bit-left_first a) ∙ is))
+from_left a (suc d) is =
+    let low : suc d < 64 = column_below 64 (a * 2 ^ 1 % 2 ^ 64) (suc d) (mod_below (a * 2 ^ 1) (2 ^ 64) (pow_pos 64)) is in
+    (d, omega arith, sym (has_bit-left a d (omega arith)) ∙ ap (has_bit (a * 2 ^ 1 % 2 ^ 64)) (omega arith) ∙ is)
+
+pub has_bit-right : (a c : ℕ) → has_bit (a / 2 ^ 1) c ≡ has_bit a (suc c)
+has_bit-right a c = ap (λ x. x == 1) (sym (bit_at-suc a c))
+
+-- a part of a set of columns is no greater a number
+pub le_from_part : (a b : ℕ) → IsPart (has_bit a) (has_bit b) → a ≤ b
+le_from_part a b part =
+    subst (λ n. a ≤ n)
+    (same_from_bits (bit_or a b) b
+    (λ i. bit_at_or a b i ∙ max_part (bit_at a i) (bit_at b i) (bit_at-lt a i) (bit_at-lt b i) (part i)))
+    (le_or_l a b)
+
+pub same_bools : (a b : Bool) → (a ≡ true → b ≡ true) → (b ≡ true → a ≡ true) → a ≡ b
+same_bools a b there back = grind (arith, common_steps)

@@ -1,0 +1,55 @@
+use Rattle.std.proofs.Common.{◌≡◌, ◌≢◌, ◌^◌, ◌<◌, ℕ, true, inl, inr, w64, length, sym, ap, ◌∙◌, arith, rules}
+use Rattle.std.proofs.lemmas.Bool.{cases_eq, false≢true}
+use Rattle.std.specs.Int.{trailing_zeros}
+use Rattle.board_points.specs.Rows.{has_bit}
+use Rattle.board_points.specs.inner.Fill.{lacking}
+use Rattle.board_points.proofs.WordLemmas.{not_in_part}
+use Rattle.board_points.proofs.ColumnLemmas.{lowest_left, next_smaller}
+use Rattle.board_points.proofs.GrowLemmas.{filled_more}
+use Rattle.board_points.proofs.fill.grow_lowest.Goals as goal
+
+lowest_in : (waiting count : ℕ) → waiting ≢ 0 → waiting < 2 ^ 64 → ((row : ℕ) → has_bit waiting row ≡ true → row < count) → trailing_zeros w64 waiting < count
+lowest_in waiting count some low each = each _ (lowest_left waiting waiting some low (λ k is. is)).0
+
+pub bounds-rows-row : goal.bounds-rows-row
+bounds-rows-row c = omega (arith, lowest_in c.args.waiting _ c.requires.wait.some (omega (arith, c.ranges.waiting.fits)) c.requires.wait.rows_in, c.requires.within.same)
+
+pub row_above-above-requires : goal.row_above-above-requires
+row_above-above-requires c = omega (arith, lowest_in c.args.waiting _ c.requires.wait.some (omega (arith, c.ranges.waiting.fits)) c.requires.wait.rows_in, c.requires.within.same)
+
+pub grow_row-requires-clause-row : goal.grow_row-requires-clause-row
+grow_row-requires-clause-row c = omega (arith, lowest_in c.args.waiting _ c.requires.wait.some (omega (arith, c.ranges.waiting.fits)) c.requires.wait.rows_in, c.requires.within.same)
+
+pub bounds-rows-row-2 : goal.bounds-rows-row-2
+bounds-rows-row-2 c =
+    let long : length c.grow_row.new.rows ≡ length c.args.rows.now = search rules in
+    omega (arith, lowest_in c.args.waiting _ c.requires.wait.some (omega (arith, c.ranges.waiting.fits)) c.requires.wait.rows_in, c.requires.within.same, long)
+
+pub returns-then-rows-row-clause-row : goal.returns-then-rows-row-clause-row
+returns-then-rows-row-clause-row c =
+    let long : length c.grow_row.new.rows ≡ length c.args.rows.now = search rules in
+    omega (arith, lowest_in c.args.waiting _ c.requires.wait.some (omega (arith, c.ranges.waiting.fits)) c.requires.wait.rows_in, c.requires.within.same, long)
+
+pub returns-then-rows-row-clause-less : goal.returns-then-rows-row-clause-less
+returns-then-rows-row-clause-less c =
+    let fewer = next_smaller c.args.waiting c.args.waiting c.without_column-left.result c.requires.wait.some (omega (arith, c.ranges.waiting.fits)) (λ k is. is) c.without_column-left.ensures.there c.without_column-left.ensures.elsewhere in
+    let same : lacking c.grow_row.new.rows ≡ lacking c.args.rows.now = ap lacking (c.grow_row.ensures.unchanged c.if-rows-row.true) in
+    omega (arith, fewer, same)
+
+pub returns-clause-filled : goal.returns-clause-filled
+returns-clause-filled c = λ first was.
+    let long : length c.grow_row.new.rows ≡ length c.args.rows.now = search rules in
+    let after = c.with_rows_lacking in
+    let left = c.without_column-left in
+    let row = trailing_zeros w64 c.args.waiting in
+    let region = c.args.region.now in
+    let still_in : (r : ℕ) → has_bit left.result r ≡ true → r < length region = λ r is.
+    elim (cases_eq r row) [
+      | inl same ↦ absurd (false≢true (sym left.ensures.there ∙ ap (has_bit left.result) (sym same) ∙ is))
+      | inr other ↦ was.rows_in r (sym (left.ensures.elsewhere r other) ∙ is)
+    ] in
+    filled_more region first c.args.rows.now c.grow_row.new.rows c.args.waiting after.result row (length region) (length region) was (λ r below _. below) long
+    c.grow_row.ensures.grows c.grow_row.ensures.closed c.grow_row.ensures.others
+    (λ r other none. sym (left.ensures.elsewhere r other) ∙ not_in_part _ _ r after.ensures.kept none)
+    (λ r is. elim (after.ensures.from r is) [ inl old ↦ still_in r old | inr below ↦ omega (arith, below, long, was.all) ])
+    (λ r differ below none. after.ensures.taken r differ (omega (arith, below, long, was.all)) none)

@@ -1,0 +1,10 @@
+use Rattle.std.proofs.Common.{length}
+use Rattle.board_points.specs.Halves.{low_halves, high_halves}
+use Rattle.board_points.proofs.CountLemmas.{IsCounted}
+use Rattle.board_points.proofs.quick.halves.count_halves.Given as goal
+
+abbrev pub invariant-rows : goal.invariant-rows
+invariant-rows l = record {
+  black : IsCounted (length l.areas) (low_halves l.areas) (high_halves l.areas) l.row l.in_black;
+  white : IsCounted (length l.areas) (high_halves l.areas) (low_halves l.areas) l.row l.in_white;
+}

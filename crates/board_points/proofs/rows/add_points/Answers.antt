@@ -1,0 +1,9 @@
+use Rattle.std.proofs.Common.{arith}
+use Rattle.board_points.proofs.RowLemmas.{added_all}
+use Rattle.board_points.proofs.rows.add_points.Goals as goal
+
+pub returns-clause-both : goal.returns-clause-both
+returns-clause-both c =
+    let l = c.loop-row in
+    added_all c.args.all.now c.args.rows.now l.all
+    (record { added = λ r below. l.invariant.added r (omega (arith, below, c.loop-row-test.false)); same = λ r above. l.invariant.same r (omega (arith, above, l.auto.row-end)) })

@@ -1,0 +1,83 @@
+//! Which points of a row have a liberty: an empty point beside them.
+
+ghost use Rattle.std.specs.Prelude.{◌≡◌, ◌+◌, ◌<◌, ◌≤◌, false, ℕ, IsTrue, length};
+ghost use Rattle.board_points.specs.declared.points.Point.{Point};
+ghost use Rattle.board_points.specs.Point.{IsOn};
+ghost use Rattle.board_points.specs.Linked.{HasLiberty, HaveLiberty};
+ghost use Rattle.board_points.specs.inner.Look.{IsRowAt};
+ghost use Rattle.board_points.specs.Rows.{has_bit, is_set, AreAllColumns, AreOfOneBoard};
+ghost use Rattle.board_points.specs.inner.Columns.{IsInOrBeside};
+
+use crate::columns::{all_columns, columns_left};
+
+/// The columns of a row that have a stone of the player (`own`), a stone of the opponent
+/// (`others`) or no stone (`free`). A row outside the board has no columns.
+#[derive(Clone, Copy)]
+pub(crate) struct RowStones {
+    pub(crate) own: u64,
+    pub(crate) others: u64,
+    pub(crate) free: u64,
+}
+
+/// The columns in which a row's point has a liberty: a point beside it that is in neither `own` nor `others`.
+pub(crate) fn columns_with_liberty(own: &[u64], others: &[u64], row: usize) -> u64
+    requires rows { AreOfOneBoard own.now others.now }
+    requires row { row < length own.now }
+    ensures from { (col : ℕ) → IsTrue (has_bit result col) → HasLiberty own.now others.now (record { col = col; row = row }) }
+    ensures to { (stone : Point) → stone.row ≡ row → stone.col < 64 → HasLiberty own.now others.now stone
+        → IsTrue (has_bit result stone.col) }
+{
+    let all = all_columns(own.len());
+    let above = row_at(own, others, all, row, 1);
+    let here = row_at(own, others, all, row, 2);
+    let below = row_at(own, others, all, row, 3);
+    columns_beside(above.free, here.free, below.free)
+}
+
+/// The columns of a row whose points are beside a point of a set. The set is given by its columns above, in and below the row.
+#[tactic(auto, using(crate::proofs::LinkedLemmas::beside_from, crate::proofs::LinkedLemmas::beside_to))]
+pub(crate) fn columns_beside(above: u64, here: u64, below: u64) -> u64
+    ensures from { (col : ℕ) → IsTrue (has_bit result col) → IsInOrBeside above here below col }
+    ensures to { (col : ℕ) → col < 64 → IsInOrBeside above here below col → IsTrue (has_bit result col) }
+{
+    above | below | here << 1 | here >> 1
+}
+
+/// What stands on a row near the row `middle`. `i` is 0 for the second row above it, and 2 for `middle` itself.
+/// `all` has all columns.
+pub(crate) fn row_at(own: &[u64], others: &[u64], all: u64, middle: usize, i: usize) -> RowStones
+    requires rows { AreOfOneBoard own.now others.now }
+    requires all { AreAllColumns (length own.now) all }
+    requires middle { middle < length own.now }
+    requires near { i ≤ 4 }
+    ensures is { IsRowAt own.now others.now middle i result }
+    ensures free { (point : Point) → point.row + 2 ≡ middle + i → IsOn (length own.now) point → is_set own.now point ≡ false
+        → is_set others.now point ≡ false → IsTrue (has_bit result.free point.col) }
+{
+    // the rows down to `middle` are above the board's end
+    if 2 <= middle + i && (i <= 2 || middle + i - 2 < own.len()) {
+        let row = middle + i - 2;
+        return RowStones {
+            own: own[row],
+            others: others[row],
+            free: columns_left(all, own[row] | others[row]),
+        };
+    }
+    RowStones {
+        own: 0,
+        others: 0,
+        free: 0,
+    }
+}
+
+/// Writes to `alive` the stones of `own` that have an empty point beside them. `others` has the stones of the other colour. The three must have as
+/// many words as the board has rows.
+pub fn stones_with_liberty(own: &[u64], others: &[u64], alive: &mut [u64])
+    requires rows { AreOfOneBoard own.now others.now }
+    requires alive { length alive.old ≡ length own.now }
+    ensures { HaveLiberty own.now others.now alive.new }
+{
+    for row in 0..own.len() {
+        alive[row] = own[row] & columns_with_liberty(own, others, row);
+    }
+}

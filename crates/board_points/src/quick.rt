@@ -1,0 +1,11 @@
+//! Shortcuts on sets of points. The plain ways are in `fill` and `liberty`, so a first reader may skip this module.
+//!
+//! | Shortcut | Stands in for |
+//! |---|---|
+//! | `glance`: the rows around most stones show that these and the stones beside them live | finding their groups |
+//! | `group`: one group is found row by row, and only as far as it takes to find a liberty | filling from all stones with a liberty |
+//! | `halves`: one filling fills two sets of points of a small board | two fillings |
+
+pub mod glance;
+pub mod group;
+pub mod halves;

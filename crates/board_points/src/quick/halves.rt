@@ -1,0 +1,67 @@
+//! Two sets of points in one list of words, which one filling fills: the low half of a word has a row of the one, the high half has a row of the
+//! other. The board must be small enough that an empty column is left between the halves.
+
+ghost use Rattle.std.specs.Prelude.{◌≡◌, ◌/◌, ◌%◌, ◌^◌, ◌<◌, IsTrue, length};
+ghost use Rattle.board_points.specs.declared.points.Point.{Point};
+ghost use Rattle.board_points.specs.Halves.{low_halves, high_halves, AreOnSmallBoard, ArePaired, AreOthersPaired};
+ghost use Rattle.board_points.specs.Point.{IsOn};
+ghost use Rattle.board_points.specs.Rows.{is_set, count_apart};
+
+use crate::columns::other_columns;
+
+/// The number of columns of half a word. A board with fewer leaves an empty column between the halves.
+pub const HALF: u8 = 32;
+
+/// The most rows of such a board. Its sets take few words, which are quick to clear.
+pub const FEW_ROWS: usize = HALF as usize;
+
+/// A word's low half is its rest by this divisor, and its high half is the quotient.
+const HALVES: u64 = 1 << HALF;
+
+/// Writes the stones of both colours to `areas`, black ones to the low halves, and to `region` the points where the other colour has no stone. The
+/// four must have as many words as the board has rows, fewer than 32, and all stones must be on the board.
+pub fn pair_rows(black: &[u64], white: &[u64], areas: &mut [u64], region: &mut [u64])
+    requires stones { AreOnSmallBoard black.now white.now }
+    requires areas { length areas.old ≡ length black.now }
+    requires region { length region.old ≡ length black.now }
+    ensures areas { ArePaired black.now white.now areas.new }
+    ensures region { AreOthersPaired black.now white.now region.new }
+{
+    let side = black.len();
+    'rows: for row in 0..side {
+        areas[row] = paired(black[row], white[row]);
+        region[row] = paired(
+            other_columns(white[row], side),
+            other_columns(black[row], side),
+        );
+    }
+}
+
+/// A word with one word in its low half and another in its high half.
+fn paired(low: u64, high: u64) -> u64
+    requires low { low < 2 ^ 32 }
+    requires high { high < 2 ^ 32 }
+    ensures low { result % 2 ^ 32 ≡ low }
+    ensures high { result / 2 ^ 32 ≡ high }
+{
+    high * HALVES + low
+}
+
+/// How many points each colour's area has that aren't in the other's: first Black's, in the low halves, then White's. There must be as many words as
+/// the board has rows, fewer than 32, and all points must be on the board.
+pub fn count_halves(areas: &[u64]) -> (u32, u32)
+    requires few { length areas.now < HALF }
+    requires black_on { (p : Point) → IsTrue (is_set (low_halves areas.now) p) → IsOn (length areas.now) p }
+    requires white_on { (p : Point) → IsTrue (is_set (high_halves areas.now) p) → IsOn (length areas.now) p }
+    ensures black { result.0 ≡ count_apart (length areas.now) (low_halves areas.now) (high_halves areas.now) }
+    ensures white { result.1 ≡ count_apart (length areas.now) (high_halves areas.now) (low_halves areas.now) }
+{
+    let (mut in_black, mut in_white) = (0, 0);
+    'rows: for row in 0..areas.len() {
+        let black = areas[row] % HALVES;
+        let white = areas[row] / HALVES;
+        in_black += (black & !white).count_ones();
+        in_white += (white & !black).count_ones();
+    }
+    (in_black, in_white)
+}

@@ -1,9 +1,0 @@
-use Rattle.std.proofs.Common.{◌-◌, ◌^◌}
-use Rattle.go_board.specs.inner.Rows.{IsWidened}
-use Rattle.go_board.proofs.board.fill.widened.Given as goal
-
-abbrev pub invariant-widen : goal.invariant-widen
-invariant-widen l = IsWidened l.region l.seed l.word
-
-abbrev pub decreases-widen : goal.decreases-widen
-decreases-widen l = 2 ^ 64 - l.word

@@ -1,7 +1,0 @@
-use Rattle.std.proofs.Common.{◌≡◌, ℕ, ◌<◌, slice_index, bit_and, w64}
-use Rattle.std.specs.Int.{bit_not}
-use Rattle.go_board.proofs.board.regions.difference.Given as goal
-
-abbrev pub invariant-loop-row : goal.invariant-loop-row
-invariant-loop-row l =
-    (r : ℕ) → r < l.row → slice_index l.left r ≡ bit_and (slice_index l.rows r) (bit_not w64 (slice_index l.others r))

@@ -1,6 +1,0 @@
-use Rattle.std.proofs.Common.{ℕ, ◌<◌, slice_index}
-use Rattle.go_board.proofs.RegionLemmas.{AreOthers}
-use Rattle.go_board.proofs.board.regions.other_points.Given as goal
-
-abbrev pub invariant-loop-row : goal.invariant-loop-row
-invariant-loop-row l = (r : ℕ) → r < l.row → AreOthers l.side (slice_index l.rows r) (slice_index l.others r)

@@ -1,6 +1,0 @@
-use Rattle.std.proofs.Common.{ℕ, ◌<◌, slice_index}
-use Rattle.go_board.proofs.LibertyLemmas.{AreAlive}
-use Rattle.go_board.proofs.board.regions.stones_with_liberty.Given as goal
-
-abbrev pub invariant-loop-row : goal.invariant-loop-row
-invariant-loop-row l = (r : ℕ) → r < l.row → AreAlive l.own l.others r (slice_index l.alive r)
