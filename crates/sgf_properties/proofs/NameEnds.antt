@@ -1,14 +1,12 @@
 -- Where the identifier of a property begins and ends.
 use Rattle.std.proofs.lemmas.Grind.{common_steps}
-use Rattle.std.proofs.Common.{◌≡◌, ◌≢◌, ℕ, zero, suc, ◌+◌, ◌-◌, ◌<◌, ◌≤◌, false, inl, inr, IsTrue, List, [], ◌∷◌, ◌++◌, length, get_or, slice_range, Some, None, refl, sym, ap, subst, ◌∙◌, arith, if◌then◌else◌, ne_eqb, get_or-drop, length-drop}
-use Rattle.std.proofs.lemmas.Bool.{cases_lt, or_cases, or_parts, or_left, false≢true}
+use Rattle.std.proofs.Common.{◌≡◌, ℕ, ◌+◌, ◌<◌, IsTrue, List, [], ◌∷◌, length, get_or, slice_range, ap, arith, get_or-drop, length-drop}
+use Rattle.std.proofs.lemmas.Bool.{cases_lt, or_left, false≢true}
 use Rattle.std.proofs.lemmas.List.{take_more}
-use Rattle.std.proofs.lemmas.List.Elements.{filter-append}
-use Rattle.sgf_properties.specs.Spelling.{is_white_space, is_upper, is_lower}
-use Rattle.sgf_properties.specs.Front.{is_letter, name_in}
+use Rattle.sgf_properties.specs.Spelling.{is_white_space, is_upper}
+use Rattle.sgf_properties.specs.Front.{is_letter}
 use Rattle.sgf_properties.specs.Offsets.{IsSpan, IsBracket}
-use Rattle.sgf_properties.proofs.Classes.{white-not_upper, white-not_lower}
-use Rattle.sgf_properties.proofs.Spans.{empty-span, span-none}
+use Rattle.sgf_properties.proofs.Spans.{empty-span}
 use Rattle.sgf_properties.proofs.ValueEnds.{span-join}
 
 -- one byte

@@ -1,8 +1,8 @@
 -- Values such as `[pd]`, one after the other.
-use Rattle.std.proofs.Common.{◌≡◌, ℕ, zero, suc, ◌+◌, ◌-◌, ◌*◌, ◌<◌, ◌≤◌, List, [], ◌∷◌, ◌++◌, length, get_or, drop, slice_range, inl, inr, sym, subst, arith}
+use Rattle.std.proofs.Common.{◌≡◌, ℕ, zero, suc, ◌+◌, ◌-◌, ◌*◌, ◌<◌, ◌≤◌, List, [], ◌∷◌, length, get_or, drop, slice_range, inl, inr, subst, arith}
 use Rattle.std.proofs.lemmas.Bool.{cases_lt}
-use Rattle.sgf_properties.specs.Spelling.{is_white_space, IsPropValue, ArePropValues, no_value, value}
-use Rattle.sgf_properties.specs.Offsets.{IsSpan, IsValueEnd, IsPoint, ArePoints, IsBracket}
+use Rattle.sgf_properties.specs.Spelling.{IsPropValue, ArePropValues, no_value, value}
+use Rattle.sgf_properties.specs.Offsets.{IsValueEnd, IsPoint, ArePoints, IsBracket}
 use Rattle.sgf_properties.proofs.Iterating.{first-value}
 use Rattle.sgf_properties.proofs.NameEnds.{bracket-here}
 use Rattle.sgf_properties.proofs.ValueUnits.{no-units, plain-units, units-ended}

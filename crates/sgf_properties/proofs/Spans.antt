@@ -1,10 +1,8 @@
 -- Spans of a text, by the offsets of their bytes.
-use Rattle.std.proofs.Common.{false, ◌≡◌, ℕ, zero, suc, ◌+◌, ◌-◌, ◌<◌, ◌≤◌, ◌⊎◌, IsTrue, List, [], ◌∷◌, ◌++◌, length, get_or, take, slice_range, filter, Some, subst, add-zero, append_assoc, append-nil, get_or-drop, length-drop, arith, rules}
+use Rattle.std.proofs.Common.{false, ◌≡◌, ℕ, ◌+◌, ◌-◌, ◌<◌, ◌≤◌, List, [], ◌∷◌, ◌++◌, length, get_or, slice_range, get_or-drop, length-drop, arith, rules}
 use Rattle.std.proofs.lemmas.List.{take_more}
-use Rattle.std.proofs.lemmas.List.Elements.{filter-append}
-use Rattle.sgf_properties.specs.Spelling.{is_white_space, is_upper, is_lower}
+use Rattle.sgf_properties.specs.Spelling.{is_white_space}
 use Rattle.sgf_properties.specs.Offsets.{IsSpan}
-use Rattle.sgf_properties.proofs.Classes.{lower-not_upper}
 
 module _ (t : List ℕ) where
   -- no white space, before a byte that is none

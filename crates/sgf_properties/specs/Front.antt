@@ -1,9 +1,9 @@
 -- Functions that return the properties and the raw values at the front of a text. Views of parts of the text are defined by
 -- these functions. `ArePropertiesIn` and `AreValuesIn` say that the functions agree with the grammar.
-use Rattle.std.specs.Prelude.{◌≡◌, ◌≢◌, ℕ, zero, suc, ◌+◌, ◌<◌, ◌≤◌, Bool, false, ◌||◌, ◌==◌, if◌then◌else◌, List, [], ◌∷◌, ◌++◌, length, drop, slice_range, filter, IsTrue, Option, None, Some}
-use Rattle.sgf_properties.specs.Bytes.{semicolon, open_bracket, backslash, close_bracket}
+use Rattle.std.specs.Prelude.{◌≡◌, ◌≢◌, ℕ, zero, suc, Bool, false, ◌||◌, ◌==◌, if◌then◌else◌, List, [], ◌∷◌, length, filter}
+use Rattle.sgf_properties.specs.Bytes.{open_bracket, backslash, close_bracket}
 use Rattle.sgf_properties.specs.Property.{Property}
-use Rattle.sgf_properties.specs.Spelling.{WhiteSpace, is_white_space, is_upper, is_lower, IsPropValue, ArePropValues, AreProperties}
+use Rattle.sgf_properties.specs.Spelling.{WhiteSpace, is_white_space, is_upper, is_lower, ArePropValues, AreProperties}
 
 -- a letter of an identifier
 abbrev pub is_letter : ℕ → Bool

@@ -1,8 +1,8 @@
 -- What stands at an offset of a text, and what stands from one offset to another.
-use Rattle.std.specs.Prelude.{◌≡◌, ◌≢◌, ℕ, ◌+◌, ◌-◌, ◌*◌, ◌<◌, ◌≤◌, Bool, false, not, ◌&&◌, ◌==◌, List, [], ◌∷◌, length, slice_index, slice_range, take, drop, Some, IsTrue}
-use Rattle.sgf_properties.specs.Bytes.{space, semicolon, capital_a, open_bracket, backslash, close_bracket}
+use Rattle.std.specs.Prelude.{◌≡◌, ◌≢◌, ℕ, ◌+◌, ◌*◌, ◌<◌, ◌≤◌, Bool, false, not, ◌&&◌, ◌==◌, List, length, slice_index, slice_range, drop, IsTrue}
+use Rattle.sgf_properties.specs.Bytes.{open_bracket, backslash, close_bracket}
 use Rattle.sgf_properties.specs.RawValue.{IsValue}
-use Rattle.sgf_properties.specs.Spelling.{is_white_space, is_upper}
+use Rattle.sgf_properties.specs.Spelling.{is_white_space}
 
 -- the bytes from `at` to `end` pass the test, and the byte after them doesn't
 pub record IsSpan (test : ℕ → Bool) (text : List ℕ) (at end : ℕ) : Type 0 where

@@ -1,6 +1,5 @@
 -- A property of a node of an SGF text (SGF FF[4], EBNF).
-use Rattle.std.specs.Prelude.{ℕ, ◌+◌, Option, List, [], ◌∷◌, length, option_map, option_to_list}
-use Rattle.std.specs.Borrow.{Bor}
+use Rattle.std.specs.Prelude.{ℕ, List, ◌∷◌}
 
 -- a property: its name, and its raw values, at least one
 pub record Property : Type 0 where

@@ -1,8 +1,8 @@
 -- Which texts spell properties: the EBNF of SGF FF[4], from Property down to the brackets of a value. Between these stand any bytes, with
 -- escapes (`RawValue.antt`). In each relation `s` is the text from the beginning of a thing on, and `r` is the text after the
 -- thing. `t`, `u`, `w` and the longer names are the text after one of its parts.
-use Rattle.std.specs.Prelude.{◌≡◌, ℕ, ◌+◌, Bool, ◌||◌, ◌&&◌, ◌==◌, nat_le, IsTrue, List, [], ◌∷◌, length}
-use Rattle.sgf_properties.specs.Bytes.{tab, line_feed, vertical_tab, form_feed, carriage_return, space, open_parenthesis, close_parenthesis, semicolon, capital_a, capital_z, open_bracket, close_bracket, small_a, small_z, byte_ef, byte_bb, byte_bf}
+use Rattle.std.specs.Prelude.{ℕ, Bool, ◌||◌, ◌&&◌, ◌==◌, nat_le, IsTrue, List, [], ◌∷◌}
+use Rattle.sgf_properties.specs.Bytes.{tab, line_feed, vertical_tab, form_feed, carriage_return, space, capital_a, capital_z, open_bracket, close_bracket, small_a, small_z}
 use Rattle.sgf_properties.specs.RawValue.{IsValue}
 use Rattle.sgf_properties.specs.Property.{Property}
 

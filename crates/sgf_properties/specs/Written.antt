@@ -1,5 +1,5 @@
 -- What the sgf form writes for a property: no white space between its parts, its name in upper case, raw values as they are in the text.
-use Rattle.std.specs.Prelude.{◌≡◌, ℕ, ◌+◌, List, [], ◌∷◌, ◌++◌, length, codes}
+use Rattle.std.specs.Prelude.{◌≡◌, ℕ, List, ◌++◌, codes}
 use Rattle.std.specs.List.{flat_map}
 use Rattle.sgf_properties.specs.Property.{Property, values}
 

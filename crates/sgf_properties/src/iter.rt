@@ -134,11 +134,7 @@ impl<'a> Iterator for Values<'a> {
 ///
 /// This is inlined, because a call would pass the property in memory.
 #[inline(always)]
-pub fn property_at<'a>(
-    text: &'a [u8],
-    start: usize,
-    long: &Vec<LongValue>,
-) -> (PropRef<'a>, usize)
+pub fn property_at<'a>(text: &'a [u8], start: usize, long: &Vec<LongValue>) -> (PropRef<'a>, usize)
     requires held { ArePropertiesIn text.now }
     requires kept { AreKeptEnds text.now long.now.items }
     requires white_space { IsSpan is_white_space text.now 0 start }

@@ -31,8 +31,7 @@
 //!
 //! | Rule (docs/GRAMMAR.md) | Function, and its module |
 //! |---|---|
-//! | the properties of a node, and the first of them | `next` (`iter`), `property_at` (`iter`) |
-//! | the letters of PropIdent | `letters_end` (`scan`) |
+//! | PropIdent: its letters | `letters_end` (`scan`) |
 //! | the name of a property | `PropRef::is`, `PropRef::push_name` (`property`) |
 //! | the end of a raw value | `far_value_end` (`value`) |
 //! | white space: its bytes | `is_white_space` (`scan`) |

@@ -1,11 +1,8 @@
 -- What is left after a node, or after games, is an end of what was left before.
-use Rattle.std.proofs.lemmas.Grind.{common_steps}
-use Rattle.std.proofs.Common.{◌≡◌, ℕ, ◌+◌, ◌-◌, ◌≤◌, List, ◌∷◌, length, drop, sym, ap, ◌∙◌, arith}
-use Rattle.std.proofs.lemmas.List.{drop-drop}
-use Rattle.sgf_tree.specs.Tree.{Property, Node, Games}
-use Rattle.sgf_properties.specs.RawValue.{IsValue, no_unit, plain, escaped}
-use Rattle.sgf_tree.specs.Spelling.{WhiteSpace, no_white_space, white_space, Letters, no_letter, upper, lower, IsPropValue, prop_value, ArePropValues, no_value, value, IsProperty, property, AreProperties, no_property, properties, IsNode, node, AreNodes, no_node, nodes, AreGames, no_game, games, ByteOrderMark, no_byte_order_mark, byte_order_mark}
-use Rattle.sgf_properties.proofs.Ends.{IsEnd, all, tail, end-WhiteSpace, end-AreProperties}
+use Rattle.std.proofs.Common.{ℕ, List}
+use Rattle.sgf_tree.specs.Tree.{Node, Games}
+use Rattle.sgf_tree.specs.Spelling.{IsNode, node, AreNodes, no_node, nodes, AreGames, no_game, games, ByteOrderMark, no_byte_order_mark, byte_order_mark}
+use Rattle.sgf_properties.proofs.Ends.{IsEnd, tail, end-WhiteSpace, end-AreProperties}
 
 module _ {t : List ℕ} where
   pub end-IsNode : {whole : ℕ} {n : Node} {s r : List ℕ} → IsNode whole n s r → IsEnd t s → IsEnd t r

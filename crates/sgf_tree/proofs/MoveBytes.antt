@@ -1,12 +1,10 @@
 -- The bytes of two moves, all compared at once with the least one that may stand there.
 use Rattle.std.proofs.lemmas.Grind.{common_steps}
-use Rattle.std.proofs.Common.{◌≡◌, ◌∙◌, ℕ, ◌+◌, ◌/◌, ◌%◌, ◌^◌, ◌<◌, ◌≤◌, IsTrue, List, [], ◌∷◌, length, get_or, refl, sym, ap, subst, arith, le-leb}
+use Rattle.std.proofs.Common.{◌≡◌, ◌∙◌, ℕ, ◌+◌, ◌/◌, ◌%◌, ◌^◌, ◌<◌, ◌≤◌, List, [], ◌∷◌, length, get_or, refl, ap, arith, le-leb}
 use Rattle.std.proofs.lemmas.Bool.{and_from, cases_lt}
-use Rattle.sgf_properties.specs.Offsets.{is_plain}
 use Rattle.sgf_tree.specs.inner.Progress.{IsMove, IsMoveNode}
 use Rattle.sgf_properties.proofs.PlacedBytes
 use Rattle.sgf_properties.proofs.PlacedBytes.{above}
-use Rattle.sgf_properties.proofs.ValueEnds.{other-plain}
 use Rattle.sgf_properties.proofs.PointBytes.{other-than, in-place}
 
 -- a move, by how far its bytes are above the least ones

@@ -1,8 +1,7 @@
 -- How the name of a property is read, up to the `[` after it.
 use Rattle.std.proofs.lemmas.Grind.{common_steps}
-use Rattle.std.proofs.Common.{◌≡◌, ◌≢◌, ℕ, zero, suc, ◌+◌, ◌-◌, ◌<◌, ◌≤◌, false, inl, inr, IsTrue, List, [], ◌∷◌, ◌++◌, length, get_or, slice_range, Some, None, refl, sym, ap, subst, ◌∙◌, arith, if◌then◌else◌, ne_eqb, get_or-drop, length-drop}
-use Rattle.std.proofs.lemmas.Bool.{cases_lt, or_cases, or_parts, or_left, false≢true}
-use Rattle.std.proofs.lemmas.List.{take_more}
+use Rattle.std.proofs.Common.{◌≡◌, ◌≢◌, ℕ, zero, suc, ◌+◌, ◌-◌, ◌<◌, ◌≤◌, false, inl, inr, IsTrue, List, [], ◌∷◌, ◌++◌, length, get_or, slice_range, Some, None, refl, sym, ap, subst, ◌∙◌, arith, if◌then◌else◌, ne_eqb}
+use Rattle.std.proofs.lemmas.Bool.{cases_lt, or_cases, or_parts}
 use Rattle.std.proofs.lemmas.List.Elements.{filter-append}
 use Rattle.sgf_tree.specs.Spelling.{is_white_space, is_upper, is_lower}
 use Rattle.sgf_tree.specs.inner.Machine.{Started, MachineState, in_name, after_name, in_value, next_state, accepted}
@@ -14,7 +13,7 @@ use Rattle.sgf_tree.specs.inner.PropertiesRead.{IsNameRead}
 use Rattle.sgf_properties.proofs.Classes.{white-not_upper, white-not_lower}
 use Rattle.sgf_tree.proofs.Run.{run-take-step}
 use Rattle.sgf_tree.proofs.Skipping.{stays-after_name}
-use Rattle.sgf_properties.proofs.Spans.{empty-span, span-none}
+use Rattle.sgf_properties.proofs.Spans.{span-none}
 use Rattle.sgf_tree.proofs.Spans.{run-white, run-letters}
 use Rattle.sgf_properties.proofs.ValueEnds.{span-join}
 use Rattle.sgf_tree.proofs.ValueEnds.{stops-faulty}

@@ -1,11 +1,8 @@
 -- Values such as `[pd]`, one after the other: what was read before them goes on after them.
-use Rattle.std.proofs.Common.{◌≡◌, ℕ, zero, suc, ◌+◌, ◌-◌, ◌*◌, ◌<◌, ◌≤◌, List, [], ◌∷◌, ◌++◌, length, get_or, drop, slice_range, inl, inr, sym, subst, arith}
-use Rattle.std.proofs.lemmas.Bool.{cases_lt}
-use Rattle.sgf_tree.specs.Spelling.{is_white_space, IsPropValue, ArePropValues, no_value, value}
+use Rattle.std.proofs.Common.{◌≡◌, ℕ, zero, suc, ◌+◌, ◌*◌, ◌<◌, ◌≤◌, List, ◌++◌, slice_range, sym, subst, arith}
+use Rattle.sgf_tree.specs.Spelling.{is_white_space}
 use Rattle.sgf_properties.specs.Offsets.{IsSpan, IsValueEnd, IsPoint, ArePoints, IsBracket}
-use Rattle.sgf_properties.proofs.Iterating.{first-value}
 use Rattle.sgf_properties.proofs.NameEnds.{bracket-here}
-use Rattle.sgf_properties.proofs.ValueUnits.{no-units, plain-units, units-ended}
 use Rattle.sgf_tree.proofs.ValuesRead.{After, ValuesSoFar, ValuesBefore, after-none, values-as, values-step, values-more}
 use Rattle.sgf_properties.proofs.Points.{value-end, first-point, later-points}
 

@@ -1,9 +1,8 @@
 -- Which texts spell a collection: the EBNF of SGF FF[4], from Collection down to Node. The rest of it is in `Spelling.antt` of the crate
 -- `sgf_properties`: Property = PropIdent PropValue { PropValue }, and PropValue = "[" value "]". In each relation `s` is the text from the
 -- beginning of a thing on, and `r` is the text after the thing. `t`, `u`, `w` and the longer names are the text after one of its parts.
-use Rattle.std.specs.Prelude.{◌≡◌, ℕ, ◌+◌, Bool, ◌||◌, ◌&&◌, ◌==◌, nat_le, IsTrue, List, [], ◌∷◌, length}
-use Rattle.sgf_properties.specs.Bytes.{tab, line_feed, vertical_tab, form_feed, carriage_return, space, open_parenthesis, close_parenthesis, semicolon, capital_a, capital_z, open_bracket, close_bracket, small_a, small_z, byte_ef, byte_bb, byte_bf}
-use Rattle.sgf_properties.specs.RawValue.{IsValue}
+use Rattle.std.specs.Prelude.{◌≡◌, ℕ, ◌+◌, List, [], ◌∷◌, length}
+use Rattle.sgf_properties.specs.Bytes.{open_parenthesis, close_parenthesis, semicolon, byte_ef, byte_bb, byte_bf}
 use Rattle.sgf_tree.specs.Tree.{Property, Node, Games, no_games, game}
 pub use Rattle.sgf_properties.specs.Spelling.{is_white_space, is_upper, is_lower, WhiteSpace, no_white_space, white_space, Letters, no_letter, upper, lower, IsPropValue, prop_value, ArePropValues, no_value, value, IsProperty, property, AreProperties, no_property, properties}
 

@@ -1,7 +1,7 @@
 -- What the sgf form writes for a node: no white space between its parts, names in upper case, raw values as they are in the text.
 use Rattle.std.specs.Prelude.{ℕ, ◌+◌, List, [], ◌∷◌, ◌++◌, length, codes}
 use Rattle.std.specs.List.{flat_map}
-use Rattle.sgf_tree.specs.Tree.{Property, Node, values}
+use Rattle.sgf_tree.specs.Tree.{Node}
 pub use Rattle.sgf_properties.specs.Written.{value_text, property_text}
 
 -- a node's `;` and its properties

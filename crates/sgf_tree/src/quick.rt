@@ -3,7 +3,7 @@
 //! `sgf_properties`.
 //!
 //! A shortcut stands in for a plain function, and ensures no more than that one. If it returns None or false, nothing is known: the caller
-//! then calls the plain function. A shortcut that returns an offset may stop early.
+//! then calls the plain function.
 //!
 //! | Shortcut | Stands in for |
 //! |---|---|
@@ -13,7 +13,8 @@
 //! | `lead`: a node is recognized that is a move and then short properties, or has no properties | `SequenceNodes::open` of `walk` |
 //!
 //! `#[inline(always)]` is on what runs for each node or property, and `#[inline(never)]` on the plain function behind it, so that the
-//! loop around it stays small. Without these attributes, here, in `reader` and in `sgf_properties`, a count of a library takes 40 percent more instructions.
+//! loop around it stays small. Without these attributes, here, in `reader` and in `sgf_properties`, a count of a library takes 40 percent
+//! more instructions.
 
 pub(crate) mod front;
 pub(crate) mod lead;

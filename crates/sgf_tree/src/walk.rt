@@ -13,7 +13,9 @@ ghost use Rattle.sgf_tree.specs.inner.Walking.{nodes_between, IsWalk};
 
 use crate::quick::front::is_lone_front;
 use crate::quick::lead::{is_empty_node, led_end};
-use sgf_properties::{LongValue, PropRef, capital_at, part, property_at, rest_from, skip_white_space};
+use sgf_properties::{
+    LongValue, PropRef, capital_at, part, property_at, rest_from, skip_white_space,
+};
 use std::marker::Model;
 
 /// A node that `SequenceNodes::next` took off.

@@ -1,8 +1,6 @@
 -- Going over properties and values: words of the views and invariants in `property` and `iter`, and of private contracts in `iter`.
-use Rattle.std.specs.Prelude.{◌≡◌, ◌≢◌, ℕ, zero, suc, ◌+◌, ◌<◌, ◌≤◌, Bool, false, ◌||◌, ◌==◌, if◌then◌else◌, List, [], ◌∷◌, ◌++◌, length, drop, slice_range, filter, IsTrue, Option, None, Some}
-use Rattle.sgf_properties.specs.Bytes.{semicolon, open_bracket, backslash, close_bracket}
-use Rattle.sgf_properties.specs.Property.{Property}
-use Rattle.sgf_properties.specs.Spelling.{WhiteSpace, is_white_space, is_upper, is_lower, IsPropValue, ArePropValues, AreProperties}
+use Rattle.std.specs.Prelude.{◌≡◌, ℕ, ◌+◌, ◌<◌, ◌≤◌, List, ◌∷◌, length, drop, slice_range, IsTrue, Option, None, Some}
+use Rattle.sgf_properties.specs.Spelling.{is_upper, IsPropValue, ArePropValues}
 
 -- the values that are left; if the first is given, it comes before the others
 abbrev pub values_left : Option (List ℕ) → List (List ℕ) → List (List ℕ)

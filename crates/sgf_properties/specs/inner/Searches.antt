@@ -1,9 +1,7 @@
 -- Where the end of a raw value is searched for: words of private contracts in `value` and `quick/value`.
-use Rattle.std.specs.Prelude.{◌≡◌, ◌≢◌, ℕ, ◌+◌, ◌-◌, ◌*◌, ◌<◌, ◌≤◌, Bool, false, not, ◌&&◌, ◌==◌, List, [], ◌∷◌, length, slice_index, slice_range, take, drop, Some, IsTrue}
-use Rattle.sgf_properties.specs.Bytes.{space, semicolon, capital_a, open_bracket, backslash, close_bracket}
+use Rattle.std.specs.Prelude.{◌≡◌, ◌≢◌, ℕ, ◌+◌, ◌-◌, ◌*◌, ◌<◌, ◌≤◌, List, ◌∷◌, length, slice_index, drop}
+use Rattle.sgf_properties.specs.Bytes.{backslash, close_bracket}
 use Rattle.sgf_properties.specs.RawValue.{IsValue}
-use Rattle.sgf_properties.specs.Spelling.{is_white_space, is_upper}
-use Rattle.sgf_properties.specs.Offsets.{SpellsValue}
 
 -- no `]` stands from `at` to `end`
 abbrev pub HasNoBracket : List ℕ → ℕ → ℕ → Type 0

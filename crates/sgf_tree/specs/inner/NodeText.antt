@@ -1,8 +1,7 @@
 -- The node that stands at an offset of a text.
-use Rattle.std.specs.Prelude.{◌≡◌, ◌≢◌, ℕ, zero, suc, ◌+◌, ◌<◌, ◌≤◌, Bool, false, ◌||◌, ◌==◌, if◌then◌else◌, List, [], ◌∷◌, ◌++◌, length, drop, slice_range, filter, IsTrue, Option, None, Some}
-use Rattle.sgf_properties.specs.Bytes.{semicolon, open_bracket, backslash, close_bracket}
-use Rattle.sgf_tree.specs.Tree.{Property, Node}
-use Rattle.sgf_tree.specs.Spelling.{WhiteSpace, is_white_space, is_upper, is_lower, IsPropValue, ArePropValues, AreProperties}
+use Rattle.std.specs.Prelude.{◌≡◌, ℕ, List, ◌∷◌, drop}
+use Rattle.sgf_properties.specs.Bytes.{semicolon}
+use Rattle.sgf_tree.specs.Tree.{Node}
 use Rattle.sgf_properties.specs.Front.{properties_in, ArePropertiesIn}
 
 -- the node whose `;` is at `place`

@@ -1,9 +1,8 @@
 -- How far a text was read: words of the contracts inside `reader`.
-use Rattle.std.specs.Prelude.{◌≡◌, ◌≢◌, ℕ, ◌+◌, ◌-◌, ◌*◌, ◌<◌, ◌≤◌, Bool, false, not, ◌&&◌, ◌==◌, List, [], ◌∷◌, length, slice_index, slice_range, take, drop, Some, IsTrue}
-use Rattle.sgf_properties.specs.Bytes.{space, semicolon, capital_a, open_bracket, backslash, close_bracket}
-use Rattle.sgf_properties.specs.RawValue.{IsValue}
+use Rattle.std.specs.Prelude.{◌≡◌, ℕ, ◌+◌, ◌<◌, List, length, slice_index, take, Some, IsTrue}
+use Rattle.sgf_properties.specs.Bytes.{space, semicolon, capital_a, open_bracket}
 use Rattle.sgf_tree.specs.Spelling.{is_white_space, is_upper}
-use Rattle.sgf_tree.specs.inner.Machine.{Started, MachineState, start, in_value, run}
+use Rattle.sgf_tree.specs.inner.Machine.{MachineState, start, run}
 use Rattle.sgf_tree.specs.Refusal.{IsFaultyAt}
 use Rattle.sgf_tree.specs.declared.reader.fault.PartFault.{PartFault}
 use Rattle.sgf_tree.specs.declared.reader.fault.PartFault.TheVariants.{NotSgf, Memory}

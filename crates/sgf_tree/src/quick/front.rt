@@ -5,7 +5,6 @@ ghost use Rattle.sgf_tree.specs.inner.Progress.{IsLoneFront};
 
 use sgf_properties::{begins_value, is_two_plain};
 
-
 /// Whether the first property of the node at the front of the text is written like `B[pd]`, and has no other value. The first byte is the
 /// `;` of the node, and isn't looked at.
 pub(crate) fn is_lone_front(text: &[u8]) -> bool

@@ -13,7 +13,10 @@ use crate::quick::properties::read_short_property;
 use crate::reader::fault::PartFault;
 use crate::reader::keeper::Keeper;
 use crate::reader::value::read_value;
-use sgf_properties::{LongValue, MemoryFault, capital_at, letters_end, past_points, short_name_end, skip_white_space, stands_at};
+use sgf_properties::{
+    LongValue, MemoryFault, capital_at, letters_end, past_points, short_name_end, skip_white_space,
+    stands_at,
+};
 
 /// How far a part of a node was read.
 #[derive(Clone, Copy)]
