@@ -27,7 +27,7 @@ use Rattle.sgf_lines.proofs.Pages.{get_dropped, get_taken, get_none, limited_is}
 use Rattle.sgf_lines.proofs.LineCounts.{lines_within}
 use Rattle.sgf_lines.proofs.Running.{one_more, cut_in, all_taken}
 use Rattle.std.proofs.lemmas.Grind.{flat_map-append}
-use Rattle.sgf_tree.specs.declared.fault.MemoryFault.{MemoryFault}
+use Rattle.sgf_properties.specs.declared.fault.MemoryFault.{MemoryFault}
 use Rattle.sgf_lines.specs.Form.{entry_of}
 use Rattle.sgf_lines.specs.declared.fault.RunFault.TheVariants.{Read, TooLong, NotSgf, NoSuchLine, Write, Memory}
 use Rattle.sgf_lines.specs.inner.GoingOn.{AreHeld, HasPlays, PlaysLine, index_by, next_by}

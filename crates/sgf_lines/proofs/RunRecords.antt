@@ -27,7 +27,7 @@ use Rattle.sgf_lines.proofs.Judgements.{judging_verdict}
 use Rattle.sgf_lines.proofs.Recordings.{record_text}
 use Rattle.sgf_lines.proofs.Scripts.{script_put}
 use Rattle.sgf_tree.specs.FileOrder.{IsLeaf}
-use Rattle.sgf_tree.specs.declared.fault.MemoryFault.{MemoryFault}
+use Rattle.sgf_properties.specs.declared.fault.MemoryFault.{MemoryFault}
 use Rattle.sgf_lines.specs.Paths.{Path, leaf_of}
 use Rattle.sgf_lines.specs.inner.Standing.{lines_before}
 use Rattle.sgf_lines.proofs.CursorStates.{IsNextLine, next_line, before}

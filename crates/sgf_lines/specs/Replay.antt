@@ -2,8 +2,8 @@
 -- from the top. The engine begins without a board, and plays stones by the Tromp-Taylor rules.
 use Rattle.std.specs.Prelude.{ℕ, Bool, true, false, ◌-◌, ◌==◌, ◌||◌, ◌&&◌, nat_le, nat_lt, if◌then◌else◌, Option, Some, None, option_map, option_and_then, List, [], ◌∷◌, filter, map, fold, codes, bytes_eq}
 use Rattle.std.specs.List.{slice_split, position}
-use Rattle.sgf_tree.specs.Bytes.{space, line_feed, capital_a, small_a, small_z}
-use Rattle.sgf_tree.specs.Number.{magnitude_of}
+use Rattle.sgf_properties.specs.Bytes.{space, line_feed, capital_a, small_a, small_z}
+use Rattle.sgf_properties.specs.Number.{magnitude_of}
 use Rattle.go_board.specs.declared.stones.Cell.TheVariants.{Empty}
 use Rattle.go_board.specs.declared.stones.Colour.{Colour}
 use Rattle.go_board.specs.declared.stones.Colour.TheVariants.{Black, White}

@@ -2,8 +2,8 @@
 use Rattle.std.specs.Prelude.{ℕ, Bool, false, ◌==◌, ◌||◌, nat_lt, if◌then◌else◌, Option, Some, None, List, [], ◌∷◌, ◌++◌, filter, codes, decimal}
 use Rattle.std.specs.List.{flat_map, list_any, slice_split}
 use Rattle.sgf_tree.specs.Tree.{Node}
-use Rattle.sgf_tree.specs.Bytes.{line_feed}
-use Rattle.sgf_tree.specs.Text.{text_of}
+use Rattle.sgf_properties.specs.Bytes.{line_feed}
+use Rattle.sgf_properties.specs.Text.{text_of}
 use Rattle.go_board.specs.declared.stones.Colour.{Colour}
 use Rattle.go_board.specs.declared.stones.Colour.TheVariants.{Black, White}
 use Rattle.board_points.specs.declared.points.Point.{Point}

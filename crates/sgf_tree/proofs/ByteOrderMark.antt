@@ -5,7 +5,8 @@ use Rattle.sgf_tree.specs.Tree.{no_games}
 use Rattle.sgf_tree.specs.Spelling.{is_white_space}
 use Rattle.sgf_tree.specs.inner.Machine.{Stack, start, first_of_mark, second_of_mark, after_game, next_state, accepted}
 use Rattle.sgf_tree.specs.Refusal.{IsFaultyAt}
-use Rattle.sgf_tree.specs.inner.Progress.{ComesTo, IsSpan}
+use Rattle.sgf_tree.specs.inner.Progress.{ComesTo}
+use Rattle.sgf_properties.specs.Offsets.{IsSpan}
 use Rattle.sgf_tree.specs.inner.GamesRead.{StandsBetween, IsMarkRead}
 use Rattle.sgf_tree.proofs.GamesLoop.{game-next}
 use Rattle.sgf_tree.proofs.Run.{run-take-none, run-take-step}

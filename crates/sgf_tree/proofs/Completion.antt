@@ -1,7 +1,7 @@
 -- A text completes a state to a collection: what the state has read and what the text spells make the collection.
 use Rattle.std.proofs.Common.{◌≡◌, ℕ, ◌+◌, true, List, [], ◌∷◌, ◌++◌, length, Some, refl, ap, append_assoc, append-nil, rules}
 use Rattle.sgf_tree.specs.Tree.{Property, Node, Games, no_games, game}
-use Rattle.sgf_tree.specs.RawValue.{IsValue}
+use Rattle.sgf_properties.specs.RawValue.{IsValue}
 use Rattle.sgf_tree.specs.Spelling.{WhiteSpace, Letters, ArePropValues, AreProperties, AreNodes, AreGames, ByteOrderMark}
 use Rattle.sgf_tree.specs.inner.Machine.{OpenGame, Stack, Started, MachineState, start, first_of_mark, second_of_mark, opened, in_node, in_name, after_name, in_value, after_escape, after_value, after_game, joined, property_of, with_property, add_node, ended, whole_game, close_in, whole_games}
 

@@ -3,7 +3,7 @@ use Rattle.std.proofs.Common.{◌≡◌, ℕ, ◌<◌, ◌≤◌, List, [], ◌+
 use Rattle.sgf_tree.specs.inner.Machine.{Stack}
 use Rattle.sgf_tree.specs.inner.OwnNodes.{Coming, IsCopied, Copies}
 use Rattle.sgf_tree.specs.declared.layout.Stretch.{Stretch}
-use Rattle.sgf_tree.proofs.ValueEnds.{span-join}
+use Rattle.sgf_properties.proofs.ValueEnds.{span-join}
 
 -- a keeper that keeps the same in other words
 pub copied-as : (kept keeps : List ℕ → Type 0) (t : List ℕ) (first : ℕ) (present : Stretch) (written : List ℕ) → ((told : List ℕ) → kept told → keeps told) → IsCopied kept t first present written

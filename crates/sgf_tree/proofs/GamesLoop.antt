@@ -5,7 +5,8 @@ use Rattle.sgf_tree.specs.Tree.{Games, no_games, game, game_count}
 use Rattle.sgf_tree.specs.Spelling.{is_white_space}
 use Rattle.sgf_tree.specs.inner.Machine.{OpenGame, Stack, opened, after_game, between_games, close_in, whole_game, next_state, accepted}
 use Rattle.sgf_tree.specs.Refusal.{IsFaultyAt}
-use Rattle.sgf_tree.specs.inner.Progress.{ComesTo, IsSpan}
+use Rattle.sgf_tree.specs.inner.Progress.{ComesTo}
+use Rattle.sgf_properties.specs.Offsets.{IsSpan}
 use Rattle.sgf_tree.specs.inner.GamesRead.{open_count, StandsBetween}
 use Rattle.sgf_tree.proofs.Completion.{add_games, closed-in}
 use Rattle.sgf_tree.proofs.Run.{run-take-step}

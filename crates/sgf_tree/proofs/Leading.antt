@@ -4,19 +4,21 @@ use Rattle.std.proofs.Common.{rules, ◌≡◌, ◌≢◌, ℕ, ◌+◌, ◌<◌
 use Rattle.std.proofs.lemmas.List.Elements.{All-nil, All-push}
 use Rattle.sgf_tree.specs.Tree.{Property}
 use Rattle.sgf_tree.specs.Lead.{IsOtherName, IsLedBy}
-use Rattle.sgf_tree.specs.RawValue.{IsValue}
+use Rattle.sgf_properties.specs.RawValue.{IsValue}
 use Rattle.sgf_tree.specs.Spelling.{is_upper, no_white_space, no_letter, upper, prop_value, no_value, IsProperty, property, AreProperties, no_property, properties}
 use Rattle.sgf_tree.specs.inner.Lead.{IsOtherProperty, AreOtherProperties, AreOthers, IsLedNode, IsEmptyNode}
 use Rattle.sgf_tree.specs.inner.Machine.{games_in}
-use Rattle.sgf_tree.specs.inner.NodeText.{properties_in, node_in}
-use Rattle.sgf_tree.specs.inner.Progress.{IsValueEnd, EndsNode, IsNodeEnd}
+use Rattle.sgf_properties.specs.Front.{properties_in}
+use Rattle.sgf_tree.specs.inner.NodeText.{node_in}
+use Rattle.sgf_properties.specs.Offsets.{IsValueEnd}
+use Rattle.sgf_tree.specs.inner.Progress.{EndsNode, IsNodeEnd}
 use Rattle.sgf_tree.specs.inner.Walking.{nodes_between, IsWalk}
-use Rattle.sgf_tree.proofs.Iterating.{byte-at}
+use Rattle.sgf_properties.proofs.Iterating.{byte-at}
 use Rattle.sgf_tree.proofs.LoneNodes.{lone, spelled, ends-node}
 use Rattle.sgf_tree.proofs.NodeEnds.{nothing-skipped}
-use Rattle.sgf_tree.proofs.NodeTexts.{properties-in}
+use Rattle.sgf_properties.proofs.FrontSpelled.{properties-in}
 use Rattle.sgf_tree.proofs.Walking.{past-node}
-use Rattle.sgf_tree.proofs.WrittenParts.{properties-more}
+use Rattle.sgf_properties.proofs.FirstProperty.{properties-more}
 
 -- a name of two capitals, and a value
 module _ (t : List ℕ) (start close : ℕ) (bracket : get_or t (start + 2) 0 ≡ 91) (value : IsValueEnd t (start + 3) close) where

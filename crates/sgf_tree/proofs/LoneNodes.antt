@@ -2,14 +2,14 @@
 use Rattle.std.proofs.lemmas.Grind.{common_steps}
 use Rattle.std.proofs.Common.{◌≡◌, ◌≢◌, ℕ, false, List, ◌∷◌, get_or, take, drop, slice_range, sym, ap, subst, arith}
 use Rattle.sgf_tree.specs.Tree.{Property, lone_property}
-use Rattle.sgf_tree.specs.RawValue.{no_unit, plain}
+use Rattle.sgf_properties.specs.RawValue.{no_unit, plain}
 use Rattle.sgf_tree.specs.Spelling.{is_upper, no_white_space, no_letter, prop_value, no_value, IsProperty, property}
-use Rattle.sgf_tree.specs.inner.NodeText.{properties_in, NoValueFollows, NoPropertyFollows, ArePropertiesIn}
+use Rattle.sgf_properties.specs.Front.{properties_in, NoValueFollows, NoPropertyFollows, ArePropertiesIn}
 use Rattle.sgf_tree.specs.inner.Progress.{IsNodeEnd, IsMove, IsLoneFront}
-use Rattle.sgf_tree.proofs.Classes.{between-not_upper, white-not_bracket, white-not_upper}
-use Rattle.sgf_tree.proofs.Iterating.{byte-at}
-use Rattle.sgf_tree.proofs.ValueEnds.{plain-other}
-use Rattle.sgf_tree.proofs.WrittenParts.{follows-at, ends-at, left-after}
+use Rattle.sgf_properties.proofs.Classes.{between-not_upper, white-not_bracket, white-not_upper}
+use Rattle.sgf_properties.proofs.Iterating.{byte-at}
+use Rattle.sgf_properties.proofs.ValueEnds.{plain-other}
+use Rattle.sgf_properties.proofs.FirstProperty.{follows-at, ends-at, left-after}
 
 -- a node ends where a byte before the letters follows white space
 pub ends-node : (s : List ℕ) (k e : ℕ) → IsNodeEnd s k e → NoPropertyFollows (drop k s)

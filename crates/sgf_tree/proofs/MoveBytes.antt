@@ -1,20 +1,11 @@
 -- The bytes of two moves, all compared at once with the least one that may stand there.
 use Rattle.std.proofs.lemmas.Grind.{common_steps}
-use Rattle.std.proofs.Common.{◌≡◌, ◌∙◌, ℕ, ◌+◌, ◌/◌, ◌%◌, ◌^◌, ◌<◌, ◌≤◌, IsTrue, List, [], ◌∷◌, length, get_or, refl, sym, ap, subst, arith, le-leb}
+use Rattle.std.proofs.Common.{◌≡◌, ◌∙◌, ℕ, ◌+◌, ◌/◌, ◌%◌, ◌^◌, ◌<◌, ◌≤◌, List, [], ◌∷◌, length, get_or, refl, ap, arith, le-leb}
 use Rattle.std.proofs.lemmas.Bool.{and_from, cases_lt}
-use Rattle.sgf_tree.specs.inner.Progress.{is_plain, IsMove, IsMoveNode}
-use Rattle.sgf_tree.proofs.PlacedBytes
-use Rattle.sgf_tree.proofs.PlacedBytes.{above}
-use Rattle.sgf_tree.proofs.ValueEnds.{other-plain}
-
-pub other-than : (b : ℕ) → b < 256 → above b 94 ≤ 253 → IsTrue (is_plain b)
-other-than b fits h = other-plain b (λ e. omega (arith, h)) (λ e. omega (arith, h))
-
--- a byte that is in place, which stands at `j`
-pub in-place : (least most : List ℕ) (wide : length least ≡ 16) (wide' : length most ≡ 16) (t : List ℕ) (at : ℕ) (room : at + 16 ≤ length t) (i j : ℕ) → j ≡ at + i → i < 16
-    → PlacedBytes.bits least most wide wide' t at room / 2 ^ i % 2 ≡ 1 → above (get_or t j 0) (get_or least i 0) ≤ get_or most i 0
-in-place least most wide wide' t at room i j is lt set =
-    subst (λ k. above (get_or t k 0) (get_or least i 0) ≤ get_or most i 0) (sym is) (PlacedBytes.in-place least most wide wide' t at room i lt set)
+use Rattle.sgf_tree.specs.inner.Progress.{IsMove, IsMoveNode}
+use Rattle.sgf_properties.proofs.PlacedBytes
+use Rattle.sgf_properties.proofs.PlacedBytes.{above}
+use Rattle.sgf_properties.proofs.PointBytes.{other-than, in-place}
 
 -- a move, by how far its bytes are above the least ones
 move-from : (t : List ℕ) (at : ℕ) → ((i : ℕ) → get_or t i 0 < 256) → at + 4 < length t → above (get_or t at 0) 65 ≤ 25 → above (get_or t (at + 1) 0) 91 ≤ 0

@@ -1,32 +1,23 @@
 -- How the name of a property is read, up to the `[` after it.
 use Rattle.std.proofs.lemmas.Grind.{common_steps}
-use Rattle.std.proofs.Common.{◌≡◌, ◌≢◌, ℕ, zero, suc, ◌+◌, ◌-◌, ◌<◌, ◌≤◌, false, inl, inr, IsTrue, List, [], ◌∷◌, ◌++◌, length, get_or, slice_range, Some, None, refl, sym, ap, subst, ◌∙◌, arith, if◌then◌else◌, ne_eqb, get_or-drop, length-drop}
-use Rattle.std.proofs.lemmas.Bool.{cases_lt, or_cases, or_parts, or_left, false≢true}
-use Rattle.std.proofs.lemmas.List.{take_more}
+use Rattle.std.proofs.Common.{◌≡◌, ◌≢◌, ℕ, zero, suc, ◌+◌, ◌-◌, ◌<◌, ◌≤◌, false, inl, inr, IsTrue, List, [], ◌∷◌, ◌++◌, length, get_or, slice_range, Some, None, refl, sym, ap, subst, ◌∙◌, arith, if◌then◌else◌, ne_eqb}
+use Rattle.std.proofs.lemmas.Bool.{cases_lt, or_cases, or_parts}
 use Rattle.std.proofs.lemmas.List.Elements.{filter-append}
 use Rattle.sgf_tree.specs.Spelling.{is_white_space, is_upper, is_lower}
 use Rattle.sgf_tree.specs.inner.Machine.{Started, MachineState, in_name, after_name, in_value, next_state, accepted}
 use Rattle.sgf_tree.specs.Refusal.{IsFaultyAt}
-use Rattle.sgf_tree.specs.inner.NodeText.{is_letter, name_in}
-use Rattle.sgf_tree.specs.inner.Progress.{ComesTo, IsSpan, IsBracket}
+use Rattle.sgf_properties.specs.Front.{is_letter, name_in}
+use Rattle.sgf_tree.specs.inner.Progress.{ComesTo}
+use Rattle.sgf_properties.specs.Offsets.{IsSpan, IsBracket}
 use Rattle.sgf_tree.specs.inner.PropertiesRead.{IsNameRead}
-use Rattle.sgf_tree.proofs.Classes.{white-not_upper, white-not_lower}
+use Rattle.sgf_properties.proofs.Classes.{white-not_upper, white-not_lower}
 use Rattle.sgf_tree.proofs.Run.{run-take-step}
 use Rattle.sgf_tree.proofs.Skipping.{stays-after_name}
-use Rattle.sgf_tree.proofs.Spans.{empty-span, run-white, run-letters, span-none}
-use Rattle.sgf_tree.proofs.ValueEnds.{span-join, stops-faulty}
-
--- one byte
-pub span-one : (t : List ℕ) (at : ℕ) → at < length t → slice_range t at (at + 1) ≡ get_or t at 0 ∷ []
-span-one t at lt = grind (arith, common_steps, length-drop, take_more, get_or-drop)
-
--- a name is read from its first letter on
-name-longer : (t : List ℕ) (start end : ℕ) → start < length t → IsTrue (is_upper (get_or t start 0)) → IsSpan is_letter t start end → start < end
-name-longer t start end lt capital letters = grind (arith, common_steps, cases_lt, false≢true, or_left)
-
-pub name-begins : (t : List ℕ) (start end : ℕ) → start < length t → IsTrue (is_upper (get_or t start 0)) → IsSpan is_letter t start end
-    → slice_range t start end ≡ get_or t start 0 ∷ slice_range t (start + 1) end
-name-begins t start end lt capital letters = grind (arith, common_steps, name-longer, span-join, span-one)
+use Rattle.sgf_properties.proofs.Spans.{span-none}
+use Rattle.sgf_tree.proofs.Spans.{run-white, run-letters}
+use Rattle.sgf_properties.proofs.ValueEnds.{span-join}
+use Rattle.sgf_tree.proofs.ValueEnds.{stops-faulty}
+use Rattle.sgf_properties.proofs.NameEnds.{span-one, name-longer, name-begins}
 
 name-reached : (t : List ℕ) (start end : ℕ) (n : Started) → start < length t → IsTrue (is_upper (get_or t start 0)) → IsSpan is_letter t start end
     → ComesTo t (start + 1) (in_name n (get_or t start 0 ∷ [])) → ComesTo t end (in_name n (name_in (slice_range t start end)))
@@ -133,7 +124,3 @@ capitals-are t from to run =
     let all : from + (to - from) ≡ to = omega arith in
     sym (subst (λ i. name_in (slice_range t from i) ≡ slice_range t from i) all
     (capitals-name t from (to - from) (omega (arith, run.within)) (λ i low high. run.passing i low (omega arith))))
-
--- no white space stands before a `[` that is there
-pub bracket-here : (t : List ℕ) (at : ℕ) → IsBracket t at → IsSpan is_white_space t at at
-bracket-here t at stands = empty-span t at (omega (arith, stands.within)) (λ lt. ap is_white_space stands.bracket)

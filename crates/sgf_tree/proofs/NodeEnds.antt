@@ -4,11 +4,12 @@ use Rattle.std.proofs.Common.{rules, ◌≡◌, ◌≢◌, ℕ, ◌+◌, ◌<◌
 use Rattle.sgf_tree.specs.Tree.{Property}
 use Rattle.sgf_tree.specs.Spelling.{is_white_space, is_upper}
 use Rattle.sgf_tree.specs.inner.Machine.{Started, MachineState, in_node, in_name, after_value, after_node, with_property, ended, next_state, accepted}
-use Rattle.sgf_tree.specs.inner.Progress.{ComesTo, IsSpan}
+use Rattle.sgf_tree.specs.inner.Progress.{ComesTo}
+use Rattle.sgf_properties.specs.Offsets.{IsSpan}
 use Rattle.sgf_tree.specs.inner.PropertiesRead.{StandsAfterNode}
-use Rattle.sgf_tree.proofs.Classes.{between-not_white_space, upper-not_white_space, upper-not_bracket}
+use Rattle.sgf_properties.proofs.Classes.{between-not_white_space, upper-not_white_space, upper-not_bracket}
 use Rattle.sgf_tree.proofs.Run.{run-take-step}
-use Rattle.sgf_tree.proofs.Spans.{empty-span}
+use Rattle.sgf_properties.proofs.Spans.{empty-span}
 
 -- the state in a node without properties, or after its last one
 abbrev pub state_of : Started → Option Property → MachineState

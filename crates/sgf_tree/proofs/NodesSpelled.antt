@@ -1,21 +1,15 @@
 -- Each node's properties are spelled in the text from its `;` on.
 use Rattle.std.proofs.lemmas.Grind.{common_steps}
-use Rattle.std.proofs.Common.{◌≡◌, ◌≢◌, ℕ, ◌+◌, ◌-◌, true, false, IsTrue, List, ◌∷◌, ◌++◌, length, drop, All, Option, Some, None, refl, sym, ap, subst, ◌∙◌, ◌⊎◌, inl, inr, arith}
+use Rattle.std.proofs.Common.{◌≡◌, ◌≢◌, ℕ, ◌+◌, ◌-◌, true, false, List, ◌∷◌, ◌++◌, length, drop, All, Option, Some, None, refl, sym, ap, subst, ◌∙◌, arith}
 use Rattle.std.proofs.lemmas.List.Elements.{All-nil, All-cons, All-append}
-use Rattle.std.proofs.lemmas.Bool.{false≢true}
 use Rattle.sgf_tree.specs.Tree.{Node, Games, node_count}
 use Rattle.sgf_tree.specs.FileOrder.{OrderedNode, further_nodes, nodes_from, ordered_nodes}
-use Rattle.sgf_tree.specs.Spelling.{is_white_space, is_upper, WhiteSpace, no_white_space, white_space, AreProperties, IsNode, node, AreNodes, no_node, nodes, AreGames, no_game, games, Spells, spells}
-use Rattle.sgf_tree.specs.inner.NodeText.{NoPropertyFollows}
-use Rattle.sgf_tree.proofs.Ends.{IsEnd, all, tail, end-drop, end-WhiteSpace, end-IsNode, end-AreNodes, end-AreGames, end-ByteOrderMark}
-use Rattle.sgf_tree.proofs.Classes.{white-not_upper, white-not_bracket}
-
--- the byte after white space is the one after all of it, or white itself
-pub white-byte : {s t u : List ℕ} {b c : ℕ} → WhiteSpace s (b ∷ t) → WhiteSpace s (c ∷ u) → is_white_space b ≡ false → IsTrue (is_white_space c) ⊎ (c ≡ b)
-white-byte no_white_space no_white_space h = inr refl
-white-byte no_white_space (white_space k w) h = absurd (false≢true (sym h ∙ k))
-white-byte (white_space k w) no_white_space h = inl k
-white-byte (white_space k w) (white_space l v) h = white-byte w v h
+use Rattle.sgf_tree.specs.Spelling.{is_white_space, is_upper, WhiteSpace, AreProperties, IsNode, node, AreNodes, no_node, nodes, AreGames, no_game, games, Spells, spells}
+use Rattle.sgf_properties.specs.Front.{NoPropertyFollows}
+use Rattle.sgf_properties.proofs.Ends.{IsEnd, all, tail, end-drop, end-WhiteSpace}
+use Rattle.sgf_tree.proofs.Ends.{end-IsNode, end-AreNodes, end-AreGames, end-ByteOrderMark}
+use Rattle.sgf_properties.proofs.Classes.{white-not_upper, white-not_bracket}
+use Rattle.sgf_properties.proofs.FrontSpelled.{white-byte}
 
 -- a byte that is neither ends a node
 module _ (b : ℕ) (not_white_space : is_white_space b ≡ false) (not_bracket : b ≢ 91) (not_upper : is_upper b ≡ false) where

@@ -22,7 +22,7 @@ use Rattle.sgf_tree.proofs.Rises.{Rises, rises-most, rises-count}
 use Rattle.sgf_tree.proofs.OrderedNodes.{length-further_nodes, length-ordered_nodes, parent_in-further, parent_at-within, next-child, game_of-parent}
 use Rattle.sgf_tree.proofs.Starts.{starts_from, starts-are, first-start}
 use Rattle.sgf_tree.proofs.NodesSpelled.{IsNodeSpelled, ordered-spelled}
-use Rattle.sgf_tree.proofs.NodeTexts.{properties-in}
+use Rattle.sgf_properties.proofs.FrontSpelled.{properties-in}
 use Rattle.sgf_tree.proofs.ListedNodes.{number_of, last_number, own_ordered, starts-listed, starts-rise, ends-listed, IsListedAt, listed-at}
 
 -- a spelled node is the one that its place tells

@@ -9,16 +9,17 @@ use Rattle.sgf_tree.specs.Spelling.{is_white_space}
 use Rattle.sgf_tree.specs.Refusal.{IsFaultyAt}
 use Rattle.sgf_tree.specs.Written.{property_text, node_text}
 use Rattle.sgf_tree.specs.inner.Machine.{OpenGame, Stack, Started, opened, in_node}
-use Rattle.sgf_tree.specs.inner.Progress.{ComesTo, IsSpan, IsMoveNode, EndsNode}
+use Rattle.sgf_tree.specs.inner.Progress.{ComesTo, IsMoveNode, EndsNode}
+use Rattle.sgf_properties.specs.Offsets.{IsSpan}
 use Rattle.sgf_tree.specs.inner.PropertiesRead.{StandsIn, ArePropertiesRead}
 use Rattle.sgf_tree.specs.inner.GamesRead.{open_count, IsGameRead}
 use Rattle.sgf_tree.specs.inner.OwnNodes.{Coming, nothing, coming_of, places_of, own_of, with_game, IsCopied, Copies, CopiesNode, AreOwnNodes}
 use Rattle.sgf_tree.specs.declared.layout.OwnNodes.{OwnNodes}
 use Rattle.sgf_tree.specs.declared.layout.Stretch.{Stretch}
-use Rattle.sgf_tree.proofs.NameEnds.{span-one}
+use Rattle.sgf_properties.proofs.NameEnds.{span-one}
 use Rattle.sgf_tree.proofs.ShortProperties.{lone-read}
-use Rattle.sgf_tree.proofs.Spans.{span-none}
-use Rattle.sgf_tree.proofs.ValueEnds.{span-join}
+use Rattle.sgf_properties.proofs.Spans.{span-none}
+use Rattle.sgf_properties.proofs.ValueEnds.{span-join}
 use Rattle.sgf_tree.proofs.SequencesRead.{NodesSoFar, nodes-first, nodes-next, nodes-node, nodes-done, place-node, place-faulty}
 
 -- a node that a move begins ends the node before it

@@ -6,7 +6,8 @@ use Rattle.sgf_tree.specs.Tree.{Node, Games, no_games, game, node_count}
 use Rattle.sgf_tree.specs.Spelling.{IsNode, node, AreNodes, no_node, nodes, AreGames, no_game, games, Spells, spells}
 use Rattle.sgf_tree.specs.FileOrder.{OrderedNode, further_nodes, nodes_from, ordered_nodes, place_at, PlacesRise}
 use Rattle.sgf_tree.proofs.Rises.{Rises, rises-low, rises-append, rises-pair}
-use Rattle.sgf_tree.proofs.Ends.{all, end-drop, end-WhiteSpace, end-AreProperties, end-IsNode, end-AreNodes, end-AreGames, end-ByteOrderMark}
+use Rattle.sgf_properties.proofs.Ends.{all, end-drop, end-WhiteSpace, end-AreProperties}
+use Rattle.sgf_tree.proofs.Ends.{end-IsNode, end-AreNodes, end-AreGames, end-ByteOrderMark}
 
 abbrev node_place : Node → ℕ
 node_place n = n.place

@@ -6,11 +6,11 @@ use Rattle.std.proofs.lemmas.List.{get_or-append_right}
 use Rattle.std.proofs.lemmas.Simd.{get_or-replicate}
 use Rattle.std.specs.Int.Count.{count_trailing_zeros}
 use Rattle.sgf_tree.specs.Spelling.{is_upper}
-use Rattle.sgf_tree.specs.inner.Progress.{is_plain}
+use Rattle.sgf_properties.specs.Offsets.{is_plain}
 use Rattle.sgf_tree.specs.inner.PropertiesRead.{IsShortProperty}
-use Rattle.sgf_tree.proofs.PlacedBytes
-use Rattle.sgf_tree.proofs.PlacedBytes.{above}
-use Rattle.sgf_tree.proofs.ValueEnds.{other-plain}
+use Rattle.sgf_properties.proofs.PlacedBytes
+use Rattle.sgf_properties.proofs.PlacedBytes.{above}
+use Rattle.sgf_properties.proofs.ValueEnds.{other-plain}
 
 -- the first byte of each place that stops a property, and how many further ones do
 abbrev least : List ℕ

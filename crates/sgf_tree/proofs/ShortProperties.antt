@@ -7,16 +7,19 @@ use Rattle.sgf_tree.specs.Tree.{Property, values}
 use Rattle.sgf_tree.specs.Spelling.{is_white_space, is_upper, is_lower}
 use Rattle.sgf_tree.specs.Written.{value_text, property_text}
 use Rattle.sgf_tree.specs.inner.Machine.{Started, in_node}
-use Rattle.sgf_tree.specs.inner.NodeText.{is_letter}
-use Rattle.sgf_tree.specs.inner.Progress.{ComesTo, IsSpan, IsBracket, IsValueEnd, IsMove, EndsNode}
+use Rattle.sgf_properties.specs.Front.{is_letter}
+use Rattle.sgf_tree.specs.inner.Progress.{ComesTo, IsMove, EndsNode}
+use Rattle.sgf_properties.specs.Offsets.{IsSpan, IsBracket, IsValueEnd}
 use Rattle.sgf_tree.specs.inner.PropertiesRead.{AreValuesEnded, StandsIn, IsNameRead, IsPropertyRead, IsShortProperty, ArePropertiesRead, with_properties}
-use Rattle.sgf_tree.proofs.Classes.{upper-range, between-not_upper}
-use Rattle.sgf_tree.proofs.NameEnds.{name-read, capitals-are, bracket-here}
+use Rattle.sgf_properties.proofs.Classes.{upper-range, between-not_upper}
+use Rattle.sgf_tree.proofs.NameEnds.{name-read, capitals-are}
+use Rattle.sgf_properties.proofs.NameEnds.{bracket-here}
 use Rattle.sgf_tree.proofs.NodeEnds.{StandsInNode, node-done, node-name, nothing-skipped}
 use Rattle.sgf_tree.proofs.Skipping.{stays-in_node}
-use Rattle.sgf_tree.proofs.Spans.{run-white, span-none}
-use Rattle.sgf_tree.proofs.ValueEnds.{span-join}
-use Rattle.sgf_tree.proofs.ValueUnits.{no-units, plain-units, units-ended}
+use Rattle.sgf_tree.proofs.Spans.{run-white}
+use Rattle.sgf_properties.proofs.Spans.{span-none}
+use Rattle.sgf_properties.proofs.ValueEnds.{span-join}
+use Rattle.sgf_properties.proofs.ValueUnits.{no-units, plain-units, units-ended}
 use Rattle.sgf_tree.proofs.ValuesRead.{After, ValuesBefore, after-none, values-begin, values-step}
 
 -- two parts side by side

@@ -1,13 +1,12 @@
 -- The machine over a span of a text, by the offsets of its bytes: white space, letters, the plain bytes of a value.
-use Rattle.std.proofs.Common.{false, ◌≡◌, ℕ, zero, suc, ◌+◌, ◌-◌, ◌<◌, ◌≤◌, ◌⊎◌, IsTrue, List, [], ◌∷◌, ◌++◌, length, get_or, take, slice_range, filter, Some, subst, add-zero, append_assoc, append-nil, get_or-drop, length-drop, arith, rules}
-use Rattle.std.proofs.lemmas.List.{take_more}
+use Rattle.std.proofs.Common.{◌≡◌, ℕ, zero, suc, ◌+◌, ◌-◌, ◌<◌, ◌≤◌, ◌⊎◌, IsTrue, List, [], ◌∷◌, ◌++◌, length, get_or, take, slice_range, filter, Some, subst, add-zero, append_assoc, append-nil, arith, rules}
 use Rattle.std.proofs.lemmas.List.Elements.{filter-append}
 use Rattle.sgf_tree.specs.Spelling.{is_white_space, is_upper, is_lower}
-use Rattle.sgf_tree.specs.inner.Progress.{IsSpan}
 use Rattle.sgf_tree.specs.inner.Machine.{Started, MachineState, start, in_name, next_state, run}
-use Rattle.sgf_tree.proofs.Classes.{lower-not_upper}
+use Rattle.sgf_properties.proofs.Classes.{lower-not_upper}
 use Rattle.sgf_tree.proofs.Run.{run-take-step}
 use Rattle.sgf_tree.proofs.Skipping.{Stays}
+use Rattle.sgf_properties.proofs.Spans.{span-none, span-more}
 
 -- a letter, which goes on the name where it is an upper-case one
 one-letter : (at : ℕ) (n : Started) (name : List ℕ) (b : ℕ) → IsTrue (is_upper b) ⊎ IsTrue (is_lower b)
@@ -38,20 +37,6 @@ module _ (t : List ℕ) where
   run-white at to z stays le within white h =
       run-span at to (λ i. z) le within (λ i low high. stays (get_or t i 0) i (white i low high)) h
 
-  -- no white space, before a byte that is none
-  pub empty-span : (at : ℕ) → at ≤ length t → (at < length t → is_white_space (get_or t at 0) ≡ false) → IsSpan is_white_space t at at
-  empty-span at within stops = record { rises = omega arith; within = within; passing = λ i low high. absurd (omega arith); stops = stops }
-
-  -- a span of no byte, and one of one more byte
-  pub span-none : (at : ℕ) → slice_range t at at ≡ []
-  span-none at = let e : at - at ≡ 0 = omega arith in rw e
-
-  span-more : (at i : ℕ) → at ≤ i → i < length t → slice_range t at (i + 1) ≡ slice_range t at i ++ get_or t i 0 ∷ []
-  span-more at i le lt =
-      let e : i + 1 - at ≡ (i - at) + 1 = omega arith in
-      let f : at + (i - at) ≡ i = omega arith in
-      search (rules, length-drop, take_more, get_or-drop)
-
   -- letters, of which the upper-case ones go on the name
   pub run-letters : (at to : ℕ) (n : Started) (name : List ℕ) → at ≤ to → to ≤ length t
       → ((i : ℕ) → at ≤ i → i < to → IsTrue (is_upper (get_or t i 0)) ⊎ IsTrue (is_lower (get_or t i 0)))
@@ -61,6 +46,6 @@ module _ (t : List ℕ) where
   run-letters at to n name le within letters h =
       run-span at to (λ i. in_name n (name ++ filter is_upper (slice_range t at i))) le within
       (λ i low high.
-      rw (span-more at i low (omega arith), filter-append is_upper (slice_range t at i) (get_or t i 0 ∷ []), ← append_assoc)
+      rw (span-more t at i low (omega arith), filter-append is_upper (slice_range t at i) (get_or t i 0 ∷ []), ← append_assoc)
       (one-letter i n (name ++ filter is_upper (slice_range t at i)) (get_or t i 0) (letters i low high)))
-      (rw (span-none at, append-nil) h)
+      (rw (span-none t at, append-nil) h)

@@ -6,12 +6,15 @@ use Rattle.sgf_tree.specs.Tree.{Property, values}
 use Rattle.sgf_tree.specs.Spelling.{is_white_space}
 use Rattle.sgf_tree.specs.Written.{value_text}
 use Rattle.sgf_tree.specs.inner.Machine.{Started, in_value, after_value, property_of, next_state}
-use Rattle.sgf_tree.specs.inner.Progress.{ComesTo, IsSpan, IsBracket, IsValueEnd}
-use Rattle.sgf_tree.proofs.NameEnds.{span-one}
+use Rattle.sgf_tree.specs.inner.Progress.{ComesTo}
+use Rattle.sgf_properties.specs.Offsets.{IsSpan, IsBracket, IsValueEnd}
+use Rattle.sgf_properties.proofs.NameEnds.{span-one}
 use Rattle.sgf_tree.proofs.Run.{run-take-step}
 use Rattle.sgf_tree.proofs.Skipping.{stays-after_value}
-use Rattle.sgf_tree.proofs.Spans.{run-white, span-none}
-use Rattle.sgf_tree.proofs.ValueEnds.{span-join, units-read}
+use Rattle.sgf_tree.proofs.Spans.{run-white}
+use Rattle.sgf_properties.proofs.Spans.{span-none}
+use Rattle.sgf_properties.proofs.ValueEnds.{span-join}
+use Rattle.sgf_tree.proofs.ValueEnds.{units-read}
 
 -- a property's values, with one more
 property-values : (name : List ℕ) (before : List (List ℕ)) (value : List ℕ) → (values (property_of name before value) ≡ before ++ value ∷ []) × ((property_of name before value).name ≡ name)

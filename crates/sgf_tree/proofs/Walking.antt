@@ -14,18 +14,21 @@ use Rattle.sgf_tree.specs.declared.sequences.Sequences.{Sequences}
 use Rattle.sgf_tree.specs.inner.Listing.{Listed, listed, sequences_of}
 use Rattle.sgf_tree.specs.inner.Machine.{games_in}
 use Rattle.sgf_tree.specs.inner.Outlining.{IsOutlined}
-use Rattle.sgf_tree.specs.inner.NodeText.{properties_in, node_in, NoValueFollows, NoPropertyFollows, ArePropertiesIn}
-use Rattle.sgf_tree.specs.inner.Progress.{IsSpan, IsNodeEnd, IsLoneFront}
+use Rattle.sgf_properties.specs.Front.{properties_in, NoValueFollows, NoPropertyFollows, ArePropertiesIn}
+use Rattle.sgf_tree.specs.inner.NodeText.{node_in}
+use Rattle.sgf_properties.specs.Offsets.{IsSpan}
+use Rattle.sgf_tree.specs.inner.Progress.{IsNodeEnd, IsLoneFront}
 use Rattle.sgf_tree.specs.inner.Walking.{nodes_between, IsRest, IsWalk}
-use Rattle.sgf_tree.proofs.Iterating.{byte-at, held-past, white-between}
+use Rattle.sgf_properties.proofs.Iterating.{byte-at, held-past, white-between}
 use Rattle.sgf_tree.proofs.LoneNodes.{lone, ends-node, lone-ends, spelled as front-spelled}
-use Rattle.sgf_tree.proofs.Ends.{IsEnd, all, tail, end-drop, end-WhiteSpace, end-IsNode, end-AreNodes, end-AreGames, end-ByteOrderMark}
+use Rattle.sgf_properties.proofs.Ends.{IsEnd, all, tail, end-drop, end-WhiteSpace}
+use Rattle.sgf_tree.proofs.Ends.{end-IsNode, end-AreNodes, end-AreGames, end-ByteOrderMark}
 use Rattle.sgf_tree.proofs.NodesSpelled.{ends-at, ends-nodes}
 use Rattle.sgf_tree.proofs.OrderedNodes.{length-ordered_nodes}
-use Rattle.sgf_tree.proofs.NodeTexts.{white-same, white-none, white-join, white-past, ends-values, properties-in}
-use Rattle.sgf_tree.proofs.Spans.{empty-span}
+use Rattle.sgf_properties.proofs.FrontSpelled.{white-same, white-none, white-join, white-past, ends-values, properties-in}
+use Rattle.sgf_properties.proofs.Spans.{empty-span}
 use Rattle.sgf_tree.proofs.Outlined.{start-listed, end-listed, own-at, one-listed, sequence-within, entry-in}
-use Rattle.sgf_tree.proofs.WrittenParts.{left-after, head-same, upper-first}
+use Rattle.sgf_properties.proofs.FirstProperty.{left-after, head-same, upper-first}
 
 -- properties end at one place
 properties-same : {us vs : List Property} {s q r : List ℕ} → AreProperties us s q → NoPropertyFollows q → AreProperties vs s r → NoPropertyFollows r → q ≡ r

@@ -6,7 +6,8 @@ use Rattle.sgf_tree.specs.Spelling.{is_white_space}
 use Rattle.sgf_tree.specs.Refusal.{IsFaultyAt}
 use Rattle.sgf_tree.specs.inner.Machine.{OpenGame, Stack, MachineState, after_game, close, accepted, collection_of}
 use Rattle.sgf_tree.specs.inner.OwnNodes.{Coming, nothing}
-use Rattle.sgf_tree.specs.inner.Progress.{ComesTo, IsSpan}
+use Rattle.sgf_tree.specs.inner.Progress.{ComesTo}
+use Rattle.sgf_properties.specs.Offsets.{IsSpan}
 use Rattle.sgf_tree.specs.inner.GamesRead.{open_count, StandsBetween, IsGameRead, ReadsWhole}
 use Rattle.sgf_tree.proofs.AcceptedSpelled.{accepted-spelled}
 use Rattle.sgf_tree.proofs.Completion.{closed-in}

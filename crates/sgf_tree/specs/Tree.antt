@@ -1,16 +1,7 @@
 -- What a Smart Game Format text holds: a collection of game trees (SGF FF[4], EBNF).
 use Rattle.std.specs.Prelude.{ℕ, ◌+◌, Option, List, [], ◌∷◌, length, option_map, option_to_list}
 use Rattle.std.specs.Borrow.{Bor}
-
--- a property: its name, and its raw values, at least one
-pub record Property : Type 0 where
-  pub name : List ℕ
-  pub first : List ℕ
-  pub more : List (List ℕ)
-
--- all values of a property, in file order
-abbrev pub values : Property → List (List ℕ)
-values p = p.first ∷ p.more
+pub use Rattle.sgf_properties.specs.Property.{Property, values}
 
 -- the property with a name of one letter and with one raw value
 abbrev pub lone_property : ℕ → List ℕ → Property

@@ -1,15 +1,8 @@
 -- What the sgf form writes for a node: no white space between its parts, names in upper case, raw values as they are in the text.
 use Rattle.std.specs.Prelude.{ℕ, ◌+◌, List, [], ◌∷◌, ◌++◌, length, codes}
 use Rattle.std.specs.List.{flat_map}
-use Rattle.sgf_tree.specs.Tree.{Property, Node, values}
-
--- a raw value between its brackets
-abbrev pub value_text : List ℕ → List ℕ
-value_text value = codes "[" ++ value ++ codes "]"
-
--- a property's name and its values
-abbrev pub property_text : Property → List ℕ
-property_text p = p.name ++ flat_map value_text (values p)
+use Rattle.sgf_tree.specs.Tree.{Node}
+pub use Rattle.sgf_properties.specs.Written.{value_text, property_text}
 
 -- a node's `;` and its properties
 abbrev pub node_text : Node → List ℕ

@@ -7,8 +7,6 @@ pub mod Outlining
 pub mod Placing
 pub mod NodeText
 pub mod Progress
-pub mod Literals
-pub mod KeptEnds
 pub mod Lead
 pub mod PropertiesRead
 pub mod GamesRead

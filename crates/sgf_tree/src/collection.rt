@@ -10,12 +10,12 @@ ghost use Rattle.sgf_tree.specs.inner.Placing.{ordered_places, HoldsNodes};
 ghost use Rattle.sgf_tree.specs.Spelling.{Spells};
 ghost use Rattle.sgf_tree.specs.inner.Machine.{games_in};
 ghost use Rattle.sgf_tree.specs.inner.OwnNodes.{nothing};
-ghost use Rattle.sgf_tree.specs.inner.KeptEnds.{AreKeptEnds};
+ghost use Rattle.sgf_properties.specs.KeptEnds.{AreKeptEnds};
 
-use crate::layout::LongValue;
 use crate::node::NodeRef;
 use crate::numbered::Numbered;
 use crate::outline::Outline;
+use sgf_properties::LongValue;
 use std::marker::Model;
 
 /// The collection that a text spells (SGF FF[4], EBNF).

@@ -1,6 +1,5 @@
 //! How a call may fail.
 
-use std::alloc::{AllocError, AllocFailed};
 use thiserror::Error;
 
 /// The most bytes that a text may have: 64 MiB (this project's choice).
@@ -25,21 +24,4 @@ pub enum ReadFault {
     /// Memory was refused.
     #[error("out of memory")]
     Memory,
-}
-
-/// Memory was refused. The call changed neither the value that it was made on nor the vector that it appends to.
-#[derive(Clone, Copy, Debug, PartialEq, Eq, Error)]
-#[error("out of memory")]
-pub struct MemoryFault;
-
-impl From<AllocError> for MemoryFault {
-    fn from(_refused: AllocError) -> MemoryFault {
-        MemoryFault
-    }
-}
-
-impl<T: Drop> From<AllocFailed<T>> for MemoryFault {
-    fn from(_refused: AllocFailed<T>) -> MemoryFault {
-        MemoryFault
-    }
 }

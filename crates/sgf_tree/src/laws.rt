@@ -1,11 +1,10 @@
 //! Laws of the definitions. A function here does nothing: its contract is a law, and is proved.
 
-ghost use Rattle.std.specs.Prelude.{◌≡◌, ◌↔◌, ℕ, List, ◌++◌, length};
+ghost use Rattle.std.specs.Prelude.{◌≡◌, ℕ, List, ◌++◌, length};
 ghost use Rattle.sgf_tree.specs.FileOrder.{PlacesRise};
 ghost use Rattle.sgf_tree.specs.Appending.{raised, BeginsWithByteOrderMark};
 ghost use Rattle.sgf_tree.specs.Spelling.{Spells};
 ghost use Rattle.sgf_tree.specs.Tree.{Games, joined};
-ghost use Rattle.sgf_tree.specs.Text.{IsDecoded, text_of};
 
 /// One text after another. Let each of two texts spell games, and let the second not begin with a
 /// byte order mark. Then the two joined spell the games of the first followed by those of the
@@ -26,10 +25,4 @@ pub fn one()
 /// If some text spells a collection, the places of the collection's nodes rise strictly in file order.
 pub fn places_rise()
     ensures { (games : Games) (text : List ℕ) → Spells games text → PlacesRise games }
-{}
-
-/// The function that computes the decoded text of a raw value agrees with the rules that define it (SGF FF\[4\], Text). By these
-/// rules each raw value has exactly one text, and the function computes it.
-pub fn decoded()
-    ensures { (raw text : List ℕ) → IsDecoded raw text ↔ (text ≡ text_of raw) }
 {}

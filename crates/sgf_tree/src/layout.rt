@@ -1,4 +1,4 @@
-//! What is known of the nodes of a game while they are read, and of a long value.
+//! What is known of the nodes of a game while they are read.
 
 /// The own nodes of a game, as they stand in the text. They are the nodes of a sequence.
 #[derive(Clone, Copy)]
@@ -21,13 +21,4 @@ pub(crate) struct Stretch {
     pub start: usize,
     /// The offset after its last byte.
     pub end: usize,
-}
-
-/// A long raw value, in 8 bytes. Its length is kept, so that the value's end isn't searched for again.
-#[derive(Clone, Copy)]
-pub(crate) struct LongValue {
-    /// The number of bytes from the value's first byte to the end of the text. The number is the
-    /// same in each part of the text that ends where the text ends.
-    pub left: u32,
-    pub bytes: u32,
 }

@@ -10,7 +10,7 @@
 //! form copies these. The nodes are found on the text, one after another.
 //! A [`Collection`] numbers its nodes from 0 in file order. Beside its outline it keeps, in 4 bytes, the place of each node, and for each
 //! sequence the last node below it. The properties of a node and their raw values are read from the text again when they are asked for, one
-//! after another. Reading them takes no memory.
+//! after another. Reading them takes no memory. The crate `sgf_properties` goes over them, and decodes values; this crate passes on its types.
 //!
 //! ```text
 //! let collection = read(alloc, text)?;
@@ -30,17 +30,15 @@
 //! | `reader/own_nodes`, `reader/properties` | adding nodes one by one to the own nodes of a game; reading the properties of a node |
 //! | `reader/stretch` | which bytes the sgf form copies |
 //! | `reader/counting` | counting games, nodes and leaves |
-//! | `reader/value` | what ends a raw value, and keeping where long values end |
-//! | `reader/mark`, `reader/scan` | the byte order mark; white space, where parts of a text end, and what stands at an offset |
+//! | `reader/value` | reading a raw value, and keeping where long values end |
+//! | `reader/mark` | the byte order mark |
 //! | `reader/fault` | why reading a text stopped, and how the place of the first fault is found |
 //! | `extent` | how much a text holds |
 //! | `sequences`, `outline`, `walk` | keeping the sequences of a collection; looking into them; going over the nodes of one |
 //! | `numbered`, `collection` | keeping the place of each node too; looking into a collection by numbers of nodes |
-//! | `node`, `property` | looking into a node and a property |
-//! | `iter` | the properties of a node and the values of a property, one after another |
+//! | `node` | looking into a node |
 //! | `written` | writing a node as the sgf form does |
-//! | `layout` | the types of own nodes, stretches and long values |
-//! | `text`, `numbers` | the decoded text of a value; the value of a number |
+//! | `layout` | the types of own nodes and stretches |
 //! | `quick` | shortcuts for what nearly all texts have |
 //! | `fault` | how a call may fail |
 //! | `laws` | what holds of all texts |
@@ -49,15 +47,14 @@
 //! |---|---|
 //! | Collection and GameTree; Sequence, and the `;` of a Node | `read_games`; `read_sequence` (`reader/games`) |
 //! | the properties of a Node; Property | `read_properties`; `read_property` (`reader/properties`) |
-//! | PropIdent: its first capital; its letters; the `[` after it | `read_properties` (`reader/properties`); `letters_end` (`reader/scan`); `read_far_name` (`reader/properties`) |
-//! | the name of a property | `PropRef::is`, `PropRef::push_name` (`property`) |
-//! | the end of a raw value | `far_value_end` (`reader/value`) |
-//! | white space: its bytes; its places | `is_white_space` (`reader/scan`); where `reader`, `reader/games` and `reader/properties` call `skip_white_space` |
+//! | PropIdent: its first capital; the `[` after it | `read_properties` (`reader/properties`); `read_far_name` (`reader/properties`) |
+//! | white space: its places | where `reader`, `reader/games` and `reader/properties` call `skip_white_space` |
 //! | the byte order mark: its bytes; once, before white space | `mark_end` (`reader/mark`); `read_whole` (`reader`) |
 //! | the first fault | where these return `NotSgf`: `read_games`, `read_sequence` (`reader/games`), `read_far_name` (`reader/properties`), `read_far_value` (`reader/value`), `mark_end` (`reader/mark`); `reader/fault` says why that is the first |
 //! | at most 64 MiB | `read`, `read_outline`, `measure` (`reader`) |
-//! | decoded text; numbers | `decode_front`, which `push_text` calls (`text`); `number` (`numbers`) |
-//! | a node in sgf form | `push_property`, `push_value` (`written`) |
+//! | a node in sgf form | `push_node` (`written`) |
+//!
+//! The same table in `sgf_properties` has the rules of names, raw values, decoded text, numbers, and the bytes of white space.
 //!
 //! The plain code is complete without the shortcuts in `quick`. A shortcut ensures no more than the plain function that it stands in for.
 //! Outside `quick` two things are there only for speed: the ends of long values (`long`), and what a glance shows of a node (`NextNode::Led`,
@@ -69,29 +66,22 @@
 mod collection;
 mod extent;
 mod fault;
-mod iter;
 pub mod laws;
 mod layout;
 mod node;
 mod numbered;
-mod numbers;
 mod outline;
-mod property;
 mod quick;
 mod reader;
 mod sequences;
-mod text;
 mod walk;
 mod written;
 
 pub use collection::Collection;
 pub use extent::Extent;
-pub use fault::{MAX_LENGTH, MemoryFault, ReadFault};
-pub use iter::{Properties, Values};
+pub use fault::{MAX_LENGTH, ReadFault};
 pub use node::NodeRef;
-pub use numbers::number;
 pub use outline::Outline;
-pub use property::PropRef;
 pub use reader::{measure, read, read_outline};
-pub use text::push_text;
+pub use sgf_properties::{MemoryFault, PropRef, Properties, Values, number, push_text};
 pub use walk::{NextNode, SequenceNodes};

@@ -5,16 +5,13 @@ ghost use Rattle.std.specs.Str.{bytes_eq};
 ghost use Rattle.sgf_tree.specs.Tree.{lone_property, Node};
 ghost use Rattle.sgf_tree.specs.Written.{node_text};
 ghost use Rattle.sgf_tree.specs.inner.TreeCode.{node_code};
-ghost use Rattle.sgf_tree.specs.inner.NodeText.{properties_in, IsNodeIn};
-ghost use Rattle.sgf_tree.specs.inner.KeptEnds.{AreKeptEnds};
+ghost use Rattle.sgf_properties.specs.Front.{properties_in};
+ghost use Rattle.sgf_tree.specs.inner.NodeText.{IsNodeIn};
+ghost use Rattle.sgf_properties.specs.KeptEnds.{AreKeptEnds};
 
-use crate::fault::MemoryFault;
-use crate::iter::Properties;
-use crate::layout::LongValue;
-use crate::property::PropRef;
 use crate::quick::front::is_lone_front;
-use crate::reader::scan::part;
 use crate::written::push_node;
+use sgf_properties::{LongValue, MemoryFault, PropRef, Properties, part};
 use std::marker::Model;
 
 /// A node, seen as its place and its properties. Only `push_to` takes memory.

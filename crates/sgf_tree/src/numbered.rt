@@ -7,10 +7,10 @@ ghost use Rattle.sgf_tree.specs.Tree.{no_games};
 ghost use Rattle.sgf_tree.specs.inner.GamesRead.{whole};
 ghost use Rattle.sgf_tree.specs.inner.Placing.{HoldsNodes};
 
-use crate::fault::MemoryFault;
 use crate::layout::{OwnNodes, Stretch};
 use crate::reader::keeper::Keeper;
 use crate::sequences::Sequences;
+use sgf_properties::MemoryFault;
 use std::alloc::Global;
 
 /// The most nodes that there is room for at once. Most games have fewer, and otherwise the nodes would be moved again and again

@@ -7,18 +7,17 @@ ghost use Rattle.sgf_tree.specs.Tree.{game_count, node_count, Games};
 ghost use Rattle.sgf_tree.specs.Written.{node_text};
 ghost use Rattle.sgf_tree.specs.FileOrder.{node_at, nodes_at, place_at, parent_at, IsLeaf, game_of, PlacesRise};
 ghost use Rattle.sgf_tree.specs.FileOrder.{sequence_starts, sequence_start, sequence_end, sequence_numbers};
-ghost use Rattle.sgf_tree.specs.inner.NodeText.{GoesOn, IsNodeIn};
-ghost use Rattle.sgf_tree.specs.inner.KeptEnds.{AreKeptEnds};
+ghost use Rattle.sgf_properties.specs.Written.{GoesOn};
+ghost use Rattle.sgf_tree.specs.inner.NodeText.{IsNodeIn};
+ghost use Rattle.sgf_properties.specs.KeptEnds.{AreKeptEnds};
 ghost use Rattle.sgf_tree.specs.inner.TreeCode.{games_code};
 ghost use Rattle.sgf_tree.specs.inner.Machine.{games_in};
 ghost use Rattle.sgf_tree.specs.inner.Outlining.{IsOutlined};
 
-use crate::fault::MemoryFault;
-use crate::layout::LongValue;
 use crate::node::NodeRef;
-use crate::reader::scan::{part, rest_from};
 use crate::sequences::Sequences;
 use crate::walk::SequenceNodes;
+use sgf_properties::{LongValue, MemoryFault, part, rest_from};
 use std::marker::Model;
 
 /// The sequences of the collection that a text spells (SGF FF[4], EBNF). A sequence has the nodes between a `(` and the next

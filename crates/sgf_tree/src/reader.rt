@@ -10,7 +10,7 @@ ghost use Rattle.sgf_tree.specs.Spelling.{Spells};
 ghost use Rattle.sgf_tree.specs.Refusal.{IsFaultyWhereNotSgf};
 ghost use Rattle.sgf_tree.specs.Extent.{HasExtent};
 ghost use Rattle.sgf_tree.specs.inner.Progress.{IsTrueFault};
-ghost use Rattle.sgf_tree.specs.inner.KeptEnds.{AreKeptEnds};
+ghost use Rattle.sgf_properties.specs.KeptEnds.{AreKeptEnds};
 ghost use Rattle.sgf_tree.specs.inner.OwnNodes.{nothing};
 ghost use Rattle.sgf_tree.specs.inner.GamesRead.{whole, ReadsWhole};
 
@@ -21,14 +21,12 @@ pub(crate) mod keeper;
 mod mark;
 mod own_nodes;
 pub(crate) mod properties;
-pub(crate) mod scan;
 mod stretch;
-pub(crate) mod value;
+mod value;
 
 use crate::collection::Collection;
 use crate::extent::Extent;
 use crate::fault::{MAX_LENGTH, ReadFault};
-use crate::layout::LongValue;
 use crate::numbered::Numbered;
 use crate::outline::Outline;
 use crate::reader::counting::Tally;
@@ -36,8 +34,8 @@ use crate::reader::fault::PartFault;
 use crate::reader::games::read_games;
 use crate::reader::keeper::Keeper;
 use crate::reader::mark::mark_end;
-use crate::reader::scan::skip_white_space;
 use crate::sequences::Sequences;
+use sgf_properties::{LongValue, skip_white_space};
 use std::alloc::Global;
 
 /// Reads the collection that a text spells (SGF FF[4], EBNF). The collection refers to the text.

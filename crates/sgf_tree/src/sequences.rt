@@ -6,9 +6,10 @@ ghost use Rattle.sgf_tree.specs.inner.GamesRead.{whole};
 ghost use Rattle.sgf_tree.specs.inner.Outlining.{outer_by, game_by, is_written_by, start_by, is_last_by, HoldsSequences};
 ghost use Rattle.sgf_tree.specs.Tree.{no_games};
 
-use crate::fault::{MAX_LENGTH, MemoryFault};
+use crate::fault::MAX_LENGTH;
 use crate::layout::{OwnNodes, Stretch};
 use crate::reader::keeper::Keeper;
+use sgf_properties::MemoryFault;
 use std::alloc::Global;
 
 /// The most sequences that there is room for at once. Most texts have one game and few variations, so the table seldom

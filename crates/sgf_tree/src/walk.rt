@@ -7,16 +7,15 @@ ghost use Rattle.sgf_tree.specs.Walk.{IsTakenOff};
 ghost use Rattle.sgf_tree.specs.NodesLeft.{NodesLeft};
 ghost use Rattle.sgf_tree.specs.inner.TreeCode.{nodes_left_code};
 ghost use Rattle.sgf_tree.specs.inner.Machine.{games_in};
-ghost use Rattle.sgf_tree.specs.inner.NodeText.{properties_in};
-ghost use Rattle.sgf_tree.specs.inner.KeptEnds.{AreKeptEnds};
+ghost use Rattle.sgf_properties.specs.Front.{properties_in};
+ghost use Rattle.sgf_properties.specs.KeptEnds.{AreKeptEnds};
 ghost use Rattle.sgf_tree.specs.inner.Walking.{nodes_between, IsWalk};
 
-use crate::iter::property_at;
-use crate::layout::LongValue;
-use crate::property::PropRef;
 use crate::quick::front::is_lone_front;
 use crate::quick::lead::{is_empty_node, led_end};
-use crate::reader::scan::{capital_at, part, rest_from, skip_white_space};
+use sgf_properties::{
+    LongValue, PropRef, capital_at, part, property_at, rest_from, skip_white_space,
+};
 use std::marker::Model;
 
 /// A node that `SequenceNodes::next` took off.

@@ -1,6 +1,6 @@
 -- A move and other properties after it, as they stand in a text: words of the contracts in `quick::lead`.
 use Rattle.std.specs.Prelude.{◌≡◌, ℕ, ◌<◌, ◌≤◌, List, drop, All, length, slice_index}
-use Rattle.sgf_tree.specs.Bytes.{semicolon}
+use Rattle.sgf_properties.specs.Bytes.{semicolon}
 use Rattle.sgf_tree.specs.Tree.{Property}
 use Rattle.sgf_tree.specs.Lead.{IsOtherName}
 use Rattle.sgf_tree.specs.Spelling.{IsProperty, AreProperties}

@@ -3,7 +3,7 @@
 use Rattle.std.specs.Prelude.{ℕ, ◌+◌, Bool, true, false, if◌then◌else◌, ◌==◌, List, [], ◌∷◌, ◌++◌, Option, Some, None, option_and_then, unwrap_or}
 use Rattle.sgf_tree.specs.Tree.{Property, Node, Games, no_games, game, values}
 pub use Rattle.sgf_tree.specs.Tree.{joined}
-use Rattle.sgf_tree.specs.Bytes.{open_parenthesis, close_parenthesis, semicolon, open_bracket, backslash, close_bracket, byte_ef, byte_bb, byte_bf}
+use Rattle.sgf_properties.specs.Bytes.{open_parenthesis, close_parenthesis, semicolon, open_bracket, backslash, close_bracket, byte_ef, byte_bb, byte_bf}
 use Rattle.sgf_tree.specs.Spelling.{is_white_space, is_upper, is_lower}
 
 -- a game whose `)` hasn't come yet: its nodes so far, and the games below them so far

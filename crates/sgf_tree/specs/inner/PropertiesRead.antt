@@ -1,12 +1,13 @@
 -- How the properties of a node were read: words of the contracts in `reader::properties`.
 use Rattle.std.specs.Prelude.{◌≡◌, ◌≢◌, ℕ, ◌+◌, ◌<◌, ◌≤◌, false, IsTrue, List, [], ◌∷◌, length, slice_index, slice_range, None}
 use Rattle.std.specs.List.{flat_map}
-use Rattle.sgf_tree.specs.Bytes.{open_bracket, close_bracket}
+use Rattle.sgf_properties.specs.Bytes.{open_bracket, close_bracket}
 use Rattle.sgf_tree.specs.Tree.{Property}
 use Rattle.sgf_tree.specs.Written.{property_text}
 use Rattle.sgf_tree.specs.Spelling.{is_white_space, is_upper}
 use Rattle.sgf_tree.specs.inner.Machine.{Started, MachineState, in_node, in_name, in_value, after_value, after_node, ended, next_state, accepted}
-use Rattle.sgf_tree.specs.inner.Progress.{ComesTo, IsTrueFault, IsSpan, IsBracket, ArePlain}
+use Rattle.sgf_tree.specs.inner.Progress.{ComesTo, IsTrueFault}
+use Rattle.sgf_properties.specs.Offsets.{IsSpan, IsBracket, ArePlain}
 use Rattle.sgf_tree.specs.declared.fault.TheConstants.{MAX_LENGTH}
 use Rattle.sgf_tree.specs.declared.reader.fault.PartFault.{PartFault}
 use Rattle.sgf_tree.specs.declared.reader.properties.PartRead.{PartRead}

@@ -5,20 +5,7 @@ use Rattle.std.specs.Coded.{Coded, code_by, coded×, coded_ℕ, coded_list, code
 use Rattle.std.proofs.Common.{◌∙◌, ap, sym, append_assoc, append-nil}
 use Rattle.sgf_tree.specs.Tree.{Property, Node, Games, no_games, game}
 use Rattle.sgf_tree.specs.NodesLeft.{NodesLeft}
-
--- a property is stored as its name, its first value and its further values
-abbrev pub property_code : Coded Property
-property_code =
-    code_by (List ℕ × (List ℕ × List (List ℕ))) (coded× (coded_list coded_ℕ) (coded× (coded_list coded_ℕ) (coded_list (coded_list coded_ℕ))))
-    (λ p. (p.name, (p.first, p.more)))
-    (λ parts. record { name = parts.0; first = parts.1.0; more = parts.1.1 })
-    (λ _. refl)
-
-abbrev pub properties_code : Coded (List Property)
-properties_code = coded_list property_code
-
-abbrev pub values_code : Coded (List (List ℕ))
-values_code = coded_list (coded_list coded_ℕ)
+use Rattle.sgf_properties.specs.inner.PropertyCode.{property_code, properties_code}
 
 -- a node is stored as its place and its properties
 abbrev pub node_code : Coded Node

@@ -5,8 +5,8 @@ use Rattle.sgf_tree.specs.Tree.{Node, Games, node_count}
 use Rattle.sgf_tree.specs.Spelling.{is_white_space, AreNodes}
 use Rattle.sgf_tree.specs.FileOrder.{nodes_at}
 use Rattle.sgf_tree.specs.inner.Machine.{games_in}
-use Rattle.sgf_tree.specs.inner.NodeText.{NoPropertyFollows, ArePropertiesIn}
-use Rattle.sgf_tree.specs.inner.Progress.{IsSpan}
+use Rattle.sgf_properties.specs.Front.{NoPropertyFollows, ArePropertiesIn}
+use Rattle.sgf_properties.specs.Offsets.{IsSpan}
 
 -- the nodes from one number on and before another
 abbrev pub nodes_between : Games → ℕ → ℕ → List Node

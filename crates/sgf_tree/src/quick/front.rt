@@ -3,8 +3,7 @@
 ghost use Rattle.std.specs.Prelude.{IsTrue};
 ghost use Rattle.sgf_tree.specs.inner.Progress.{IsLoneFront};
 
-use crate::quick::value::is_two_plain;
-use crate::reader::scan::begins_value;
+use sgf_properties::{begins_value, is_two_plain};
 
 /// Whether the first property of the node at the front of the text is written like `B[pd]`, and has no other value. The first byte is the
 /// `;` of the node, and isn't looked at.

@@ -6,7 +6,7 @@ ghost use Rattle.sgf_tree.specs.inner.Progress.{IsNodeEnd};
 
 use crate::quick::moves::moves_in_place;
 use crate::quick::properties::near_property_close;
-use crate::reader::scan::skip_white_space;
+use sgf_properties::skip_white_space;
 
 /// Where the node ends that the text begins with, after any white space, if it is written like `;B[pd]BL[921.325]OB[3]`: a move, and then
 /// perhaps short properties whose names aren't among `names`. If it is None, nothing is known.

@@ -3,7 +3,7 @@
 ghost use Rattle.std.specs.Prelude.{◌≡◌, ◌≤◌, ◌+◌, ◌%◌, length};
 ghost use Rattle.sgf_tree.specs.inner.Progress.{IsMoveNode, EndsNode};
 
-use crate::quick::value::NEAR;
+use sgf_properties::NEAR;
 use std::simd::prelude::*;
 
 /// What `moves_in_place` returns for two moves, one after the other.

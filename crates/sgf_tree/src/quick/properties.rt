@@ -3,14 +3,13 @@
 
 ghost use Rattle.std.specs.Prelude.{◌≡◌, ◌≢◌, ◌<◌, ◌≤◌, ◌+◌, ◌%◌, length, slice_index, IsTrue, IfSome};
 ghost use Rattle.std.specs.Int.Count.{count_trailing_zeros};
-ghost use Rattle.sgf_tree.specs.Bytes.{close_bracket};
+ghost use Rattle.sgf_properties.specs.Bytes.{close_bracket};
 ghost use Rattle.sgf_tree.specs.Spelling.{is_white_space, is_upper};
-ghost use Rattle.sgf_tree.specs.inner.Progress.{IsSpan, IsMove};
+ghost use Rattle.sgf_properties.specs.Offsets.{IsSpan};
+ghost use Rattle.sgf_tree.specs.inner.Progress.{IsMove};
 ghost use Rattle.sgf_tree.specs.inner.PropertiesRead.{AreValuesEnded, IsShortProperty, StandsIn, IsPropertyRead, ArePropertiesRead};
 
-use crate::quick::name::short_name_end;
-use crate::quick::value::{NEAR, near_value_end};
-use crate::reader::scan::{capital_at, skip_white_space};
+use sgf_properties::{NEAR, capital_at, near_value_end, short_name_end, skip_white_space};
 use std::simd::prelude::*;
 
 /// A property is read at a glance only if at least this many bytes are left: one or two letters, a `[`,

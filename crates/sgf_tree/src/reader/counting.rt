@@ -6,9 +6,9 @@ ghost use Rattle.sgf_tree.specs.inner.GamesRead.{whole};
 ghost use Rattle.sgf_tree.specs.inner.Counting.{IsTallyOf};
 
 use crate::extent::Extent;
-use crate::fault::MemoryFault;
 use crate::layout::{OwnNodes, Stretch};
 use crate::reader::keeper::Keeper;
+use sgf_properties::MemoryFault;
 
 /// What was counted so far.
 #[derive(Clone, Copy, Drop)]

@@ -10,7 +10,7 @@
 ghost use Rattle.sgf_tree.specs.declared.reader.fault.PartFault.TheVariants.{Memory};
 ghost use Rattle.std.specs.Prelude.{◌≡◌};
 
-use crate::fault::MemoryFault;
+use sgf_properties::MemoryFault;
 use std::alloc::AllocFailed;
 
 /// Why reading a text stopped.

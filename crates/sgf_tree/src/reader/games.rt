@@ -4,18 +4,18 @@ ghost use Rattle.std.specs.Prelude.{◌≡◌, ◌<◌, ◌≤◌, ◌+◌, ℕ,
 ghost use Rattle.sgf_tree.specs.Tree.{no_games};
 ghost use Rattle.sgf_tree.specs.inner.Machine.{Stack, opened};
 ghost use Rattle.sgf_tree.specs.inner.Progress.{ComesTo, IsTrueFault};
-ghost use Rattle.sgf_tree.specs.inner.KeptEnds.{AreKeptEnds};
+ghost use Rattle.sgf_properties.specs.KeptEnds.{AreKeptEnds};
 ghost use Rattle.sgf_tree.specs.inner.OwnNodes.{Coming, nothing, CopiesNode, MayGoOn};
 ghost use Rattle.sgf_tree.specs.inner.GamesRead.{open_count, StandsBetween, IsFaultInOpened, ReadsOwnNodes, ReadsWhole};
 
-use crate::fault::{MAX_LENGTH, MemoryFault};
-use crate::layout::{LongValue, OwnNodes};
+use crate::fault::MAX_LENGTH;
+use crate::layout::OwnNodes;
 use crate::quick::moves::{TWO_MOVES, moves_in_place};
 use crate::quick::properties::short_properties;
 use crate::reader::fault::PartFault;
 use crate::reader::keeper::Keeper;
 use crate::reader::properties::read_properties;
-use crate::reader::scan::{skip_white_space, stands_at};
+use sgf_properties::{LongValue, MemoryFault, skip_white_space, stands_at};
 
 /// Reads all games, and tells `keeper` what comes: Collection = GameTree { GameTree }, and GameTree = `(` Sequence { GameTree } `)`. The first
 /// `(` is expected at `at`.

@@ -8,8 +8,9 @@ ghost use Rattle.sgf_tree.specs.inner.Machine.{OpenGame, Stack, after_game, clos
 ghost use Rattle.sgf_tree.specs.inner.GamesRead.{open_count};
 ghost use Rattle.sgf_tree.specs.inner.OwnNodes.{Coming, nothing, with_place, with_text, coming_of, AreOwnNodes, IsCopied, own_of, with_game};
 
-use crate::fault::{MAX_LENGTH, MemoryFault};
+use crate::fault::MAX_LENGTH;
 use crate::layout::{OwnNodes, Stretch};
+use sgf_properties::MemoryFault;
 
 /// Keeps a part of what a reader reads: counts, sequences, or the places of all nodes too. After a refusal of memory nothing
 /// is known of what is kept.

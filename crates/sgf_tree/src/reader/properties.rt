@@ -2,20 +2,21 @@
 
 ghost use Rattle.std.specs.Prelude.{◌<◌, ◌≤◌, ◌+◌, length, slice_index, slice_range, IsTrue, IfOk, IfErr, OnOk};
 ghost use Rattle.sgf_tree.specs.Spelling.{is_upper};
-ghost use Rattle.sgf_tree.specs.inner.NodeText.{name_in};
+ghost use Rattle.sgf_properties.specs.Front.{name_in};
 ghost use Rattle.sgf_tree.specs.inner.OwnNodes.{Copies, MayGoOn};
 ghost use Rattle.sgf_tree.specs.inner.PropertiesRead.{BeginsProperty, IsNameRead, IsPropertyRead, ArePropertiesRead, IsFaultInProperty, IsFaultInNode};
-ghost use Rattle.sgf_tree.specs.inner.KeptEnds.{AreKeptEnds};
+ghost use Rattle.sgf_properties.specs.KeptEnds.{AreKeptEnds};
 
-use crate::fault::{MAX_LENGTH, MemoryFault};
-use crate::layout::{LongValue, Stretch};
-use crate::quick::name::short_name_end;
-use crate::quick::points::past_points;
+use crate::fault::MAX_LENGTH;
+use crate::layout::Stretch;
 use crate::quick::properties::read_short_property;
 use crate::reader::fault::PartFault;
 use crate::reader::keeper::Keeper;
-use crate::reader::scan::{capital_at, letters_end, skip_white_space, stands_at};
 use crate::reader::value::read_value;
+use sgf_properties::{
+    LongValue, MemoryFault, capital_at, letters_end, past_points, short_name_end, skip_white_space,
+    stands_at,
+};
 
 /// How far a part of a node was read.
 #[derive(Clone, Copy)]

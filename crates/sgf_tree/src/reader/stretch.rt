@@ -3,9 +3,10 @@
 ghost use Rattle.std.specs.Prelude.{◌≡◌, ◌≤◌, List, ℕ, length, slice_range, IfOk};
 ghost use Rattle.sgf_tree.specs.inner.OwnNodes.{Copies, MayGoOn};
 
-use crate::fault::{MAX_LENGTH, MemoryFault};
+use crate::fault::MAX_LENGTH;
 use crate::layout::Stretch;
 use crate::reader::keeper::Keeper;
+use sgf_properties::MemoryFault;
 
 impl Stretch {
     /// After this stretch the bytes from `from` to `to` are copied. They go on with it if they begin where it ends. If not, `keeper` is told

@@ -2,7 +2,8 @@
 use Rattle.std.proofs.Common.{◌≡◌, ◌++◌, drop}
 use Rattle.std.specs.List.{flat_map}
 use Rattle.sgf_tree.specs.Written.{property_text, node_text}
-use Rattle.sgf_tree.specs.inner.NodeText.{properties_in, GoesOn}
+use Rattle.sgf_properties.specs.Front.{properties_in}
+use Rattle.sgf_properties.specs.Written.{GoesOn}
 use Rattle.sgf_tree.proofs.written.push_node.Given as goal
 
 abbrev pub invariant-loop-property : goal.invariant-loop-property

@@ -4,7 +4,7 @@ use Rattle.std.proofs.lemmas.Grind.{common_steps}
 use Rattle.sgf_tree.specs.Tree.{node_count}
 use Rattle.sgf_tree.specs.FileOrder.{PlacesRise}
 use Rattle.sgf_tree.specs.declared.fault.TheConstants.{MAX_LENGTH}
-use Rattle.sgf_tree.specs.declared.fault.MemoryFault.{MemoryFault}
+use Rattle.sgf_properties.specs.declared.fault.MemoryFault.{MemoryFault}
 use Rattle.sgf_lines.specs.Cursor.{advanced}
 use Rattle.sgf_lines.specs.declared.over_lines.Before.TheVariants.{Held}
 use Rattle.sgf_lines.specs.inner.Following.{nodes_before, path_before}

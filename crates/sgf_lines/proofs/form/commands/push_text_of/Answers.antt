@@ -2,7 +2,7 @@
 use Rattle.std.proofs.Common.{◌≡◌, ◌++◌, OnOk, length, codes, ap, sym, subst, ◌∙◌, arith}
 use Rattle.std.specs.Prelude.{not}
 use Rattle.std.proofs.lemmas.Bool.{eqb-false}
-use Rattle.sgf_tree.specs.Text.{text_of}
+use Rattle.sgf_properties.specs.Text.{text_of}
 use Rattle.sgf_lines.proofs.CutTexts.{joins_three, appended_last, one_row}
 use Rattle.sgf_lines.proofs.form.commands.push_text_of.Goals as goal
 

@@ -1,6 +1,6 @@
 use Rattle.std.proofs.Common.{ap, slice_get, ◌∙◌, sym}
 use Rattle.sgf_tree.specs.Tree.{Property}
-use Rattle.sgf_tree.proofs.Taking.{taken-at}
+use Rattle.sgf_properties.proofs.Taking.{taken-at}
 use Rattle.sgf_tree.proofs.node.NodeRef.prop.Goals as goal
 
 pub returns : goal.returns

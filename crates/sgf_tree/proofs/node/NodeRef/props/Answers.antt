@@ -1,5 +1,5 @@
 use Rattle.std.proofs.Common.{ap, length, length-drop, arith, rules}
-use Rattle.sgf_tree.proofs.Iterating.{count-properties-held}
+use Rattle.sgf_properties.proofs.Iterating.{count-properties-held}
 use Rattle.sgf_tree.proofs.node.NodeRef.props.Goals as goal
 
 pub new-left-requires : goal.new-left-requires

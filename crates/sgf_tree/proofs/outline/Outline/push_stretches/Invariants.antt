@@ -3,7 +3,7 @@ use Rattle.std.proofs.Common.{◌≡◌, ℕ, ◌-◌, List, ◌++◌, length, d
 use Rattle.std.specs.List.{flat_map}
 use Rattle.sgf_tree.specs.FileOrder.{nodes_at, sequence_numbers}
 use Rattle.sgf_tree.specs.Written.{node_text}
-use Rattle.sgf_tree.specs.inner.NodeText.{GoesOn}
+use Rattle.sgf_properties.specs.Written.{GoesOn}
 use Rattle.sgf_tree.specs.inner.Outlining.{AreWhole}
 use Rattle.sgf_tree.proofs.outline.Outline.push_stretches.Given as goal
 

@@ -1,5 +1,5 @@
 use Rattle.std.proofs.Common.{◌-◌, length}
-use Rattle.sgf_tree.specs.inner.KeptEnds.{AreKeptEnds}
+use Rattle.sgf_properties.specs.KeptEnds.{AreKeptEnds}
 use Rattle.sgf_tree.proofs.WholeRead.{GamesSoFar}
 use Rattle.sgf_tree.proofs.reader.games.read_games.Given as goal
 

@@ -1,6 +1,7 @@
 use Rattle.std.proofs.Common.{subst, arith}
 use Rattle.sgf_tree.specs.inner.OwnNodes.{Copies}
-use Rattle.sgf_tree.proofs.NameEnds.{name-read, bracket-here, capitals-are}
+use Rattle.sgf_tree.proofs.NameEnds.{name-read, capitals-are}
+use Rattle.sgf_properties.proofs.NameEnds.{bracket-here}
 use Rattle.sgf_tree.proofs.reader.properties.read_name.Goals as goal
 
 pub returns-clause-read : goal.returns-clause-read

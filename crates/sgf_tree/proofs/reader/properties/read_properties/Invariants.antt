@@ -1,5 +1,5 @@
 use Rattle.std.proofs.Common.{◌-◌, ◌≤◌, length}
-use Rattle.sgf_tree.specs.inner.KeptEnds.{AreKeptEnds}
+use Rattle.sgf_properties.specs.KeptEnds.{AreKeptEnds}
 use Rattle.sgf_tree.specs.inner.OwnNodes.{Copies}
 use Rattle.sgf_tree.proofs.ShortProperties.{ReadSoFar}
 use Rattle.sgf_tree.proofs.reader.properties.read_properties.Given as goal

@@ -1,7 +1,7 @@
 use Rattle.std.proofs.Common.{◌-◌, ◌≤◌, length}
-use Rattle.sgf_tree.specs.inner.KeptEnds.{AreKeptEnds}
+use Rattle.sgf_properties.specs.KeptEnds.{AreKeptEnds}
 use Rattle.sgf_tree.specs.inner.OwnNodes.{Copies}
-use Rattle.sgf_tree.specs.inner.Progress.{IsBracket}
+use Rattle.sgf_properties.specs.Offsets.{IsBracket}
 use Rattle.sgf_tree.proofs.ValuesRead.{ValuesSoFar}
 use Rattle.sgf_tree.proofs.reader.properties.read_property.Given as goal
 

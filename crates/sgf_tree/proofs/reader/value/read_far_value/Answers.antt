@@ -1,5 +1,9 @@
-use Rattle.sgf_tree.proofs.KeptEnds.{kept-push}
+use Rattle.sgf_properties.proofs.KeptEnds.{kept-push}
+use Rattle.sgf_tree.proofs.ValueEnds.{unended-fault}
 use Rattle.sgf_tree.proofs.reader.value.read_far_value.Goals as goal
+
+pub returns-in_default-clause-fault : goal.returns-in_default-clause-fault
+returns-in_default-clause-fault c = unended-fault c.args.text.now c.args.at c.requires.within c.in_default.ensures
 
 pub returns-in_ok-push-clause-kept : goal.returns-in_ok-push-clause-kept
 returns-in_ok-push-clause-kept c =

@@ -1,10 +1,10 @@
 use Rattle.std.proofs.lemmas.Grind.{common_steps}
 use Rattle.std.proofs.Common.{◌≡◌, ◌-◌, ◌∙◌, ◌∷◌, drop, refl, sym, ap, subst, arith}
 use Rattle.sgf_tree.specs.Spelling.{is_white_space}
-use Rattle.sgf_tree.specs.inner.NodeText.{properties_in, ArePropertiesIn}
-use Rattle.sgf_tree.specs.inner.Progress.{IsSpan}
-use Rattle.sgf_tree.proofs.Iterating.{no-property, run-drop}
-use Rattle.sgf_tree.proofs.KeptEnds.{kept-drop}
+use Rattle.sgf_properties.specs.Front.{properties_in, ArePropertiesIn}
+use Rattle.sgf_properties.specs.Offsets.{IsSpan}
+use Rattle.sgf_properties.proofs.Iterating.{no-property, run-drop}
+use Rattle.sgf_properties.proofs.KeptEnds.{kept-drop}
 use Rattle.sgf_tree.proofs.Walking.{past-property}
 use Rattle.sgf_tree.proofs.walk.SequenceNodes.next_property.Goals as goal
 

@@ -1,0 +1,27 @@
+-- What is kept of long values, of a text and of what is left of it from an offset on.
+use Rattle.std.proofs.lemmas.Grind.{common_steps}
+use Rattle.std.proofs.Common.{◌≡◌, ℕ, ◌+◌, ◌-◌, ◌≤◌, List, [], ◌∷◌, ◌++◌, length, drop, subst, length-drop, get_or-drop, arith}
+use Rattle.std.proofs.lemmas.List.{drop-drop}
+use Rattle.std.proofs.lemmas.List.Elements.{All-push}
+use Rattle.sgf_properties.specs.Offsets.{IsValueEnd}
+use Rattle.sgf_properties.specs.KeptEnds.{IsKeptEnd, AreKeptEnds}
+use Rattle.sgf_properties.specs.declared.value.LongValue.{LongValue}
+
+module _ (t : List ℕ) (from : ℕ) where
+  ends-drop : (at bytes : ℕ) → IsValueEnd t (from + at) (from + at + bytes) → IsValueEnd (drop from t) at (at + bytes)
+  ends-drop at bytes h = grind (arith, common_steps, drop-drop, length-drop, get_or-drop)
+
+  -- what is kept of a text holds of each part that goes up to its end
+  pub kept-drop : (ls : List LongValue) → from ≤ length t → AreKeptEnds t ls → AreKeptEnds (drop from t) ls
+  kept-drop ls within kept i d lt at e =
+      ends-drop at _ (kept i d lt (from + at) (omega (arith, e, length-drop from t)))
+
+-- one more value
+pub kept-push : (t : List ℕ) (ls : List LongValue) (at end : ℕ) → AreKeptEnds t ls → at ≤ length t → IsValueEnd t at end
+    → AreKeptEnds t (ls ++ record { left = length t - at; bytes = end - at } ∷ [])
+kept-push t ls at end kept within h =
+    All-push (IsKeptEnd t) ls (record { left = length t - at; bytes = end - at }) kept
+    (λ other e.
+    let same : at ≡ other = omega (arith, e) in
+    let to : end ≡ other + (end - at) = omega (arith, h.rises, same) in
+    subst (λ i. IsValueEnd t i (other + (end - at))) same (subst (IsValueEnd t at) to h))

@@ -1,0 +1,54 @@
+-- Sixteen bytes that are tested at once, and the mask of those that pass.
+use Rattle.std.proofs.Common.{◌≡◌, ℕ, ◌+◌, ◌<◌, ◌≤◌, Bool, true, false, List, map, length, get_or, inl, inr, ap, ◌∙◌, arith, w64, rules}
+use Rattle.std.proofs.lemmas.Bool.{cases_lt}
+use Rattle.std.proofs.lemmas.List.{length-map}
+use Rattle.std.proofs.lemmas.Nat.Bits.{bit_at-trailing_zeros}
+use Rattle.std.proofs.lemmas.Simd.{length-chunk, mask_l-mod, bit_mask_l, trailing_mask_l, first_set_mask_l, run_in_chunk_le, run_in_chunk_fails, run_in_chunk_stops}
+use Rattle.std.proofs.Math.ListN.{get_or-eq_default}
+use Rattle.std.specs.Int.Count.{count_trailing_zeros}
+use Rattle.std.specs.Simd.Lanes.{chunk, mask_l}
+use Rattle.sgf_properties.specs.inner.Literals.{lowest_bit}
+
+module _ (test : ℕ → Bool) (t : List ℕ) (at : ℕ) (room : at + 16 ≤ length t) where
+  abbrev bytes : List ℕ
+  bytes = chunk at 16 t
+
+  -- a bit for each byte
+  abbrev pub bits : ℕ
+  bits = mask_l (map test bytes)
+
+  -- the first byte that passes
+  pub record IsLowest (r : ℕ) : Type 0 where
+    pub short : r < 16
+    pub stops : test (get_or t (at + r) 0) ≡ true
+    pub before : (i : ℕ) → at ≤ i → i < at + r → test (get_or t i 0) ≡ false
+
+  pub lowest-bit : 0 < bits → IsLowest (count_trailing_zeros 64 bits)
+  lowest-bit some =
+      let r : ℕ = count_trailing_zeros 64 bits in
+      let wide : length (map test bytes) ≡ 16 = length-map bytes test ∙ length-chunk at 16 t room in
+      let bit = bit_at-trailing_zeros w64 bits some (omega (arith, mask_l-mod (map test bytes) 64 (omega (arith, wide)))) in
+      let counted = trailing_mask_l test 64 bytes (omega (arith, length-chunk at 16 t room)) some in
+      let short : r < 16 =
+      elim (cases_lt r 16) [
+        | inl lt ↦ lt
+        | inr past ↦ search (rules, bit_mask_l, get_or-eq_default)
+      ] in
+      record {
+        short = short;
+        stops = run_in_chunk_stops test t at 16 r 0 room counted short;
+        before = run_in_chunk_fails test t at 16 r 0 room counted;
+      }
+
+  -- none before the lowest bit passes
+  pub record AreBefore (r : ℕ) : Type 0 where
+    pub at_most : r ≤ 16
+    pub before : (i : ℕ) → at ≤ i → i < at + r → test (get_or t i 0) ≡ false
+
+  pub before-lowest : (m r : ℕ) → m ≡ bits → r ≡ lowest_bit m → AreBefore r
+  before-lowest m r are is =
+      let counted = is ∙ ap lowest_bit are ∙ first_set_mask_l test bytes 16 (length-chunk at 16 t room) (omega arith) in
+      record {
+        at_most = run_in_chunk_le test t at 16 r 0 room counted;
+        before = run_in_chunk_fails test t at 16 r 0 room counted;
+      }

@@ -1,0 +1,38 @@
+-- The bytes of a raw value, and where the next `]` stands.
+use Rattle.std.proofs.lemmas.Grind.{common_steps}
+use Rattle.std.proofs.Common.{rules, ◌≡◌, ◌≢◌, ℕ, ◌+◌, ◌-◌, ◌<◌, ◌≤◌, true, not, List, ◌++◌, length, get_or, take, drop, slice_range, Some, None, sym, ap, ◌∙◌, arith, eqb-true, get_or-take, get_or-drop, ne_eqb}
+use Rattle.std.proofs.Math.Seq.{take-add}
+use Rattle.std.proofs.Common.{length-take, length-drop}
+use Rattle.std.proofs.lemmas.Bool.{and_parts, not-true, eqb-false, eq-eqb}
+use Rattle.memchr.specs.Find.{IsFirstByte, is_byte}
+use Rattle.std.proofs.lemmas.List.{drop-drop}
+use Rattle.sgf_properties.specs.inner.Searches.{HasNoBracket, IsNextBracket}
+use Rattle.sgf_properties.specs.Offsets.{is_plain}
+
+pub drop-span : {A : Type 0} (t : List A) (a b : ℕ) → a ≤ b → drop (b - a) (drop a t) ≡ drop b t
+drop-span t a b le = let e : a + (b - a) ≡ b = omega arith in drop-drop (b - a) a t ∙ ap (λ k. drop k t) e
+
+-- two spans side by side
+pub span-join : {A : Type 0} (t : List A) (a b c : ℕ) → a ≤ b → b ≤ c → slice_range t a b ++ slice_range t b c ≡ slice_range t a c
+span-join t a b c le le' =
+    let e : c - a ≡ (b - a) + (c - b) = omega arith in
+    rw e (sym (take-add (b - a) (c - b) (drop a t) ∙ ap (λ xs. take (b - a) (drop a t) ++ take (c - b) xs) (drop-span t a b le)))
+
+-- a plain byte is neither `]` nor `\`
+pub plain-other : (b : ℕ) → is_plain b ≡ true → (b ≢ 93) × (b ≢ 92)
+plain-other b h = grind (arith, common_steps, and_parts, not, eqb-false, not-true)
+
+-- and a byte that is neither is plain
+pub other-plain : (b : ℕ) → b ≢ 93 → b ≢ 92 → is_plain b ≡ true
+other-plain b x y = rw (ne_eqb b 93 x, ne_eqb b 92 y)
+
+span-at : (t : List ℕ) (end i : ℕ) → end ≤ i → i < length t → get_or (slice_range t end (length t)) (i - end) 0 ≡ get_or t i 0
+span-at t end i le lt = grind (arith, common_steps, get_or-take, get_or-drop)
+
+-- the search for `]` finds the next one
+pub bracket_found : (t : List ℕ) (at further : ℕ) → at ≤ length t
+    → IsFirstByte (is_byte 93) (slice_range t at (length t)) (Some further) → IsNextBracket t at (at + further)
+bracket_found t at further le found = search (rules, length-take, length-drop, span-at, eqb-true, eq-eqb)
+
+pub bracket_none : (t : List ℕ) (at : ℕ) → at ≤ length t → IsFirstByte (is_byte 93) (slice_range t at (length t)) None → HasNoBracket t at (length t)
+bracket_none t at le none = search (rules, length-take, length-drop, eq-eqb, span-at)

@@ -1,0 +1,29 @@
+use Rattle.std.proofs.Common.{◌≡◌, ◌∙◌, [], ◌∷◌, length, sym, ap, arith}
+use Rattle.std.specs.Prelude.{option_copied}
+use Rattle.sgf_properties.specs.Front.{values_in}
+use Rattle.sgf_properties.specs.inner.Iterating.{values_left}
+use Rattle.sgf_properties.proofs.Iterating.{no-value, next-value}
+use Rattle.sgf_properties.proofs.iter.ValuesIterator.next.Goals as goal
+use Rattle.sgf_properties.proofs.iter.ValuesIterator.next.Goals.{In_default, After-part}
+
+-- with no first one known, the values are those of the text that is left
+shown : (c : In_default) → c.args.self.now ≡ values_in c.self.inside.rest.now
+shown c = sym c.self.view_is ∙ ap (λ first. values_left (option_copied first) (values_in c.self.inside.rest.now)) c.in_default.is
+
+pub returns-in_default-value_at-clause-steps : goal.returns-in_default-value_at-clause-steps
+returns-in_default-value_at-clause-steps c =
+    let none : c.args.self.now ≡ [] = shown (goal.at.returns-in_default-value_at-clause-steps c).In_default ∙ no-value c.self.invariant c.in_default-value_at.ensures in (none, none)
+
+pub invariant_of-self-2 : goal.invariant_of-self-2
+invariant_of-self-2 c = rw c.rest_from-self-inside.ensures (next-value c.self.invariant c.in-Some-value_at.ensures.spelled).1
+
+-- the first value of the text that is left is taken off
+stepped : (c : After-part) → c.args.self.now ≡ c.part.result.now ∷ values_in c.rest_from-self-inside.result.now
+stepped c =
+    rw (c.part.ensures, c.rest_from-self-inside.ensures) (shown (goal.at.returns-clause-steps c).In_default ∙ (next-value c.self.invariant c.in-Some-value_at.ensures.spelled).0)
+
+pub returns-clause-steps : goal.returns-clause-steps
+returns-clause-steps c = rw c.in_default.is (stepped c)
+
+pub returns-clause-goes : goal.returns-clause-goes
+returns-clause-goes c = let steps = ap length (stepped c) in rw c.in_default.is record { on = λ _. (tt, tt, omega (arith, steps)); keeps = tt; rests = λ _. tt }

@@ -1,0 +1,14 @@
+use Rattle.std.proofs.Common.{ℕ, ◌-◌, ◌≤◌, List, length, drop}
+use Rattle.sgf_properties.specs.Spelling.{ArePropValues}
+use Rattle.sgf_properties.proofs.iter.far_values_end.Given as goal
+
+abbrev pub invariant-values : goal.invariant-values
+invariant-values l = record {
+  rises : l.at ≤ l.end;
+  within : l.end ≤ length l.text;
+  values : List (List ℕ);
+  spelled : ArePropValues values (drop l.at l.text) (drop l.end l.text);
+}
+
+abbrev pub decreases-values : goal.decreases-values
+decreases-values l = length l.text - l.end

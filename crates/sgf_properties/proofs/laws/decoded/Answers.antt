@@ -1,0 +1,7 @@
+use Rattle.std.proofs.Common.{sym, subst}
+use Rattle.sgf_properties.specs.Text.{IsDecoded}
+use Rattle.sgf_properties.proofs.Decoding.{is-decoded, decoded-is}
+use Rattle.sgf_properties.proofs.laws.decoded.Goals as goal
+
+pub returns : goal.returns
+returns c = λ raw text. (λ d. decoded-is d, λ is. subst (IsDecoded raw) (sym is) (is-decoded raw))

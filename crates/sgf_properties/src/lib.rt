@@ -1,0 +1,70 @@
+//! The properties of a node of an SGF text (SGF FF[4]): their names, their raw values and the escapes in these, what values mean as texts
+//! and numbers, and going over them one after another.
+//!
+//! A property stands in a text as an identifier, whose capitals are its name, and raw values between brackets. Nothing is stored of it: a
+//! [`PropRef`] refers to these bytes. [`Properties`] goes over the properties of a node, and [`Values`] over the values of a property.
+//! These take no memory. [`push_text`] appends what a raw value means as a text, [`number`] returns what it means as a number, and
+//! [`push_property`] appends a property as the sgf form writes it.
+//!
+//! ```text
+//! for property in Properties::new(text, at, &long) {
+//!     if property.is(b"C") {
+//!         push_text(property.value(0), &mut comments)?;
+//!     }
+//! }
+//! ```
+//!
+//! The crate `sgf_tree` reads whole texts. It calls the functions of `scan`, `value` and `quick` while it reads, and passes on what its own
+//! users need: the three types, `push_text`, `number`, and `MemoryFault`. All offsets are in bytes, from 0.
+//!
+//! | Module | What it has |
+//! |---|---|
+//! | `property` | looking into a property |
+//! | `iter` | the properties of a node and the values of a property, one after another |
+//! | `scan` | white space, where parts of a text end, and what stands at an offset |
+//! | `value` | what ends a raw value, and the type of the kept length of a long one |
+//! | `text`, `numbers` | the decoded text of a value; the value of a number |
+//! | `written` | writing a property as the sgf form does |
+//! | `quick` | shortcuts for what nearly all texts have |
+//! | `fault` | how a call may fail |
+//! | `laws` | what holds of all raw values |
+//!
+//! | Rule (docs/GRAMMAR.md) | Function, and its module |
+//! |---|---|
+//! | PropIdent: its letters | `letters_end` (`scan`) |
+//! | the name of a property | `PropRef::is`, `PropRef::push_name` (`property`) |
+//! | the end of a raw value | `far_value_end` (`value`) |
+//! | white space: its bytes | `is_white_space` (`scan`) |
+//! | decoded text; numbers | `decode_front`, which `push_text` calls (`text`); `number` (`numbers`) |
+//! | a property in sgf form | `push_property`, `push_value` (`written`) |
+//!
+//! The plain code is complete without the shortcuts in `quick`. A shortcut ensures no more than the plain function that it stands in for.
+//! Outside `quick` one thing is there only for speed: the lengths of long values (`long`). A first reader may take `long` to be empty.
+//!
+//! Worked examples are in the crate `sgf_tree_tests`.
+#![tactic(auto)]
+
+mod fault;
+mod iter;
+pub mod laws;
+mod numbers;
+mod property;
+mod quick;
+mod scan;
+mod text;
+mod value;
+mod written;
+
+pub use fault::MemoryFault;
+pub use iter::{Properties, Values, property_at};
+pub use numbers::number;
+pub use property::PropRef;
+pub use quick::name::short_name_end;
+pub use quick::points::past_points;
+pub use quick::value::{NEAR, is_two_plain, near_value_end, short_value_end};
+pub use scan::{
+    begins_value, capital_at, letters_end, part, rest_from, skip_white_space, stands_at,
+};
+pub use text::push_text;
+pub use value::{LongValue, far_value_end};
+pub use written::push_property;

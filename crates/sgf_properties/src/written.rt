@@ -1,0 +1,35 @@
+//! Writing a property as the sgf form does, part by part.
+
+#![tactic(auto, using(crate::proofs::GoingOn::goes_on_on))]
+
+ghost use Rattle.std.specs.Prelude.{◌≡◌, ◌++◌, OnOk};
+ghost use Rattle.sgf_properties.specs.Written.{value_text, property_text, GoesOn};
+
+use crate::fault::MemoryFault;
+use crate::property::PropRef;
+
+/// Appends a property as the sgf form writes it: its name in capitals, and its raw values between brackets, as they are in the text.
+/// Nothing stands between these parts (this project's choice).
+///
+/// `MemoryFault` comes only if memory was refused. Then some of the parts may be appended, and the bytes before them are unchanged.
+pub fn push_property(property: &PropRef<'_>, out: &mut Vec<u8>) -> Result<(), MemoryFault>
+    ensures appended { OnOk result (out.new.items ≡ out.old.items ++ property_text property.now) }
+    ensures goes_on { GoesOn out.old.items out.new.items }
+{
+    property.push_name(out)?;
+    for value in property.iter() {
+        push_value(value, out)?;
+    }
+    Ok(())
+}
+
+/// Appends a raw value between brackets. After a refusal of memory some of it may be appended.
+fn push_value(value: &[u8], out: &mut Vec<u8>) -> Result<(), MemoryFault>
+    ensures appended { OnOk result (out.new.items ≡ out.old.items ++ value_text value.now) }
+    ensures goes_on { GoesOn out.old.items out.new.items }
+{
+    out.push(b'[')?;
+    out.extend_from_slice(value)?;
+    out.push(b']')?;
+    Ok(())
+}

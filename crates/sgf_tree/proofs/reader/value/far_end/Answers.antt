@@ -1,4 +1,0 @@
-use Rattle.sgf_tree.proofs.reader.value.far_end.Goals as goal
-
-pub kept_end-requires-clause-kept : goal.kept_end-requires-clause-kept
-kept_end-requires-clause-kept c = rw c.deref.ensures.value (rw c.in-Some.is at c.requires.kept)
