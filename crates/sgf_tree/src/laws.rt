@@ -6,6 +6,8 @@ ghost use Rattle.sgf_tree.specs.Appending.{raised, BeginsWithByteOrderMark};
 ghost use Rattle.sgf_tree.specs.Spelling.{Spells};
 ghost use Rattle.sgf_tree.specs.Tree.{Games, joined};
 
+pub use sgf_properties::laws::decoded;
+
 /// One text after another. Let each of two texts spell games, and let the second not begin with a
 /// byte order mark. Then the two joined spell the games of the first followed by those of the
 /// second. The places of the second are raised by the length of the first text.
