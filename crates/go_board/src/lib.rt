@@ -14,7 +14,8 @@
 //! referee.undo();
 //! ```
 //!
-//! Points, and sets of points as rows of bits, are the crate `board_points`.
+//! Points, and sets of points as rows of bits, are the crate `board_points`. `Size`, `Point`, `Rect`, `Marks`, `point`, `rect`, `vertex` and the
+//! laws `listing` and `naming` are passed on from there.
 //!
 //! The code outside `quick` plays by the rules and can be read by itself, with `ListPast` as the past. `quick` has faster ways to the
 //! same answers, and may be skipped. `sgf_lines` judges with the past of `quick`, `PrintPast`. Only that past uses the crate `key_trie`.
@@ -39,13 +40,15 @@
 //! | reaching a colour | `fill` of `board_points`, which clearing and the score use. `Board::reaching` (`board/flood`) goes point by point, and only the tests call it here |
 //! | clearing a colour, which captures its groups without a liberty | `Board::clear` (`board`); which stones have none: `Board::shut_stones` (`board/regions`) |
 //! | a stone: capture, then suicide | `Board::place` (`board`); shortcuts: `Board::takes_nothing_at_a_glance` (`quick/glance`), `Board::find_taken` and `Board::put`, which takes off what was found (`quick/capture`) |
-//! | the area score; an empty point that reaches both colours or neither counts for nobody | `Board::score` (`board`), by `area_of` (`board/regions`) and `count_apart` of `board_points`; shortcut below side 32: `Board::score_in_halves` (`quick/both_areas`) |
-//! | taking a turn; the reasons `over`, `turn` and `occupied` | `Referee::turn`, `Referee::reason_before_repeat` (`referee/turn`) |
+//! | the area score; an empty point that reaches both colours or neither counts for nobody | `Board::score` (`board`), by `area_of` (`board/regions`) and `count_apart` of `board_points`; shortcut below side 32: `Board::score_in_halves` (`quick/both_areas`), by `count_halves` of `board_points` |
+//! | taking a turn; the reasons `over`, `turn` and `occupied`, in this order | `Referee::turn`, `Referee::reason_before_repeat` (`referee/turn`) |
 //! | `repeat` (positional superko; suicide of one stone is a case of it) | `Past::play` (`past`); shortcuts: `PrintPast::play_asked`, if `may_repeat` says that it may, and `play_on_copy` after a setup that leaves a stone without a liberty (`quick/print_past`) |
-//! | the colourings that `repeat` looks at: those since the last setup of stones | `ListPast::holds`, `stretch_has` (`past/list_past`); what a run uses: `Table::gap` and `Table::find` (`quick/print_past/table`), from `Colourings::stretch_start` (`quick/print_past/colourings`) on |
+//! | the colourings that `repeat` looks at: those since the last setup of stones | `ListPast::holds`, `stretch_has` (`past/list_past`); what a run uses: `Table::near` and `Table::find` (`quick/print_past/table`), which look from `Colourings::stretch_start` (`quick/print_past/colourings`) on. If `Table::gap` finds that no print is the same, nothing is looked up |
 //! | a pass; two passes end the game | `Referee::take_pass` (`referee/turn`); `Referee::over` (`referee`) |
-//! | which setup it is; passes and player (PL) after a setup of stones; a setup of the player (PL without stones) | `Referee::setup`; `Referee::begin_anew`; `Referee::set_player` (`referee/setup`) |
-//! | the colouring that a setup makes; the list of colourings begins anew | `Board::colour_areas` (`board/areas`); `Past::set_up` (`past`) |
+//! | how a game begins | `Referee::new`, `Referee::reset` (`referee`) |
+//! | what PL does with stones and without; passes after a setup of stones | `Referee::setup`; `Referee::begin_anew`; `Referee::set_player` (`referee/setup`) |
+//! | the colouring that a setup makes; the list of colourings begins anew | `Board::colour_areas` (`board/areas`); `Past::set_up` (`past`), and in a run `PrintPast::set_up` (`quick/print_past`) |
+//! | a node that changes nothing | `Referee::stay` (`referee`) |
 //! | undo | `Referee::undo` (`referee`) |
 //!
 //! A point *reaches* a colour if a path of adjacent points of the point's own colour leads

@@ -84,7 +84,8 @@ impl<'c, 'a> SequenceCursor<'c, 'a> {
         }
     }
 
-    /// Moves the cursor to just after the line with this place. After a refusal the cursor is unchanged.
+    /// Moves the cursor to just after the line with this place. `NoSuchLine` if no node has this place, or if the node isn't a leaf. After a
+    /// refusal the cursor is unchanged.
     #[tactic(auto, using(crate::proofs::SequenceCursors::no_such_line, crate::proofs::SequenceCursors::found))]
     pub(crate) fn seek_after(&mut self, place: u64) -> Result<(), SeekFault>
         ensures sought { OnOk result (IsAfterPlace place self.old.at self.new.at) }

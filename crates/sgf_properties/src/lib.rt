@@ -29,10 +29,10 @@
 //! | `fault` | how a call may fail |
 //! | `laws` | what holds of all raw values |
 //!
-//! | Rule (docs/GRAMMAR.md) | Function, and its module |
+//! | Rule (docs/GRAMMAR.md, docs/OUTPUT.md) | Function, and its module |
 //! |---|---|
 //! | PropIdent: its letters | `letters_end` (`scan`) |
-//! | the name of a property | `PropRef::is`, `PropRef::push_name` (`property`) |
+//! | the name of a property: its capitals | `PropRef::is`, `PropRef::push_name` (`property`); in the sgf form of a run: `copy_capitals` of `sgf_tree` |
 //! | the end of a raw value | `far_value_end` (`value`) |
 //! | white space: its bytes | `is_white_space` (`scan`) |
 //! | decoded text; numbers | `decode_front`, which `push_text` calls (`text`); `number` (`numbers`) |

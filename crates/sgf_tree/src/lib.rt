@@ -48,11 +48,11 @@
 //! | Collection and GameTree; Sequence, and the `;` of a Node | `read_games`; `read_sequence` (`reader/games`) |
 //! | the properties of a Node; Property | `read_properties`; `read_property` (`reader/properties`) |
 //! | PropIdent: its first capital; the `[` after it | `read_properties` (`reader/properties`); `read_far_name` (`reader/properties`) |
-//! | white space: its places | where `reader`, `reader/games` and `reader/properties` call `skip_white_space` |
+//! | white space: before the first `(`; after a parenthesis; before a property, and before a `[` | `read_whole` (`reader`); `read_sequence`, `read_games` (`reader/games`); `read_properties`, `read_property`, `read_far_name` (`reader/properties`) |
 //! | the byte order mark: its bytes; once, before white space | `mark_end` (`reader/mark`); `read_whole` (`reader`) |
 //! | the first fault | where these return `NotSgf`: `read_games`, `read_sequence` (`reader/games`), `read_far_name` (`reader/properties`), `read_far_value` (`reader/value`), `mark_end` (`reader/mark`); `reader/fault` says why that is the first |
 //! | at most 64 MiB | `read`, `read_outline`, `measure` (`reader`) |
-//! | a node in sgf form | `push_node` (`written`) |
+//! | a node in sgf form | `push_node` (`written`). A run copies stretches of the text instead: `read_sequence` (`reader/games`) finds them, and `copy_capitals` (`reader/properties`) leaves small letters of names out |
 //!
 //! The same table in `sgf_properties` has the rules of names, raw values, decoded text, numbers, and the bytes of white space.
 //!

@@ -102,7 +102,7 @@ pub fn measure(alloc: Global, text: &[u8]) -> Result<Extent, ReadFault>
     }
 }
 
-/// Reads a whole text, and tells `keeper` what comes.
+/// Reads a whole text, and tells `keeper` what comes. A byte order mark may stand once, at the very start, before any white space.
 #[tactic(auto, using(crate::proofs::ByteOrderMark::games_begin))]
 fn read_whole<K: Keeper>(
     text: &[u8],

@@ -18,8 +18,8 @@ pub const FEW_ROWS: usize = HALF as usize;
 /// A word's low half is its rest by this divisor, and its high half is the quotient.
 const HALVES: u64 = 1 << HALF;
 
-/// Writes the stones of both colours to `areas`, black ones to the low halves, and to `region` the points where the other colour has no stone. The
-/// four must have as many words as the board has rows, fewer than 32, and all stones must be on the board.
+/// Writes two sets to `areas`, the first (`black`) to the low halves, and to `region` for each the points that aren't in the other. The four
+/// must have as many words as the board has rows, fewer than 32, and all points must be on the board.
 pub fn pair_rows(black: &[u64], white: &[u64], areas: &mut [u64], region: &mut [u64])
     requires stones { AreOnSmallBoard black.now white.now }
     requires areas { length areas.old ≡ length black.now }
@@ -47,8 +47,8 @@ fn paired(low: u64, high: u64) -> u64
     high * HALVES + low
 }
 
-/// How many points each colour's area has that aren't in the other's: first Black's, in the low halves, then White's. There must be as many words as
-/// the board has rows, fewer than 32, and all points must be on the board.
+/// How many points each of two sets has that aren't in the other: first the set in the low halves (Black's area in a score), then the other. There
+/// must be as many words as the board has rows, fewer than 32, and all points must be on the board.
 pub fn count_halves(areas: &[u64]) -> (u32, u32)
     requires few { length areas.now < HALF }
     requires black_on { (p : Point) → IsTrue (is_set (low_halves areas.now) p) → IsOn (length areas.now) p }

@@ -88,7 +88,8 @@ impl ListPast {
     }
 }
 
-/// Whether this board's colouring is in the newest stretch of these colourings, which are listed oldest first.
+/// Whether this board's colouring is in the newest stretch of these colourings, which are listed oldest first. A setup of stones begins a
+/// stretch, so the colourings before it don't count (positional superko).
 fn stretch_has(older: &[Kept], board: &Board) -> bool
     ensures { IsTrue result ↔ Contains (stretch_of (reverse older.now)) board.now }
 {

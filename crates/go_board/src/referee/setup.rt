@@ -11,11 +11,11 @@ use crate::referee::{Referee, SetupOp};
 use crate::stones::Colour;
 
 impl<P: Past> Referee<P> {
-    /// Sets up stones or the player (SGF FF[4]).
+    /// Sets up stones (AB, AW, AE) or the player (PL; SGF FF[4]).
     ///
     /// - With operations: these colour their areas in order, whatever stood there, and nothing is cleared. A new stretch begins,
-    ///   so a ko doesn't reach back over the setup. Passes are 0. The given player must move; if `player` is None, either may.
-    /// - Without operations: only the player changes. In this case a player must be given.
+    ///   so a ko doesn't reach back over the setup. Passes are 0. The player of PL must move; without PL (None) either may.
+    /// - Without operations: only the player changes, to that of PL. In this case there must be one.
     ///
     /// `MemoryFault` comes only if memory was refused; then nothing is changed.
     pub fn setup(&mut self, ops: &[SetupOp], player: Option<Colour>) -> Result<(), MemoryFault>
@@ -32,7 +32,7 @@ impl<P: Past> Referee<P> {
         }
     }
 
-    /// Changes only the player who must move.
+    /// Changes only the player who must move: PL without stones.
     fn set_player(&mut self, player: Option<Colour>) -> Result<(), MemoryFault>
         ensures ok { OnOk result (self.new
             ≡ followed_by self.old (record self.old.present { player = player })) }

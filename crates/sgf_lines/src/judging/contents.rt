@@ -214,7 +214,7 @@ fn last_player(property: &PropRef<'_>) -> Option<Colour>
     Some(last)
 }
 
-/// What the values of a property are; None if neither the referee nor a script needs them.
+/// What the values of a property are; None if neither the referee nor a script needs them. So KM, HA, KO, MA, RE and all others have no effect.
 fn kind_of(property: &PropRef<'_>) -> Option<Kind>
     ensures { result ≡ kind_of_rule property.now }
 {

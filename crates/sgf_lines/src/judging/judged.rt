@@ -46,8 +46,8 @@ impl StepKeeper for () {
     }
 }
 
-/// Judges the line before the cursor, and tells its steps. This front of it is judged and told
-/// already. After a refusal of memory nothing is known of the judgement and of what is kept.
+/// Judges the line before the cursor, and tells its steps. This front of it is judged and told already. An illegal node has no step, so the
+/// keeper is told nothing of it and of the nodes after it. After a refusal of memory nothing is known of the judgement and of what is kept.
 pub(crate) fn judge_line<K: StepKeeper>(
     cursor: &SequenceCursor<'_, '_>,
     held: Front,

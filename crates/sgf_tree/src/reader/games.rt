@@ -44,6 +44,7 @@ pub(crate) fn read_games<K: Keeper>(
                 depth += 1;
             }
             b')' => {
+                // A `)` too many is the first fault.
                 if depth == 0 {
                     return Err(PartFault::NotSgf(at));
                 }
@@ -55,6 +56,7 @@ pub(crate) fn read_games<K: Keeper>(
             _ => return Err(PartFault::NotSgf(at)),
         }
     }
+    // The text ends too early: a game is open, or none has begun.
     if depth > 0 || at == start {
         return Err(PartFault::NotSgf(at));
     }
