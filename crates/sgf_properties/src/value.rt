@@ -16,6 +16,7 @@ pub struct LongValue {
     /// The number of bytes from the value's first byte to the end of the text. The number is the
     /// same in each part of the text that ends where the text ends.
     pub left: u32,
+    /// The number of bytes of the value, without its brackets.
     pub bytes: u32,
 }
 

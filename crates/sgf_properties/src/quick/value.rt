@@ -23,7 +23,7 @@ pub fn short_value_end(text: &[u8], at: usize) -> Option<usize>
     near_value_end(text, at)
 }
 
-/// The same, but at least `NEAR` bytes must be left from `at` on.
+/// The same offset, where at least `NEAR` bytes are left from `at` on. If it is None, nothing is known.
 #[inline(always)]
 pub fn near_value_end(text: &[u8], at: usize) -> Option<usize>
     requires { at + NEAR ≤ length text.now }
