@@ -22,7 +22,6 @@ pub(crate) struct Node {
 }
 
 /// The node of an item that parted nowhere.
-#[inline]
 pub(crate) fn lone_node(number: u32) -> Node
     ensures depth { result.depth ≡ 0 }
     ensures up { result.up ≡ number }
@@ -38,7 +37,6 @@ pub(crate) fn lone_node(number: u32) -> Node
 }
 
 /// The node of item `number`, which parts at a place, has that bit there, and comes between a slot and what that slot names.
-#[inline]
 pub(crate) fn parted_node(place: u32, slot: Slot, bit: bool, number: u32, below: u32) -> Node
     requires { place < MAX_WIDTH }
     ensures depth { result.depth ≡ place + 1 }

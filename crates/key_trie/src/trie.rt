@@ -30,7 +30,6 @@ pub struct Trie {
 
 impl Trie {
     /// A trie of no items, with room for 256. `AllocError` comes if memory for it was refused.
-    #[inline]
     pub fn new(alloc: Global) -> Result<Trie, AllocError>
         ensures trie { IfOk result (λ trie. (width : ℕ) (keys : ℕ → ℕ → Bool) → IsTrie width keys trie) }
         ensures none { IfOk result (λ trie. item_count trie ≡ 0) }
@@ -42,7 +41,6 @@ impl Trie {
     }
 
     /// The number of items. The next item gets this number.
-    #[inline]
     pub fn len(&self) -> usize
         ensures { result ≡ item_count self.now }
     {
@@ -50,7 +48,6 @@ impl Trie {
     }
 
     /// The number of items that there is room for, those in the trie included.
-    #[inline]
     pub fn room(&self) -> usize
         ensures { result ≡ room_of self.now }
     {
@@ -77,7 +74,6 @@ impl Trie {
     }
 
     /// Forgets all items. The room stays.
-    #[inline]
     pub fn clear(&mut self)
         ensures trie { (width : ℕ) (keys : ℕ → ℕ → Bool) → IsTrie width keys self.new }
         ensures none { item_count self.new ≡ 0 }
@@ -87,7 +83,6 @@ impl Trie {
     }
 
     /// What a slot names: the number of a node, which is also that of its item.
-    #[inline]
     pub fn kid(&self, slot: Slot) -> u32
         requires { IsIn self.now slot }
         ensures { result ≡ kid_at self.now slot }
@@ -153,7 +148,6 @@ impl Trie {
     }
 
     /// Adds the first item. There must be room for it.
-    #[inline]
     pub fn plant(&mut self)
         requires none { item_count self.old ≡ 0 }
         requires room { 0 < room_of self.old }
@@ -165,7 +159,6 @@ impl Trie {
     }
 
     /// Adds an item whose key equals that of an earlier one. There must be room for it.
-    #[inline]
     pub fn repeat(&mut self)
         requires some { 0 < item_count self.old }
         requires room { HasRoom self.old }
@@ -196,7 +189,6 @@ impl Trie {
     }
 
     /// Adds an item that comes in at a slot: there it parts from the others at a place. It has that bit there. There must be room for it.
-    #[inline]
     pub fn insert(&mut self, slot: Slot, place: u32, bit: bool)
         requires slot { IsIn self.old slot }
         requires room { HasRoom self.old }
@@ -214,7 +206,6 @@ impl Trie {
     }
 
     /// Takes the newest item back. The slot that named its node names again what it named before.
-    #[inline]
     pub fn take_back(&mut self)
         requires trie { (width : ℕ) × (keys : ℕ → ℕ → Bool) × IsTrie width keys self.old }
         requires some { 0 < item_count self.old }
@@ -243,7 +234,6 @@ impl Trie {
 }
 
 /// What a slot names.
-#[inline]
 fn kid(nodes: &[Node], slot: Slot) -> u32
     requires { slot.node < length nodes.now }
     ensures { result ≡ kid_of nodes.now slot.node slot.side }
@@ -253,7 +243,6 @@ fn kid(nodes: &[Node], slot: Slot) -> u32
 }
 
 /// Lets a slot name something else.
-#[inline]
 fn name(nodes: &mut Vec<Node>, slot: Slot, kid: u32)
     requires { slot.node < length nodes.old.items }
     ensures named { nodes.new.items ≡ with_named nodes.old.items slot.node slot.side kid }

@@ -8,7 +8,6 @@ ghost use Rattle.sgf_properties.specs.Offsets.{IsSpan, IsPropertyEnd};
 use crate::quick::name::short_name_end;
 
 /// The text from the offset `at` on. `at` is at most the text's length.
-#[inline]
 pub fn rest_from(text: &[u8], at: usize) -> &[u8]
     requires { at ≤ length text.now }
     ensures { result.now ≡ drop at text.now }
@@ -17,7 +16,6 @@ pub fn rest_from(text: &[u8], at: usize) -> &[u8]
 }
 
 /// The part of a text from the offset `start` up to the offset `end`.
-#[inline]
 pub fn part(text: &[u8], start: usize, end: usize) -> &[u8]
     requires rises { start ≤ end }
     requires within { end ≤ length text.now }
@@ -101,7 +99,6 @@ pub(crate) fn identifier_end(text: &[u8], at: usize) -> usize
 
 /// The offset after the letters, capitals and small ones, that begin at `at`; `at` if none is there. They are found byte by byte. This is the
 /// plain way. That names may have small letters, which don't count, is this project's choice.
-#[inline]
 pub fn letters_end(text: &[u8], at: usize) -> usize
     requires { at ≤ length text.now }
     ensures { IsSpan is_letter text.now at result }

@@ -9,7 +9,6 @@ use std::simd::prelude::*;
 /// The offset after values such as `[pd]` which stand from the offset `at` on, as far as they are found. If a `[` is at `at`, another value
 /// begins there.
 #[tactic(auto, using(crate::proofs::Points::points_more, crate::proofs::Points::fourth_stands))]
-#[inline]
 pub fn past_points(text: &[u8], at: usize) -> usize
     requires { at ≤ length text.now }
     ensures points { ArePoints text.now at result }

@@ -41,7 +41,6 @@ pub fn near_value_end(text: &[u8], at: usize) -> Option<usize>
 
 /// Whether the raw value at the offset `at` is two bytes without an escape, as in a point. At least three bytes must be left from `at` on. If
 /// it is false, nothing is known.
-#[inline]
 pub fn is_two_plain(text: &[u8], at: usize) -> bool
     requires { at + 2 < length text.now }
     ensures { IsTrue result → IsTwoPlain text.now at }
