@@ -58,13 +58,13 @@ decided = 0
 for crate in LIBRARIES:
     with open(f"{top}/crates/{crate}/src/lib.rt", encoding="utf-8") as file:
         table = re.search(r"Function, and its module \|\n((?://! \|.*\n)*)", file.read())
-    for names, module in re.findall(r"((?:`[\w:]+`(?:, | and )?)+)(?:, [^`(;|]*)? ?\(`([\w/]+)`\)", table[1] if table else ""):
-        with open(f"{top}/crates/{crate}/src/{module}.rt", encoding="utf-8") as file:
+    for names, owner, module in re.findall(r"((?:`[\w:]+`(?:, | and )?)+)(?: of `(\w+)`)?(?:, [^`(;|]*)? ?\(`([\w/]+)`\)", table[1] if table else ""):
+        with open(f"{top}/crates/{owner or crate}/src/{module}.rt", encoding="utf-8") as file:
             code = file.read()
         for name in re.findall(r"(?:\w+::)?(\w+)`", names):
             decided += 1
             if not re.search(rf"\bfn {name}\b", code):
-                faults.append(f"crates/{crate}/src/lib.rt: there is no {name} in {module}")
+                faults.append(f"crates/{crate}/src/lib.rt: there is no {name} in {module} of {owner or crate}")
 defined = 0
 for path in glob.glob(f"{top}/docs/*.md"):
     for line in open(path, encoding="utf-8"):

@@ -17,7 +17,7 @@
 //! Points, and sets of points as rows of bits, are the crate `board_points`. `Size`, `Point`, `Rect`, `Marks`, `point`, `rect`, `vertex` and the
 //! laws `listing` and `naming` are passed on from there.
 //!
-//! The code outside `quick` plays by the rules and can be read by itself, with `ListPast` as the past. `quick` has faster ways to the
+//! The code outside `quick` plays by the rules and can be read by itself, with `ListPast` as the past. (Only `Board::score` begins with a shortcut.) `quick` has faster ways to the
 //! same answers, and may be skipped. `sgf_lines` judges with the past of `quick`, `PrintPast`. Only that past uses the crate `key_trie`.
 //!
 //! | Module | What it has |
@@ -39,8 +39,8 @@
 //! |---|---|
 //! | reaching a colour | `fill` of `board_points`, which clearing and the score use. `Board::reaching` (`board/flood`) goes point by point, and only the tests call it here |
 //! | clearing a colour, which captures its groups without a liberty | `Board::clear` (`board`); which stones have none: `Board::shut_stones` (`board/regions`) |
-//! | a stone: capture, then suicide | `Board::place` (`board`); shortcuts: `Board::takes_nothing_at_a_glance` (`quick/glance`), `Board::find_taken` and `Board::put`, which takes off what was found (`quick/capture`) |
-//! | the area score; an empty point that reaches both colours or neither counts for nobody | `Board::score` (`board`), by `area_of` (`board/regions`) and `count_apart` of `board_points`; shortcut below side 32: `Board::score_in_halves` (`quick/both_areas`), by `count_halves` of `board_points` |
+//! | a stone: capture, then suicide | `Board::place` (`board`); shortcuts: `Board::takes_nothing_at_a_glance` (`quick/glance`), `Board::find_taken` and `Board::put`, which takes off what was found (`quick/capture`), by `add_if_shut` of `board_points` (`quick/group`) |
+//! | the area score; an empty point that reaches both colours or neither counts for nobody | `Board::score` (`board`), by `area_of` (`board/regions`), and `count_apart` of `board_points` (`rows`); shortcut below side 32: `Board::score_in_halves` (`quick/both_areas`), by `count_halves` of `board_points` (`quick/halves`) |
 //! | taking a turn; the reasons `over`, `turn` and `occupied`, in this order | `Referee::turn`, `Referee::reason_before_repeat` (`referee/turn`) |
 //! | `repeat` (positional superko; suicide of one stone is a case of it) | `Past::play` (`past`); shortcuts: `PrintPast::play_asked`, if `may_repeat` says that it may, and `play_on_copy` after a setup that leaves a stone without a liberty (`quick/print_past`) |
 //! | the colourings that `repeat` looks at: those since the last setup of stones | `ListPast::holds`, `stretch_has` (`past/list_past`); what a run uses: `Table::near` and `Table::find` (`quick/print_past/table`), which look from `Colourings::stretch_start` (`quick/print_past/colourings`) on. If `Table::gap` finds that no print is the same, nothing is looked up |

@@ -51,17 +51,18 @@
 //! | `--after`, and that no line ends there; `--limit` | `SequenceCursor::seek_after`, by `end_at` (`sequence_cursor`); `write_lines` (`run`) |
 //! | at most 64 MiB of a source | `read_some` (`run`) |
 //! | which values are moves, stones and players; that KM, HA and others have no effect | `kind_of`; `Contents::of_lone` for a node that is recognized at a glance (`judging/contents`); `LineNodes::next` (`line_nodes`) says which names no such node has |
-//! | which games are judged: GM; SZ | `is_go`; `size` (`judging/root`) |
+//! | which games are judged: GM; SZ | `is_go`; `size`; of several the first counts: `game_and_side` (`judging/root`) |
 //! | the first reason of a node: `mixed`, `two-moves` or `bad-setup`; then `bad-point` | `effect_of`; `take_move` (`judging/step`); a faulty value of a setup: `push_areas`, `last_player` (`judging/contents`) |
 //! | which values are passes; the last value of PL, which counts | `is_pass` (`node_values`); `last_player`, `with_player` (`judging/contents`); what PL does then: `Referee::setup` of `go_board` |
-//! | the other reasons | the crate `go_board` |
+//! | the other reasons | `Referee::reason_before_repeat` of `go_board` (`referee/turn`); for `repeat` `Past::play` of `go_board` (`past`) |
 //! | TURN, PLACE and REASON of the first illegal node | `Judge::take` (`judging/judge`) |
+//! | the verdict of a line; `over` or `open` | `Judge::verdict`; `score` (`judging/judge`) |
 //! | PLACE, GAME and NODES of a row | `SequenceCursor::place`, `SequenceCursor::game`, `SequenceCursor::len` (`sequence_cursor`) |
-//! | a row; the row of counts | `Row::lay_out`; `Row::lay_out_counts` (`form/row`) |
+//! | a row; the row of counts | `Row::lay_out`; `Row::lay_out_counts` (`form/row`); the counts: `measure` of `sgf_tree` (`reader`) |
 //! | that a script stops before an illegal node | `judge_line` (`judging/judged`) |
 //! | which lines have no commands: not judged, or over side 25; a setup leaves a stone without a liberty | `Script::keep`; `leaves_unreaching`, `Script::text` (`form/script`) |
 //! | a script; a node's commands | `Script::begin`, `Script::say`, `Script::text` (`form/script`); `push_step` (`form/commands`) |
-//! | a game without variations | `SgfForm::follow` (`form/sgf`); its nodes: `Outline::push_sequence` of `sgf_tree` |
+//! | a game without variations | `SgfForm::follow` (`form/sgf`); its nodes: `Outline::push_sequence` of `sgf_tree` (`outline`); what it leaves out: `Stretch::then` of `sgf_tree` (`reader/stretch`), `copy_capitals` of `sgf_tree` (`reader/properties`) |
 //!
 //! A run reads from a [`Source`] and writes to a [`Sink`], both of the crate `byte_streams`.
 //!

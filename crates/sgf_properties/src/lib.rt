@@ -32,8 +32,8 @@
 //! | Rule (docs/GRAMMAR.md, docs/OUTPUT.md) | Function, and its module |
 //! |---|---|
 //! | PropIdent: its letters | `letters_end` (`scan`) |
-//! | the name of a property: its capitals | `PropRef::is`, `PropRef::push_name` (`property`); in the sgf form of a run: `copy_capitals` of `sgf_tree` |
-//! | the end of a raw value | `far_value_end` (`value`) |
+//! | the name of a property: its capitals | `PropRef::is`, `PropRef::push_name` (`property`); in the sgf form of a run: `copy_capitals` of `sgf_tree` (`reader/properties`) |
+//! | the end of a raw value | `far_value_end` (`value`); shortcuts: `near_value_end`, `is_two_plain` (`quick/value`), `past_points` (`quick/points`) |
 //! | white space: its bytes | `is_white_space` (`scan`) |
 //! | decoded text; numbers | `decode_front`, which `push_text` calls (`text`); `number` (`numbers`) |
 //! | a property in sgf form | `push_property`, `push_value` (`written`) |

@@ -48,7 +48,7 @@
 //! | Collection and GameTree; Sequence, and the `;` of a Node | `read_games`; `read_sequence` (`reader/games`) |
 //! | the properties of a Node; Property | `read_properties`; `read_property` (`reader/properties`) |
 //! | PropIdent: its first capital; the `[` after it | `read_properties` (`reader/properties`); `read_far_name` (`reader/properties`) |
-//! | white space: before the first `(`; after a parenthesis; before a property, and before a `[` | `read_whole` (`reader`); `read_sequence`, `read_games` (`reader/games`); `read_properties`, `read_property`, `read_far_name` (`reader/properties`) |
+//! | white space: before the first `(`; after a parenthesis; after a `;`; after a name; after a value, so before what comes next | `read_whole` (`reader`); `read_sequence`, `read_games` (`reader/games`); `read_properties`; `read_far_name`; `read_property` (`reader/properties`) |
 //! | the byte order mark: its bytes; once, before white space | `mark_end` (`reader/mark`); `read_whole` (`reader`) |
 //! | the first fault | where these return `NotSgf`: `read_games`, `read_sequence` (`reader/games`), `read_far_name` (`reader/properties`), `read_far_value` (`reader/value`), `mark_end` (`reader/mark`); `reader/fault` says why that is the first |
 //! | at most 64 MiB | `read`, `read_outline`, `measure` (`reader`) |

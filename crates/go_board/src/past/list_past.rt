@@ -49,6 +49,7 @@ impl Past for ListPast {
         })
     }
 
+    // The newest counts, too: so suicide of one stone is a repetition.
     fn holds(&self, board: &Board) -> bool {
         self.newest.board.same(board) || !self.newest.begins && stretch_has(&self.older, board)
     }

@@ -192,7 +192,8 @@ fn with_stones(setup: Setup, good: bool) -> Setup
     }
 }
 
-/// A setup with more players. `last` is the last of them; None means that one of the values names no player.
+/// A setup with more players (a further PL, which replaces those before it). `last` is the last of them; None means that one of the values
+/// names no player.
 fn with_player(setup: Setup, last: Option<Colour>) -> Setup
     ensures { result ≡ setup_with_player setup last }
 {

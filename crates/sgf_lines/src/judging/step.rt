@@ -115,7 +115,7 @@ fn take_contents<'a, P: Past>(
     })
 }
 
-/// Does the same, and returns what the node did to the board. The first reason that holds is given, in this order: `mixed` (a move and a setup,
+/// Takes the step of a node as `take_contents` does, and returns what the node did to the board. The first reason that holds is given, in this order: `mixed` (a move and a setup,
 /// even a faulty one), `two-moves`, `bad-setup`, and then those of `take_move`. A `bad-setup` was found by `gathered`. The arms need no
 /// such order: those of `two-moves` and `bad-setup` are for nodes that aren't mixed.
 // Inlined, as `take_contents`.

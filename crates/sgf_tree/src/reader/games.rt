@@ -52,7 +52,7 @@ pub(crate) fn read_games<K: Keeper>(
                 keeper.game_ends(depth);
                 at = skip_white_space(text, at + 1);
             }
-            // After a sequence or a game only a parenthesis may come: no node after a variation, and no other text after the games.
+            // Before and after games, and after a sequence, only a parenthesis may come: no node after a variation, and no other text.
             _ => return Err(PartFault::NotSgf(at)),
         }
     }

@@ -61,8 +61,8 @@ pub(crate) fn read_properties<K: Keeper>(
     Ok(read)
 }
 
-/// Reads the property whose identifier begins at the end of `before`, value after value: Property = PropIdent PropValue { PropValue }. This
-/// is the plain way.
+/// Reads the property whose identifier begins at the end of `before`, value after value: Property = PropIdent PropValue { PropValue }. White
+/// space may follow each value. This is the plain way.
 #[inline(never)]
 fn read_property<K: Keeper>(
     text: &[u8],
@@ -137,7 +137,7 @@ fn read_far_name<K: Keeper>(
     Ok(PartRead { stretch, end })
 }
 
-/// After `stretch` the capitals between two offsets are copied, and no other bytes there.
+/// After `stretch` the capitals between two offsets are copied, and no other bytes there: the sgf form leaves small letters of names out.
 fn copy_capitals<K: Keeper>(
     text: &[u8],
     from: usize,

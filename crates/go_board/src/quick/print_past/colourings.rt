@@ -67,7 +67,8 @@ impl Colourings {
         &self.newest
     }
 
-    /// The number of the first colouring of the present stretch.
+    /// The number of the first colouring of the present stretch, which the last setup of stones began, or the game. Only the colourings from it on
+    /// count for positional superko.
     pub(crate) fn stretch_start(&self) -> usize
         ensures below { result < length (all_of self.now) }
         ensures start { result ≡ start_of (all_of self.now) }
