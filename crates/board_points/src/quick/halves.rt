@@ -47,8 +47,9 @@ fn paired(low: u64, high: u64) -> u64
     high * HALVES + low
 }
 
-/// How many points each of two sets has that aren't in the other: first the set in the low halves (Black's area in a score), then the other. So an
-/// empty point in both areas counts for nobody, as one in neither. There must be as many words as the board has rows, fewer than 32, and all points must be on the board.
+/// How many points each of two sets has that aren't in the other: first the set in the low halves (Black's area in a score), then the other.
+/// So an empty point in both areas counts for nobody, as one in neither. There must be as many words as the board has rows, fewer than 32,
+/// and all points must be on the board.
 pub fn count_halves(areas: &[u64]) -> (u32, u32)
     requires few { length areas.now < HALF }
     requires black_on { (p : Point) → IsTrue (is_set (low_halves areas.now) p) → IsOn (length areas.now) p }
