@@ -8,9 +8,11 @@ ghost use Rattle.board_points.specs.inner.Columns.{IsPart, HasBeside, IsWidened,
 
 use crate::columns::{with_column, without_column};
 
-/// Adds to a set all points that a path within `region` connects to it. Each row adds the points of the region that are beside
-/// points of the set. If a row has grown, those of the rows above and below it that can now add a point wait for their turn. All points of the set
-/// must be in the region, and both must have as many words as the board has rows, fewer than 64.
+/// Adds to a set all points that a path within `region` connects to it. This is the plain way to find whole groups or areas.
+///
+/// Each row adds the points of the region that are beside points of the set. If a row has grown, those of the rows above and below it that
+/// can now add a point wait for their turn. All points of the set must be in the region, and both must have as many words as the board has
+/// rows, fewer than 64.
 pub fn fill(rows: &mut [u64], region: &[u64])
     requires { IsWithin rows.old region.now }
     ensures grows { Grows (is_set region.now) (is_set rows.old) (is_set rows.new) }

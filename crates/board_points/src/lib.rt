@@ -8,6 +8,8 @@
 //! points of a row. A set is *filled* within a region: it gets each point of the region that a path of adjacent points within the region connects
 //! to it. A *free* point has no stone. A free point beside a stone is a *liberty* of the stone. These forms of sets are this project's choice.
 //!
+//! The code outside `quick` is complete and can be read by itself. `quick` has faster ways to some of the same answers, and may be skipped.
+//!
 //! ```text
 //! let size = Size::new(19)?;
 //! let corner = point(b"aa", size)?;

@@ -70,8 +70,8 @@ pub(crate) fn row_at(own: &[u64], others: &[u64], all: u64, middle: usize, i: us
     }
 }
 
-/// Writes to `alive` the stones of `own` that have an empty point beside them. `others` has the stones of the other colour. The three must have as
-/// many words as the board has rows.
+/// Writes to `alive` the stones of `own` that have an empty point beside them. This is the plain way; `quick` asks about one stone.
+/// `others` has the stones of the other colour. The three must have as many words as the board has rows.
 pub fn stones_with_liberty(own: &[u64], others: &[u64], alive: &mut [u64])
     requires rows { AreOfOneBoard own.now others.now }
     requires alive { length alive.old ≡ length own.now }

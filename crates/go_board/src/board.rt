@@ -93,10 +93,7 @@ impl Board {
             ≡ same_cell (cell_at self.now (record { col = col; row = row })) (stone_of colour) }
         ensures off { (col : ℕ) → IsTrue (has_bit result col) → col < self.now.side }
     {
-        match colour {
-            Colour::Black => self.rows_of(Colour::Black)[usize::from(row)],
-            Colour::White => self.rows_of(Colour::White)[usize::from(row)],
-        }
+        self.rows_of(colour)[usize::from(row)]
     }
 
     /// Changes what stands on one point, and on no other. The point must be on the board. Nothing is cleared.

@@ -1,4 +1,4 @@
-//! The errors of the crate.
+//! Refused memory, and why a turn wasn't taken.
 
 ghost use Rattle.std.specs.Prelude.{◌≡◌};
 ghost use Rattle.go_board.specs.declared.fault.TurnFault.TheVariants.{Memory};

@@ -17,8 +17,10 @@
 //! Points, and sets of points as rows of bits, are the crate `board_points`. `Size`, `Point`, `Rect`, `Marks`, `point`, `rect`, `vertex` and the
 //! laws `listing` and `naming` are passed on from there.
 //!
-//! The code outside `quick` plays by the rules and can be read by itself, with `ListPast` as the past. (Only `Board::score` begins with a shortcut.) `quick` has faster ways to the
-//! same answers, and may be skipped. `sgf_lines` judges with the past of `quick`, `PrintPast`. Only that past uses the crate `key_trie`.
+//! The code outside `quick` plays by the rules and can be read by itself, with `ListPast` as the past. `quick` has faster ways to the
+//! same answers, and may be skipped. Three functions outside it begin with a test that only saves work: `Board::score`, which calls a
+//! shortcut on a small board, `Board::has_unreaching` and `Board::shut_stones`. `sgf_lines` judges with the past of `quick`, `PrintPast`.
+//! Only that past uses the crate `key_trie`.
 //!
 //! | Module | What it has |
 //! |---|---|
@@ -37,7 +39,7 @@
 //!
 //! | Rule (docs/RULES.md) | Function, and its module |
 //! |---|---|
-//! | reaching a colour | `fill` of `board_points`, which clearing and the score use. `Board::reaching` (`board/flood`) goes point by point, and only the tests call it here |
+//! | reaching a colour | `fill` of `board_points` (`fill`), which clearing and the score use. `Board::reaching` (`board/flood`) goes point by point, and only the tests call it here |
 //! | clearing a colour, which captures its groups without a liberty | `Board::clear` (`board`); which stones have none: `Board::shut_stones` (`board/regions`) |
 //! | a stone: capture, then suicide | `Board::place` (`board`); shortcuts: `Board::takes_nothing_at_a_glance` (`quick/glance`), `Board::find_taken` and `Board::put`, which takes off what was found (`quick/capture`), by `add_if_shut` of `board_points` (`quick/group`) |
 //! | the area score; an empty point that reaches both colours or neither counts for nobody | `Board::score` (`board`), by `area_of` (`board/regions`), and `count_apart` of `board_points` (`rows`); shortcut below side 32: `Board::score_in_halves` (`quick/both_areas`), by `count_halves` of `board_points` (`quick/halves`) |

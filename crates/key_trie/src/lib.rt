@@ -26,6 +26,8 @@
 //! Contracts name the keys of all items, by their numbers: the trie is one of those keys (`IsTrie`). The same nodes are a trie for all keys that
 //! part where those do.
 //!
+//! The crate has no shortcuts of its own. As a whole it stands in for a search through all keys, one by one.
+//!
 //! Only `Trie::new` and `Trie::make_room` take memory. The caller makes room before it adds an item.
 #![tactic(auto)]
 

@@ -1,5 +1,5 @@
 -- The table by which past colourings are looked up: their prints, and a trie of the keys of the oldest ones.
-use Rattle.std.specs.Prelude.{◌≡◌, ℕ, ◌<◌, ◌≤◌, ◌^◌, List, ◌∷◌, length, reverse}
+use Rattle.std.specs.Prelude.{◌≡◌, ℕ, ◌+◌, ◌<◌, ◌≤◌, ◌^◌, List, ◌∷◌, length, reverse}
 use Rattle.std.specs.Vec.{vec_capacity}
 use Rattle.go_board.specs.declared.quick.print_past.table.Gap.{Gap}
 use Rattle.go_board.specs.declared.quick.print_past.key.TheConstants.{WIDTH}
@@ -24,6 +24,17 @@ pub record IsTable (held : List Held) (table : Table) : Type 0 where
 pub record HasRoomForNext (table : Table) : Type 0 where
   pub prints : length table.prints.items < vec_capacity table.prints
   pub trie : length table.prints.items < room_of table.trie
+
+-- the trie doesn't have all of these colourings yet
+pub record HasUnlinked (held : List Held) (now : Table) : Type 0 where
+  pub table : IsTable held now
+  pub more : item_count now.trie < length now.prints.items
+
+-- the oldest colouring that wasn't in the trie is put into it, and the prints stay
+pub record LinksNext (held : List Held) (old new : Table) : Type 0 where
+  pub table : IsTable held new
+  pub next : item_count new.trie ≡ item_count old.trie + 1
+  pub prints : new.prints.items ≡ old.prints.items
 
 -- where the next colouring comes into a trie that has all of these, if it has that print
 pub record IsGap (held : List Held) (trie : Trie) (print : ℕ) (gap : Gap) : Type 0 where

@@ -17,7 +17,7 @@ ghost use Rattle.go_board.specs.Past.{Held, all_of, present_stretch, stretch_of,
 ghost use Rattle.go_board.specs.inner.Changes.{IsNumber};
 ghost use Rattle.go_board.specs.inner.Key.{bits_of, keys_of};
 ghost use Rattle.go_board.specs.inner.Print.{print_of, prints_of};
-ghost use Rattle.go_board.specs.inner.Table.{HasRoomForNext, IsGap, IsTable};
+ghost use Rattle.go_board.specs.inner.Table.{HasRoomForNext, HasUnlinked, IsGap, IsTable, LinksNext};
 ghost use Rattle.key_trie.specs.Key.{Agree};
 ghost use Rattle.key_trie.specs.Trie.{item_count, nodes_of};
 
@@ -251,11 +251,8 @@ impl Table {
 
     /// Puts the oldest colouring that isn't there yet into the trie.
     fn link_next(&mut self, colourings: &Colourings)
-        requires table { IsTable (all_of colourings.now) self.old }
-        requires more { item_count self.old.trie < length self.old.prints.items }
-        ensures table { IsTable (all_of colourings.now) self.new }
-        ensures next { item_count self.new.trie ≡ item_count self.old.trie + 1 }
-        ensures prints { self.new.prints.items ≡ self.old.prints.items }
+        requires unlinked { HasUnlinked (all_of colourings.now) self.old }
+        ensures { LinksNext (all_of colourings.now) self.old self.new }
     {
         let number = self.trie.len();
         if number == 0 {
@@ -273,12 +270,9 @@ impl Table {
 
     /// The same, by all bits of the keys.
     fn link_by_board(&mut self, colourings: &Colourings)
-        requires table { IsTable (all_of colourings.now) self.old }
-        requires more { item_count self.old.trie < length self.old.prints.items }
+        requires unlinked { HasUnlinked (all_of colourings.now) self.old }
         requires some { 0 < item_count self.old.trie }
-        ensures table { IsTable (all_of colourings.now) self.new }
-        ensures next { item_count self.new.trie ≡ item_count self.old.trie + 1 }
-        ensures prints { self.new.prints.items ≡ self.old.prints.items }
+        ensures { LinksNext (all_of colourings.now) self.old self.new }
     {
         let next = self.trie.len();
         let board = colourings.board_at(next);

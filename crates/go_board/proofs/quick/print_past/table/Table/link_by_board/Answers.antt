@@ -1,4 +1,4 @@
-use Rattle.std.proofs.Common.{refl, subst, arith}
+use Rattle.std.proofs.Common.{ℕ, List, refl, subst, arith}
 use Rattle.go_board.specs.declared.quick.print_past.key.TheConstants.{WIDTH}
 use Rattle.go_board.specs.Past.{all_of}
 use Rattle.go_board.specs.inner.Key.{bits_of, keys_of}
@@ -12,7 +12,7 @@ use Rattle.go_board.proofs.quick.print_past.table.Table.link_by_board.Goals.{Aft
 -- the nearest colouring in the trie, and the bits of its key and of the next one's
 module _ (c : After-key_of-other) where
   pub nearest_is : IsNearest (keys_of (all_of c.args.colourings.now)) c.args.self.now.trie (bits_of c.key_of-key.result) WIDTH c.nearest-near.result
-  nearest_is = c.nearest-near.ensures.nearest WIDTH (keys_of (all_of c.args.colourings.now)) c.requires.table.linked (omega arith)
+  nearest_is = c.nearest-near.ensures.nearest WIDTH (keys_of (all_of c.args.colourings.now)) c.requires.unlinked.table.linked (omega arith)
 
   pub own : Agree (bits_of c.key_of-key.result) (keys_of (all_of c.args.colourings.now) (item_count c.args.self.now.trie)) WIDTH
   own =
@@ -22,23 +22,31 @@ module _ (c : After-key_of-other) where
   pub other : Agree (bits_of c.key_of-other.result) (keys_of (all_of c.args.colourings.now) c.nearest-near.result) WIDTH
   other = subst (λ x. Agree (bits_of c.key_of-other.result) x WIDTH) (c.key_of-other.ensures.whole c.board_at-past.ensures) (agree_self (bits_of c.key_of-other.result) WIDTH)
 
-pub returns-in-Some-clause-table : goal.returns-in-Some-clause-table
-returns-in-Some-clause-table c =
+pub returns-in-Some : goal.returns-in-Some
+returns-in-Some c =
     let t = c.args.self.now in
     let held = all_of c.args.colourings.now in
-    let is = c.requires.table in
+    let is = c.requires.unlinked.table in
     let keys = keys_of held in
-    let w = (goal.at.returns-in-Some-clause-table c).After-key_of-other in
+    let w = (goal.at.returns-in-Some c).After-key_of-other in
     let apart = c.in-Some.ensures in
     let parts = parts_as (nearest_is w) (keys (item_count t.trie)) _ c.in-Some.place apart.0 (own w) (other w) apart.1 apart.2 in
-    tabled_with held t (record t { trie = c.part.new.self }) is refl refl (omega (arith, is.room, c.part.ensures.room)) (omega (arith, is.most, c.part.ensures.room)) (omega (arith, c.part.ensures.more, c.requires.more))
-    (c.part.ensures.trie WIDTH keys c.nearest-near.result is.linked (omega (arith, apart.0)) parts.0 parts.1)
+    record {
+      table = tabled_with held t (record t { trie = c.part.new.self }) is refl refl (omega (arith, is.room, c.part.ensures.room)) (omega (arith, is.most, c.part.ensures.room)) (omega (arith, c.part.ensures.more, c.requires.unlinked.more))
+          (c.part.ensures.trie WIDTH keys c.nearest-near.result is.linked (omega (arith, apart.0)) parts.0 parts.1);
+      next = c.part.ensures.more;
+      prints = refl {A = List ℕ};
+    }
 
-pub returns-in-None-clause-table : goal.returns-in-None-clause-table
-returns-in-None-clause-table c =
+pub returns-in-None : goal.returns-in-None
+returns-in-None c =
     let t = c.args.self.now in
     let held = all_of c.args.colourings.now in
-    let is = c.requires.table in
-    let w = (goal.at.returns-in-None-clause-table c).After-key_of-other in
-    tabled_with held t (record t { trie = c.repeat.new.self }) is refl refl (omega (arith, is.room, c.repeat.ensures.room)) (omega (arith, is.most, c.repeat.ensures.room)) (omega (arith, c.repeat.ensures.more, c.requires.more))
-    (c.repeat.ensures.trie WIDTH (keys_of held) c.nearest-near.result is.linked (nearest_is w).there (agree_on (agree_back (other w)) (agree_on (agree_back c.in-None.ensures) (own w))))
+    let is = c.requires.unlinked.table in
+    let w = (goal.at.returns-in-None c).After-key_of-other in
+    record {
+      table = tabled_with held t (record t { trie = c.repeat.new.self }) is refl refl (omega (arith, is.room, c.repeat.ensures.room)) (omega (arith, is.most, c.repeat.ensures.room)) (omega (arith, c.repeat.ensures.more, c.requires.unlinked.more))
+          (c.repeat.ensures.trie WIDTH (keys_of held) c.nearest-near.result is.linked (nearest_is w).there (agree_on (agree_back (other w)) (agree_on (agree_back c.in-None.ensures) (own w))));
+      next = c.repeat.ensures.more;
+      prints = refl {A = List ℕ};
+    }
