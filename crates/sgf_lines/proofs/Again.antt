@@ -21,7 +21,7 @@ use Rattle.sgf_lines.specs.Page.{page}
 use Rattle.sgf_lines.specs.declared.options.Options.{Options}
 use Rattle.sgf_lines.specs.declared.options.Form.TheVariants.{Sgf as sgf_form}
 use Rattle.sgf_lines.proofs.Pages.{on_page}
-use Rattle.sgf_lines.proofs.Lists.{Each, each_append, each_parts, each_map, each_through}
+use Rattle.tree_lines.proofs.Lists.{Each, each_append, each_parts, each_map, each_through}
 
 -- two walks end in the same state, and met no illegal node, or one at the same index for the same reason
 data Alike (w v : Walk) (nodes others : List Node) : Type 0 where

@@ -1,7 +1,6 @@
 -- The lines of games after others are those of the others and then theirs, and what stands further on is judged alike.
-use Rattle.std.proofs.lemmas.Grind.{common_steps}
+use Rattle.std.proofs.lemmas.Grind.{common_steps, flat_map-append}
 use Rattle.std.proofs.Common.{◌≡◌, ◌≢◌, ℕ, ◌+◌, List, [], ◌∷◌, ◌++◌, map, refl, ap, arith, append_assoc}
-use Rattle.std.proofs.lemmas.Grind.{flat_map-append}
 use Rattle.std.specs.List.{flat_map, AllZip}
 use Rattle.std.proofs.lemmas.Option.{slice_get-map}
 use Rattle.std.proofs.lemmas.List.{map-append, length-map}
@@ -16,10 +15,10 @@ use Rattle.sgf_lines.specs.Appending.{raised_verdict, raised_record}
 use Rattle.sgf_lines.specs.Paths.{Path, paths, IsPathOf}
 use Rattle.sgf_lines.specs.SplitAgain.{HaveSame, SaysSame, scored, illegal_at, another_game, another_size}
 use Rattle.sgf_lines.proofs.Again.{says_same}
-use Rattle.sgf_lines.proofs.Lists.{Each, map-through}
-use Rattle.sgf_lines.proofs.Joins.{as_many}
-use Rattle.sgf_lines.proofs.Visits.{some_node, LeadsToLeaf, each_path}
-use Rattle.sgf_lines.proofs.Named.{each_named}
+use Rattle.tree_lines.proofs.Lists.{Each, map-through}
+use Rattle.tree_lines.proofs.LineNodes.{as_many}
+use Rattle.tree_lines.proofs.Visits.{some_node, LeadsToLeaf, each_path}
+use Rattle.tree_lines.proofs.Named.{each_named}
 
 -- ---- games after others
 

@@ -15,13 +15,13 @@ use Rattle.sgf_lines.specs.declared.options.Form.TheVariants.{List as list_form}
 use Rattle.sgf_lines.specs.declared.over_lines.Before.{Before}
 use Rattle.sgf_lines.specs.declared.over_lines.Before.TheVariants.{Unheld, Held, Refused}
 use Rattle.sgf_lines.specs.declared.verdict.Verdict.{Verdict}
-use Rattle.sgf_lines.specs.inner.Following.{nodes_of, line_before, nodes_before, path_before}
+use Rattle.tree_lines.specs.Following.{nodes_of, line_before, nodes_before, path_before}
 use Rattle.sgf_lines.specs.inner.GoingOn.{AreHeld, HasPlays, StandsBy, index_by, next_by}
 use Rattle.sgf_lines.specs.inner.Judging.{Judging}
 use Rattle.sgf_lines.specs.inner.Keeping.{HoldsJudgement}
 use Rattle.sgf_lines.specs.inner.Followers.{state_by, IsRow, Follows}
 use Rattle.sgf_lines.proofs.Keeping.{line_next}
-use Rattle.sgf_lines.proofs.LineCounts.{lines_within}
+use Rattle.tree_lines.proofs.LeafLines.{lines_within}
 use Rattle.sgf_lines.proofs.Pages.{get_dropped, get_taken}
 use Rattle.sgf_lines.proofs.PlayCounts.{page_from, few, adds, shares_by, Shares}
 

@@ -4,15 +4,15 @@ use Rattle.std.proofs.lemmas.Grind.{common_steps}
 use Rattle.std.specs.Prelude.{Bool}
 use Rattle.std.specs.Result.{IsErr}
 use Rattle.sgf_lines.specs.Cursor.{CursorState}
-use Rattle.sgf_lines.specs.declared.sequence_cursor.Front.{Front}
+use Rattle.tree_lines.specs.declared.sequence_cursor.Front.{Front}
 use Rattle.sgf_lines.specs.declared.over_lines.Before.{Before}
 use Rattle.sgf_lines.specs.declared.over_lines.Before.TheVariants.{Unheld, Held, Refused}
-use Rattle.sgf_lines.specs.inner.Following.{nodes_before, path_before, Continues}
+use Rattle.tree_lines.specs.Following.{nodes_before, path_before, Continues}
 use Rattle.sgf_lines.specs.inner.GoingOn.{AreHeld, GoesOnBy, HasPlays, PlaysLine, StandsBy, index_by}
 use Rattle.sgf_lines.specs.inner.Keeping.{PlaysUpTo, fresh_plays}
-use Rattle.sgf_lines.specs.inner.Sequences.{SequencesState}
+use Rattle.tree_lines.specs.Sequences.{SequencesState}
 use Rattle.sgf_lines.proofs.Keeping.{some_node}
-use Rattle.sgf_lines.proofs.LineNodes.{line_is, some_before}
+use Rattle.tree_lines.proofs.LineNodes.{line_is, some_before}
 use Rattle.sgf_lines.proofs.RunRecords.{some_line}
 
 -- the next line stands before the cursor

@@ -10,7 +10,7 @@ use Rattle.sgf_lines.specs.Verdict.{judged_on}
 use Rattle.sgf_lines.specs.inner.Judging.{Judging, IsSettled, begun_game, judging, after, next_plays}
 use Rattle.sgf_lines.specs.inner.Keeping.{HoldsJudgement, judging_front, script_front, fresh_plays, PlaysUpTo}
 use Rattle.sgf_lines.specs.inner.Scripting.{ScriptState, script_of}
-use Rattle.sgf_lines.proofs.Lists.{front_more}
+use Rattle.tree_lines.proofs.Lists.{front_more}
 use Rattle.sgf_lines.proofs.Walking.{judged_of_front}
 use Rattle.sgf_lines.proofs.Scripts.{script_settled}
 use Rattle.sgf_lines.proofs.Judgements.{judging_more, plays_more, settled_all, one_at_most}

@@ -8,20 +8,20 @@ use Rattle.sgf_tree.specs.FileOrder.{node_at}
 use Rattle.sgf_lines.specs.Lines.{lines}
 use Rattle.sgf_lines.specs.Cursor.{CursorState, advanced}
 use Rattle.sgf_lines.specs.JudgedGames.{game_kind, root_properties}
-use Rattle.sgf_lines.specs.declared.sequence_cursor.Front.{Front}
+use Rattle.tree_lines.specs.declared.sequence_cursor.Front.{Front}
 use Rattle.sgf_lines.specs.inner.Judging.{Judgement, back}
 use Rattle.sgf_lines.specs.inner.Pieces.{PiecesState, cut}
 use Rattle.sgf_lines.specs.inner.Recording.{open_record, whole_record}
 use Rattle.sgf_lines.specs.inner.Scripting.{ScriptState, script_back, script_ended}
-use Rattle.sgf_lines.specs.inner.Following.{Continues, line_in, line_before, nodes_before, path_before}
+use Rattle.tree_lines.specs.Following.{Continues, line_in, line_before, nodes_before, path_before}
 use Rattle.sgf_lines.specs.inner.Keeping.{judging_front, script_front, KeepsJudgement, HoldsJudgement}
-use Rattle.sgf_lines.specs.inner.Sequences.{SequencesState, RiseTo, SharesFront}
-use Rattle.sgf_lines.specs.inner.Fronts.{sequences_before}
+use Rattle.tree_lines.specs.Sequences.{SequencesState, RiseTo, SharesFront}
+use Rattle.sgf_lines.specs.inner.Fronts.{sequences_before, HasFront}
 use Rattle.sgf_lines.specs.inner.GoingOn.{IsHeldOf}
 use Rattle.sgf_lines.proofs.Along.{same_root}
-use Rattle.sgf_lines.proofs.Fronts.{end_of, alike, has_front, front_kept}
+use Rattle.tree_lines.proofs.Fronts.{end_of, alike, front_kept}
 use Rattle.sgf_lines.proofs.Judgements.{judging_back}
-use Rattle.sgf_lines.proofs.LineNodes.{named_in, as_long}
+use Rattle.tree_lines.proofs.LineNodes.{named_in, as_long}
 use Rattle.sgf_lines.proofs.Recordings.{record_back}
 use Rattle.sgf_lines.proofs.Scripts.{script_cut}
 
@@ -78,6 +78,10 @@ module _ (old new : CursorState) (shared : ℕ) (moved : new ≡ advanced old) (
   same_nodes =
       let named_new : map Some (nodes_before new) ≡ map (node_at old.games) (path_before new) = named new ∙ ap (λ (p : CursorState). map (node_at p.games) (path_before new)) moved in
       same_front (node_at old.games) (path_before old) (path_before new) (nodes_before old) (nodes_before new) shared (named old) named_new continues
+
+-- the front that a line shares with the line before it
+pub has_front : (old new : SequencesState) (shared : Front) → SharesFront old new shared → HasFront new.ends shared
+has_front old new shared h = grind (arith, common_steps)
 
 module _ (holds : SequencesState → Type 0) (cursor : SequencesState) (front : Front) (held : IsHeldOf holds cursor front) where
   -- some nodes are held, of the line before

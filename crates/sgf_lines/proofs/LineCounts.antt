@@ -1,13 +1,10 @@
--- How many lines a collection has at most, and the answer of a count.
+-- The answer of a count, and a row that is put in two pieces.
 use Rattle.std.proofs.lemmas.Grind.{common_steps}
-use Rattle.std.proofs.Common.{◌≡◌, ℕ, ◌+◌, ◌≤◌, length, map, ap, ◌∙◌, arith, List, ◌++◌, take, Result, Ok, Err, length-append}
+use Rattle.std.proofs.Common.{◌≡◌, ℕ, ◌+◌, length, ap, ◌∙◌, arith, List, ◌++◌, take, Result, Ok, Err, length-append}
 use Rattle.std.specs.Result.{IsErr}
-use Rattle.std.proofs.lemmas.List.{length-map, take-append-le}
+use Rattle.std.proofs.lemmas.List.{take-append-le}
 use Rattle.sgf_tree.specs.Tree.{Games, game_count, node_count}
 use Rattle.sgf_lines.specs.Lines.{lines}
-use Rattle.sgf_lines.specs.Paths.{paths, leaf_of}
-use Rattle.sgf_lines.proofs.Visits.{rises_parts, leaves_in_order}
-use Rattle.sgf_lines.proofs.Named.{length-paths}
 use Rattle.std.specs.Io.KnownBytes.{Appends}
 use Rattle.std.proofs.KnownBytes.{Appends-trans}
 use Rattle.std.proofs.Math.Seq.{take-append-add}
@@ -16,10 +13,6 @@ use Rattle.byte_streams.specs.Streams.{SourceState, SinkState, PutsAll}
 use Rattle.sgf_lines.specs.Counts.{counts_of, IsCount}
 use Rattle.sgf_lines.specs.inner.Running.{HasReadAll}
 use Rattle.sgf_lines.specs.declared.counting.Counts.{Counts}
-
--- no more lines than nodes
-pub lines_within : (c : Games) → length (lines c) ≤ node_count c
-lines_within c = omega (arith, (rises_parts 0 (map leaf_of (paths c)) (node_count c) (leaves_in_order c)).1, length-map (paths c) leaf_of, length-paths c)
 
 -- counts with the three numbers of a collection are its counts
 pub same_counts : (c : Games) (counts : Counts) → counts.games ≡ game_count c → counts.nodes ≡ node_count c → counts.lines ≡ length (lines c) → counts ≡ counts_of c

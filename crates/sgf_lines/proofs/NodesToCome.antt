@@ -4,10 +4,10 @@ use Rattle.std.proofs.Common.{◌≡◌, ℕ, suc, ◌+◌, ◌<◌, ◌≤◌, 
 use Rattle.std.proofs.lemmas.Bool.{cases_lt}
 use Rattle.std.proofs.lemmas.List.{drop-drop, length-drop}
 use Rattle.sgf_tree.specs.Tree.{Node}
-use Rattle.sgf_lines.specs.inner.Following.{nodes_before}
-use Rattle.sgf_lines.specs.inner.Sequences.{SequencesState, RiseTo, nodes_in}
+use Rattle.tree_lines.specs.Following.{nodes_before}
+use Rattle.tree_lines.specs.Sequences.{SequencesState, RiseTo, nodes_in}
 use Rattle.sgf_lines.specs.inner.Fronts.{sequences_before, nodes_to_come}
-use Rattle.sgf_lines.proofs.Fronts.{rises_all, rises_each, rises_through, part_then}
+use Rattle.tree_lines.proofs.Fronts.{rises_all, rises_each, rises_through, part_then}
 use Rattle.sgf_lines.proofs.Pages.{get_dropped}
 
 -- if the nodes from an index on are to come, the next one is that at the index

@@ -2,16 +2,13 @@
 use Rattle.std.proofs.lemmas.Grind.{common_steps}
 use Rattle.std.proofs.Common.{◌≡◌, ℕ, suc, length, map, slice_get, Some, option_map, sym, ap, ◌∙◌, slice_index, add-one, arith, ◌≢◌, zero, ◌+◌, ◌<◌, ◌≤◌, List, [], ◌∷◌, take, drop, Option, None, refl, ◌++◌, append_assoc, append-nil, Bool, true, false}
 use Rattle.std.specs.List.Sorted.{IsStrictlyIncreasing}
-use Rattle.std.proofs.lemmas.List.{length-map, take_all, take-append-drop}
+use Rattle.std.proofs.lemmas.List.{take_all, take-append-drop}
 use Rattle.std.proofs.lemmas.Option.{slice_get-map, slice_get_within, get_or_from_slice_get}
 use Rattle.std.proofs.lemmas.List.Kept.{AllPairs-from_increasing}
 use Rattle.sgf_tree.specs.Tree.{Games}
 use Rattle.sgf_tree.specs.FileOrder.{PlacesRise}
 use Rattle.sgf_lines.specs.Lines.{Line, lines, place_of}
-use Rattle.sgf_lines.specs.Paths.{paths, leaf_of}
-use Rattle.sgf_lines.proofs.Lists.{element}
-use Rattle.sgf_lines.proofs.Named.{line_at, length-paths}
-use Rattle.sgf_lines.proofs.CursorStates.{leaf_rises}
+use Rattle.tree_lines.proofs.LinePlaces.{lines_rise}
 use Rattle.std.specs.Prelude.{unwrap_or, ◌==◌}
 use Rattle.std.proofs.lemmas.Bool.{eq-eqb, ne_eqb}
 use Rattle.sgf_lines.specs.Cursor.{CursorState, IsAfterPlace}
@@ -19,21 +16,6 @@ use Rattle.sgf_lines.specs.Page.{lines_after, lines_asked, limited, page}
 use Rattle.std.proofs.Math.Seq.{drop-append-add}
 use Rattle.sgf_lines.specs.declared.options.Options.{Options}
 use Rattle.sgf_tree.proofs.Lists.{slice_get-right}
-
-module _ (c : Games) where
-  place_at_line : (k : ℕ) (line : Line) → slice_get (lines c) k ≡ Some line → slice_index (map place_of (lines c)) k ≡ place_of line
-  place_at_line k line e =
-      get_or_from_slice_get (map place_of (lines c)) k (place_of line) 0 (slice_get-map place_of (lines c) k ∙ ap (λ o. option_map place_of o) e)
-
-  pub lines_rise : PlacesRise c → IsStrictlyIncreasing (map place_of (lines c))
-  lines_rise rise k lt =
-      let count : length (paths c) ≡ length (map place_of (lines c)) = length-paths c ∙ sym (length-map (lines c) place_of) in
-      let p = element (paths c) k (omega arith) in
-      let q = element (paths c) (suc k) (omega arith) in
-      let l = line_at c k p.0 p.1 in
-      let m = line_at c (suc k) q.0 q.1 in
-      let below = rise (leaf_of p.0) (leaf_of q.0) (place_of l.0) (place_of m.0) (leaf_rises c k (suc k) p.0 q.0 (omega arith) p.1 q.1) l.1.place m.1.place in
-      rw (add-one, place_at_line k l.0 l.1.found, place_at_line (suc k) m.0 m.1.found) below
 
 -- the first line with a place is the one that it is looked for at, where no line before has it
 pub found_at : (ls : List Line) (k place : ℕ) → option_map place_of (slice_get ls k) ≡ Some place

@@ -21,7 +21,7 @@ use Rattle.board_points.specs.Vertex.{vertex_of}
 use Rattle.go_board.proofs.GridLemmas.{Decides-same_cell}
 use Rattle.sgf_lines.specs.Script.{colour_letter, vertex_text, play_command, stone_commands, colouring_commands}
 use Rattle.sgf_lines.specs.Replay.{shows}
-use Rattle.sgf_lines.proofs.Lists.{Each}
+use Rattle.tree_lines.proofs.Lists.{Each}
 use Rattle.sgf_lines.proofs.ScriptRows.{IsWithin, Carries, takes_row, takes_nothing, takes_both, solid_within, within_both, vertex_solid, point_names, play_reads}
 
 -- what the board's laws say

@@ -7,9 +7,9 @@ use Rattle.sgf_tree.specs.Tree.{Node}
 use Rattle.sgf_lines.specs.Record.{node_text, sgf_record}
 use Rattle.sgf_lines.specs.inner.Pieces.{PiecesState, pushed, closed, cut}
 use Rattle.sgf_lines.specs.inner.Recording.{open_record, whole_record}
-use Rattle.sgf_lines.specs.inner.Sequences.{RiseTo, sequences_of}
-use Rattle.sgf_lines.proofs.Fronts.{parts_text}
-use Rattle.sgf_lines.proofs.Lists.{front_more}
+use Rattle.tree_lines.specs.Sequences.{RiseTo, sequences_of}
+use Rattle.tree_lines.proofs.Fronts.{parts_text}
+use Rattle.tree_lines.proofs.Lists.{front_more}
 
 -- a record of these pieces after the parenthesis
 abbrev of_pieces : List (List ℕ) → PiecesState

@@ -16,12 +16,12 @@ use Rattle.sgf_lines.specs.declared.verdict.Verdict.{Verdict}
 use Rattle.sgf_lines.specs.declared.options.Form.{Form}
 use Rattle.sgf_lines.specs.declared.options.Form.TheVariants.{List as list_form, Sgf as sgf_form, Gtp as gtp_form}
 use Rattle.sgf_lines.specs.inner.Views.{row_of}
-use Rattle.sgf_lines.specs.inner.Following.{nodes_of, line_before, nodes_before, line_in}
+use Rattle.tree_lines.specs.Following.{nodes_of, line_before, nodes_before, line_in, lines_before}
 use Rattle.sgf_lines.specs.inner.Judging.{Judgement, judging, verdict_in}
 use Rattle.sgf_lines.specs.inner.Pieces.{PiecesState}
 use Rattle.sgf_lines.specs.inner.Recording.{whole_record}
 use Rattle.sgf_lines.specs.inner.Scripting.{ScriptState, script_of, script_ended, script_text}
-use Rattle.sgf_lines.specs.inner.Sequences.{RiseTo, SequencesState, sequences_of}
+use Rattle.tree_lines.specs.Sequences.{RiseTo, SequencesState, sequences_of}
 use Rattle.sgf_lines.specs.inner.Keeping.{HoldsJudgement, IsRecord, judging_front, script_front}
 use Rattle.sgf_lines.proofs.Judgements.{judging_verdict}
 use Rattle.sgf_lines.proofs.Recordings.{record_text}
@@ -29,9 +29,8 @@ use Rattle.sgf_lines.proofs.Scripts.{script_put}
 use Rattle.sgf_tree.specs.FileOrder.{IsLeaf}
 use Rattle.sgf_properties.specs.declared.fault.MemoryFault.{MemoryFault}
 use Rattle.sgf_lines.specs.Paths.{Path, leaf_of}
-use Rattle.sgf_lines.specs.inner.Standing.{lines_before}
-use Rattle.sgf_lines.proofs.CursorStates.{IsNextLine, next_line, before}
-use Rattle.sgf_lines.proofs.Named.{line_at}
+use Rattle.tree_lines.proofs.CursorStates.{IsNextLine, next_line, before}
+use Rattle.tree_lines.proofs.Named.{line_at}
 
 whole : (nodes : List Node) → judging_front nodes (length nodes) ≡ judging (game_kind (root_properties nodes)) nodes
 whole nodes = ap (judging (game_kind (root_properties nodes))) (take_all (length nodes) nodes (omega arith))

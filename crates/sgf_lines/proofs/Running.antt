@@ -17,7 +17,7 @@ use Rattle.std.specs.Prelude.{option_map, OnOk}
 use Rattle.sgf_tree.specs.Tree.{Games}
 use Rattle.sgf_tree.specs.Spelling.{Spells}
 use Rattle.sgf_lines.specs.Page.{limited}
-use Rattle.sgf_lines.specs.inner.Sequences.{SequencesState}
+use Rattle.tree_lines.specs.Sequences.{SequencesState}
 use Rattle.sgf_lines.specs.RunPlays.{AnswersPlays, IsRunWithPlays}
 use Rattle.sgf_lines.specs.declared.options.Options.{Options}
 

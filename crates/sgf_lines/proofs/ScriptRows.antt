@@ -12,7 +12,7 @@ use Rattle.sgf_lines.specs.Lines.{Line}
 use Rattle.sgf_lines.specs.ListRow.{verdict_text, list_row}
 use Rattle.sgf_lines.specs.Script.{comment_row, text_rows, colour_letter, vertex_text}
 use Rattle.sgf_lines.specs.Replay.{Engine, after_row, after_text, before_comment, is_word, words, capital, vertex_named, point_there, point_of, plays_stone, play_command_of, sets_size, size_command, command_of}
-use Rattle.sgf_lines.proofs.Lists.{Each, each_append}
+use Rattle.tree_lines.proofs.Lists.{Each, each_append}
 use Rattle.sgf_properties.specs.Number.{magnitude_of}
 use Rattle.go_board.specs.declared.stones.Colour.{Colour}
 use Rattle.go_board.specs.declared.stones.Colour.TheVariants.{Black, White}

@@ -25,7 +25,7 @@ use Rattle.sgf_lines.specs.inner.Scripting.{ScriptState, effect_script, step_scr
 use Rattle.sgf_lines.proofs.Steps.{side-step}
 use Rattle.sgf_lines.proofs.Recordings.{joined}
 use Rattle.sgf_lines.specs.inner.Keeping.{judging_front, script_front, KeepsScript}
-use Rattle.sgf_lines.proofs.Lists.{front_more}
+use Rattle.tree_lines.proofs.Lists.{front_more}
 use Rattle.sgf_lines.proofs.Judgements.{judging_more, settled_none, settled_more, unjudged_stays, taken_more, taken_cut, taken_only, board_after}
 
 -- the pieces before those that can't be said

@@ -25,13 +25,13 @@ use Rattle.sgf_lines.specs.Lines.{Line, lines, last_number}
 use Rattle.sgf_lines.specs.Paths.{paths}
 use Rattle.sgf_lines.specs.Plays.{differ, different, places_of, node_places, touched_places, judged_places, all_judged_places}
 use Rattle.sgf_lines.specs.JudgedGames.{game_kind, root_properties}
-use Rattle.sgf_lines.specs.inner.Following.{first_after, Continues, numbers_before, nodes_of}
-use Rattle.sgf_lines.proofs.Lists.{Each, each_weaker, each_append, each_take, element, range_append}
-use Rattle.sgf_lines.proofs.Named.{place_of_node, length-paths}
-use Rattle.sgf_lines.proofs.Visits.{way_within, way_rises, rises_parts, leads, after_way, last_number-append, continues, goes_on_there, last_end}
-use Rattle.sgf_lines.proofs.LineNodes.{named_in}
+use Rattle.tree_lines.specs.Following.{first_after, Continues, numbers_before, nodes_of}
+use Rattle.tree_lines.proofs.Lists.{Each, each_weaker, each_append, each_take, element, range_append}
+use Rattle.tree_lines.proofs.Named.{place_of_node, length-paths}
+use Rattle.tree_lines.proofs.Visits.{way_within, way_rises, rises_parts, leads, after_way, last_number-append, continues, goes_on_there, last_end}
+use Rattle.tree_lines.proofs.LineNodes.{named_in, as_many}
 use Rattle.sgf_lines.proofs.Keeping.{same_front}
-use Rattle.sgf_lines.proofs.Joins.{more_texts, as_many}
+use Rattle.sgf_lines.proofs.Joins.{more_texts}
 use Rattle.sgf_lines.proofs.Walking.{judged_front, judged_alike}
 
 -- whether a number stands in a list

@@ -1,8 +1,4 @@
 -- Words of private contracts, views and invariants.
-pub mod PathTo
-pub mod Standing
-pub mod Following
-pub mod Sequences
 pub mod Fronts
 pub mod Gathered
 pub mod Judging

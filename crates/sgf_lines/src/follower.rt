@@ -2,19 +2,17 @@
 
 ghost use Rattle.std.specs.Prelude.{◌≡◌, ◌<◌, ◌-◌, length, IfOk};
 ghost use Rattle.sgf_lines.specs.Plays.{all_judged_places};
-ghost use Rattle.sgf_lines.specs.inner.Following.{nodes_before, path_before};
+ghost use Rattle.tree_lines.specs.Following.{nodes_before, path_before};
 ghost use Rattle.sgf_lines.specs.inner.Keeping.{HoldsJudgement};
 
-use crate::cursor::{Cursor, line, write_path};
 use crate::judging::judge::Judge;
 use crate::judging::judged::judge_line;
-use crate::line::LineRef;
 use crate::over_lines::{Before, LineKeeper, OverLines};
-use crate::sequence_cursor::{Front, SequenceCursor};
 use crate::verdict::Verdict;
 use sgf_tree::MemoryFault;
 use std::alloc::Global;
 use std::marker::Model;
+use tree_lines::{Cursor, Front, LineRef, SequenceCursor, line_with, write_path};
 
 /// Keeps the judgement on a line, and the numbers of its nodes.
 #[derive(Drop)]
@@ -51,7 +49,7 @@ pub struct Follower<'c, 'a> {
 
 impl<'c, 'a> Model for Follower<'c, 'a> {
     ghost use Rattle.sgf_lines.specs.Follower.{FollowerState};
-    ghost use Rattle.sgf_lines.specs.inner.Following.{path_before};
+    ghost use Rattle.tree_lines.specs.Following.{path_before};
     ghost use Rattle.sgf_lines.specs.inner.Followers.{follower_state_code, state_by, Follows};
 
     ghost Value = { FollowerState };
@@ -71,12 +69,13 @@ impl<'c, 'a> Follower<'c, 'a> {
     pub fn new(alloc: Global, cursor: Cursor<'c, 'a>) -> Follower<'c, 'a>
         ensures { result ≡ record { games = cursor.entry.games; index = cursor.entry.index; row = 0 } }
     {
+        let (cursor, path) = cursor.into_parts();
         let keeper = JudgedLine {
             judge: Judge::new(alloc),
-            path: cursor.path,
+            path,
         };
         let lines = OverLines {
-            cursor: cursor.sequences,
+            cursor,
             before: Before::Unheld,
             keeper,
         };
@@ -110,7 +109,7 @@ impl<'c, 'a> Follower<'c, 'a> {
         requires { 0 < self.now.row }
         ensures { IsLine self.now.games (self.now.index - 1) result }
     {
-        line(&self.lines.cursor, &self.lines.keeper.path)
+        line_with(&self.lines.cursor, &self.lines.keeper.path)
     }
 
     /// The number of nodes that were played for the lines judged in a row: each node that is judged on at least one of them,

@@ -12,9 +12,9 @@ ghost use Rattle.sgf_lines.specs.Lines.{Line};
 ghost use Rattle.sgf_lines.specs.Record.{record_of};
 ghost use Rattle.sgf_lines.specs.RunPlays.{plays_in};
 ghost use Rattle.sgf_lines.specs.declared.options.Form.{Form};
-ghost use Rattle.sgf_lines.specs.inner.Following.{line_before};
+ghost use Rattle.tree_lines.specs.Following.{line_before};
 ghost use Rattle.byte_streams.specs.Streams.{PutsAll};
-ghost use Rattle.sgf_lines.specs.inner.Sequences.{SequencesState};
+ghost use Rattle.tree_lines.specs.Sequences.{SequencesState};
 
 use crate::over_lines::LineKeeper;
 use byte_streams::{Sink, SinkFault};

@@ -1,13 +1,11 @@
 //! Laws of the definitions. A function here does nothing: its contract is a law, and is proved.
 
-ghost use Rattle.std.specs.Prelude.{◌≡◌, ◌≢◌, ◌≤◌, ◌∷◌, ◌++◌, ◌+◌, ◌⊎◌, ℕ, All, Err, false, List, [], Some, map, length};
+ghost use Rattle.std.specs.Prelude.{◌≡◌, ◌≢◌, ◌≤◌, ◌∷◌, ◌++◌, ◌+◌, ◌⊎◌, ℕ, Err, false, List, [], Some, length};
 ghost use Rattle.std.specs.List.{AllZip, flat_map};
-ghost use Rattle.std.specs.List.Sorted.{IsStrictlyIncreasing};
 ghost use Rattle.sgf_tree.specs.Appending.{raised, BeginsWithByteOrderMark};
-ghost use Rattle.sgf_tree.specs.Tree.{Games, game_count, node_count, joined};
+ghost use Rattle.sgf_tree.specs.Tree.{Games, game_count, node_count, joined, Node};
 ghost use Rattle.sgf_tree.specs.Spelling.{Spells};
 ghost use Rattle.sgf_lines.specs.Lines.{Line, lines, place_of};
-ghost use Rattle.sgf_lines.specs.Paths.{paths, EndsInLeaf, IsPathOf};
 ghost use Rattle.sgf_lines.specs.Page.{page};
 ghost use Rattle.sgf_lines.specs.declared.options.Options.{Options};
 ghost use Rattle.sgf_lines.specs.Plays.{touched_places, all_judged_places, node_places};
@@ -16,7 +14,6 @@ ghost use Rattle.sgf_lines.specs.Appending.{raised_record};
 ghost use Rattle.sgf_lines.specs.Record.{output, record_of};
 ghost use Rattle.sgf_lines.specs.SplitAgain.{IsKept};
 ghost use Rattle.sgf_lines.specs.JudgedGames.{game_kind, root_properties, board};
-ghost use Rattle.sgf_tree.specs.Tree.{Node};
 ghost use Rattle.go_board.specs.declared.reason.Reason.{Reason};
 ghost use Rattle.go_board.specs.State.{State, starting};
 ghost use Rattle.sgf_lines.specs.declared.verdict.Verdict.TheVariants.{Illegal};
@@ -26,20 +23,7 @@ ghost use Rattle.sgf_lines.specs.Walk.{walk, IsAfter, HasIllegal};
 ghost use Rattle.sgf_lines.specs.Script.{has_no_commands, script};
 ghost use Rattle.sgf_lines.specs.Replay.{shows, replayed};
 
-/// If some text spells a collection, the places of the collection's lines rise strictly.
-/// So no line comes twice, and a line is identified by its place.
-pub fn rise()
-    ensures { (games : Games) (text : List ℕ) → Spells games text → IsStrictlyIncreasing (map place_of (lines games)) }
-{
-    sgf_tree::laws::places_rise();
-}
-
-/// The paths of a collection name the nodes of its lines. There is one path
-/// for each line, in the same order, and each ends in a leaf.
-pub fn named()
-    ensures nodes { (games : Games) → AllZip (IsPathOf games) (lines games) (paths games) }
-    ensures leaf { (games : Games) → All (EndsInLeaf games) (paths games) }
-{}
+pub use tree_lines::laws::{named, rise};
 
 /// The sgf output of a page with at least one line is a text of the grammar. The whole sgf output of that text is the same bytes.
 /// So splitting an output again returns the same output, if it isn't longer than `MAX_LENGTH`.

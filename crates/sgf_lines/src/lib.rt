@@ -70,21 +70,17 @@
 #![tactic(auto)]
 
 mod counting;
-mod cursor;
 mod fault;
 mod follower;
 mod form;
 mod judging;
 pub mod laws;
-mod line;
 mod line_nodes;
 mod node_values;
 mod options;
 mod over_lines;
 mod plays;
 mod run;
-mod seek;
-mod sequence_cursor;
 mod verdict;
 
 pub use byte_streams::{
@@ -92,15 +88,13 @@ pub use byte_streams::{
     WriteSink, put_all,
 };
 pub use counting::{Counts, count, write_counts};
-pub use cursor::Cursor;
 pub use fault::RunFault;
 pub use follower::Follower;
 pub use go_board::Reason;
 pub use judging::one_line::{judge, judge_at};
-pub use line::LineRef;
 pub use options::{Form, Options};
 pub use plays::Plays;
 pub use run::{split, split_counted};
-pub use seek::SeekFault;
 pub use sgf_tree::{Collection, MAX_LENGTH, MemoryFault, ReadFault, read};
+pub use tree_lines::{Cursor, LineRef, SeekFault};
 pub use verdict::Verdict;

@@ -2,13 +2,13 @@
 
 ghost use Rattle.std.specs.Prelude.{◌≡◌, ◌<◌, ◌∷◌, [], length, drop, MatchOption};
 ghost use Rattle.sgf_tree.specs.Tree.{Node};
-ghost use Rattle.sgf_lines.specs.inner.Following.{nodes_before};
+ghost use Rattle.tree_lines.specs.Following.{nodes_before};
 ghost use Rattle.sgf_lines.specs.inner.Fronts.{HasFront};
 ghost use Rattle.sgf_lines.specs.inner.Gathered.{ComesAs};
 
-use crate::sequence_cursor::{Front, SequenceCursor};
 use sgf_tree::{NextNode, PropRef, SequenceNodes};
 use std::marker::Model;
+use tree_lines::{Front, SequenceCursor};
 
 /// The names of two letters whose properties a step needs: those that set up stones and players (SGF FF[4], setup properties).
 const NEEDED_NAMES: [[u8; 2]; 4] = [*b"AB", *b"AW", *b"AE", *b"PL"];

@@ -5,14 +5,14 @@ ghost use Rattle.sgf_tree.specs.Tree.{node_count};
 ghost use Rattle.sgf_lines.specs.Lines.{lines};
 ghost use Rattle.sgf_lines.specs.Cursor.{advanced};
 ghost use Rattle.sgf_lines.specs.declared.over_lines.Before.TheVariants.{Unheld, Held};
-ghost use Rattle.sgf_lines.specs.inner.Following.{nodes_before};
+ghost use Rattle.tree_lines.specs.Following.{nodes_before};
 ghost use Rattle.sgf_lines.specs.inner.Fronts.{HasFront};
 ghost use Rattle.sgf_lines.specs.inner.GoingOn.{GoesOnBy, IsHeldOf, PlaysLine, StandsBy, next_by};
 ghost use Rattle.sgf_lines.specs.inner.Keeping.{PlaysUpTo, fresh_plays};
-ghost use Rattle.sgf_lines.specs.inner.Sequences.{SequencesState, RiseTo};
+ghost use Rattle.tree_lines.specs.Sequences.{SequencesState, RiseTo};
 
-use crate::sequence_cursor::{Front, NO_FRONT, SequenceCursor};
 use sgf_tree::MemoryFault;
+use tree_lines::{Front, NO_FRONT, SequenceCursor};
 
 /// Is shown line after line, and keeps of each what the next line shares.
 pub(crate) trait LineKeeper: Drop {

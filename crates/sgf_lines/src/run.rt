@@ -20,11 +20,10 @@ use crate::laws::rise;
 use crate::options::{Form, Options};
 use crate::over_lines::{Before, OverLines};
 use crate::plays::Plays;
-use crate::seek::SeekFault;
-use crate::sequence_cursor::SequenceCursor;
 use byte_streams::{Sink, SinkFault, Source};
 use sgf_tree::{MAX_LENGTH, MemoryFault, Outline, read_outline};
 use std::alloc::Global;
+use tree_lines::{SeekFault, SequenceCursor};
 
 /// The number of bytes that a source is asked for at once.
 const CHUNK: usize = 65_536;

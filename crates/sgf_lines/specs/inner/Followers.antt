@@ -9,7 +9,7 @@ use Rattle.sgf_lines.specs.Plays.{all_judged_places}
 use Rattle.sgf_lines.specs.declared.over_lines.Before.{Before}
 use Rattle.sgf_lines.specs.declared.over_lines.Before.TheVariants.{Unheld, Held, Refused}
 use Rattle.sgf_lines.specs.inner.GoingOn.{StandsBy, index_by}
-use Rattle.sgf_lines.specs.inner.Following.{nodes_before, path_before}
+use Rattle.tree_lines.specs.Following.{nodes_before, path_before}
 use Rattle.sgf_lines.specs.inner.Judging.{Judging}
 use Rattle.sgf_lines.specs.inner.Keeping.{HoldsJudgement}
 

@@ -1,9 +1,9 @@
 -- The sequences of the line before a cursor, and the first of them that are held already.
 use Rattle.std.specs.Prelude.{◌≡◌, ◌<◌, ℕ, List, ◌++◌, length, drop}
 use Rattle.sgf_tree.specs.Tree.{Node}
-use Rattle.sgf_lines.specs.declared.sequence_cursor.Front.{Front}
-use Rattle.sgf_lines.specs.inner.Following.{nodes_before}
-use Rattle.sgf_lines.specs.inner.Sequences.{SequencesState, sequences_of, nodes_in}
+use Rattle.tree_lines.specs.declared.sequence_cursor.Front.{Front}
+use Rattle.tree_lines.specs.Following.{nodes_before}
+use Rattle.tree_lines.specs.Sequences.{SequencesState, sequences_of, nodes_in}
 
 -- the line before a cursor, in sequences
 abbrev pub sequences_before : SequencesState → List (List Node)

@@ -3,12 +3,12 @@ use Rattle.std.specs.Prelude.{◌≡◌, ◌⊎◌, ℕ, ◌+◌, ◌-◌, ◌<�
 use Rattle.sgf_tree.specs.Tree.{Node}
 use Rattle.sgf_lines.specs.Lines.{Line, lines}
 use Rattle.sgf_lines.specs.Cursor.{CursorState, advanced}
-use Rattle.sgf_lines.specs.declared.sequence_cursor.Front.{Front}
+use Rattle.tree_lines.specs.declared.sequence_cursor.Front.{Front}
 use Rattle.sgf_lines.specs.declared.over_lines.Before.{Before}
 use Rattle.sgf_lines.specs.declared.over_lines.Before.TheVariants.{Unheld, Held, Refused}
-use Rattle.sgf_lines.specs.inner.Following.{Continues, path_before}
+use Rattle.tree_lines.specs.Following.{Continues, path_before}
 use Rattle.sgf_lines.specs.inner.Keeping.{fresh_plays}
-use Rattle.sgf_lines.specs.inner.Sequences.{SequencesState, SharesFront}
+use Rattle.tree_lines.specs.Sequences.{SequencesState, SharesFront}
 
 -- the index of the next line; after a refusal, the line before the cursor is next again
 abbrev pub index_by : Before → ℕ → ℕ

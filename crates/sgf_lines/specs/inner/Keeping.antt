@@ -7,8 +7,8 @@ use Rattle.sgf_lines.specs.Verdict.{judged_on}
 use Rattle.sgf_lines.specs.declared.options.Form.{Form}
 use Rattle.sgf_lines.specs.inner.Scripting.{ScriptState, script_of, script_back}
 use Rattle.sgf_lines.specs.inner.Judging.{Judgement, judging, back}
-use Rattle.sgf_lines.specs.inner.Following.{line_before}
-use Rattle.sgf_lines.specs.inner.Sequences.{SequencesState}
+use Rattle.tree_lines.specs.Following.{line_before}
+use Rattle.tree_lines.specs.Sequences.{SequencesState}
 
 -- the judgement on a line after its first nodes, and its script after them
 abbrev pub judging_front : List Node → ℕ → Judgement

@@ -10,7 +10,7 @@ use Rattle.sgf_lines.specs.Record.{output}
 use Rattle.byte_streams.specs.Streams.{SourceState, SinkState}
 use Rattle.sgf_lines.specs.Cursor.{CursorState}
 use Rattle.sgf_lines.specs.Answer.{IsWhole, IsCutShort}
-use Rattle.sgf_lines.specs.inner.Sequences.{SequencesState}
+use Rattle.tree_lines.specs.Sequences.{SequencesState}
 use Rattle.sgf_lines.specs.RunPlays.{plays_of, ArePlaysFor}
 use Rattle.sgf_lines.specs.declared.options.Form.{Form}
 use Rattle.sgf_lines.specs.declared.fault.RunFault.{RunFault}

@@ -2,7 +2,7 @@
 
 ghost use Rattle.std.specs.Prelude.{◌≡◌, ◌++◌, length, refl};
 ghost use Rattle.sgf_lines.specs.declared.options.Form.TheVariants.{Gtp as gtp_form};
-ghost use Rattle.sgf_lines.specs.inner.Following.{nodes_before};
+ghost use Rattle.tree_lines.specs.Following.{nodes_before};
 ghost use Rattle.sgf_lines.specs.inner.Keeping.{HoldsJudgement, IsRecord, script_front};
 ghost use Rattle.sgf_lines.specs.inner.Scripting.{script_ended, script_text};
 ghost use Rattle.sgf_lines.specs.inner.Views.{built_text};
@@ -13,10 +13,10 @@ use crate::form::script::Script;
 use crate::judging::judge::Judge;
 use crate::judging::judged::judge_line;
 use crate::over_lines::LineKeeper;
-use crate::sequence_cursor::{Front, SequenceCursor};
 use byte_streams::{Sink, SinkFault, put_all};
 use sgf_tree::MemoryFault;
 use std::alloc::Global;
+use tree_lines::{Front, SequenceCursor};
 
 /// Keeps the judgement on a line and the line's script, and makes the line's row.
 #[derive(Drop)]

@@ -2,7 +2,7 @@
 
 ghost use Rattle.std.specs.Prelude.{◌≡◌, refl};
 ghost use Rattle.sgf_lines.specs.declared.options.Form.TheVariants.{List as list_form};
-ghost use Rattle.sgf_lines.specs.inner.Following.{nodes_before};
+ghost use Rattle.tree_lines.specs.Following.{nodes_before};
 ghost use Rattle.sgf_lines.specs.inner.Keeping.{HoldsJudgement, IsRecord};
 ghost use Rattle.sgf_lines.specs.inner.Views.{built_text};
 
@@ -11,10 +11,10 @@ use crate::form::row::Row;
 use crate::judging::judge::Judge;
 use crate::judging::judged::judge_line;
 use crate::over_lines::LineKeeper;
-use crate::sequence_cursor::{Front, SequenceCursor};
 use byte_streams::{Sink, SinkFault, put_all};
 use sgf_tree::MemoryFault;
 use std::alloc::Global;
+use tree_lines::{Front, SequenceCursor};
 
 /// Keeps the judgement on a line, and makes the line's row.
 #[derive(Drop)]

@@ -9,11 +9,11 @@ ghost use Rattle.sgf_lines.specs.inner.Pieces.{no_pieces, pushed, closed, cut};
 
 use crate::form::commands::push_step;
 use crate::judging::step::TakenStep;
-use crate::sequence_cursor::SequenceCursor;
 use go_board::{Board, MAX_VERTEX_SIDE};
 use sgf_tree::MemoryFault;
 use std::alloc::Global;
 use std::marker::Model;
+use tree_lines::SequenceCursor;
 
 /// The number of bytes that there is room for at once.
 const FIRST_BYTES: usize = 4_096;

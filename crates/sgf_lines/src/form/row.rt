@@ -6,12 +6,12 @@ ghost use Rattle.sgf_lines.specs.Counts.{counts_row};
 ghost use Rattle.sgf_lines.specs.Lines.{Line};
 ghost use Rattle.sgf_lines.specs.ListRow.{verdict_text};
 ghost use Rattle.sgf_lines.specs.Script.{comment_row};
-ghost use Rattle.sgf_lines.specs.inner.Following.{line_before};
+ghost use Rattle.tree_lines.specs.Following.{line_before};
 
 use crate::counting::Counts;
-use crate::sequence_cursor::SequenceCursor;
 use crate::verdict::Verdict;
 use itoa::write_digits;
+use tree_lines::SequenceCursor;
 
 /// The number of bytes that there is room for: five numbers of up to 20 digits, and the words of a verdict.
 const ROOM: usize = 160;

@@ -11,10 +11,10 @@ ghost use Rattle.sgf_lines.specs.inner.Recording.{open_record, whole_record};
 use crate::form::LineForm;
 use crate::form::pieces::Pieces;
 use crate::over_lines::LineKeeper;
-use crate::sequence_cursor::{Front, SequenceCursor};
 use byte_streams::{Sink, SinkFault, put_all};
 use sgf_tree::MemoryFault;
 use std::alloc::Global;
+use tree_lines::{Front, SequenceCursor};
 
 /// Keeps the record of a line: a piece for the parenthesis, a piece for each sequence, and an unfinished piece for its end.
 /// The next line cuts this unfinished piece off. Nothing is judged.

@@ -1,7 +1,7 @@
 //! Judging a line from the first node that it doesn't share with the line before it.
 
 ghost use Rattle.std.specs.Prelude.{◌≡◌, ◌==◌, ◌+◌, ◌<◌, ◌≤◌, false, None, Option, length, option_copied, option_map, IfSome, OnOk};
-ghost use Rattle.sgf_lines.specs.inner.Following.{nodes_before};
+ghost use Rattle.tree_lines.specs.Following.{nodes_before};
 ghost use Rattle.sgf_lines.specs.inner.Fronts.{HasFront};
 ghost use Rattle.sgf_lines.specs.inner.Keeping.{HoldsJudgement, KeepsJudgement, KeepsScript, PlaysUpTo, fresh_plays, script_front};
 ghost use Rattle.sgf_lines.specs.inner.Scripting.{IsPlayable, ScriptState, is_unreaching, said_on, script_resumed, step_script};
@@ -9,9 +9,9 @@ ghost use Rattle.sgf_lines.specs.inner.Scripting.{IsPlayable, ScriptState, is_un
 use crate::judging::judge::Judge;
 use crate::judging::step::TakenStep;
 use crate::line_nodes::LineNodes;
-use crate::sequence_cursor::{Front, SequenceCursor};
 use go_board::{Board, MAX_VERTEX_SIDE};
 use sgf_tree::MemoryFault;
+use tree_lines::{Front, SequenceCursor};
 
 /// Is told each step that is taken on a line. Most forms need no step: `()` is told them.
 pub(crate) trait StepKeeper {

@@ -4,16 +4,15 @@ ghost use Rattle.std.specs.Prelude.{◌≡◌, ◌<◌, Some, option_map, IfErr,
 ghost use Rattle.sgf_tree.specs.Tree.{node_count};
 ghost use Rattle.sgf_tree.specs.FileOrder.{IsLeaf};
 ghost use Rattle.sgf_lines.specs.Verdict.{IsVerdictAt, IsVerdictOf, verdict};
-ghost use Rattle.sgf_lines.specs.inner.Following.{line_before};
+ghost use Rattle.tree_lines.specs.Following.{line_before};
 ghost use Rattle.sgf_lines.specs.Cursor.{IsSeekFault};
 
 use crate::judging::judge::Judge;
 use crate::judging::judged::judge_line;
-use crate::seek::SeekFault;
-use crate::sequence_cursor::{NO_FRONT, SequenceCursor};
 use crate::verdict::Verdict;
 use sgf_tree::{Collection, MemoryFault};
 use std::alloc::Global;
+use tree_lines::{NO_FRONT, SeekFault, SequenceCursor};
 
 /// The verdict of the line that ends in the node with the number `leaf`,
 /// from 0 in file order. The node must be a leaf (`is_leaf`).

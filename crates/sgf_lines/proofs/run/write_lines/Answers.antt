@@ -7,7 +7,7 @@ use Rattle.sgf_lines.specs.Lines.{lines}
 use Rattle.sgf_lines.specs.Record.{record_of}
 use Rattle.sgf_lines.specs.declared.over_lines.Before.TheVariants.{Held}
 use Rattle.byte_streams.specs.declared.sink.SinkFault.{SinkFault}
-use Rattle.sgf_lines.specs.inner.Following.{line_before, nodes_before}
+use Rattle.tree_lines.specs.Following.{line_before, nodes_before}
 use Rattle.sgf_lines.specs.inner.GoingOn.{PlaysLine, StandsBy, next_by}
 use Rattle.std.proofs.KnownBytes.{Appends-kept}
 use Rattle.byte_streams.specs.Streams.{PutsAll}

@@ -1,7 +1,7 @@
 -- So many records were written, the cursor stands after their lines, and the last of these is held.
 use Rattle.std.proofs.Common.{take, ◌≡◌, ◌-◌, ◌<◌}
 use Rattle.sgf_lines.specs.declared.over_lines.Before.TheVariants.{Unheld, Held}
-use Rattle.sgf_lines.specs.inner.Following.{nodes_before}
+use Rattle.tree_lines.specs.Following.{nodes_before}
 use Rattle.sgf_lines.specs.inner.GoingOn.{StandsBy}
 use Rattle.sgf_lines.specs.RunPlays.{plays_of}
 use Rattle.sgf_lines.proofs.PlayCounts.{IsSoFar, page_from}

@@ -7,7 +7,7 @@ use Rattle.sgf_tree.specs.declared.fault.TheConstants.{MAX_LENGTH}
 use Rattle.sgf_properties.specs.declared.fault.MemoryFault.{MemoryFault}
 use Rattle.sgf_lines.specs.Cursor.{advanced}
 use Rattle.sgf_lines.specs.declared.over_lines.Before.TheVariants.{Held}
-use Rattle.sgf_lines.specs.inner.Following.{nodes_before, path_before}
+use Rattle.tree_lines.specs.Following.{nodes_before, path_before}
 use Rattle.sgf_lines.specs.inner.GoingOn.{PlaysLine, StandsBy, next_by}
 use Rattle.sgf_lines.specs.inner.Keeping.{HoldsJudgement}
 use Rattle.sgf_lines.proofs.Followers.{given, row_countable, few_played, follows_on}

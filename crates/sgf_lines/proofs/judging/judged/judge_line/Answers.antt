@@ -1,12 +1,12 @@
 -- One node more is judged, and said if its step is taken, until all are, or the verdict is known.
 use Rattle.std.proofs.Common.{◌≡◌, Option, Some, length, slice_get, ap, subst, ◌∙◌, arith}
 use Rattle.sgf_tree.specs.NodesLeft.{NodesLeft}
-use Rattle.sgf_lines.specs.inner.Following.{nodes_before}
+use Rattle.tree_lines.specs.Following.{nodes_before}
 use Rattle.sgf_lines.specs.inner.Judging.{IsTakenFrom, after, board_in}
 use Rattle.sgf_lines.specs.declared.judging.step.TakenStep.{TakenStep}
 use Rattle.sgf_tree.specs.Tree.{Node}
 use Rattle.sgf_lines.specs.inner.Keeping.{judging_front}
-use Rattle.sgf_lines.proofs.Fronts.{rises_through}
+use Rattle.tree_lines.proofs.Fronts.{rises_through}
 use Rattle.sgf_lines.proofs.JudgedLines.{begun_front, judges_begun, judges_on, all_whole, settled_whole, finish, stopped}
 use Rattle.sgf_lines.proofs.NodesToCome.{comes, come_on}
 use Rattle.sgf_lines.proofs.Scripts.{told_front, told_on, untold, letters, playable, on_board}

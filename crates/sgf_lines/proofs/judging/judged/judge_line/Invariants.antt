@@ -1,7 +1,7 @@
 -- The judge and what is said stand after the nodes before the index, and the others are still to come.
 use Rattle.std.proofs.Common.{◌≡◌, drop}
 use Rattle.std.specs.Prelude.{IfSome}
-use Rattle.sgf_lines.specs.inner.Following.{nodes_before}
+use Rattle.tree_lines.specs.Following.{nodes_before}
 use Rattle.sgf_lines.specs.inner.Keeping.{script_front}
 use Rattle.sgf_lines.proofs.JudgedLines.{JudgesTo}
 use Rattle.sgf_lines.proofs.judging.judged.judge_line.Given as goal

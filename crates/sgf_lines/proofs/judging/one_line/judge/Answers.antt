@@ -1,6 +1,6 @@
 -- The cursor stands after the line that ends in the leaf.
 use Rattle.std.proofs.Common.{◌≡◌, ◌+◌}
-use Rattle.sgf_lines.proofs.CursorStates.{before}
+use Rattle.tree_lines.proofs.CursorStates.{before}
 use Rattle.sgf_lines.proofs.RunRecords.{some_before, judged_at}
 use Rattle.sgf_lines.proofs.judging.one_line.judge.Goals as goal
 use Rattle.sgf_lines.proofs.judging.one_line.judge.Goals.{In_ok-seek_leaf}

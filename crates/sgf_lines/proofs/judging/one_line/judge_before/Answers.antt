@@ -1,8 +1,8 @@
 -- The line is judged from its root.
 use Rattle.std.proofs.Common.{◌<◌, length, arith}
-use Rattle.sgf_lines.specs.inner.Following.{line_before, nodes_before}
+use Rattle.tree_lines.specs.Following.{line_before, nodes_before}
 use Rattle.sgf_lines.proofs.RunRecords.{told_of, verdict_is}
-use Rattle.sgf_lines.proofs.SequenceCursors.{some_end}
+use Rattle.tree_lines.proofs.SequenceCursors.{some_end}
 use Rattle.sgf_lines.proofs.judging.one_line.judge_before.Goals as goal
 
 pub returns : goal.returns

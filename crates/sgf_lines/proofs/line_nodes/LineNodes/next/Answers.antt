@@ -9,9 +9,9 @@ use Rattle.sgf_tree.specs.Walk.{IsTakenOff}
 use Rattle.sgf_tree.specs.declared.walk.NextNode.{NextNode}
 use Rattle.sgf_tree.specs.declared.walk.NextNode.TheVariants.{Led, Empty, Open}
 use Rattle.sgf_lines.specs.inner.Fronts.{sequences_before, nodes_to_come}
-use Rattle.sgf_lines.specs.inner.Following.{nodes_before}
+use Rattle.tree_lines.specs.Following.{nodes_before}
 use Rattle.sgf_lines.specs.inner.Gathered.{ComesAs}
-use Rattle.sgf_lines.specs.inner.Sequences.{RiseTo}
+use Rattle.tree_lines.specs.Sequences.{RiseTo}
 use Rattle.sgf_lines.specs.declared.line_nodes.LineNodes.TheInside.{Inside}
 use Rattle.sgf_lines.proofs.Gathered.{setup_names, led_alone}
 use Rattle.sgf_lines.proofs.NodesToCome.{some_left, next_sequence, some_node}

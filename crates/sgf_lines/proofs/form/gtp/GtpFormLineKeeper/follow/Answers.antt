@@ -1,11 +1,11 @@
 -- The line was judged and said, and then its row was laid out.
 use Rattle.std.proofs.Common.{length, ap, ◌∙◌, arith}
-use Rattle.sgf_lines.specs.inner.Following.{nodes_before}
+use Rattle.tree_lines.specs.Following.{nodes_before}
 use Rattle.sgf_lines.specs.inner.Scripting.{script_ended}
 use Rattle.sgf_lines.specs.inner.Views.{built_text}
 use Rattle.sgf_lines.proofs.Keeping.{judgement_kept, script_kept}
 use Rattle.sgf_lines.proofs.RunRecords.{made_script, some_line}
-use Rattle.sgf_lines.proofs.SequenceCursors.{some_end}
+use Rattle.tree_lines.proofs.SequenceCursors.{some_end}
 use Rattle.sgf_lines.proofs.form.gtp.GtpFormLineKeeper.follow.Goals as goal
 
 pub judge_line-requires-clause-judged : goal.judge_line-requires-clause-judged

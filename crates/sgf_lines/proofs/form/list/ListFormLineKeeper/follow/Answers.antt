@@ -1,10 +1,10 @@
 -- The line was judged, and then its row was laid out.
 use Rattle.std.proofs.Common.{◌<◌, length, arith}
-use Rattle.sgf_lines.specs.inner.Following.{nodes_before}
+use Rattle.tree_lines.specs.Following.{nodes_before}
 use Rattle.sgf_lines.specs.inner.Views.{built_text}
 use Rattle.sgf_lines.proofs.Keeping.{judgement_kept}
 use Rattle.sgf_lines.proofs.RunRecords.{made_row, some_line}
-use Rattle.sgf_lines.proofs.SequenceCursors.{some_end}
+use Rattle.tree_lines.proofs.SequenceCursors.{some_end}
 use Rattle.sgf_lines.proofs.form.list.ListFormLineKeeper.follow.Goals as goal
 
 pub judge_line-requires-clause-judged : goal.judge_line-requires-clause-judged

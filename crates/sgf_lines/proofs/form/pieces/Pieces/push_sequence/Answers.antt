@@ -4,10 +4,10 @@ use Rattle.std.proofs.lemmas.Grind.{common_steps}
 use Rattle.std.specs.List.{flat_map}
 use Rattle.sgf_tree.specs.Tree.{Node}
 use Rattle.sgf_lines.specs.Record.{node_text}
-use Rattle.sgf_lines.specs.inner.Following.{nodes_before}
+use Rattle.tree_lines.specs.Following.{nodes_before}
 use Rattle.sgf_lines.specs.inner.Fronts.{sequences_before}
-use Rattle.sgf_lines.proofs.Fronts.{as_many_parts}
-use Rattle.sgf_lines.proofs.Lists.{element}
+use Rattle.tree_lines.proofs.Fronts.{as_many_parts}
+use Rattle.tree_lines.proofs.Lists.{element}
 use Rattle.sgf_lines.proofs.PieceTexts.{seen, seen_pushed}
 use Rattle.sgf_lines.proofs.form.pieces.Pieces.push_sequence.Goals as goal
 use Rattle.sgf_lines.proofs.form.pieces.Pieces.push_sequence.Goals.{In_ok-push_sequence}

@@ -5,16 +5,16 @@ use Rattle.std.specs.List.{flat_map}
 use Rattle.std.proofs.lemmas.Bool.{cases_lt}
 use Rattle.std.proofs.lemmas.List.{take_all}
 use Rattle.sgf_lines.specs.Record.{node_text}
-use Rattle.sgf_lines.specs.inner.Following.{nodes_before}
+use Rattle.tree_lines.specs.Following.{nodes_before}
 use Rattle.sgf_lines.specs.inner.Fronts.{sequences_before}
 use Rattle.sgf_lines.specs.inner.Pieces.{pushed, closed}
 use Rattle.sgf_lines.specs.inner.Recording.{open_record}
-use Rattle.sgf_lines.proofs.Fronts.{as_many_parts}
+use Rattle.tree_lines.proofs.Fronts.{as_many_parts}
 use Rattle.sgf_lines.proofs.Keeping.{record_kept}
-use Rattle.sgf_lines.proofs.Lists.{element}
+use Rattle.tree_lines.proofs.Lists.{element}
 use Rattle.sgf_lines.proofs.Recordings.{record_more}
 use Rattle.sgf_lines.proofs.RunRecords.{made_record, some_line}
-use Rattle.sgf_lines.proofs.SequenceCursors.{some_end}
+use Rattle.tree_lines.proofs.SequenceCursors.{some_end}
 use Rattle.sgf_lines.proofs.form.sgf.SgfFormLineKeeper.follow.Goals as goal
 
 pub loop-index-init : goal.loop-index-init

@@ -1,0 +1,79 @@
+-- The nodes of the line before a cursor, by its path.
+use Rattle.std.proofs.lemmas.Grind.{common_steps}
+use Rattle.std.proofs.Common.{◌≡◌, ℕ, zero, suc, ◌-◌, ◌<◌, List, [], ◌∷◌, length, map, drop, get_or, slice_get, Option, Some, refl, sym, ap, ◌∙◌, inl, inr, arith}
+use Rattle.std.proofs.lemmas.List.{length-map}
+use Rattle.std.proofs.lemmas.Option.{slice_get_past}
+use Rattle.std.proofs.lemmas.Bool.{cases_lt}
+use Rattle.std.specs.Prelude.{option_to_list}
+use Rattle.std.specs.List.{flat_map, drop-map}
+use Rattle.sgf_tree.specs.Tree.{Node, Games}
+use Rattle.sgf_tree.specs.FileOrder.{node_at, nodes_at}
+use Rattle.tree_lines.specs.Lines.{lines}
+use Rattle.tree_lines.specs.Paths.{paths}
+use Rattle.tree_lines.specs.Cursor.{CursorState}
+use Rattle.tree_lines.specs.Following.{nodes_of, line_in, line_before, nodes_before, path_before, numbers_before, lines_before}
+use Rattle.tree_lines.specs.inner.Standing.{IsAfterLeaf}
+use Rattle.tree_lines.proofs.Lists.{element}
+use Rattle.tree_lines.proofs.Named.{line_at, length-paths}
+use Rattle.tree_lines.proofs.CursorStates.{before}
+use Rattle.tree_lines.proofs.Descending.{path_is}
+
+-- as many nodes as numbers
+pub as_many : {X : Type 0} (f : ℕ → Option X) (nodes : List X) (path : List ℕ) → map Some nodes ≡ map f path → length nodes ≡ length path
+as_many f nodes path e = sym (length-map nodes Some) ∙ ap length e ∙ length-map path f
+
+-- the node that a path names at an index
+named_at : {X : Type 0} (f : ℕ → Option X) (nodes : List X) (path : List ℕ) (i d : ℕ) → map Some nodes ≡ map f path → i < length path
+    → (x : X) × (slice_get nodes i ≡ Some x) × (f (get_or path i d) ≡ Some x)
+named_at f [] [] i d e lt = absurd (omega arith)
+named_at f [] (p ∷ ps) i d e lt = absurd cc
+named_at f (m ∷ ms) [] i d e lt = absurd (omega arith)
+named_at f (m ∷ ms) (p ∷ ps) zero d e lt = let here : f p ≡ Some m = cc in (m, refl, here)
+named_at f (m ∷ ms) (p ∷ ps) (suc i) d e lt = named_at f ms ps i d (cc) (omega arith)
+
+node_named : {X : Type 0} (f : ℕ → Option X) (nodes : List X) (path : List ℕ) (i d : ℕ) (x : X) → map Some nodes ≡ map f path → i < length path
+    → f (get_or path i d) ≡ Some x → slice_get nodes i ≡ Some x
+node_named f nodes path i d x e lt is = let n = named_at f nodes path i d e lt in n.1 ∙ sym n.2 ∙ is
+
+-- nodes that numbers name
+named_nodes : (f : ℕ → Option Node) (nodes : List Node) (numbers : List ℕ) → map Some nodes ≡ map f numbers → flat_map (λ k. option_to_list (f k)) numbers ≡ nodes
+named_nodes f [] [] e = refl
+named_nodes f [] (k ∷ ks) e = absurd cc
+named_nodes f (n ∷ ns) [] e = absurd cc
+named_nodes f (n ∷ ns) (k ∷ ks) e = grind (arith, common_steps, named_nodes f ns ks)
+
+-- they are those that the path names
+pub named_in : (c : Games) (k : ℕ) → map Some (nodes_of (line_in c k)) ≡ map (node_at c) (numbers_before c k)
+named_in c zero = refl
+named_in c (suc k) =
+    elim (cases_lt k (length (paths c))) [
+      | inl lt ↦
+          grind (arith, common_steps, element (paths c) k lt, line_at)
+      | inr ge ↦
+          grind (arith, common_steps, slice_get_past, length-paths)
+    ]
+
+-- as many as the path names
+pub as_long : (at : CursorState) → length (nodes_before at) ≡ length (path_before at)
+as_long at = as_many (node_at at.games) (nodes_before at) (path_before at) (named_in at.games at.index)
+
+module _ (c : Games) (next : ℕ) (at : CursorState) (is : before c next ≡ at) (path : List ℕ) (stands : IsAfterLeaf c next path) where
+  pub path_named : map Some (nodes_before at) ≡ map (node_at c) path
+  path_named = rw (← is) (named_in c (lines_before c next) ∙ ap (map (node_at c)) (path_is c next path stands))
+
+  pub as_many_nodes : length (nodes_before at) ≡ length path
+  as_many_nodes = as_many (node_at c) (nodes_before at) path path_named
+
+  pub node_is : (i d : ℕ) (n : Node) → i < length (nodes_before at) → node_at c (get_or path i d) ≡ Some n → slice_get (nodes_before at) i ≡ Some n
+  node_is i d n lt e = node_named (node_at c) (nodes_before at) path i d n path_named (omega (arith, as_many_nodes)) e
+
+  -- those that the path names from an index on
+  pub nodes_after : (i : ℕ) → nodes_at c (drop i path) ≡ drop i (nodes_before at)
+  nodes_after i = named_nodes (node_at c) (drop i (nodes_before at)) (drop i path) (sym (drop-map Some i (nodes_before at)) ∙ ap (drop i) path_named ∙ drop-map (node_at c) i path)
+
+-- if it has a node, there is a line
+pub some_before : (at : CursorState) → 0 < length (nodes_before at) → 0 < at.index
+some_before at some = grind (arith, common_steps)
+
+pub line_is : (at : CursorState) → 0 < at.index → line_before at ≡ slice_get (lines at.games) (at.index - 1)
+line_is at lt = grind (arith, common_steps, before)

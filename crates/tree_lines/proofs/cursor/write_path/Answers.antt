@@ -1,0 +1,74 @@
+-- Each sequence follows those before it, until all nodes are there.
+use Rattle.std.proofs.Common.{◌≡◌, ℕ, ◌+◌, ◌-◌, ◌++◌, List, [], length, take, drop, suc, sym, ap, ◌∙◌, append_assoc, append-nil, length-append, add-one, arith}
+use Rattle.std.specs.List.{range_with_len}
+use Rattle.std.proofs.lemmas.List.{take-append-drop, drop_all}
+use Rattle.std.proofs.lemmas.List.FromFn.{length-range_with_len}
+use Rattle.tree_lines.specs.Following.{nodes_before, path_before}
+use Rattle.tree_lines.specs.Sequences.{nodes_in}
+use Rattle.tree_lines.proofs.Fronts.{rises_all, part_then}
+use Rattle.tree_lines.proofs.LineNodes.{as_long}
+use Rattle.tree_lines.proofs.cursor.write_path.Goals as goal
+use Rattle.tree_lines.proofs.cursor.write_path.Goals.{After-numbers-first}
+
+-- the numbers of the next sequence
+abbrev next_range : (c : After-numbers-first) → List ℕ
+next_range c = range_with_len c.numbers-first.result.0 (c.numbers-first.result.1 - c.numbers-first.result.0)
+
+module _ (c : After-numbers-first) where
+  abbrev rest : List ℕ
+  rest = drop (nodes_in c.args.sequences.now.ends (c.loop-index.index + 1)) (path_before c.args.sequences.now.at)
+
+  next : drop (nodes_in c.args.sequences.now.ends c.loop-index.index) (path_before c.args.sequences.now.at) ≡ next_range c ++ rest
+  next =
+      let ends = c.args.sequences.now.ends in
+      let path = path_before c.args.sequences.now.at in
+      let none : (k : ℕ) → k - 0 ≡ k = λ k. omega arith in
+      ap (λ k. drop k path) (sym (none (nodes_in ends c.loop-index.index)))
+      ∙ part_then 0 ends path (length (nodes_before c.args.sequences.now.at)) c.loop-index.index (next_range c) c.sequences-count.ensures.divided (sym c.numbers-first.ensures.path)
+      ∙ ap (λ k. next_range c ++ drop k path) (none (nodes_in ends (suc c.loop-index.index)) ∙ ap (nodes_in ends) (sym (add-one c.loop-index.index)))
+
+pub loop-index-init : goal.loop-index-init
+loop-index-init c =
+    let path = path_before c.args.sequences.now.at in
+    let n = c.args.front.nodes in
+    record {
+      up_to =
+          ap (λ ns. ns ++ drop (nodes_in c.args.sequences.now.ends c.args.front.sequences) path) (c.truncate.ensures.items ∙ c.requires.held)
+          ∙ ap (λ k. take n path ++ drop k path) (sym c.requires.count) ∙ take-append-drop n path;
+      room = omega (arith, c.requires.room, c.truncate.ensures.capacity);
+    }
+
+pub push_range-requires-clause-room : goal.push_range-requires-clause-room
+push_range-requires-clause-room c =
+    let at = (goal.at.push_range-requires-clause-room c).After-numbers-first in
+    let items = c.loop-index.path.items in
+    omega (
+      arith,
+      c.loop-index.path.ok.0,
+      c.loop-index.invariant.room,
+      as_long c.args.sequences.now.at,
+      ap length c.loop-index.invariant.up_to,
+      ap length (next at),
+      length-append items (drop (nodes_in c.args.sequences.now.ends c.loop-index.index) (path_before c.args.sequences.now.at)),
+      length-append (next_range at) (rest at),
+      length-range_with_len c.numbers-first.result.0 (c.numbers-first.result.1 - c.numbers-first.result.0),
+    )
+
+pub loop-index-preserved : goal.loop-index-preserved
+loop-index-preserved c =
+    let at = (goal.at.loop-index-preserved c).After-numbers-first in
+    let items = c.loop-index.path.items in
+    record {
+      up_to =
+          ap (λ ns. ns ++ rest at) c.push_range.ensures.appended ∙ append_assoc items (next_range at) (rest at) ∙ ap (λ ns. items ++ ns) (sym (next at)) ∙ c.loop-index.invariant.up_to;
+      room = omega (arith, c.loop-index.invariant.room, c.push_range.ensures.room);
+    }
+
+pub returns : goal.returns
+returns c =
+    let ends = c.args.sequences.now.ends in
+    let path = path_before c.args.sequences.now.at in
+    let last : c.loop-index.index ≡ length ends = omega (arith, c.loop-index-test.false, c.loop-index.auto.index-end, c.requires.within, c.sequences-count.ensures.count) in
+    let all : nodes_in ends c.loop-index.index ≡ length (nodes_before c.args.sequences.now.at) = ap (nodes_in ends) last ∙ rises_all 0 ends (length (nodes_before c.args.sequences.now.at)) c.sequences-count.ensures.divided in
+    let none : drop (nodes_in ends c.loop-index.index) path ≡ [] = drop_all (nodes_in ends c.loop-index.index) path (omega (arith, all, as_long c.args.sequences.now.at)) in
+    sym (append-nil c.loop-index.path.items) ∙ ap (λ ns. c.loop-index.path.items ++ ns) (sym none) ∙ c.loop-index.invariant.up_to

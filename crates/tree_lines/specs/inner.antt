@@ -1,0 +1,4 @@
+-- Words of private contracts, views and invariants.
+pub mod PathTo
+pub mod Standing
+pub mod Parts
