@@ -12,7 +12,7 @@ import sys
 
 top = sys.argv[1]
 faults = []
-LIBRARIES = ["sgf_properties", "sgf_tree", "board_points", "key_trie", "go_board", "byte_streams", "sgf_lines", "sgf_lines_c", "sgfsplit_job", "lines_in_memory"]
+LIBRARIES = ["sgf_properties", "sgf_tree", "tree_lines", "board_points", "key_trie", "go_board", "byte_streams", "sgf_lines", "sgf_lines_c", "sgfsplit_job", "lines_in_memory"]
 with open(f"{top}/docs/PROVED.md", encoding="utf-8") as file:
     page = file.read()
 without = set(re.findall(r"`(\w+)`", re.search(r"Its functions (.*?) have no contract", page, re.DOTALL)[1]))

@@ -1,8 +1,9 @@
-//! The lines of play of a Smart Game Format (SGF FF[4]) collection, from the root of a game to a leaf.
+//! Judges the lines of play of a Smart Game Format (SGF FF[4]) collection, from the root of a game to a leaf, and writes them as records.
 //!
-//! A [`Cursor`] returns the lines one by one, in file order, over a collection that was read once. [`judge`] returns the verdict
-//! of a line: its first illegal node, or the area score at its end (Tromp-Taylor), or that its game isn't judged. A [`Follower`] judges the lines after a cursor
-//! one by one, and plays shared nodes once. [`split`] writes each line as a record, a text of its own.
+//! The crate `tree_lines` has the lines and the cursors over them; this crate passes on its types. A [`Cursor`] returns the lines one by one,
+//! in file order, over a collection that was read once. [`judge`] returns the verdict of a line: its first illegal node, or the area score at
+//! its end (Tromp-Taylor), or that its game isn't judged. A [`Follower`] judges the lines after a cursor one by one, and plays shared nodes
+//! once. [`split`] writes each line as a record, a text of its own.
 //!
 //! ```text
 //! let collection = read(alloc, text)?;
@@ -29,8 +30,7 @@
 //!
 //! | Module | What it has |
 //! |---|---|
-//! | `line`, `cursor`, `seek` | what is shown of a line; going over the lines of a collection; why a line may not be found |
-//! | `sequence_cursor`, `line_nodes` | going over the lines by their sequences; going over the nodes of one line |
+//! | `line_nodes` | going over the nodes of a line |
 //! | `options`, `fault` | what a run is asked for; how it may fail |
 //! | `verdict`, `judging` | the verdict of a line; judging lines, in the modules below |
 //! | `judging/one_line`, `judging/judge` | `judge` and `judge_at`: one line, by its leaf or its place; `Judge`, which goes along a line's nodes, and back |
@@ -47,8 +47,8 @@
 //!
 //! | Rule (docs/OUTPUT.md, docs/RULES.md) | Function, and its module |
 //! |---|---|
-//! | the order of the lines | `SequenceCursor::advance` (`sequence_cursor`) |
-//! | `--after`, and that no line ends there; `--limit` | `SequenceCursor::seek_after`, by `end_at` (`sequence_cursor`); `write_lines` (`run`) |
+//! | the order of the lines | `SequenceCursor::advance` of `tree_lines` (`sequence_cursor`) |
+//! | `--after`, and that no line ends there; `--limit` | `SequenceCursor::seek_after` of `tree_lines` (`sequence_cursor`); `write_lines` (`run`) |
 //! | at most 64 MiB of a source | `read_some` (`run`) |
 //! | which values are moves, stones and players; that KM, HA and others have no effect | `kind_of`; `Contents::of_lone` for a node that is recognized at a glance (`judging/contents`); `LineNodes::next` (`line_nodes`) says which names no such node has |
 //! | which games are judged: GM; SZ | `is_go`; `size`; of several the first counts: `game_and_side` (`judging/root`) |
@@ -57,7 +57,7 @@
 //! | the other reasons | `Referee::reason_before_repeat` of `go_board` (`referee/turn`); for `repeat` `Past::play` of `go_board` (`past`) |
 //! | TURN, PLACE and REASON of the first illegal node | `Judge::take` (`judging/judge`) |
 //! | the verdict of a line; `over` or `open` | `Judge::verdict`; `score` (`judging/judge`) |
-//! | PLACE, GAME and NODES of a row | `SequenceCursor::place`, `SequenceCursor::game`, `SequenceCursor::len` (`sequence_cursor`) |
+//! | PLACE, GAME and NODES of a row | `SequenceCursor::place`, `SequenceCursor::game`, `SequenceCursor::len` of `tree_lines` (`sequence_cursor`) |
 //! | a row; the row of counts | `Row::lay_out`; `Row::lay_out_counts` (`form/row`); the counts: `measure` of `sgf_tree` (`reader`) |
 //! | that a script stops before an illegal node | `judge_line` (`judging/judged`) |
 //! | which lines have no commands: not judged, or over side 25; a setup leaves a stone without a liberty | `Script::keep`; `leaves_unreaching`, `Script::text` (`form/script`) |

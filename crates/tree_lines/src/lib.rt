@@ -7,14 +7,14 @@
 //! A line is whole sequences of the text, one after the other, and two lines part only between sequences. So a [`SequenceCursor`] keeps the
 //! sequences of the line before it, in 8 bytes each. When it goes on, it keeps the *front*, the first sequences that the next line shares,
 //! and puts those down to the next leaf after it. It says how much is shared, so that its caller keeps what it knows of the front, too. It
-//! shows the line by its sequences and their nodes. The next line always begins where the line before it ends: the first sequence after its
-//! last one tells which sequence both lines go through last.
+//! shows the line by its sequences and their nodes. The sequence after the last one of a line is the first that only the next line has, and
+//! the sequence that it goes on from is the last that both have.
 //!
 //! A [`Cursor`] goes over a whole collection, and shows each line as a [`LineRef`], with its path.
 //!
 //! ```text
 //! let mut cursor = SequenceCursor::new(alloc, &outline);
-//! 'lines: while let Some(shared) = cursor.advance()? {
+//! while let Some(shared) = cursor.advance()? {
 //!     for index in shared.sequences..cursor.sequences() {
 //!         let nodes = cursor.nodes(index);
 //!     }
