@@ -18,15 +18,17 @@ pub record Continues (old : List ℕ) (kept : ℕ) (new : List ℕ) : Type 0 whe
   pub more : ℕ
   pub new_is : new ≡ take kept old ++ range_with_len (first_after old) (more + 1)
 
+-- the numbers of a path; none if there is no path
 abbrev pub numbers_of : Option Path → List ℕ
 numbers_of None = []
 numbers_of (Some path) = path.numbers
 
+-- the path of the line before the one with this index, from 0; none before the first line
 abbrev pub numbers_before : Games → ℕ → List ℕ
 numbers_before games zero = []
 numbers_before games (suc index) = numbers_of (slice_get (paths games) index)
 
--- the nodes of the line before a cursor's next one; none before the first line
+-- the path of the line before a cursor's next one, as numbers of nodes; none before the first line
 abbrev pub path_before : CursorState → List ℕ
 path_before cursor = numbers_before cursor.games cursor.index
 
@@ -35,6 +37,7 @@ abbrev pub nodes_of : Option Line → List Node
 nodes_of None = []
 nodes_of (Some line) = line.nodes
 
+-- the line before the one with this index, from 0; None before the first line
 abbrev pub line_in : Games → ℕ → Option Line
 line_in games zero = None
 line_in games (suc index) = slice_get (lines games) index

@@ -1,8 +1,8 @@
 //! The lines of play of a Smart Game Format (SGF FF[4]) collection, in file order, and cursors over them.
 //!
-//! A line goes from the root of a game to a leaf. The lines of an earlier game come first, and in a game those of an earlier variation. A line's
-//! *path* is the numbers of its nodes, from 0 in file order, and its *place* is the offset in bytes of the `;` of its last node. A
-//! line has one place, and no other line has it ([`laws::rise`]).
+//! A line goes from the root of a game to a leaf. The lines of an earlier game come first, and in a game those of an earlier variation. The
+//! *path* of a line is the numbers of its nodes, from 0 in file order. Its *place* is the offset in bytes, from 0, of the `;` of its last node.
+//! No two lines of a text have the same place ([`laws::rise`]).
 //!
 //! A line is whole sequences of the text, one after the other, and two lines part only between sequences. So a [`SequenceCursor`] keeps the
 //! sequences of the line before it, in 8 bytes each. When it goes on, it keeps the *front*, the first sequences that the next line shares,
@@ -10,7 +10,8 @@
 //! shows the line by its sequences and their nodes. The sequence after the last one of a line is the first that only the next line has, and
 //! the sequence that it goes on from is the last that both have.
 //!
-//! A [`Cursor`] goes over a whole collection, and shows each line as a [`LineRef`], with its path.
+//! It needs only an outline (`Outline` of `sgf_tree`). A [`Cursor`] goes over a `Collection`, and shows each line as a [`LineRef`], with its
+//! path.
 //!
 //! ```text
 //! let mut cursor = SequenceCursor::new(alloc, &outline);
