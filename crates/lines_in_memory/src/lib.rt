@@ -25,10 +25,8 @@ pub fn records(alloc: Global, text: &[u8], options: &Options) -> Result<Vec<u8>,
 {
     let mut source = SliceSource::new(text);
     let mut sink = WriteSink::new(Vec::new(alloc));
-    match split(alloc, &mut source, &mut sink, options) {
-        Ok(_) => Ok(sink.into_inner()),
-        Err(fault) => Err(fault),
-    }
+    split(alloc, &mut source, &mut sink, options)?;
+    Ok(sink.into_inner())
 }
 
 /// The verdict of the first line of a collection; None if it has no line.

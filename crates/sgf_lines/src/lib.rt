@@ -18,7 +18,8 @@
 //! }
 //! ```
 //!
-//! The loops end because each pass leaves one line fewer. (`lines_in_memory` has the whole loops, with their proofs. Here are the measures of the two labelled loops.)
+//! The loops end because each pass leaves one line fewer. (`lines_in_memory` has the whole loops, with their proofs. Here are the measures of
+//! the two labelled loops.)
 //!
 //! ```text
 //! decreases-lines l = length (lines l.cursor.games) - l.cursor.index
@@ -28,6 +29,10 @@
 //! The node given to `judge` must be a leaf. By [`laws::named`] the last node of each line is a leaf.
 //! [`judge_at`] needs only the place of a line.
 //!
+//! The code outside `judging/quick` is complete and can be read by itself. `judging/quick` has a faster way for nodes that are recognized at a
+//! glance, and may be skipped. What else saves work stands in one function each: `LineNodes::next` takes the nodes so recognized, and
+//! `push_text_of` (`form/commands`) decodes a comment of one row in place.
+//!
 //! | Module | What it has |
 //! |---|---|
 //! | `line_nodes` | going over the nodes of a line |
@@ -36,6 +41,7 @@
 //! | `judging/one_line`, `judging/judge` | `judge` and `judge_at`: one line, by its leaf or its place; `Judge`, which goes along a line's nodes, and back |
 //! | `judging/judged` | judging a line from the first node that it does not share with the line before it |
 //! | `judging/root`, `judging/contents`, `judging/step` | the board of a root's game; what a node holds; playing a node |
+//! | `judging/quick` | a shortcut: playing a node that is recognized at a glance |
 //! | `over_lines` | going over the lines that follow a cursor, and what is kept from line to line |
 //! | `follower` | judging each of these lines |
 //! | `node_values` | what the values of a node say |

@@ -10,8 +10,6 @@ use go_board::{Colour, Play, Size, point};
 const MAX_LETTER_PASS_SIDE: u8 = 19;
 
 /// The play of a move: a pass, or a stone on a point of the board. None for any other raw value.
-// Inlined: else the result goes through memory.
-#[inline(always)]
 pub(crate) fn move_value(raw: &[u8], size: Size) -> Option<Play>
     ensures value { result ≡ move_value_rule raw.now size }
     ensures on_board { IfSome result (IsPlayOn size) }
@@ -26,8 +24,6 @@ pub(crate) fn move_value(raw: &[u8], size: Size) -> Option<Play>
 }
 
 /// Whether a raw value is a pass: it is empty, or it is `tt` on a side of 19 or less.
-// Inlined, as `move_value`.
-#[inline(always)]
 fn is_pass(raw: &[u8], size: Size) -> bool
     ensures { result ≡ is_pass_rule raw.now size }
 {

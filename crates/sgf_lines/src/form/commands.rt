@@ -1,4 +1,7 @@
 //! The commands of a node in the script of a line (Go Text Protocol, version 2).
+//!
+//! `#[inline(always)]` is on a play command, which most nodes add, and on the search for a board's stones, so that it is compiled for each
+//! colour. `#[inline(never)]` is on what few nodes or points need. Without these attributes gtp form takes up to 1.4 percent more instructions.
 
 ghost use Rattle.std.specs.Prelude.{◌≡◌, ℕ, List, [], ◌∷◌, ◌++◌, ◌+◌, ◌≤◌, ◌<◌, ◌*◌, OnOk, option_copied};
 ghost use Rattle.board_points.specs.Point.{IsOn};
@@ -51,7 +54,7 @@ fn push_comment(comment: Option<&[u8]>, output: &mut Vec<u8>) -> Result<(), Memo
 }
 
 /// Appends the rows of the text that a raw value stands for. Most texts have one row: so the text is decoded in place, after the
-/// bytes that begin a row. This is a function of its own because most nodes have no comment.
+/// bytes that begin a row. Any other text takes the plain way, `push_text_rows`.
 #[inline(never)]
 fn push_text_of(raw: &[u8], output: &mut Vec<u8>) -> Result<(), MemoryFault>
     ensures { OnOk result (output.new.items ≡ output.old.items ++ text_rows (text_of raw.now)) }
@@ -70,7 +73,7 @@ fn push_text_of(raw: &[u8], output: &mut Vec<u8>) -> Result<(), MemoryFault>
     push_text_rows(&text, output)
 }
 
-/// Appends a comment row for each piece of a text that is cut at its line feeds. Appends nothing for an empty text.
+/// Appends a comment row for each piece of a text that is cut at its line feeds; nothing for an empty text. This is the plain way.
 fn push_text_rows(text: &[u8], output: &mut Vec<u8>) -> Result<(), MemoryFault>
     ensures { OnOk result (output.new.items ≡ output.old.items ++ text_rows text.now) }
 {
@@ -94,8 +97,7 @@ fn push_comment_row(piece: &[u8], output: &mut Vec<u8>) -> Result<(), MemoryFaul
     push_bytes(b"\n", output)
 }
 
-/// Appends a whole board: the command that clears it, then all black stones, then all white ones. This is a function of its own
-/// because few nodes need it, and it has the code for the stones of a colour twice.
+/// Appends a whole board: the command that clears it, then all black stones, then all white ones.
 #[inline(never)]
 fn push_board(board: &Board, output: &mut Vec<u8>) -> Result<(), MemoryFault>
     requires { board.now.side ≤ MAX_VERTEX_SIDE }
@@ -106,8 +108,7 @@ fn push_board(board: &Board, output: &mut Vec<u8>) -> Result<(), MemoryFault>
     push_stones(board, Colour::White, output)
 }
 
-/// Appends the stones of a colour, row by row from the top, from left to right. It is inlined, and so are the functions for a row
-/// and a point: then the colour that each point is compared with is known when the code is compiled.
+/// Appends the stones of a colour, row by row from the top, from left to right.
 #[inline(always)]
 fn push_stones(board: &Board, colour: Colour, output: &mut Vec<u8>) -> Result<(), MemoryFault>
     requires { board.now.side ≤ MAX_VERTEX_SIDE }
@@ -152,7 +153,7 @@ fn push_point(
     }
 }
 
-/// Appends the play command of a stone on a board. Most points have none, so the search for stones is short without this code.
+/// Appends the play command of a stone on a board.
 #[inline(never)]
 fn push_stone_on(
     size: Size,
@@ -167,8 +168,7 @@ fn push_stone_on(
     push_play(size, colour, Play::Stone(point), output)
 }
 
-/// Appends a play command. Its bytes are laid out first and appended in one call, because most nodes add one. It is inlined for
-/// the same reason.
+/// Appends a play command. Its bytes are laid out first and appended in one call.
 #[inline(always)]
 fn push_play(
     size: Size,

@@ -52,9 +52,9 @@ pub(crate) enum Kind {
     Comment,
 }
 
-/// What a node holds, on a board of that size. `front` is its first property, if it was recognized: its letter and its only raw value. The
-/// others are those that are left of the nodes, and are taken off. Unless the setup is faulty, `operations` becomes the operations that
-/// the node's values of AB, AW and AE name, in order.
+/// What a node holds, on a board of that size. `front` is its first property, if it was recognized: its letter and its only raw value. Its
+/// other properties are still left in `nodes`, and are taken off. Unless the setup is faulty, `operations` becomes the operations that the
+/// node's values of AB, AW and AE name, in order.
 pub(crate) fn gathered<'a>(
     front: Option<(u8, &'a [u8])>,
     nodes: &mut LineNodes<'_, '_, 'a>,

@@ -8,8 +8,9 @@ ghost use Rattle.sgf_lines.specs.inner.Judging.{back_to};
 ghost use Rattle.sgf_lines.specs.Verdict.{score_in};
 ghost use Rattle.sgf_lines.specs.JudgedGames.{game_kind, board};
 
+use crate::judging::quick::take_step;
 use crate::judging::root::board_size;
-use crate::judging::step::{TakenStep, place_of, take_step};
+use crate::judging::step::{TakenStep, place_of};
 use crate::line_nodes::LineNodes;
 use crate::verdict::Verdict;
 use go_board::{Board, Past, PrintPast, Referee, SetupOp, Size, TurnFault};
@@ -94,7 +95,6 @@ impl Judge {
 
     /// Takes one more node, and returns its step. `next` and `nodes` are as for `take_step`. None if the step isn't taken: the game isn't
     /// judged, the node is illegal, or the line ended before it. After a refusal of memory nothing is changed.
-    // Inlined: a caller that needs no step has no step put together.
     #[inline(always)]
     pub(crate) fn take<'a>(
         &mut self,
@@ -194,20 +194,19 @@ impl Judge {
     }
 }
 
-/// Puts a referee of a game on a board of that size into `place`. After a refusal of memory `place` is unchanged.
-// Not inlined: whole boards stand on its stack, and each call of `begin_on` would set room for them to zeros.
-#[inline(never)]
+/// Puts a referee of a game on a board of that size into `slot`. After a refusal of memory `slot` is unchanged. This is a function of its own:
+/// whole boards stand on its stack, and each call of `begin_on` would set room for them to zeros.
 fn put_referee(
     alloc: Global,
     size: Size,
-    place: &mut Option<Referee<PrintPast>>,
+    slot: &mut Option<Referee<PrintPast>>,
 ) -> Result<(), MemoryFault>
-    ensures ok { OnOk result (place.new ≡ Some (begun size)) }
-    ensures err { OnErr result (place.new ≡ place.old) }
+    ensures ok { OnOk result (slot.new ≡ Some (begun size)) }
+    ensures err { OnErr result (slot.new ≡ slot.old) }
 {
     match Referee::new(alloc, size) {
         Ok(referee) => {
-            *place = Some(referee);
+            *slot = Some(referee);
             Ok(())
         }
         Err(_) => Err(MemoryFault),

@@ -35,12 +35,10 @@ pub(crate) trait StepKeeper {
 impl StepKeeper for () {
     ghost script = { λ _. None };
 
-    #[inline(always)]
     fn keep(&mut self, held: usize, board: Option<&Board>) -> Result<(), MemoryFault> {
         Ok(())
     }
 
-    #[inline(always)]
     fn say(&mut self, step: TakenStep<'_>, board: &Board) -> Result<(), MemoryFault> {
         Ok(())
     }

@@ -34,34 +34,7 @@ pub(crate) struct TakenStep<'a> {
     pub(crate) comment: Option<&'a [u8]>,
 }
 
-/// Takes a node's step, which adds one state. It plays the node's move, sets up its stones and its player, or stays. `next` is the node, as
-/// `LineNodes::next` took it; the properties that are left of it are taken off. `operations` is a buffer.
-///
-/// If the node is illegal, the first reason is returned. After a refusal the referee is unchanged.
-// Inlined: a caller that needs no step has none put together.
-#[inline(always)]
-pub(crate) fn take_step<'a, P: Past>(
-    referee: &mut Referee<P>,
-    next: NextNode<'a>,
-    nodes: &mut LineNodes<'_, '_, 'a>,
-    operations: &mut Vec<SetupOp>,
-) -> Result<TakenStep<'a>, TurnFault>
-    ensures stepped { (node : Node) → ComesAs node nodes.old.properties next.entry
-        → IsStepped (step referee.old.present node) referee.old referee.new result }
-    ensures told { (node : Node) → ComesAs node nodes.old.properties next.entry
-        → IfOk result (IsStepOf referee.old.present.colouring.side node) }
-    ensures left { nodes.new.nodes ≡ nodes.old.nodes }
-{
-    match next {
-        NextNode::Led { letter, value, .. } => {
-            take_contents(referee, Contents::of_lone(letter, value), &[])
-        }
-        NextNode::Empty { .. } => take_contents(referee, Contents::nothing(), &[]),
-        NextNode::Open { front, .. } => take_any_step(referee, front, nodes, operations),
-    }
-}
-
-/// The place of a node that was taken so.
+/// The place of a node that `LineNodes::next` took.
 pub(crate) fn place_of(next: &NextNode<'_>) -> usize
     ensures { (node : Node) (left : List Property) → ComesAs node left next.now → node.place ≡ result }
 {
@@ -72,10 +45,15 @@ pub(crate) fn place_of(next: &NextNode<'_>) -> usize
     }
 }
 
-/// The same as `take_step`, whatever the node holds. `front` is its first property, if it was recognized.
-// Not inlined: it is called for few nodes, and what it needs stays off the usual way.
+/// Takes the step of a node, which adds one state: the node's move is played, its stones and its player are set up, or nothing changes.
+/// `front` is its first property, if that was recognized. The other properties are those left of the nodes, and are taken off. `operations`
+/// is a buffer.
+///
+/// If the node is illegal, the first reason is returned. After a refusal the referee is unchanged.
+///
+/// This is the plain way: it gathers all that the node holds. `quick::take_step` calls it for a node that isn't recognized.
 #[inline(never)]
-fn take_any_step<'a, P: Past>(
+pub(crate) fn take_any_step<'a, P: Past>(
     referee: &mut Referee<P>,
     front: Option<(u8, &'a [u8])>,
     nodes: &mut LineNodes<'_, '_, 'a>,
@@ -95,9 +73,8 @@ fn take_any_step<'a, P: Past>(
 }
 
 /// Takes the step of a node with these contents. `operations` has the operations of the node's stones.
-// Inlined: what a node without stones doesn't need drops out.
 #[inline(always)]
-fn take_contents<'a, P: Past>(
+pub(crate) fn take_contents<'a, P: Past>(
     referee: &mut Referee<P>,
     contents: Contents<'a>,
     operations: &[SetupOp],
@@ -115,10 +92,9 @@ fn take_contents<'a, P: Past>(
     })
 }
 
-/// Takes the step of a node as `take_contents` does, and returns what the node did to the board. The first reason that holds is given, in this order: `mixed` (a move and a setup,
-/// even a faulty one), `two-moves`, `bad-setup`, and then those of `take_move`. A `bad-setup` was found by `gathered`. The arms need no
-/// such order: those of `two-moves` and `bad-setup` are for nodes that aren't mixed.
-// Inlined, as `take_contents`.
+/// Takes the step of a node as `take_contents` does, and returns what the node did to the board. The first reason that holds is given, in
+/// this order: `mixed` (a move and a setup, even a faulty one), `two-moves`, `bad-setup`, and then those of `take_move`. A `bad-setup` was
+/// found by `gathered`. The arms need no such order: those of `two-moves` and `bad-setup` are for nodes that aren't mixed.
 #[inline(always)]
 fn effect_of<P: Past>(
     referee: &mut Referee<P>,
@@ -170,7 +146,6 @@ fn set_up<P: Past>(
 }
 
 /// Takes the turn of a move.
-// Inlined, as `take_contents`.
 #[inline(always)]
 fn take_move<P: Past>(
     referee: &mut Referee<P>,

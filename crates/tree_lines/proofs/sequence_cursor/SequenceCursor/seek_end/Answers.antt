@@ -10,4 +10,4 @@ overflow_add-self c = grind (arith, common_steps, fewer, games_are)
 
 pub invariant_of-self-2 : goal.invariant_of-self-2
 invariant_of-self-2 c =
-    stands_sought c.self.inside.outline.now c.self.inside.next c.self.inside.path.items c.self.invariant c.args.self.now c.self.view_is c.args.sequence c.write_path.new.path.items c.requires.within c.requires.is_leaf c.in_ok-write_path.ensures.ok
+    stands_sought c.self.inside.outline.now c.self.inside.next c.self.inside.path.items c.self.invariant c.args.self.now c.self.view_is c.args.sequence c.write_parts.new.path.items c.requires.within c.requires.is_leaf c.in_ok-write_parts.ensures.ok
