@@ -17,7 +17,7 @@ pub mod NearLiterals
 pub mod NearBrackets
 pub mod PlacedBytes
 pub mod PointBytes
-pub mod KeptEnds
+pub mod KeptLengths
 pub mod Iterating
 pub mod Points
 pub mod FirstProperty

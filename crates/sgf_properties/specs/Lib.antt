@@ -6,7 +6,7 @@ pub mod RawValue
 pub mod Spelling
 pub mod Front
 pub mod Offsets
-pub mod KeptEnds
+pub mod KeptLengths
 pub mod Text
 pub mod Number
 pub mod Written

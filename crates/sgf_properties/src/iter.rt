@@ -8,7 +8,7 @@ ghost use Rattle.sgf_properties.specs.Spelling.{is_white_space, is_upper, IsProp
 ghost use Rattle.sgf_properties.specs.Offsets.{IsSpan};
 ghost use Rattle.sgf_properties.specs.Front.{properties_in, ArePropertiesIn, values_in, AreValuesIn};
 ghost use Rattle.sgf_properties.specs.inner.Iterating.{IsValueAt, IsValuesEnd, IsNoPropValue, values_left};
-ghost use Rattle.sgf_properties.specs.KeptEnds.{AreKeptEnds};
+ghost use Rattle.sgf_properties.specs.KeptLengths.{AreKeptLengths};
 ghost use Rattle.sgf_properties.specs.inner.PropertyCode.{properties_code, values_code};
 
 use crate::property::PropRef;
@@ -33,7 +33,7 @@ impl<'c, 'a> Model for Properties<'c, 'a> {
 
     ghost view = { λ n. properties_in n.rest.now };
 
-    ghost invariant = { λ n. ArePropertiesIn n.rest.now × AreKeptEnds n.rest.now n.long.now.items };
+    ghost invariant = { λ n. ArePropertiesIn n.rest.now × AreKeptLengths n.rest.now n.long.now.items };
 }
 
 impl<'c, 'a> Properties<'c, 'a> {
@@ -43,7 +43,7 @@ impl<'c, 'a> Properties<'c, 'a> {
     pub fn new(text: &'a [u8], at: usize, long: &'c Vec<LongValue>) -> Properties<'c, 'a>
         requires within { at ≤ length text.now }
         requires held { ArePropertiesIn (drop at text.now) }
-        requires kept { AreKeptEnds text.now long.now.items }
+        requires kept { AreKeptLengths text.now long.now.items }
         ensures { result ≡ properties_in (drop at text.now) }
     {
         let rest = rest_from(text, at);
@@ -136,7 +136,7 @@ impl<'a> Iterator for Values<'a> {
 #[inline(always)]
 pub fn property_at<'a>(text: &'a [u8], start: usize, long: &Vec<LongValue>) -> (PropRef<'a>, usize)
     requires held { ArePropertiesIn text.now }
-    requires kept { AreKeptEnds text.now long.now.items }
+    requires kept { AreKeptLengths text.now long.now.items }
     requires white_space { IsSpan is_white_space text.now 0 start }
     requires within { start < length text.now }
     requires capital { IsTrue (is_upper (slice_index text.now start)) }
@@ -163,7 +163,7 @@ pub fn property_at<'a>(text: &'a [u8], start: usize, long: &Vec<LongValue>) -> (
 #[inline(always)]
 fn value_at(text: &[u8], at: usize, long: Option<&Vec<LongValue>>) -> Option<(usize, usize)>
     requires within { at ≤ length text.now }
-    requires kept { IfSome long (λ kept. AreKeptEnds text.now kept.now.items) }
+    requires kept { IfSome long (λ kept. AreKeptLengths text.now kept.now.items) }
     ensures { MatchOption result (IsNoPropValue (drop at text.now)) (λ value. IsValueAt text.now at value.0 value.1) }
 {
     let bracket = skip_white_space(text, at);
@@ -179,7 +179,7 @@ fn value_at(text: &[u8], at: usize, long: Option<&Vec<LongValue>>) -> Option<(us
 /// The end of the values at `at`. After the first value of a property there are usually no more.
 fn values_end(text: &[u8], at: usize, long: &Vec<LongValue>) -> usize
     requires within { at ≤ length text.now }
-    requires kept { AreKeptEnds text.now long.now.items }
+    requires kept { AreKeptLengths text.now long.now.items }
     ensures { IsValuesEnd text.now at result }
 {
     if begins_value(text, at) {
@@ -193,7 +193,7 @@ fn values_end(text: &[u8], at: usize, long: &Vec<LongValue>) -> usize
 #[inline(never)]
 fn far_values_end(text: &[u8], at: usize, long: &Vec<LongValue>) -> usize
     requires within { at ≤ length text.now }
-    requires kept { AreKeptEnds text.now long.now.items }
+    requires kept { AreKeptLengths text.now long.now.items }
     ensures { IsValuesEnd text.now at result }
 {
     let mut end = past_points(text, at);

@@ -3,7 +3,7 @@
 
 ghost use Rattle.std.specs.Prelude.{◌<◌, ◌≤◌, ◌+◌, length, IfSome, MatchOption};
 ghost use Rattle.sgf_properties.specs.Offsets.{IsValueEnd, IsUnended};
-ghost use Rattle.sgf_properties.specs.KeptEnds.{AreKeptEnds};
+ghost use Rattle.sgf_properties.specs.KeptLengths.{AreKeptLengths};
 ghost use Rattle.sgf_properties.specs.inner.Searches.{SpellsNoValue, HasNoBracket, IsNextBracket, AreBackslashesBefore, AreEscapes};
 
 use crate::quick::kept::kept_end;
@@ -26,7 +26,7 @@ pub struct LongValue {
 /// Many calls pass it on, and few read it.
 pub(crate) fn value_end(text: &[u8], at: usize, long: Option<&Vec<LongValue>>) -> Option<usize>
     requires within { at ≤ length text.now }
-    requires kept { IfSome long (λ kept. AreKeptEnds text.now kept.now.items) }
+    requires kept { IfSome long (λ kept. AreKeptLengths text.now kept.now.items) }
     ensures { MatchOption result (SpellsNoValue text.now at) (IsValueEnd text.now at) }
 {
     match short_value_end(text, at) {
@@ -40,7 +40,7 @@ pub(crate) fn value_end(text: &[u8], at: usize, long: Option<&Vec<LongValue>>) -
 #[tactic(auto, using(crate::proofs::ValueUnits::unended_none))]
 fn far_end(text: &[u8], at: usize, long: Option<&Vec<LongValue>>) -> Option<usize>
     requires within { at ≤ length text.now }
-    requires kept { IfSome long (λ kept. AreKeptEnds text.now kept.now.items) }
+    requires kept { IfSome long (λ kept. AreKeptLengths text.now kept.now.items) }
     ensures { MatchOption result (SpellsNoValue text.now at) (IsValueEnd text.now at) }
 {
     if let Some(long) = long {

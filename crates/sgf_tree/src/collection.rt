@@ -10,7 +10,7 @@ ghost use Rattle.sgf_tree.specs.inner.Placing.{ordered_places, HoldsNodes};
 ghost use Rattle.sgf_tree.specs.Spelling.{Spells};
 ghost use Rattle.sgf_tree.specs.inner.Machine.{games_in};
 ghost use Rattle.sgf_tree.specs.inner.OwnNodes.{nothing};
-ghost use Rattle.sgf_properties.specs.KeptEnds.{AreKeptEnds};
+ghost use Rattle.sgf_properties.specs.KeptLengths.{AreKeptLengths};
 
 use crate::node::NodeRef;
 use crate::numbered::Numbered;
@@ -46,7 +46,7 @@ impl<'a> Collection<'a> {
         requires spelled { Spells (games_in text.now) text.now }
         requires few { node_count (games_in text.now) ≤ length text.now }
         requires held { HoldsNodes text.now nodes (whole (games_in text.now)) nothing }
-        requires kept { AreKeptEnds text.now long.items }
+        requires kept { AreKeptLengths text.now long.items }
         ensures { result ≡ games_in text.now }
     {
         let Numbered {

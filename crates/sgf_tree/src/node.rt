@@ -7,7 +7,7 @@ ghost use Rattle.sgf_tree.specs.Written.{node_text};
 ghost use Rattle.sgf_tree.specs.inner.TreeCode.{node_code};
 ghost use Rattle.sgf_properties.specs.Front.{properties_in};
 ghost use Rattle.sgf_tree.specs.inner.NodeText.{IsNodeIn};
-ghost use Rattle.sgf_properties.specs.KeptEnds.{AreKeptEnds};
+ghost use Rattle.sgf_properties.specs.KeptLengths.{AreKeptLengths};
 
 use crate::quick::front::is_lone_front;
 use crate::written::push_node;
@@ -33,7 +33,7 @@ impl<'c, 'a> Model for NodeRef<'c, 'a> {
 
     ghost view = { λ n. record { place = n.place; properties = properties_in (drop 1 n.text.now) } };
 
-    ghost invariant = { λ n. IsNodeIn n.text.now × AreKeptEnds n.text.now n.long.now.items };
+    ghost invariant = { λ n. IsNodeIn n.text.now × AreKeptLengths n.text.now n.long.now.items };
 }
 
 impl<'c, 'a> NodeRef<'c, 'a> {

@@ -9,7 +9,7 @@ ghost use Rattle.sgf_tree.specs.FileOrder.{node_at, nodes_at, place_at, parent_a
 ghost use Rattle.sgf_tree.specs.FileOrder.{sequence_starts, sequence_start, sequence_end, sequence_numbers};
 ghost use Rattle.sgf_properties.specs.Written.{GoesOn};
 ghost use Rattle.sgf_tree.specs.inner.NodeText.{IsNodeIn};
-ghost use Rattle.sgf_properties.specs.KeptEnds.{AreKeptEnds};
+ghost use Rattle.sgf_properties.specs.KeptLengths.{AreKeptLengths};
 ghost use Rattle.sgf_tree.specs.inner.TreeCode.{games_code};
 ghost use Rattle.sgf_tree.specs.inner.Machine.{games_in};
 ghost use Rattle.sgf_tree.specs.inner.Outlining.{IsOutlined};
@@ -37,14 +37,14 @@ impl<'a> Model for Outline<'a> {
 
     ghost view = { λ c. games_in c.text.now };
 
-    ghost invariant = { λ c. IsOutlined c.text.now c.sequences × AreKeptEnds c.text.now c.long.items };
+    ghost invariant = { λ c. IsOutlined c.text.now c.sequences × AreKeptLengths c.text.now c.long.items };
 }
 
 impl<'a> Outline<'a> {
     /// The outline of the collection that the text spells. The table must hold its sequences.
     pub(crate) fn new(text: &'a [u8], sequences: Sequences, long: Vec<LongValue>) -> Outline<'a>
         requires outlined { IsOutlined text.now sequences }
-        requires kept { AreKeptEnds text.now long.items }
+        requires kept { AreKeptLengths text.now long.items }
         ensures { result ≡ games_in text.now }
     {
         Outline {

@@ -10,7 +10,7 @@ ghost use Rattle.sgf_tree.specs.Spelling.{Spells};
 ghost use Rattle.sgf_tree.specs.Refusal.{IsFaultyWhereNotSgf};
 ghost use Rattle.sgf_tree.specs.Extent.{HasExtent};
 ghost use Rattle.sgf_tree.specs.inner.Progress.{IsTrueFault};
-ghost use Rattle.sgf_properties.specs.KeptEnds.{AreKeptEnds};
+ghost use Rattle.sgf_properties.specs.KeptLengths.{AreKeptLengths};
 ghost use Rattle.sgf_tree.specs.inner.OwnNodes.{nothing};
 ghost use Rattle.sgf_tree.specs.inner.GamesRead.{whole, ReadsWhole};
 
@@ -114,7 +114,7 @@ fn read_whole<K: Keeper>(
     requires nothing_kept { long.old.items ≡ [] }
     ensures read { OnOk result (ReadsWhole (K.keeps text.now keeper.new) text.now) }
     ensures fault { IfErr result (IsTrueFault text.now) }
-    ensures kept { OnOk result (AreKeptEnds text.now long.new.items) }
+    ensures kept { OnOk result (AreKeptLengths text.now long.new.items) }
 {
     let mark = mark_end(text)?;
     read_games(text, skip_white_space(text, mark), keeper, long)

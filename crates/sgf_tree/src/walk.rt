@@ -8,7 +8,7 @@ ghost use Rattle.sgf_tree.specs.NodesLeft.{NodesLeft};
 ghost use Rattle.sgf_tree.specs.inner.TreeCode.{nodes_left_code};
 ghost use Rattle.sgf_tree.specs.inner.Machine.{games_in};
 ghost use Rattle.sgf_properties.specs.Front.{properties_in};
-ghost use Rattle.sgf_properties.specs.KeptEnds.{AreKeptEnds};
+ghost use Rattle.sgf_properties.specs.KeptLengths.{AreKeptLengths};
 ghost use Rattle.sgf_tree.specs.inner.Walking.{nodes_between, IsWalk};
 
 use crate::quick::front::is_lone_front;
@@ -66,7 +66,7 @@ impl<'c, 'a> Model for SequenceNodes<'c, 'a> {
       nodes = nodes_between (games_in w.text.now) w.number w.end;
     } };
 
-    ghost invariant = { λ w. IsWalk w.text.now w.at w.number w.end × AreKeptEnds w.text.now w.long.now.items };
+    ghost invariant = { λ w. IsWalk w.text.now w.at w.number w.end × AreKeptLengths w.text.now w.long.now.items };
 }
 
 impl<'c, 'a> SequenceNodes<'c, 'a> {

@@ -7,7 +7,7 @@ ghost use Rattle.sgf_tree.specs.Written.{node_text};
 ghost use Rattle.sgf_properties.specs.Front.{properties_in};
 ghost use Rattle.sgf_tree.specs.inner.NodeText.{IsNodeIn};
 ghost use Rattle.sgf_properties.specs.Written.{GoesOn};
-ghost use Rattle.sgf_properties.specs.KeptEnds.{AreKeptEnds};
+ghost use Rattle.sgf_properties.specs.KeptLengths.{AreKeptLengths};
 
 use sgf_properties::{LongValue, MemoryFault, Properties, push_property};
 
@@ -19,7 +19,7 @@ pub(crate) fn push_node(
     out: &mut Vec<u8>,
 ) -> Result<(), MemoryFault>
     requires node { IsNodeIn text.now }
-    requires kept { AreKeptEnds text.now long.now.items }
+    requires kept { AreKeptLengths text.now long.now.items }
     ensures appended { OnOk result (out.new.items ≡ out.old.items ++ node_text (record { place = 0; properties = properties_in (drop 1 text.now) })) }
     ensures goes_on { GoesOn out.old.items out.new.items }
 {

@@ -2,14 +2,14 @@
 
 ghost use Rattle.std.specs.Prelude.{◌≤◌, length, IfSome};
 ghost use Rattle.sgf_properties.specs.Offsets.{IsValueEnd};
-ghost use Rattle.sgf_properties.specs.KeptEnds.{AreKeptEnds};
+ghost use Rattle.sgf_properties.specs.KeptLengths.{AreKeptLengths};
 
 use crate::value::LongValue;
 
 /// The offset of the `]` that ends the raw value at `at`, if the value's length was kept. If it is None, nothing is known.
 pub(crate) fn kept_end(text: &[u8], at: usize, long: &[LongValue]) -> Option<usize>
     requires within { at ≤ length text.now }
-    requires kept { AreKeptEnds text.now long.now }
+    requires kept { AreKeptLengths text.now long.now }
     ensures { IfSome result (IsValueEnd text.now at) }
 {
     let left = text.len() - at;

@@ -4,7 +4,7 @@ ghost use Rattle.std.specs.Prelude.{◌≡◌, ◌<◌, ◌≤◌, ◌+◌, ℕ,
 ghost use Rattle.sgf_tree.specs.Tree.{no_games};
 ghost use Rattle.sgf_tree.specs.inner.Machine.{Stack, opened};
 ghost use Rattle.sgf_tree.specs.inner.Progress.{ComesTo, IsTrueFault};
-ghost use Rattle.sgf_properties.specs.KeptEnds.{AreKeptEnds};
+ghost use Rattle.sgf_properties.specs.KeptLengths.{AreKeptLengths};
 ghost use Rattle.sgf_tree.specs.inner.OwnNodes.{Coming, nothing, CopiesNode, MayGoOn};
 ghost use Rattle.sgf_tree.specs.inner.GamesRead.{open_count, StandsBetween, IsFaultInOpened, ReadsOwnNodes, ReadsWhole};
 
@@ -29,10 +29,10 @@ pub(crate) fn read_games<K: Keeper>(
     requires within { at ≤ length text.now }
     requires begins { StandsBetween text.now at (record { closed = no_games; unclosed = [] }) }
     requires nothing_read { K.keeps text.now keeper.old (record { closed = no_games; unclosed = [] }) nothing }
-    requires long { AreKeptEnds text.now long.old.items }
+    requires long { AreKeptLengths text.now long.old.items }
     ensures read { OnOk result (ReadsWhole (K.keeps text.now keeper.new) text.now) }
     ensures fault { IfErr result (IsTrueFault text.now) }
-    ensures long { OnOk result (AreKeptEnds text.now long.new.items) }
+    ensures long { OnOk result (AreKeptLengths text.now long.new.items) }
 {
     let start = at;
     let mut at = at;
@@ -76,12 +76,12 @@ fn read_sequence<K: Keeper>(
     requires within { at ≤ length text.now }
     requires opened { (k : Stack) × (ComesTo text.now at (opened k)) × (K.keeps text.now keeper.old k nothing)
         × (open_count k.closed k.unclosed < at) }
-    requires long { AreKeptEnds text.now long.old.items }
+    requires long { AreKeptLengths text.now long.old.items }
     ensures read { IfOk result (ReadsOwnNodes (K.keeps text.now keeper.old) (K.keeps text.now keeper.new) text.now at) }
     ensures rises { IfOk result (λ end. at < end) }
     ensures within { IfOk result (λ end. end ≤ length text.now) }
     ensures fault { IfErr result (IsFaultInOpened text.now at) }
-    ensures long { OnOk result (AreKeptEnds text.now long.new.items) }
+    ensures long { OnOk result (AreKeptLengths text.now long.new.items) }
 {
     let mut next = skip_white_space(text, at);
     let mut own = OwnNodes::none(next);

@@ -5,7 +5,7 @@ ghost use Rattle.sgf_tree.specs.Spelling.{is_upper};
 ghost use Rattle.sgf_properties.specs.Front.{name_in};
 ghost use Rattle.sgf_tree.specs.inner.OwnNodes.{Copies, MayGoOn};
 ghost use Rattle.sgf_tree.specs.inner.PropertiesRead.{BeginsProperty, IsNameRead, IsPropertyRead, ArePropertiesRead, IsFaultInProperty, IsFaultInNode};
-ghost use Rattle.sgf_properties.specs.KeptEnds.{AreKeptEnds};
+ghost use Rattle.sgf_properties.specs.KeptLengths.{AreKeptLengths};
 
 use crate::fault::MAX_LENGTH;
 use crate::layout::Stretch;
@@ -36,12 +36,12 @@ pub(crate) fn read_properties<K: Keeper>(
     long: &mut Vec<LongValue>,
 ) -> Result<PartRead, PartFault>
     requires stretch { MayGoOn stretch stretch.end (length text.now) }
-    requires kept { AreKeptEnds text.now long.old.items }
+    requires kept { AreKeptLengths text.now long.old.items }
     ensures rises { IfOk result (λ read. read.stretch.start ≤ read.stretch.end) }
     ensures read { IfOk result (λ read. ArePropertiesRead (Copies (K.keeps text.now keeper.old) (K.keeps text.now keeper.new) text.now stretch read.stretch)
         text.now stretch.end read.stretch.end read.end) }
     ensures fault { IfErr result (IsFaultInNode text.now stretch.end) }
-    ensures kept { OnOk result (AreKeptEnds text.now long.new.items) }
+    ensures kept { OnOk result (AreKeptLengths text.now long.new.items) }
 {
     let mut read = PartRead {
         stretch,
@@ -71,12 +71,12 @@ fn read_property<K: Keeper>(
     long: &mut Vec<LongValue>,
 ) -> Result<PartRead, PartFault>
     requires begins { BeginsProperty text.now before }
-    requires kept { AreKeptEnds text.now long.old.items }
+    requires kept { AreKeptLengths text.now long.old.items }
     ensures rises { IfOk result (λ read. read.stretch.start ≤ read.stretch.end) }
     ensures read { IfOk result (λ read. IsPropertyRead (Copies (K.keeps text.now keeper.old) (K.keeps text.now keeper.new) text.now before.stretch read.stretch)
         text.now before.end read.stretch.end read.end) }
     ensures fault { IfErr result (IsFaultInProperty text.now before.end) }
-    ensures kept { OnOk result (AreKeptEnds text.now long.new.items) }
+    ensures kept { OnOk result (AreKeptLengths text.now long.new.items) }
 {
     let name = read_name(text, before, keeper)?;
     let mut read = name;

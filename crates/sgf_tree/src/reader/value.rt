@@ -4,7 +4,7 @@
 ghost use Rattle.std.specs.Prelude.{◌<◌, ◌≤◌, ◌+◌, length, IfOk, IfErr, OnOk};
 ghost use Rattle.sgf_properties.specs.Offsets.{IsValueEnd};
 ghost use Rattle.sgf_tree.specs.inner.PropertiesRead.{IsFaultInValue};
-ghost use Rattle.sgf_properties.specs.KeptEnds.{AreKeptEnds};
+ghost use Rattle.sgf_properties.specs.KeptLengths.{AreKeptLengths};
 
 use crate::fault::MAX_LENGTH;
 use crate::reader::fault::PartFault;
@@ -22,10 +22,10 @@ pub(crate) fn read_value(
 ) -> Result<usize, PartFault>
     requires short { length text.now ≤ MAX_LENGTH }
     requires within { at ≤ length text.now }
-    requires kept { AreKeptEnds text.now long.old.items }
+    requires kept { AreKeptLengths text.now long.old.items }
     ensures read { IfOk result (IsValueEnd text.now at) }
     ensures fault { IfErr result (IsFaultInValue text.now at) }
-    ensures kept { OnOk result (AreKeptEnds text.now long.new.items) }
+    ensures kept { OnOk result (AreKeptLengths text.now long.new.items) }
 {
     match short_value_end(text, at) {
         Some(end) => Ok(end),
@@ -38,10 +38,10 @@ pub(crate) fn read_value(
 fn read_far_value(text: &[u8], at: usize, long: &mut Vec<LongValue>) -> Result<usize, PartFault>
     requires short { length text.now ≤ MAX_LENGTH }
     requires within { at ≤ length text.now }
-    requires kept { AreKeptEnds text.now long.old.items }
+    requires kept { AreKeptLengths text.now long.old.items }
     ensures read { IfOk result (IsValueEnd text.now at) }
     ensures fault { IfErr result (IsFaultInValue text.now at) }
-    ensures kept { OnOk result (AreKeptEnds text.now long.new.items) }
+    ensures kept { OnOk result (AreKeptLengths text.now long.new.items) }
 {
     let Some(end) = far_value_end(text, at) else {
         return Err(PartFault::NotSgf(text.len()));

@@ -1,4 +1,4 @@
-use Rattle.sgf_properties.proofs.KeptEnds.{kept-drop}
+use Rattle.sgf_properties.proofs.KeptLengths.{kept-drop}
 use Rattle.sgf_properties.proofs.iter.Properties.new.Goals as goal
 
 pub invariant_of-result : goal.invariant_of-result

@@ -1,5 +1,5 @@
 use Rattle.std.proofs.Common.{◌∙◌, sym}
-use Rattle.sgf_properties.proofs.KeptEnds.{kept-drop}
+use Rattle.sgf_properties.proofs.KeptLengths.{kept-drop}
 use Rattle.sgf_properties.proofs.Iterating.{no-property}
 use Rattle.sgf_properties.proofs.iter.PropertiesIterator.next.Goals as goal
 

@@ -1,5 +1,5 @@
 use Rattle.std.proofs.Common.{◌≤◌, length, arith}
-use Rattle.sgf_properties.proofs.KeptEnds.{kept-drop}
+use Rattle.sgf_properties.proofs.KeptLengths.{kept-drop}
 use Rattle.sgf_tree.proofs.Outlined.{node-in}
 use Rattle.sgf_tree.proofs.outline.Outline.node_at.Goals as goal
 

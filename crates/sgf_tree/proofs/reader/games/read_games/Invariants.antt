@@ -1,12 +1,12 @@
 use Rattle.std.proofs.Common.{◌-◌, length}
-use Rattle.sgf_properties.specs.KeptEnds.{AreKeptEnds}
+use Rattle.sgf_properties.specs.KeptLengths.{AreKeptLengths}
 use Rattle.sgf_tree.proofs.WholeRead.{GamesSoFar}
 use Rattle.sgf_tree.proofs.reader.games.read_games.Given as goal
 
 abbrev pub invariant-games : goal.invariant-games
 invariant-games g l = record {
   so_far : GamesSoFar l.text (g.K.Keeper.keeps l.text l.keeper) l.fn.at l.at l.depth;
-  long : AreKeptEnds l.text l.long.items;
+  long : AreKeptLengths l.text l.long.items;
 }
 
 abbrev pub decreases-games : goal.decreases-games

@@ -1,5 +1,5 @@
 use Rattle.std.proofs.Common.{◌-◌, ◌≤◌, length}
-use Rattle.sgf_properties.specs.KeptEnds.{AreKeptEnds}
+use Rattle.sgf_properties.specs.KeptLengths.{AreKeptLengths}
 use Rattle.sgf_tree.specs.inner.OwnNodes.{Copies}
 use Rattle.sgf_properties.specs.Offsets.{IsBracket}
 use Rattle.sgf_tree.proofs.ValuesRead.{ValuesSoFar}
@@ -11,7 +11,7 @@ invariant-values g l = record {
   after : l.read.stretch.end ≤ l.read.end;
   stands : IsBracket l.text l.read.end;
   so_far : ValuesSoFar l.text (Copies (g.K.Keeper.keeps l.text l.initial.keeper) (g.K.Keeper.keeps l.text l.keeper) l.text l.initial.read.stretch l.read.stretch) l.initial.read.end l.read.end;
-  kept : AreKeptEnds l.text l.long.items;
+  kept : AreKeptLengths l.text l.long.items;
 }
 
 abbrev pub decreases-values : goal.decreases-values

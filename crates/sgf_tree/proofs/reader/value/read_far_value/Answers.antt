@@ -1,4 +1,4 @@
-use Rattle.sgf_properties.proofs.KeptEnds.{kept-push}
+use Rattle.sgf_properties.proofs.KeptLengths.{kept-push}
 use Rattle.sgf_tree.proofs.ValueEnds.{unended-fault}
 use Rattle.sgf_tree.proofs.reader.value.read_far_value.Goals as goal
 

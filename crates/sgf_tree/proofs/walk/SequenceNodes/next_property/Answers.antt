@@ -4,7 +4,7 @@ use Rattle.sgf_tree.specs.Spelling.{is_white_space}
 use Rattle.sgf_properties.specs.Front.{properties_in, ArePropertiesIn}
 use Rattle.sgf_properties.specs.Offsets.{IsSpan}
 use Rattle.sgf_properties.proofs.Iterating.{no-property, run-drop}
-use Rattle.sgf_properties.proofs.KeptEnds.{kept-drop}
+use Rattle.sgf_properties.proofs.KeptLengths.{kept-drop}
 use Rattle.sgf_tree.proofs.Walking.{past-property}
 use Rattle.sgf_tree.proofs.walk.SequenceNodes.next_property.Goals as goal
 

@@ -4,7 +4,7 @@ use Rattle.std.proofs.Common.{◌≡◌, ℕ, ◌+◌, ◌-◌, ◌≤◌, List,
 use Rattle.std.proofs.lemmas.List.{drop-drop}
 use Rattle.std.proofs.lemmas.List.Elements.{All-push}
 use Rattle.sgf_properties.specs.Offsets.{IsValueEnd}
-use Rattle.sgf_properties.specs.KeptEnds.{IsKeptEnd, AreKeptEnds}
+use Rattle.sgf_properties.specs.KeptLengths.{IsKeptLength, AreKeptLengths}
 use Rattle.sgf_properties.specs.declared.value.LongValue.{LongValue}
 
 module _ (t : List ℕ) (from : ℕ) where
@@ -12,15 +12,15 @@ module _ (t : List ℕ) (from : ℕ) where
   ends-drop at bytes h = grind (arith, common_steps, drop-drop, length-drop, get_or-drop)
 
   -- what is kept of a text holds of each part that goes up to its end
-  pub kept-drop : (ls : List LongValue) → from ≤ length t → AreKeptEnds t ls → AreKeptEnds (drop from t) ls
+  pub kept-drop : (ls : List LongValue) → from ≤ length t → AreKeptLengths t ls → AreKeptLengths (drop from t) ls
   kept-drop ls within kept i d lt at e =
       ends-drop at _ (kept i d lt (from + at) (omega (arith, e, length-drop from t)))
 
 -- one more value
-pub kept-push : (t : List ℕ) (ls : List LongValue) (at end : ℕ) → AreKeptEnds t ls → at ≤ length t → IsValueEnd t at end
-    → AreKeptEnds t (ls ++ record { left = length t - at; bytes = end - at } ∷ [])
+pub kept-push : (t : List ℕ) (ls : List LongValue) (at end : ℕ) → AreKeptLengths t ls → at ≤ length t → IsValueEnd t at end
+    → AreKeptLengths t (ls ++ record { left = length t - at; bytes = end - at } ∷ [])
 kept-push t ls at end kept within h =
-    All-push (IsKeptEnd t) ls (record { left = length t - at; bytes = end - at }) kept
+    All-push (IsKeptLength t) ls (record { left = length t - at; bytes = end - at }) kept
     (λ other e.
     let same : at ≡ other = omega (arith, e) in
     let to : end ≡ other + (end - at) = omega (arith, h.rises, same) in
