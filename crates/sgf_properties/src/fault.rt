@@ -1,4 +1,4 @@
-//! How a call may fail.
+//! How a call that takes memory may fail.
 
 use std::alloc::{AllocError, AllocFailed};
 use thiserror::Error;

@@ -26,7 +26,7 @@
 //! | `text`, `numbers` | the decoded text of a value; the value of a number |
 //! | `written` | writing a property as the sgf form does |
 //! | `quick` | shortcuts for what nearly all texts have |
-//! | `fault` | how a call may fail |
+//! | `fault` | how a call that takes memory may fail |
 //! | `laws` | what holds of all raw values |
 //!
 //! | Rule (docs/GRAMMAR.md, docs/OUTPUT.md) | Function, and its module |
@@ -39,7 +39,13 @@
 //! | a property in sgf form | `push_property`, `push_value` (`written`) |
 //!
 //! The plain code is complete without the shortcuts in `quick`. A shortcut ensures no more than the plain function that it stands in for.
-//! Outside `quick` one thing is there only for speed: the lengths of long values (`long`). A first reader may take `long` to be empty.
+//! Outside `quick` these are there only for speed:
+//!
+//! - the kept lengths of long values (`long`), which a first reader may take to be empty;
+//! - the first test in `skip_white_space`, and the test in `values_end`;
+//! - that the first value of a property is held apart until it is taken off (`Values.first`), since its end is known;
+//! - `PropRef::initial`, which tells most names apart by one byte;
+//! - `literal_length`, by which `push_text` appends many bytes at once.
 //!
 //! Worked examples are in the crate `sgf_tree_tests`.
 #![tactic(auto)]

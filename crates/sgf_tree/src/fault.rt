@@ -1,4 +1,4 @@
-//! How a call may fail.
+//! How reading a text may fail.
 
 use thiserror::Error;
 

@@ -8,7 +8,7 @@
 //! each it keeps, in 20 bytes, where the sequence stands in the text, the number of its first node, and the sequence that it goes on from. If
 //! white space stands between parts of its nodes, or a name has small letters, it keeps in 8 bytes where each stretch without any is: the sgf
 //! form copies these. The nodes are found on the text, one after another.
-//! A [`Collection`] numbers its nodes from 0 in file order. Beside its outline it keeps, in 4 bytes, the place of each node, and for each
+//! A [`Collection`] numbers its nodes from 0 in file order. Besides its outline it keeps, in 4 bytes, the place of each node, and for each
 //! sequence the last node below it. The properties of a node and their raw values are read from the text again when they are asked for, one
 //! after another. Reading them takes no memory. The crate `sgf_properties` goes over them, and decodes values; this crate passes on its types.
 //!
@@ -30,7 +30,7 @@
 //! | `reader/own_nodes`, `reader/properties` | adding nodes one by one to the own nodes of a game; reading the properties of a node |
 //! | `reader/stretch` | which bytes the sgf form copies |
 //! | `reader/counting` | counting games, nodes and leaves |
-//! | `reader/value` | reading a raw value, and keeping where long values end |
+//! | `reader/value` | reading a raw value, and keeping the lengths of long ones |
 //! | `reader/mark` | the byte order mark |
 //! | `reader/fault` | why reading a text stopped, and how the place of the first fault is found |
 //! | `extent` | how much a text holds |
@@ -40,7 +40,7 @@
 //! | `written` | writing a node as the sgf form does |
 //! | `layout` | the types of own nodes and stretches |
 //! | `quick` | shortcuts for what nearly all texts have |
-//! | `fault` | how a call may fail |
+//! | `fault` | how reading a text may fail |
 //! | `laws` | what holds of all texts |
 //!
 //! | Rule (docs/GRAMMAR.md) | Function, and its module |
@@ -57,7 +57,7 @@
 //! The same table in `sgf_properties` has the rules of names, raw values, decoded text, numbers, and the bytes of white space.
 //!
 //! The plain code is complete without the shortcuts in `quick`. A shortcut ensures no more than the plain function that it stands in for.
-//! Outside `quick` two things are there only for speed: the ends of long values (`long`), and what a glance shows of a node (`NextNode::Led`,
+//! Outside `quick` two things are there only for speed: the lengths of long values (`long`), and what a glance shows of a node (`NextNode::Led`,
 //! `NextNode::Empty`, `NodeRef::front`). A first reader may take `long` to be empty.
 //!
 //! Worked examples are in the crate `sgf_tree_tests`, and those that the program shows are in `tests/`.

@@ -1,4 +1,4 @@
-//! The nodes of a collection by their numbers: beside its sequences, the place of each node in 4 bytes, and for each sequence the last
+//! The nodes of a collection by their numbers: besides its sequences, the place of each node in 4 bytes, and for each sequence the last
 //! node below it.
 
 ghost use Rattle.std.specs.Prelude.{ℕ, List, IfOk};

@@ -6,7 +6,7 @@ ghost use Rattle.sgf_properties.specs.KeptLengths.{AreKeptLengths};
 
 use crate::value::LongValue;
 
-/// The offset of the `]` that ends the raw value at `at`, if the value's length was kept. If it is None, nothing is known.
+/// The offset of the `]` that ends the raw value at `at`, if the value's length was kept.
 pub(crate) fn kept_end(text: &[u8], at: usize, long: &[LongValue]) -> Option<usize>
     requires within { at ≤ length text.now }
     requires kept { AreKeptLengths text.now long.now }

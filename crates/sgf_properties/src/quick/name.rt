@@ -17,7 +17,7 @@ pub(crate) fn is_short_name(identifier: &[u8]) -> bool
 }
 
 /// The offset after the name whose first capital is at `at`. It is found if the name has one or two
-/// letters, as nearly all have, and a `[` follows. Offsets are in bytes, from 0. If it is None, nothing is known.
+/// letters, as nearly all have, and a `[` follows. Offsets are in bytes, from 0.
 #[inline(always)]
 pub fn short_name_end(text: &[u8], at: usize) -> Option<usize>
     requires within { at < length text.now }

@@ -10,8 +10,7 @@ use std::simd::prelude::*;
 /// times are short.
 pub const NEAR: usize = 16;
 
-/// The offset of the `]` that ends the raw value at `at`, if the value is short, as most are. Offsets are in bytes, from 0. If it is None,
-/// nothing is known.
+/// The offset of the `]` that ends the raw value at `at`, if the value is short, as most are. Offsets are in bytes, from 0.
 #[inline(always)]
 pub fn short_value_end(text: &[u8], at: usize) -> Option<usize>
     requires { at ≤ length text.now }
@@ -23,7 +22,7 @@ pub fn short_value_end(text: &[u8], at: usize) -> Option<usize>
     near_value_end(text, at)
 }
 
-/// The same offset, where at least `NEAR` bytes are left from `at` on. If it is None, nothing is known.
+/// The same offset, where at least `NEAR` bytes are left from `at` on.
 #[inline(always)]
 pub fn near_value_end(text: &[u8], at: usize) -> Option<usize>
     requires { at + NEAR ≤ length text.now }
@@ -39,8 +38,7 @@ pub fn near_value_end(text: &[u8], at: usize) -> Option<usize>
     Some(bracket)
 }
 
-/// Whether the raw value at the offset `at` is two bytes without an escape, as in a point. At least three bytes must be left from `at` on. If
-/// it is false, nothing is known.
+/// Whether the raw value at the offset `at` is two bytes without an escape, as in a point. At least three bytes must be left from `at` on.
 pub fn is_two_plain(text: &[u8], at: usize) -> bool
     requires { at + 2 < length text.now }
     ensures { IsTrue result → IsTwoPlain text.now at }

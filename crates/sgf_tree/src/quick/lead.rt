@@ -9,7 +9,7 @@ use crate::quick::properties::near_property_close;
 use sgf_properties::skip_white_space;
 
 /// Where the node ends that the text begins with, after any white space, if it is written like `;B[pd]BL[921.325]OB[3]`: a move, and then
-/// perhaps short properties whose names aren't among `names`. If it is None, nothing is known.
+/// perhaps short properties whose names aren't among `names`.
 #[inline(always)]
 #[tactic(auto, using(crate::proofs::Leading::others_nothing))]
 pub(crate) fn led_end(text: &[u8], names: &[[u8; 2]]) -> Option<usize>
@@ -24,8 +24,7 @@ pub(crate) fn led_end(text: &[u8], names: &[[u8; 2]]) -> Option<usize>
     others_end(text, 6, names)
 }
 
-/// Whether the text begins with a node without properties, and the next node or a parenthesis follows at once. If it is false, nothing is
-/// known.
+/// Whether the text begins with a node without properties, and the next node or a parenthesis follows at once.
 #[inline(always)]
 pub(crate) fn is_empty_node(text: &[u8]) -> bool
     ensures { IsTrue result → IsEmptyNode text.now }
@@ -33,7 +32,7 @@ pub(crate) fn is_empty_node(text: &[u8]) -> bool
     text.len() > 1 && text[0] == b';' && b' ' < text[1] && text[1] < b'A'
 }
 
-/// The end of a node, after any white space, if such short properties stand from `at` up to it. If it is None, nothing is known.
+/// The end of a node, after any white space, if such short properties stand from `at` up to it.
 #[inline(always)]
 #[tactic(auto, using(crate::proofs::Leading::others_none, crate::proofs::Leading::others_more, crate::proofs::Leading::others_end))]
 fn others_end(text: &[u8], at: usize, names: &[[u8; 2]]) -> Option<usize>
@@ -64,7 +63,7 @@ fn node_end(text: &[u8], at: usize) -> Option<usize>
 }
 
 /// The end of the first value of the property whose name begins at `start`, if the name is two capitals and isn't among `names`, if this
-/// value is short, and if the text goes on. If it is None, nothing is known.
+/// value is short, and if the text goes on.
 #[inline(always)]
 fn other_property_end(text: &[u8], start: usize, names: &[[u8; 2]]) -> Option<usize>
     requires { start ≤ length text.now }

@@ -65,7 +65,7 @@ pub(crate) fn read_games<K: Keeper>(
 
 /// Reads the own nodes of the game whose `(` is just before `at`: Sequence = Node { Node }. Returns the offset after the nodes and the
 /// white space after them.
-// A glance shows two moves, or that a node begins with one. The plain way is `read_properties` and then `take_node`.
+// A glance shows two moves, or that a node begins with one. The plain way is `take_node` and then `read_properties`.
 fn read_sequence<K: Keeper>(
     text: &[u8],
     at: usize,
