@@ -5,9 +5,12 @@ use Rattle.sgf_properties.specs.Bytes.{open_bracket, close_bracket}
 use Rattle.sgf_tree.specs.Tree.{Property}
 use Rattle.sgf_tree.specs.Written.{property_text}
 use Rattle.sgf_tree.specs.Spelling.{is_white_space, is_upper}
-use Rattle.sgf_tree.specs.inner.Machine.{Started, MachineState, in_node, in_name, in_value, after_value, after_node, ended, next_state, accepted}
+use Rattle.sgf_tree.specs.inner.Machine.{Stack, Started, MachineState, in_node, in_name, in_value, after_value, after_node, ended, next_state, accepted}
 use Rattle.sgf_tree.specs.inner.Progress.{ComesTo, IsTrueFault}
-use Rattle.sgf_properties.specs.Offsets.{IsSpan, IsBracket, ArePlain}
+use Rattle.sgf_tree.specs.inner.OwnNodes.{Coming, Copies}
+use Rattle.sgf_properties.specs.Offsets.{IsSpan, IsBracket, IsValueEnd, ArePlain}
+use Rattle.sgf_properties.specs.KeptLengths.{AreKeptLengths}
+use Rattle.sgf_properties.specs.declared.value.LongValue.{LongValue}
 use Rattle.sgf_tree.specs.declared.fault.TheConstants.{MAX_LENGTH}
 use Rattle.sgf_tree.specs.declared.reader.fault.PartFault.{PartFault}
 use Rattle.sgf_tree.specs.declared.reader.properties.PartRead.{PartRead}
@@ -25,6 +28,17 @@ pub record IsShortProperty (text : List ℕ) (at close : ℕ) : Type 0 where
   pub plain : ArePlain text (at + 3) close
   pub within : close < length text
   pub end : slice_index text close ≡ close_bracket
+
+-- A raw value may be read at `at`. The text isn't too long, and the lengths that were kept are right.
+pub record MayReadValue (text : List ℕ) (at : ℕ) (long : List LongValue) : Type 0 where
+  pub short : length text ≤ MAX_LENGTH
+  pub within : at ≤ length text
+  pub kept : AreKeptLengths text long
+
+-- The raw value that begins at `at` was read: its `]` is at `end`, and the lengths that are kept then are right.
+pub record IsValueRead (text : List ℕ) (at : ℕ) (long : List LongValue) (end : ℕ) : Type 0 where
+  pub ends : IsValueEnd text at end
+  pub kept : AreKeptLengths text long
 
 -- A property begins where the part before it ends, which is not before the end of its stretch. The text isn't too long.
 pub record BeginsProperty (text : List ℕ) (before : PartRead) : Type 0 where
@@ -44,6 +58,12 @@ pub record IsNameRead (Wrote : List ℕ → Type 0) (text : List ℕ) (start bra
   pub stands : IsBracket text bracket
   pub reached : (node : Started) → ComesTo text (start + 1) (in_name node (slice_index text start ∷ []))
       → (name : List ℕ) × ComesTo text (bracket + 1) (in_value node name [] []) × Wrote name
+
+-- The identifier that begins at the end of `before` was read up to the `[` at the end of `read`. What the sgf form writes for it is copied.
+pub record IsNameCopied (kept keeps : Stack → Coming → Type 0) (text : List ℕ) (before read : PartRead) : Type 0 where
+  pub rises : read.stretch.start ≤ read.stretch.end
+  pub after : read.stretch.end ≤ read.end
+  pub name : IsNameRead (Copies kept keeps text before.stretch read.stretch) text before.end read.end
 
 -- The property whose identifier begins at `start` was read. White space may follow it, and then comes a byte that begins no value. `Wrote` holds of
 -- what the sgf form writes for it.

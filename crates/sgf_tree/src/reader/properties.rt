@@ -4,7 +4,7 @@ ghost use Rattle.std.specs.Prelude.{◌<◌, ◌≤◌, ◌+◌, length, slice_i
 ghost use Rattle.sgf_tree.specs.Spelling.{is_upper};
 ghost use Rattle.sgf_properties.specs.Front.{name_in};
 ghost use Rattle.sgf_tree.specs.inner.OwnNodes.{Copies, MayGoOn};
-ghost use Rattle.sgf_tree.specs.inner.PropertiesRead.{BeginsProperty, IsNameRead, IsPropertyRead, ArePropertiesRead, IsFaultInProperty, IsFaultInNode};
+ghost use Rattle.sgf_tree.specs.inner.PropertiesRead.{BeginsProperty, IsNameCopied, IsPropertyRead, ArePropertiesRead, IsFaultInProperty, IsFaultInNode};
 ghost use Rattle.sgf_properties.specs.KeptLengths.{AreKeptLengths};
 
 use crate::fault::MAX_LENGTH;
@@ -101,10 +101,7 @@ fn read_name<K: Keeper>(
     keeper: &mut K,
 ) -> Result<PartRead, PartFault>
     requires { BeginsProperty text.now before }
-    ensures rises { IfOk result (λ read. read.stretch.start ≤ read.stretch.end) }
-    ensures after { IfOk result (λ read. read.stretch.end ≤ read.end) }
-    ensures read { IfOk result (λ read. IsNameRead (Copies (K.keeps text.now keeper.old) (K.keeps text.now keeper.new) text.now before.stretch read.stretch)
-        text.now before.end read.end) }
+    ensures read { IfOk result (IsNameCopied (K.keeps text.now keeper.old) (K.keeps text.now keeper.new) text.now before) }
     ensures fault { IfErr result (IsFaultInProperty text.now before.end) }
 {
     let Some(end) = short_name_end(text, before.end) else {
@@ -122,10 +119,7 @@ fn read_far_name<K: Keeper>(
     keeper: &mut K,
 ) -> Result<PartRead, PartFault>
     requires { BeginsProperty text.now before }
-    ensures rises { IfOk result (λ read. read.stretch.start ≤ read.stretch.end) }
-    ensures after { IfOk result (λ read. read.stretch.end ≤ read.end) }
-    ensures read { IfOk result (λ read. IsNameRead (Copies (K.keeps text.now keeper.old) (K.keeps text.now keeper.new) text.now before.stretch read.stretch)
-        text.now before.end read.end) }
+    ensures read { IfOk result (IsNameCopied (K.keeps text.now keeper.old) (K.keeps text.now keeper.new) text.now before) }
     ensures fault { IfErr result (IsFaultInProperty text.now before.end) }
 {
     let text_end = letters_end(text, before.end);

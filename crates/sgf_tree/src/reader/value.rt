@@ -1,12 +1,9 @@
 //! Reading raw values (SGF FF[4], PropValue).
 //! The end of a long value is searched for once, when the value is read. Its length is then kept for later steps over it.
 
-ghost use Rattle.std.specs.Prelude.{◌<◌, ◌≤◌, ◌+◌, length, IfOk, IfErr, OnOk};
-ghost use Rattle.sgf_properties.specs.Offsets.{IsValueEnd};
-ghost use Rattle.sgf_tree.specs.inner.PropertiesRead.{IsFaultInValue};
-ghost use Rattle.sgf_properties.specs.KeptLengths.{AreKeptLengths};
+ghost use Rattle.std.specs.Prelude.{IfOk, IfErr};
+ghost use Rattle.sgf_tree.specs.inner.PropertiesRead.{MayReadValue, IsValueRead, IsFaultInValue};
 
-use crate::fault::MAX_LENGTH;
 use crate::reader::fault::PartFault;
 use sgf_properties::{LongValue, far_value_end, short_value_end};
 
@@ -20,12 +17,9 @@ pub(crate) fn read_value(
     at: usize,
     long: &mut Vec<LongValue>,
 ) -> Result<usize, PartFault>
-    requires short { length text.now ≤ MAX_LENGTH }
-    requires within { at ≤ length text.now }
-    requires kept { AreKeptLengths text.now long.old.items }
-    ensures read { IfOk result (IsValueEnd text.now at) }
+    requires { MayReadValue text.now at long.old.items }
+    ensures read { IfOk result (IsValueRead text.now at long.new.items) }
     ensures fault { IfErr result (IsFaultInValue text.now at) }
-    ensures kept { OnOk result (AreKeptLengths text.now long.new.items) }
 {
     match short_value_end(text, at) {
         Some(end) => Ok(end),
@@ -37,12 +31,9 @@ pub(crate) fn read_value(
 /// is the plain way.
 #[inline(never)]
 fn read_far_value(text: &[u8], at: usize, long: &mut Vec<LongValue>) -> Result<usize, PartFault>
-    requires short { length text.now ≤ MAX_LENGTH }
-    requires within { at ≤ length text.now }
-    requires kept { AreKeptLengths text.now long.old.items }
-    ensures read { IfOk result (IsValueEnd text.now at) }
+    requires { MayReadValue text.now at long.old.items }
+    ensures read { IfOk result (IsValueRead text.now at long.new.items) }
     ensures fault { IfErr result (IsFaultInValue text.now at) }
-    ensures kept { OnOk result (AreKeptLengths text.now long.new.items) }
 {
     let Some(end) = far_value_end(text, at) else {
         return Err(PartFault::NotSgf(text.len()));

@@ -1,3 +1,4 @@
+use Rattle.std.proofs.Common.{arith}
 use Rattle.sgf_tree.proofs.NameEnds.{name-after, name-faulty, name-read}
 use Rattle.sgf_tree.proofs.reader.properties.read_far_name.Goals as goal
 
@@ -12,5 +13,10 @@ returns-then-not-stands_at-clause-fault g c n h =
 pub returns-clause-read : goal.returns-clause-read
 returns-clause-read g c =
     let (within, bracket) = c.stands_at.ensures.stands c.if-not-stands_at.false in
-    name-read _ c.args.text.now c.args.before.end c.letters_end-text_end.result c.skip_white_space-end.result c.requires.within c.requires.capital
-    c.letters_end-text_end.ensures c.skip_white_space-end.ensures (record { within = within; bracket = bracket }) c.in_ok-stretch.ensures.copied
+    let stretch = c.in_ok-stretch.ensures in
+    record {
+      rises = stretch.rises;
+      after = omega (arith, stretch.end, c.skip_white_space-end.ensures.rises);
+      name = name-read _ c.args.text.now c.args.before.end c.letters_end-text_end.result c.skip_white_space-end.result c.requires.within c.requires.capital
+          c.letters_end-text_end.ensures c.skip_white_space-end.ensures (record { within = within; bracket = bracket }) stretch.copied;
+    }

@@ -12,5 +12,9 @@ returns-clause-read g c =
     let end = c.in-Some.end in
     let name = c.in-Some.ensures in
     let Wrote = Copies (keeps c.args.keeper.now) (keeps c.then.new.keeper) t c.args.before.stretch c.in_ok-stretch.stretch in
-    name-read Wrote t start end end c.requires.within c.requires.capital name.letters (bracket-here t end name.bracket) name.bracket
-    (subst Wrote (capitals-are t start end name.capitals) (c.in_ok-stretch.ensures.copied t (omega (arith, name.bracket.within))))
+    record {
+      rises = c.in_ok-stretch.ensures.rises;
+      after = omega (arith, c.in_ok-stretch.ensures.end);
+      name = name-read Wrote t start end end c.requires.within c.requires.capital name.letters (bracket-here t end name.bracket) name.bracket
+          (subst Wrote (capitals-are t start end name.capitals) (c.in_ok-stretch.ensures.copied t (omega (arith, name.bracket.within))));
+    }

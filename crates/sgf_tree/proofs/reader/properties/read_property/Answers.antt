@@ -10,12 +10,12 @@ use Rattle.sgf_tree.proofs.reader.properties.read_property.Goals as goal
 pub values-init : goal.values-init
 values-init g c =
     let t = c.args.text.now in
-    let name = c.in_ok-name.ensures in
+    let name = c.in_ok-name.ensures.read in
     let keeps = g.K.Keeper.keeps t c.read_name.new.keeper in
     record {
       rises = name.rises;
       after = name.after;
-      stands = name.read.stands;
+      stands = name.name.stands;
       so_far = values-begin t (Copies keeps keeps t c.in_ok-name.name.stretch c.in_ok-name.name.stretch) c.in_ok-name.name.end (copies-none keeps t c.in_ok-name.name.stretch);
       kept = c.requires.kept;
     }
@@ -31,7 +31,7 @@ returns-then-not-stands_at-clause-read g c =
     let next = c.in_ok-stretch.stretch in
     let close = c.in_ok-text_end.field-0 in
     let end = c.skip_white_space-end in
-    let value = c.in_ok-text_end.ensures.read in
+    let value = c.in_ok-text_end.ensures.read.ends in
     let Named = Copies (keeps c.args.keeper.now) (keeps c.read_name.new.keeper) t start.stretch name.stretch in
     let Valued = Copies (keeps c.read_name.new.keeper) (keeps c.then.new.keeper) t name.stretch next in
     let Wrote = Copies (keeps c.args.keeper.now) (keeps c.then.new.keeper) t start.stretch next in
@@ -39,7 +39,7 @@ returns-then-not-stands_at-clause-read g c =
     so_far.so_far c.past_points-last.ensures.points (c.past_points-last.ensures.stands so_far.stands) value end.ensures
     (λ w h. copies-then (keeps c.read_name.new.keeper) (keeps c.values.keeper) (keeps c.then.new.keeper) t name.stretch read.stretch next w _ h (c.in_ok-stretch.ensures.copied t (omega (arith, value.within)))) in
     subst (λ i. IsPropertyRead Wrote t start.end i end.result) (sym c.in_ok-stretch.ensures.end)
-    (property-read Named Valued Wrote t start.end name.end (close + 1) end.result c.in_ok-name.ensures.read values
+    (property-read Named Valued Wrote t start.end name.end (close + 1) end.result c.in_ok-name.ensures.read.name values
     (omega (arith, so_far.so_far.rises, c.past_points-last.ensures.points.ends, value.rises)) end.ensures (c.stands_at.ensures.other c.if-not-stands_at.true)
     (copies-then (keeps c.args.keeper.now) (keeps c.read_name.new.keeper) (keeps c.then.new.keeper) t start.stretch name.stretch next))
 
@@ -52,7 +52,7 @@ values-preserved g c =
     let so_far = c.values.invariant in
     let next = c.in_ok-stretch.stretch in
     let end = c.skip_white_space-end in
-    let value = c.in_ok-text_end.ensures.read in
+    let value = c.in_ok-text_end.ensures.read.ends in
     let (within, bracket) = c.stands_at.ensures.stands c.if-not-stands_at.false in
     let Valued = Copies (keeps c.read_name.new.keeper) (keeps c.then.new.keeper) t name.stretch next in
     let values = values-run t (Copies (keeps c.read_name.new.keeper) (keeps c.values.keeper) t name.stretch read.stretch) Valued name.end read.end c.past_points-last.result c.in_ok-text_end.field-0 end.result
@@ -63,7 +63,7 @@ values-preserved g c =
       after = omega (arith, c.in_ok-stretch.ensures.end, end.ensures.rises);
       stands = record { within = within; bracket = bracket };
       so_far = values-more t Valued name.end end.result values within bracket;
-      kept = c.in_ok-text_end.ensures.kept;
+      kept = c.in_ok-text_end.ensures.read.kept;
     }
 
 pub returns-in_err-text_end-clause-fault : goal.returns-in_err-text_end-clause-fault
