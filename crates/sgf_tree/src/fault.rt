@@ -1,5 +1,8 @@
 //! How reading a text may fail.
 
+ghost use Rattle.std.specs.Prelude.{◌≡◌};
+
+use sgf_properties::MemoryFault;
 use thiserror::Error;
 
 /// The most bytes that a text may have: 64 MiB (this project's choice).
@@ -24,4 +27,14 @@ pub enum ReadFault {
     /// Memory was refused.
     #[error("out of memory")]
     Memory,
+}
+
+impl From<MemoryFault> for ReadFault {
+    ghost use Rattle.sgf_tree.specs.declared.fault.ReadFault.TheVariants.{Memory};
+
+    ghost from_gives = { λ _ fault. fault ≡ Memory };
+
+    fn from(_refused: MemoryFault) -> ReadFault {
+        ReadFault::Memory
+    }
 }

@@ -51,15 +51,10 @@ pub fn read<'a>(alloc: Global, text: &'a [u8]) -> Result<Collection<'a>, ReadFau
     if text.len() > MAX_LENGTH {
         return Err(ReadFault::TooLong);
     }
-    let Ok(mut nodes) = Numbered::with_room(alloc, text.len()) else {
-        return Err(ReadFault::Memory);
-    };
+    let mut nodes = Numbered::with_room(alloc, text.len())?;
     let mut long = Vec::new(alloc);
-    match read_whole(text, &mut nodes, &mut long) {
-        Ok(()) => Ok(Collection::new(text, nodes, long)),
-        Err(PartFault::NotSgf(at)) => Err(ReadFault::NotSgf { at }),
-        Err(PartFault::Memory) => Err(ReadFault::Memory),
-    }
+    read_whole(text, &mut nodes, &mut long)?;
+    Ok(Collection::new(text, nodes, long))
 }
 
 /// Reads the outline of the collection that a text spells, which knows its sequences. It takes less memory than a collection. The outline
@@ -72,15 +67,10 @@ pub fn read_outline<'a>(alloc: Global, text: &'a [u8]) -> Result<Outline<'a>, Re
     if text.len() > MAX_LENGTH {
         return Err(ReadFault::TooLong);
     }
-    let Ok(mut sequences) = Sequences::with_room(alloc, text.len()) else {
-        return Err(ReadFault::Memory);
-    };
+    let mut sequences = Sequences::with_room(alloc, text.len())?;
     let mut long = Vec::new(alloc);
-    match read_whole(text, &mut sequences, &mut long) {
-        Ok(()) => Ok(Outline::new(text, sequences, long)),
-        Err(PartFault::NotSgf(at)) => Err(ReadFault::NotSgf { at }),
-        Err(PartFault::Memory) => Err(ReadFault::Memory),
-    }
+    read_whole(text, &mut sequences, &mut long)?;
+    Ok(Outline::new(text, sequences, long))
 }
 
 /// Counts the games, nodes and leaves of the collection that a text spells (SGF FF[4], EBNF). Nothing is kept, so this is faster than
@@ -95,11 +85,8 @@ pub fn measure(alloc: Global, text: &[u8]) -> Result<Extent, ReadFault>
     }
     let mut tally = Tally::new();
     let mut long = Vec::new(alloc);
-    match read_whole(text, &mut tally, &mut long) {
-        Ok(()) => Ok(tally.extent()),
-        Err(PartFault::NotSgf(at)) => Err(ReadFault::NotSgf { at }),
-        Err(PartFault::Memory) => Err(ReadFault::Memory),
-    }
+    read_whole(text, &mut tally, &mut long)?;
+    Ok(tally.extent())
 }
 
 /// Reads a whole text, and tells `keeper` what comes. A byte order mark may stand once, at the very start, before any white space.

@@ -4,6 +4,8 @@ use Rattle.sgf_properties.specs.Bytes.{space, semicolon, capital_a, open_bracket
 use Rattle.sgf_tree.specs.Spelling.{is_white_space, is_upper}
 use Rattle.sgf_tree.specs.inner.Machine.{MachineState, start, run}
 use Rattle.sgf_tree.specs.Refusal.{IsFaultyAt}
+use Rattle.sgf_tree.specs.declared.fault.ReadFault.{ReadFault}
+use Rattle.sgf_tree.specs.declared.fault.ReadFault.TheVariants.{NotSgf as TextNotSgf, Memory as TextMemory}
 use Rattle.sgf_tree.specs.declared.reader.fault.PartFault.{PartFault}
 use Rattle.sgf_tree.specs.declared.reader.fault.PartFault.TheVariants.{NotSgf, Memory}
 use Rattle.sgf_properties.specs.Offsets.{IsSpan, IsTwoPlain, IsPropertyEnd}
@@ -16,6 +18,11 @@ ComesTo text at state = run 0 start (take at text) ≡ Some state
 abbrev pub IsTrueFault : List ℕ → PartFault → Type 0
 IsTrueFault text (NotSgf at) = IsFaultyAt text at
 IsTrueFault text Memory = Unit {0}
+
+-- the same fault, as a caller of `read` gets it
+abbrev pub text_fault : PartFault → ReadFault
+text_fault (NotSgf at) = TextNotSgf at
+text_fault Memory = TextMemory
 
 -- a move stands at `at`, as in `B[pd]`: a capital, and two plain bytes between brackets
 pub record IsMove (text : List ℕ) (at : ℕ) : Type 0 where

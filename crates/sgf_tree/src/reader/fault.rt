@@ -9,7 +9,9 @@
 
 ghost use Rattle.sgf_tree.specs.declared.reader.fault.PartFault.TheVariants.{Memory};
 ghost use Rattle.std.specs.Prelude.{◌≡◌};
+ghost use Rattle.sgf_tree.specs.inner.Progress.{text_fault};
 
+use crate::fault::ReadFault;
 use sgf_properties::MemoryFault;
 use std::alloc::AllocFailed;
 
@@ -34,5 +36,16 @@ impl From<MemoryFault> for PartFault {
 
     fn from(_refused: MemoryFault) -> PartFault {
         PartFault::Memory
+    }
+}
+
+impl From<PartFault> for ReadFault {
+    ghost from_gives = { λ part fault. fault ≡ text_fault part };
+
+    fn from(part: PartFault) -> ReadFault {
+        match part {
+            PartFault::NotSgf(at) => ReadFault::NotSgf { at },
+            PartFault::Memory => ReadFault::Memory,
+        }
     }
 }
