@@ -1,4 +1,5 @@
-//! Going over the lines after a cursor, and what is kept from line to line.
+//! Going over the lines after a cursor, and what is kept from line to line. A run and a `Follower` both do it by `OverLines::next`. What is held
+//! of the line before the cursor is `StandsBy`: `next` keeps it, after a refusal, too.
 
 ghost use Rattle.std.specs.Prelude.{◌≡◌, ◌≢◌, ◌+◌, ◌<◌, ℕ, None, length, slice_get, IfNone, IfOk, IfSome, OnErr, OnOk, MatchBool};
 ghost use Rattle.sgf_tree.specs.Tree.{node_count};

@@ -116,7 +116,7 @@ fn many_setups<P: Past>(game: &mut Referee<P>, seen: &mut Seen) {
 fn set_up<P: Past>(before: &Shown, game: &mut Referee<P>, cell: Cell, at: Point, seen: &mut Seen) {
     let side = game.board().size().side();
     if at.col >= side || at.row >= side {
-        return seen.wrong("a point beside the board");
+        return seen.wrong("a point off the board");
     }
     let area = Rect {
         first: at,

@@ -151,7 +151,7 @@ fn turn_from<P: Past>(
     if let Play::Stone(point) = play {
         let side = game.board().size().side();
         if point.col >= side || point.row >= side {
-            return seen.wrong("a point beside the board");
+            return seen.wrong("a point off the board");
         }
     }
     seen.call();

@@ -81,9 +81,7 @@ impl<'c, 'a> Cursor<'c, 'a> {
         let alloc = *self.path.allocator();
         let mut sequences = SequenceCursor::new(alloc, self.sequences.outline());
         sequences.seek_after(place)?;
-        let Ok(()) = self.path.reserve(sequences.len()) else {
-            return Err(SeekFault::Memory);
-        };
+        self.path.reserve(sequences.len())?;
         write_path(&sequences, NO_FRONT, &mut self.path);
         self.sequences = sequences;
         Ok(())

@@ -3,6 +3,7 @@
 ghost use Rattle.std.specs.Prelude.{◌≡◌};
 
 use sgf_tree::MemoryFault;
+use std::alloc::AllocError;
 use thiserror::Error;
 
 /// Why a call that takes the place of a line failed. A cursor is unchanged then.
@@ -23,6 +24,16 @@ impl From<MemoryFault> for SeekFault {
     ghost from_gives = { λ _ result. result ≡ Memory };
 
     fn from(_: MemoryFault) -> Self {
+        SeekFault::Memory
+    }
+}
+
+impl From<AllocError> for SeekFault {
+    ghost use Rattle.tree_lines.specs.declared.seek.SeekFault.TheVariants.{Memory};
+
+    ghost from_gives = { λ _ result. result ≡ Memory };
+
+    fn from(_: AllocError) -> Self {
         SeekFault::Memory
     }
 }
