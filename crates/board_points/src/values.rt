@@ -11,8 +11,6 @@ use crate::size::Size;
 /// The point of the board that a raw value names (SGF FF[4]): two letters, the
 /// column's and then the row's, and nothing else. None for any other value.
 #[tactic(auto, unfolding(crate::specs::Values::point_value))]
-// Inlined: else the result goes through memory.
-#[inline(always)]
 pub fn point(raw: &[u8], size: Size) -> Option<Point>
     ensures value { result ≡ point_value raw.now size }
     ensures on_board { IfSome result (λ p. IsOn size p) }
@@ -24,8 +22,6 @@ pub fn point(raw: &[u8], size: Size) -> Option<Point>
 }
 
 /// The point of the board that two letters name.
-// Inlined, as `point`.
-#[inline(always)]
 fn point_of(col: u8, row: u8, size: Size) -> Option<Point>
     ensures value { result ≡ point_of size col row }
     ensures on_board { IfSome result (λ p. IsOn size p) }
@@ -38,8 +34,6 @@ fn point_of(col: u8, row: u8, size: Size) -> Option<Point>
 
 /// The column or row, from 0, that a letter names on a board of that size; None if
 /// there is none. `a` to `z` are the first 26, `A` to `Z` the next 26.
-// Inlined, as `point`.
-#[inline(always)]
 fn coordinate_of(letter: u8, size: Size) -> Option<u8>
     ensures { result ≡ coordinate size letter }
 {

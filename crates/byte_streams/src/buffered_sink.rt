@@ -90,7 +90,6 @@ impl<W: Write + Drop> BufferedSink<W> {
     /// Takes bytes for which there is no room. First it writes all that is held back.
     /// Then it holds the bytes back, or writes them straight if they are too many to hold.
     #[cold]
-    #[inline(never)]
     fn put_without_room(&mut self, bytes: &[u8]) -> Result<usize, SinkFault>
         requires some { 0 < length bytes.now }
         requires never_failed { self.old.failures ≡ 0 }

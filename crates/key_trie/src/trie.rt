@@ -56,7 +56,6 @@ impl Trie {
 
     /// Makes room for more items: for twice as many and 256 more, but for 2^32 - 1 at most. `AllocError` comes if memory for this was refused,
     /// and if there is room for the most already. Then nothing is changed.
-    #[inline(never)]
     pub fn make_room(&mut self) -> Result<(), AllocError>
         requires { room_of self.old < 2 ^ 32 }
         ensures items { nodes_of self.new ≡ nodes_of self.old }

@@ -93,6 +93,8 @@ pub fn split_counted<S: Source, T: Sink>(
 }
 
 /// Splits a text as `split_counted` does, once a source has given all of it.
+// Not inlined: it is called twice.
+#[inline(never)]
 fn split_text<T: Sink>(
     alloc: Global,
     text: &[u8],
@@ -117,6 +119,7 @@ fn split_text<T: Sink>(
 
 /// Appends all that a source gives to an empty text. The buffer is this function's own, so it is set to zeros only for a source that
 /// needs it.
+#[inline(never)]
 pub(crate) fn read_all<S: Source>(source: &mut S, text: &mut Vec<u8>) -> Result<(), RunFault>
     requires countable { (S.state source.old).failures < u64.MAX }
     requires empty { text.old.items ≡ [] }

@@ -131,8 +131,6 @@ impl<'a> Iterator for Values<'a> {
 /// The first property of a text, and the offset where its values end. Its identifier begins at the offset `start`, after white space.
 /// Offsets are in bytes, from 0. Whole properties must stand in the text, up to the end of a node. `long` has the kept lengths of the text's
 /// long values.
-///
-/// This is inlined, because a call would pass the property in memory.
 #[inline(always)]
 pub fn property_at<'a>(text: &'a [u8], start: usize, long: &Vec<LongValue>) -> (PropRef<'a>, usize)
     requires held { ArePropertiesIn text.now }
@@ -158,8 +156,6 @@ pub fn property_at<'a>(text: &'a [u8], start: usize, long: &Vec<LongValue>) -> (
 }
 
 /// Where the raw value at `at` begins, after white space and a `[`, and where its `]` is. None if no value is there.
-///
-/// This is inlined, because a call would return the two offsets through memory.
 #[inline(always)]
 fn value_at(text: &[u8], at: usize, long: Option<&Vec<LongValue>>) -> Option<(usize, usize)>
     requires within { at ≤ length text.now }

@@ -115,8 +115,6 @@ impl<'c, 'a> SequenceNodes<'c, 'a> {
     }
 
     /// The same for a node that isn't recognized. There must be a node. This is the plain way.
-    // Not inlined: it is called for few nodes.
-    #[inline(never)]
     fn open(&mut self) -> NextNode<'a>
         requires { 0 < length self.old.nodes }
         ensures { (node : Node) × (self.old.nodes ≡ node ∷ self.new.nodes)

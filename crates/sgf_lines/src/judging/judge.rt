@@ -194,8 +194,9 @@ impl Judge {
     }
 }
 
-/// Puts a referee of a game on a board of that size into `slot`. After a refusal of memory `slot` is unchanged. This is a function of its own:
-/// whole boards stand on its stack, and each call of `begin_on` would set room for them to zeros.
+/// Puts a referee of a game on a board of that size into `slot`. After a refusal of memory `slot` is unchanged.
+// Not inlined: whole boards stand on its stack, and each call of `begin_on` would set room for them to zeros.
+#[inline(never)]
 fn put_referee(
     alloc: Global,
     size: Size,

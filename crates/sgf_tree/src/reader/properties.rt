@@ -28,7 +28,6 @@ pub(crate) struct PartRead {
 }
 
 /// Reads the properties of a node, which begin at the end of `stretch` or after white space there: Node = `;` { Property }.
-#[inline(never)]
 pub(crate) fn read_properties<K: Keeper>(
     text: &[u8],
     stretch: Stretch,
@@ -63,7 +62,6 @@ pub(crate) fn read_properties<K: Keeper>(
 
 /// Reads the property whose identifier begins at the end of `before`, value after value: Property = PropIdent PropValue { PropValue }. White
 /// space may follow each value. This is the plain way.
-#[inline(never)]
 fn read_property<K: Keeper>(
     text: &[u8],
     before: PartRead,
@@ -112,7 +110,6 @@ fn read_name<K: Keeper>(
 }
 
 /// Reads an identifier (PropIdent), which may have small letters, and white space after it. This is the plain way.
-#[inline(never)]
 fn read_far_name<K: Keeper>(
     text: &[u8],
     before: PartRead,

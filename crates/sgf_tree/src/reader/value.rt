@@ -29,7 +29,6 @@ pub(crate) fn read_value(
 
 /// Reads the raw value at `at` by searches, and keeps its length if the value is long. Returns the offset of its `]`. This
 /// is the plain way.
-#[inline(never)]
 fn read_far_value(text: &[u8], at: usize, long: &mut Vec<LongValue>) -> Result<usize, PartFault>
     requires { MayReadValue text.now at long.old.items }
     ensures read { IfOk result (IsValueRead text.now at long.new.items) }
