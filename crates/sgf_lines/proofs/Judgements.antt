@@ -234,6 +234,10 @@ module _ (ended : Option Verdict) (referee : Option States) (r : States) (plays 
   pub leads_nowhere : (node : Node) (reason : Reason) → ended ≡ None → step r.present node ≡ Err reason → state_after now.judgement node ≡ None
   leads_nowhere node reason none took = ap (λ j. state_after j node) (stood ∙ ap (judged r) none) ∙ ap state_of took
 
+  -- no node is played after an illegal one
+  pub none_more : (told : Verdict) → ended ≡ Some told → plays ≡ now.plays + next_plays now.judgement
+  none_more told some = ap (λ (j : Judging). j.plays) view ∙ rw (stood, some) (omega arith)
+
   -- the same as before
   pub untaken : (new : States) → new ≡ r → record { judgement = judgement_of ended (Some new); plays = plays } ≡ now
   untaken new same =

@@ -1,5 +1,5 @@
 -- What a run writes, and its answer for each way to end.
-use Rattle.std.proofs.Common.{◌≡◌, ℕ, ◌+◌, ◌<◌, List, ◌++◌, length, take, drop, slice_get, Some, Result, Ok, Err, sym, arith, add-one, append-nil, Option, ap, rules}
+use Rattle.std.proofs.Common.{◌≡◌, ℕ, ◌+◌, ◌<◌, List, ◌++◌, length, take, drop, slice_get, Some, Result, Ok, Err, sym, arith, add-one, append-nil, Option, Bor, ap, refl, inr, rules}
 use Rattle.std.proofs.lemmas.Grind.{common_steps}
 use Rattle.std.proofs.lemmas.Option.{slice_get_past, slice_get_within}
 use Rattle.std.specs.Io.KnownBytes.{Appends}
@@ -7,15 +7,19 @@ use Rattle.std.proofs.KnownBytes.{Appends-trans}
 use Rattle.std.proofs.lemmas.List.{take_all, take-append-drop, length-drop}
 use Rattle.sgf_lines.specs.Lines.{Line, lines}
 use Rattle.sgf_lines.specs.Record.{record_of, output}
-use Rattle.byte_streams.specs.Streams.{SinkState, SourceState, HasDelivered}
-use Rattle.sgf_lines.specs.Answer.{IsCutShort, read_failures, IsWhole, IsGood, Answers, write_failures}
-use Rattle.sgf_lines.specs.inner.Running.{WritesLines, HasReadAll, IsStart}
+use Rattle.byte_streams.specs.Streams.{SinkState, SourceState, GivesRest, HasDelivered}
+use Rattle.sgf_lines.specs.Answer.{IsCutShort, read_failures, IsWhole, IsGood, Answers, write_failures, unread}
+use Rattle.sgf_lines.specs.inner.Running.{WritesLines, IsReading, HasReadAll, IsStart}
 use Rattle.sgf_lines.specs.declared.options.Form.{Form}
 use Rattle.sgf_lines.specs.declared.fault.RunFault.{RunFault}
 use Rattle.sgf_lines.proofs.Joins.{more_texts}
-use Rattle.std.specs.Prelude.{option_map, OnOk}
+use Rattle.std.specs.Prelude.{option_map, OnOk, ⊤}
+use Rattle.sgf_tree.specs.declared.fault.TheConstants.{MAX_LENGTH}
 use Rattle.sgf_tree.specs.Tree.{Games}
 use Rattle.sgf_tree.specs.Spelling.{Spells}
+use Rattle.sgf_tree.specs.Refusal.{IsFaultyWhereNotSgf}
+use Rattle.sgf_tree.specs.declared.fault.ReadFault.{ReadFault}
+use Rattle.sgf_tree.specs.declared.fault.ReadFault.TheVariants.{TooLong as TextTooLong, NotSgf as TextNotSgf, Memory as TextMemory}
 use Rattle.sgf_lines.specs.Page.{limited}
 use Rattle.tree_lines.specs.Sequences.{SequencesState}
 use Rattle.sgf_lines.specs.RunPlays.{AnswersPlays, IsRunWithPlays}
@@ -69,6 +73,13 @@ module _ (o : Options) (source new_source : SourceState) (text : List ℕ) (h : 
       → read_failures {A = ℕ} (Err fault) ≡ 0 → sink.failures ≡ sink.failures + write_failures {A = ℕ} (Err fault) → IsRunWithPlays o source new_source sink sink old old (Err fault)
   no_start_run c fault spelled start reads writes = run_of sink old (Err fault) 0 (start_says o text new_source.to_come sink sink c fault spelled h.whole start) (omega arith) reads writes
 
+  -- the text isn't one of the grammar, or wasn't read whole
+  pub unread_run : (fault : ReadFault) → (fault ≡ TextTooLong → MAX_LENGTH < length text) → IsFaultyWhereNotSgf text fault
+      → IsRunWithPlays o source new_source sink sink old old (Err (unread fault (length text)))
+  unread_run TextTooLong long faulty = absurd (omega (arith, long refl, h.whole.within))
+  unread_run (TextNotSgf at) long faulty = run_of sink old _ 0 ((h.whole, faulty, refl, refl), refl) (omega arith) refl (omega arith)
+  unread_run TextMemory long faulty = run_of sink old _ 0 (inr (h.whole.within, refl, refl), inr (refl, refl)) (omega arith) refl (omega arith)
+
   -- the lines of the page were written
   pub lines_run : (c : Games) (cursor : SequencesState) (new_sink : SinkState) (plays new : ℕ) (result : Result ℕ RunFault) → Spells c text → IsStart c o.after (Ok cursor)
       → WritesLines o.form (limited o.limit (drop cursor.at.index (lines c))) sink new_sink plays result → new ≡ old + plays
@@ -78,3 +89,17 @@ module _ (o : Options) (source new_source : SourceState) (text : List ℕ) (h : 
       let good : IsGood o text new_source.to_come ls = record { whole = h.whole; has_page = record { games = c; spelled = spelled; page_is = ap (option_map (limited o.limit)) start } } in
       run_of new_sink new result plays (lines_say o text new_source.to_come sink new_sink ls plays result good w delivered) rises
       (no_read o.form ls sink new_sink plays result w) writes
+
+-- reading ended in a fault, and so does the run
+pub no_reading_run : (o : Options) (source new_source : SourceState) (text : List ℕ) (sink : SinkState) (plays : ℕ) (fault : RunFault) → IsReading {A = ⊤} source new_source text (Err fault)
+    → new_source.failures ≡ source.failures + read_failures {A = ⊤} (Err fault) → IsRunWithPlays o source new_source sink sink plays plays (Err fault)
+no_reading_run o source new_source text sink plays fault reading failures = first_of (search rules, grind (arith, common_steps))
+
+-- reading ended well: the text is all that the source gave
+pub has_read_all : (source new_source : SourceState) (items text : List ℕ) (nothing : ⊤) → IsReading {A = ⊤} source new_source items (Ok nothing)
+    → new_source.failures ≡ source.failures + read_failures {A = ⊤} (Ok nothing) → text ≡ items → HasReadAll source new_source text
+has_read_all source new_source items text nothing reading failures same = first_of (search rules, grind (arith, common_steps))
+
+-- the source gave all at once
+pub has_given_all : (source new_source : SourceState) (text : Bor (List ℕ)) → GivesRest MAX_LENGTH source new_source (Some text) → HasReadAll source new_source text.now
+has_given_all source new_source text given = first_of (search rules, grind (arith, common_steps))

@@ -1,5 +1,5 @@
 -- What is said of the text is said of the run, whatever source gave it.
-use Rattle.std.proofs.Common.{◌≡◌, take, drop, ap, ◌∙◌, arith}
+use Rattle.std.proofs.Common.{◌≡◌, take, drop, Err, ap, ◌∙◌, arith}
 use Rattle.std.specs.Prelude.{unwrap_or}
 use Rattle.std.proofs.lemmas.Result.{err_from_is_err_and}
 use Rattle.sgf_tree.specs.Tree.{node_count}
@@ -7,7 +7,7 @@ use Rattle.sgf_tree.specs.Spelling.{Spells}
 use Rattle.sgf_lines.specs.Lines.{lines}
 use Rattle.sgf_lines.specs.inner.Running.{WritesLines}
 use Rattle.sgf_lines.proofs.PlayCounts.{for_options}
-use Rattle.sgf_lines.proofs.Running.{no_start_run, lines_run}
+use Rattle.sgf_lines.proofs.Running.{no_start_run, unread_run, lines_run}
 use Rattle.sgf_lines.proofs.run.split_text.Goals as goal
 
 pub returns-in_err-cursor : goal.returns-in_err-cursor
@@ -37,3 +37,9 @@ returns g c source new_source read =
     games cursor new_sink plays c.write_in.new.plays result spelled (c.in_ok-cursor.ensures.start text spelled)
     (for_options o.form games cursor.at.index o.limit c.unwrap_or-limit.result sink new_sink plays result limit wrote)
     c.write_in.ensures.answer.1 c.write_in.ensures.delivered c.write_in.ensures.failures
+
+pub returns-in-Err : goal.returns-in-Err
+returns-in-Err g c source new_source read =
+    rw c.unread.ensures
+    (unread_run c.args.options.now source new_source c.args.text.now read (g.T.Sink.state c.args.sink.now) c.args.plays.now c.in-Err.fault
+    (λ e. c.in-Err.ensures.too_long.0 (ap Err e)) c.in-Err.ensures.not_sgf)

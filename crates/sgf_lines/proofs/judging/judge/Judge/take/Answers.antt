@@ -4,7 +4,7 @@ use Rattle.std.proofs.lemmas.Grind.{common_steps}
 use Rattle.sgf_lines.specs.Step.{step}
 use Rattle.sgf_lines.specs.inner.Judging.{IsStepOf}
 use Rattle.sgf_lines.proofs.Gathered.{coming}
-use Rattle.sgf_lines.proofs.Judgements.{side_stood, leads_to, refused, leads_nowhere, untaken}
+use Rattle.sgf_lines.proofs.Judgements.{side_stood, leads_to, refused, leads_nowhere, none_more, untaken}
 use Rattle.sgf_lines.proofs.judging.judge.Judge.take.Goals as goal
 
 pub returns-in-Ok-clause-step : goal.returns-in-Ok-clause-step
@@ -37,3 +37,8 @@ returns-in-Err-Memory-clause-unchanged c =
     let some = coming c.args.nodes.now.properties c.args.next in
     let same : c.take_step.new.referee ≡ c.in-Some.referee = rw c.in-Err-Memory.field-0-is at (c.in-Err-Memory.ensures.stepped some.0 some.1) in
     untaken s.ended s.referee c.in-Some.referee s.plays c.args.self.now c.self.view_is c.in-Some.is c.take_step.new.referee same
+
+pub returns-in-Some-ended-clause-plays : goal.returns-in-Some-ended-clause-plays
+returns-in-Some-ended-clause-plays c =
+    let s = c.self.inside in
+    none_more s.ended s.referee c.in-Some.referee s.plays c.args.self.now c.self.view_is c.in-Some.is c.in-Some-ended.field-0 c.in-Some-ended.is
