@@ -234,6 +234,10 @@ module _ (ended : Option Verdict) (referee : Option States) (r : States) (plays 
   pub leads_nowhere : (node : Node) (reason : Reason) → ended ≡ None → step r.present node ≡ Err reason → state_after now.judgement node ≡ None
   leads_nowhere node reason none took = ap (λ j. state_after j node) (stood ∙ ap (judged r) none) ∙ ap state_of took
 
+  -- a line that doesn't have so many nodes is as it was
+  pub back_past : (count : ℕ) → length r.earlier < count → judged r ended ≡ back count now.judgement
+  back_past count past = rw (stood, lt-leb count (length r.earlier) past) refl
+
   -- no node is played after an illegal one
   pub none_more : (told : Verdict) → ended ≡ Some told → plays ≡ now.plays + next_plays now.judgement
   none_more told some = ap (λ (j : Judging). j.plays) view ∙ rw (stood, some) (omega arith)

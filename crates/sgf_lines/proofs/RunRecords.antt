@@ -9,8 +9,8 @@ use Rattle.sgf_lines.specs.Lines.{Line}
 use Rattle.sgf_lines.specs.Record.{record_of, sgf_record}
 use Rattle.sgf_lines.specs.ListRow.{list_row}
 use Rattle.sgf_lines.specs.Script.{comment_row, commands_by}
-use Rattle.sgf_lines.specs.Verdict.{verdict_of, verdict, IsVerdictAt}
-use Rattle.sgf_lines.specs.Cursor.{CursorState}
+use Rattle.sgf_lines.specs.Verdict.{verdict_of, verdict, IsVerdictAt, IsVerdictOf}
+use Rattle.sgf_lines.specs.Cursor.{CursorState, IsAfterPlace}
 use Rattle.sgf_lines.specs.JudgedGames.{game_kind, root_properties}
 use Rattle.sgf_lines.specs.declared.verdict.Verdict.{Verdict}
 use Rattle.sgf_lines.specs.declared.options.Form.{Form}
@@ -107,3 +107,7 @@ module _ (c : Games) (leaf : ℕ) (lt : leaf < node_count c) (is_leaf : IsLeaf c
         placed = rw own.1.ends at line.1.place;
         verdict_is = cc;
       }
+
+-- the line before a cursor that was moved to just after a place has that place
+pub verdict_before : (old at : CursorState) (place : ℕ) (told : Verdict) → IsAfterPlace place old at → option_map verdict (line_before at) ≡ Some told → IsVerdictOf old.games place told
+verdict_before old at place told after told_is = first_of (search rules, grind (arith, common_steps))
