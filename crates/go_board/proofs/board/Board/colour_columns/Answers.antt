@@ -1,4 +1,6 @@
 use Rattle.std.proofs.Common.{ap, ◌∙◌, arith}
+use Rattle.std.proofs.lemmas.Bool.{false≢true}
+use Rattle.std.proofs.lemmas.Grind.{common_steps}
 use Rattle.go_board.specs.Grid.{Grid}
 use Rattle.go_board.specs.inner.Regions.{with_columns}
 use Rattle.go_board.proofs.StoneRowsLemmas.{grid-coloured}
@@ -12,3 +14,6 @@ returns c =
     (omega (arith, c.from-row.ensures, c.requires.row, side)) (λ k is. omega (arith, c.requires.columns k is, side)) c.with_columns.ensures c.with_columns-2.ensures
     ∙ ap (λ g. with_columns g c.from-row.result c.args.columns c.args.cell) c.self.view_is
     ∙ ap (λ r. with_columns c.args.self.now r c.args.columns c.args.cell) c.from-row.ensures
+
+pub invariant_of-self : goal.invariant_of-self
+invariant_of-self c = (grind (arith, common_steps), λ is. absurd (false≢true is))
