@@ -1,13 +1,14 @@
 -- A referee has as many earlier states as it keeps something of.
-use Rattle.std.proofs.Common.{◌≡◌, ℕ, suc, ◌+◌, ◌-◌, ◌≤◌, Bool, true, false, cond, Option, List, [], ◌∷◌, ◌++◌, length, reverse, refl, sym, ap, subst, ◌∙◌, arith}
+use Rattle.std.proofs.Common.{◌≡◌, ℕ, suc, ◌+◌, ◌-◌, ◌≤◌, Bool, true, false, cond, Option, Some, List, [], ◌∷◌, ◌++◌, length, reverse, refl, sym, ap, subst, ◌∙◌, arith}
 use Rattle.std.specs.Int.{from_bool}
 use Rattle.std.proofs.lemmas.List.{length-reverse, reverse-append}
 use Rattle.go_board.specs.declared.referee.Earlier.{Earlier}
 use Rattle.go_board.specs.declared.stones.Colour.{Colour}
-use Rattle.go_board.specs.Grid.{Grid}
-use Rattle.go_board.specs.Past.{Held, PastColourings, newest_grid, with_next, AllHaveSide, HaveSide}
-use Rattle.go_board.specs.State.{starting}
-use Rattle.go_board.specs.inner.Earlier.{past_before, past_of_older, states_before, turns_before, grown, turn_count, IsRefereeKept}
+use Rattle.go_board.specs.declared.stones.Colour.TheVariants.{Black}
+use Rattle.go_board.specs.Grid.{Grid, empty_grid}
+use Rattle.go_board.specs.Past.{Held, PastColourings, newest_grid, only, with_next, AllHaveSide, HaveSide}
+use Rattle.go_board.specs.State.{begun, starting}
+use Rattle.go_board.specs.inner.Earlier.{past_before, past_of_older, states_before, turns_before, grown, turn_count, states_of, IsRefereeKept}
 
 length-states_before : (past : PastColourings) (turns : ℕ) (es : List Earlier) → length (states_before past turns es) ≡ length es
 length-states_before past turns [] = refl
@@ -88,3 +89,11 @@ module _ (past : PastColourings) (player : Option Colour) (passes turns : ℕ) (
       few : (b : Bool) → turns' ≡ from_bool b + turns → turns' ≤ suc (length (reverse earlier))
       few true e = omega (arith, kept.few_turns)
       few false e = omega (arith, kept.few_turns)
+
+-- at the beginning of a game: a past of the empty board alone, and no earlier states
+module _ (side : ℕ) (past : PastColourings) (earlier : List Earlier) (is : past ≡ only (empty_grid side)) (none : earlier ≡ []) where
+  pub IsRefereeKept-begun : IsRefereeKept past (Some Black) 0 0 (reverse earlier)
+  IsRefereeKept-begun = rw (is, none) (record { one_side = (refl, tt); enough = omega arith; few_passes = omega arith; few_turns = omega arith; counted = refl; bounded = tt; from_start = refl })
+
+  pub states_of-begun : states_of past (Some Black) 0 0 earlier ≡ begun side
+  states_of-begun = rw (is, none) refl

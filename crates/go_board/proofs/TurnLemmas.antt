@@ -1,5 +1,5 @@
 -- What the tests on turns say.
-use Rattle.std.proofs.Common.{◌≡◌, ℕ, Bool, false, inl, inr, ◌↔◌, List, [], ◌∷◌, Option, Some, None, Contains, IsTrue, refl, sym, ap, ◌∙◌, cond, arith, unwrap_or, ◌<◌, ◌+◌, slice_index_or, subst, Decides, Result, OnErr, Ok, Err}
+use Rattle.std.proofs.Common.{◌≡◌, ℕ, Bool, false, inl, inr, ◌↔◌, List, [], ◌∷◌, Option, Some, None, Contains, IsTrue, refl, sym, ap, ◌∙◌, cond, arith, unwrap_or, ◌<◌, ◌+◌, slice_index_or, subst, Decides, Result, OnErr, IsErrOf, Ok, Err}
 use Rattle.std.specs.List.{list_any}
 use Rattle.std.proofs.lemmas.Bool.{false≢true, cases_lt, cases_Bool}
 use Rattle.std.proofs.lemmas.Bool.Decides.{Decides-by_or, Decides-and, Decides-not, Decides-like, Decides-eqb, same_from_decides, not_from_Decides}
@@ -10,6 +10,7 @@ use Rattle.board_points.specs.declared.points.Point.{Point}
 use Rattle.go_board.specs.declared.referee.plays.Play.{Play}
 use Rattle.go_board.specs.declared.referee.plays.SetupOp.{SetupOp}
 use Rattle.go_board.specs.declared.referee.plays.Play.TheVariants.{Pass, Stone}
+use Rattle.go_board.specs.declared.fault.TurnFault.TheVariants.{Illegal}
 use Rattle.go_board.specs.declared.reason.Reason.{Reason}
 use Rattle.go_board.specs.declared.reason.Reason.TheVariants.{Mixed, TwoMoves, BadSetup, BadPoint, Over, Turn, Occupied, Repeat}
 use Rattle.go_board.specs.declared.stones.Cell.TheVariants.{Empty}
@@ -45,6 +46,10 @@ reason_of-last s k x b on turn free repeats = rw (on, turn, free, repeats) refl
 pub on_err : {A E : Type 0} (r : Result A E) (P : Type 0) → P → OnErr r P
 on_err (Ok v) P h = tt
 on_err (Err e) P h = h
+
+-- a turn refused for the reason that is known is refused for no other
+pub refused_for : (known : Option Reason) (q : Reason) → known ≡ Some q → (r : Reason) → IsErrOf {T = Unit {0}} (Err (Illegal q)) (Illegal r) ↔ (known ≡ Some r)
+refused_for known q is r = (λ e. cc, λ e. cc)
 
 -- once a past of those colourings answered whether it holds a stone's colouring, the last reason is known
 pub reason_by_past : (s : State) (k : Colour) (p : Point) (b : Bool) (seen : List Grid) (made : Grid) → seen ≡ s.seen → made ≡ play s.colouring k p → is_over s ≡ false → must_move s.player (opponent k) ≡ false → is_occupied s (Stone p) ≡ false → (IsTrue b ↔ Contains seen made) → reason_of s k (Stone p) ≡ cond b (Some Repeat) None
