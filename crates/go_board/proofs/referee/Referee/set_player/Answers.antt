@@ -1,0 +1,10 @@
+use Rattle.go_board.proofs.TurnLemmas.{on_err}
+use Rattle.go_board.proofs.referee.Referee.set_player.Goals as goal
+
+pub invariant_of-self : goal.invariant_of-self
+invariant_of-self g c =
+    rw c.in_err-push.ensures.items c.self.invariant
+
+pub returns-in_err-push-clause-err : goal.returns-in_err-push-clause-err
+returns-in_err-push-clause-err g c =
+    on_err c.from_residual.result _ (rw c.in_err-push.ensures.items c.self.view_is)
