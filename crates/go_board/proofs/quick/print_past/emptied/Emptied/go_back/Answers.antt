@@ -1,4 +1,5 @@
 use Rattle.std.proofs.Common.{◌≡◌, ◌≤◌, ◌++◌, ◌∷◌, [], ap, ◌∙◌, slice_set, arith, rules}
+use Rattle.std.proofs.lemmas.Grind.{common_steps}
 use Rattle.std.proofs.lemmas.List.{length-set}
 use Rattle.go_board.proofs.EmptiedLemmas.{all_but_one, logged_back, logged_tail}
 use Rattle.go_board.proofs.quick.print_past.emptied.Emptied.go_back.Goals as goal
@@ -17,3 +18,6 @@ each-preserved c =
       inside = all_but_one c.pop.new.self.items last (rw log at l.invariant.inside);
       logged = λ newest older is number. logged_back older l.self _ last (omega (arith, from, number)) (ap (λ r. slice_set l.self.rows r last.word) c.from.ensures) log (l.invariant.logged newest older is number);
     }
+
+pub returns-else-index-number : goal.returns-else-index-number
+returns-else-index-number c = grind (arith, common_steps)
