@@ -122,6 +122,10 @@ module _ (side : ℕ) (black white : List ℕ) (row columns : ℕ) (c : Cell) (b
   is_white : (q : Point) → is_set (set white row w) q ≡ cond (turned q) (same_cell c White) (is_set white q)
   is_white = is_set-coloured white row columns w c White (omega (arith, are.few, are.white_rows)) in_white
 
+  -- the words still hold the stones of a board
+  pub AreStones-coloured : AreStones side (set black row b) (set white row w)
+  AreStones-coloured = grind (arith, common_steps, is_black, is_white)
+
   pub grid-coloured : grid_with side (set black row b) (set white row w) ≡ with_columns (grid_with side black white) row columns c
   unfolding with_columns
   grid-coloured = search (rules, cell_at-grid_of, chosen, is_black, is_white, same_colours)

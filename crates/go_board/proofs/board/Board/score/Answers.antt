@@ -1,6 +1,7 @@
-use Rattle.std.proofs.Common.{ap, ◌∙◌}
+use Rattle.std.proofs.Common.{ap, ◌∙◌, arith}
 use Rattle.go_board.specs.declared.stones.Colour.TheVariants.{Black, White}
 use Rattle.board_points.specs.Rows.{count_apart}
+use Rattle.go_board.specs.Grid.{Grid}
 use Rattle.go_board.proofs.ScoreLemmas.{score_by_rows}
 use Rattle.go_board.proofs.board.Board.score.Goals as goal
 
@@ -19,3 +20,6 @@ returns-clause-white c =
     c.count_apart-2.ensures
     ∙ ap (λ n. count_apart n white black) c.area_of-2.ensures.rows
     ∙ score_by_rows c.args.self.now White white black c.area_of-2.ensures.are c.area_of.ensures.are
+
+pub score_in_halves-requires : goal.score_in_halves-requires
+score_in_halves-requires c = omega (arith, ap (λ (g : Grid). g.side) c.self.view_is)

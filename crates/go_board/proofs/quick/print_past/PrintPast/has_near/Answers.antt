@@ -1,4 +1,4 @@
-use Rattle.std.proofs.Common.{◌≡◌, Contains, subst, arith, rules}
+use Rattle.std.proofs.Common.{Contains, ap, subst, ◌∙◌, arith}
 use Rattle.go_board.specs.Grid.{Grid}
 use Rattle.go_board.specs.Clearing.{play}
 use Rattle.go_board.specs.Past.{PastColourings, all_of, newest_grid, present_stretch}
@@ -10,7 +10,7 @@ returns c = λ is.
     let inside = c.self.inside.colourings in
     let k = c.args.colour in
     let p = c.args.point in
-    let made : c.put.new.self ≡ play (newest_grid c.args.self.now) k p = search rules in
+    let made = c.put.ensures ∙ ap (λ (g : Grid). play g k p) (c.copy-made.ensures ∙ c.newest.ensures) in
     let number = c.is_at.ensures.0 is in
     let has = has_colouring (all_of inside) c.in-Some.number c.put.new.self (omega (arith, c.in-Some.ensures.0, c.stretch_start-start.ensures.start))
     (omega (arith, c.in-Some.ensures.1, tabled (all_of inside) c.self.inside.table c.self.invariant.tabled)) number in
