@@ -1,5 +1,6 @@
 use Rattle.std.proofs.Common.{◌≡◌, length, sym, ap, ◌∙◌, subst, arith, IsTrue}
 use Rattle.std.proofs.lemmas.List.{length_push}
+use Rattle.std.proofs.lemmas.List.Sums.{count_by-le-length}
 use Rattle.go_board.specs.Grid.{cell_at}
 use Rattle.board_points.specs.Marking.{is_marked, marked_count}
 use Rattle.board_points.specs.Point.{IsOn}
@@ -32,3 +33,9 @@ returns-clause-marks c = λ p on.
       λ is. way.reach p on (subst (λ m. IsTrue (is_marked m p)) same is),
       λ path. subst (λ m. IsTrue (is_marked m p)) (sym same) (complete c.args.self.now c.args.target _ way ended.none_waits (cell_at c.args.self.now p) p path.0 path.1),
     )
+
+pub loop-point-smaller : goal.loop-point-smaller
+loop-point-smaller c =
+    let before = c.loop-point.invariant in
+    let some = ap (λ (l : _). length l) c.in-Some.ensures.taken ∙ length_push c.take_one.new.self.waiting c.in-Some.point in
+    omega (arith, c.tick.ensures, before.counted, count_by-le-length (λ b. b) c.loop-point.search.marking.marks, before.way.all, some)
