@@ -38,6 +38,12 @@ take_node-requires-then-in_place-eq-TWO_MOVES-clause-few g c =
     let (coming, held, few, count) = own-few t c.args.at kept (keeps c.take_node.new.keeper) (next + 6) c.in_ok-own.own so_far o.0 o.1 o.2 o.3 in
     (t, o.0, coming, held, few, count)
 
+pub take_node-requires-then-in_place-eq-TWO_MOVES-clause-stretch : goal.take_node-requires-then-in_place-eq-TWO_MOVES-clause-stretch
+take_node-requires-then-in_place-eq-TWO_MOVES-clause-stretch g c =
+    let taken = c.in_ok-own.ensures in
+    let within = c.moves_in_place-in_place.ensures.after (omega (arith, c.if-in_place-eq-TWO_MOVES.true)) in
+    record { rises = taken.rises; after = omega (arith, taken.end); goes = omega arith; low = omega (arith, within, c.requires.short) }
+
 pub nodes-preserved-then-in_place-eq-TWO_MOVES : goal.nodes-preserved-then-in_place-eq-TWO_MOVES
 nodes-preserved-then-in_place-eq-TWO_MOVES g c =
     let t = c.args.text.now in
