@@ -1,4 +1,5 @@
 -- All nodes stand before the end of the last sequence.
+use Rattle.std.proofs.lemmas.Grind.{common_steps}
 use Rattle.std.proofs.Common.{arith}
 use Rattle.std.proofs.lemmas.List.{get_or_past}
 use Rattle.sgf_tree.specs.Tree.{node_count}
@@ -16,3 +17,6 @@ halves-init c =
       start = first.1;
       end = omega (arith, c.requires, get_or_past (sequence_starts c.args.self.now) c.sequences-high.result (node_count c.args.self.now) (omega (arith, count)));
     }
+
+pub halves-preserved : goal.halves-preserved
+halves-preserved c = grind (arith, common_steps)
