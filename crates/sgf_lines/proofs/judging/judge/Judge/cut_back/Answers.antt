@@ -1,5 +1,5 @@
 -- Nothing changes if the line doesn't have so many nodes.
-use Rattle.std.proofs.Common.{sym, subst, ◌<◌}
+use Rattle.std.proofs.Common.{subst, ◌<◌}
 use Rattle.sgf_lines.proofs.Judgements.{back_past}
 use Rattle.sgf_lines.proofs.judging.judge.Judge.cut_back.Goals as goal
 
