@@ -1,4 +1,4 @@
-/* Loaded before the C library: fails one request of the program, so that a script can try each in turn.
+/* Loaded before the C library: fails one request of the program, so that a script can try each in turn, hundreds in a few seconds.
  * REFUSE_MEMORY, REFUSE_READ and REFUSE_WRITE are the number of the request that fails, from 1, REFUSE_ERROR is the number of the error
  * (5, an input or output error). REFUSE_MARK is a file that gets a line `refused` when it fails, and a line `again` for each read or
  * write after that of the stream that failed. SHORT_READS and SHORT_WRITES make each read give and each write take one byte at most. */
