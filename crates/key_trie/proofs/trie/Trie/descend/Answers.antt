@@ -66,3 +66,16 @@ down-preserved g c =
       there = next_there g w.After-kid-below-in-down (is_trie g w.After-as_slice-nodes);
       deeper = search rules;
     }
+
+pub returns-else-deeper-end-clause-way : goal.returns-else-deeper-end-clause-way
+returns-else-deeper-end-clause-way g c = λ width keys trie.
+    let nodes = c.as_slice-nodes.result.now in
+    let is = c.as_slice-nodes.ensures.value in
+    let slot = c.down.slot in
+    let old = c.down.invariant in
+    let far : c.down.deeper ≡ depth_of nodes (kid_of nodes slot.node slot.side) = old.deeper ∙ ap (depth_of nodes) old.below in
+    record {
+      way = subst (λ (xs : List Node). IsOnWay (length xs) keys (depth_of xs) (g.K.Key.bits c.args.key.now) c.args.end slot.node slot.side) is
+          (old.way width keys (subst (λ (xs : List Node). IsTrieOf width (length xs) keys xs) (sym is) trie));
+      stop = λ _. subst (λ (xs : List Node). c.args.end < depth_of xs (kid_of xs slot.node slot.side)) is (omega (arith, c.if-deeper-end.false, far));
+    }
