@@ -1,5 +1,6 @@
 -- The writer was handed what was held back, and then bytes that are longer than all that can be held.
-use Rattle.std.proofs.Common.{◌++◌, take, rules}
+use Rattle.std.proofs.Common.{◌++◌, take, arith, rules}
+use Rattle.std.proofs.lemmas.Grind.{common_steps}
 use Rattle.std.specs.Io.KnownBytes.{Appends}
 use Rattle.std.proofs.KnownBytes.{Appends-trans}
 use Rattle.byte_streams.proofs.buffered_sink.BufferedSink.put_without_room.Goals as goal
@@ -21,3 +22,6 @@ returns-in-Ok g c =
         grows = (out.grows.0 ++ more, Appends-trans old now new out.grows.0 more out.grows.1 wrote);
       },
     )
+
+pub returns-then-bytes-le-CAPACITY : goal.returns-then-bytes-le-CAPACITY
+returns-then-bytes-le-CAPACITY g c = grind (arith, common_steps)
