@@ -58,3 +58,8 @@ all_handed_on old new buffer emptied before handed none all is grew = first_of (
 pub takes_at_once : (old new : SinkState) (bytes : List ℕ) → old.failures ≡ 0 → new.failures ≡ old.failures → Appends old.taken new.taken bytes → old.delivered ≡ old.taken → new.delivered ≡ new.taken
     → Takes old new bytes
 takes_at_once old new bytes never same takes before after = first_of (search rules, grind (arith, common_steps))
+
+-- bytes were added to a buffer that was empty
+pub held_more : (known now new : Option (List ℕ)) (emptied buffer bytes : List ℕ) (before handed : ℕ) → Keeps known (append_known now (drop before emptied)) → emptied ≡ [] → buffer ≡ emptied ++ bytes → handed ≡ 0 → new ≡ now
+    → Appends known (append_known new (drop handed buffer)) (take (length bytes) bytes)
+held_more known now new emptied buffer bytes before handed keeps none added zero same = first_of (search rules, grind (arith, common_steps, take_all, append-nil))
