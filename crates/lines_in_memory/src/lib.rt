@@ -48,7 +48,12 @@ pub fn first_illegal(
     alloc: Global,
     collection: &Collection<'_>,
 ) -> Result<Option<u64>, MemoryFault> {
-    let mut follower = Follower::new(alloc, Cursor::new(alloc, collection));
+    next_illegal(&mut Follower::new(alloc, Cursor::new(alloc, collection)))
+}
+
+/// The place of the next line in which the referee finds an illegal node; None if no such line follows. It only borrows the follower, so
+/// that the follower is dropped in one place.
+fn next_illegal(follower: &mut Follower<'_, '_>) -> Result<Option<u64>, MemoryFault> {
     'verdicts: while let Some(verdict) = follower.next()? {
         if let Verdict::Illegal { .. } = verdict {
             return Ok(Some(follower.line().place()));
