@@ -1,7 +1,7 @@
 use Rattle.std.proofs.Common.{◌≡◌, ◌+◌, ◌-◌, ◌<◌, length, arith, refl, ap, sym, ◌∙◌}
 use Rattle.std.proofs.lemmas.Bool.{false≢true}
 use Rattle.go_board.specs.Past.{Held}
-use Rattle.go_board.proofs.ListPastLemmas.{Has-found, Has-more, Has-cases}
+use Rattle.go_board.proofs.ListPastLemmas.{Has-none, Has-found, Has-more, Has-cases}
 use Rattle.go_board.proofs.past.list_past.stretch_has.Goals as goal
 
 pub returns-then-same : goal.returns-then-same
@@ -20,3 +20,9 @@ loop-i-preserved c =
           (Has-cases _ _ _ _ c.index-older-i.result next low (λ same. false≢true (sym c.if-same.false ∙ c.same.ensures.1 (sym (ap (λ (k : Held). k.colouring) one) ∙ same))) (c.loop-i.invariant.0 h)).1,
       λ h. c.loop-i.invariant.1 (Has-more _ _ _ _ c.index-older-i.result next low (ap (λ (k : Held). k.begins) one ∙ c.if-kept.false) h),
     )
+
+pub returns : goal.returns
+returns c = (
+  λ no. absurd (false≢true no),
+  λ has. absurd (Has-none _ _ c.loop-i.i (omega (arith, c.loop-i-test.false)) (c.loop-i.invariant.0 has)),
+)

@@ -1,0 +1,6 @@
+use Rattle.std.proofs.Common.{ap}
+use Rattle.go_board.specs.State.{States, is_over}
+use Rattle.go_board.proofs.referee.Referee.over.Goals as goal
+
+pub returns-clause-value : goal.returns-clause-value
+returns-clause-value g c = ap (λ (states : States). is_over states.present) c.self.view_is
