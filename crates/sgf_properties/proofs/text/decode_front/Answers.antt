@@ -1,4 +1,4 @@
-use Rattle.std.proofs.Common.{arith, rules}
+use Rattle.std.proofs.Common.{rules}
 use Rattle.sgf_properties.proofs.Decoding.{text-escaped, text-paired}
 use Rattle.sgf_properties.proofs.text.decode_front.Goals as goal
 
