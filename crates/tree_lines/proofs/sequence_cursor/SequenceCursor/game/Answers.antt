@@ -1,0 +1,6 @@
+use Rattle.std.proofs.Common.{rules}
+use Rattle.tree_lines.proofs.SequenceCursors.{part_there, game_is}
+use Rattle.tree_lines.proofs.sequence_cursor.SequenceCursor.game.Goals as goal
+
+pub returns : goal.returns
+returns c = search (rules, part_there, game_is)

@@ -1,0 +1,5 @@
+use Rattle.std.proofs.Common.{rules}
+use Rattle.tree_lines.proofs.sequence_cursor.SequenceCursor.push_sequence.Goals as goal
+
+pub returns : goal.returns
+returns c = search rules
