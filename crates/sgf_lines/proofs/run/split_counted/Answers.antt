@@ -1,4 +1,5 @@
 -- A run ends where reading ends. A source that has nothing to give at once is as it was.
+use Rattle.std.proofs.Common.{arith}
 use Rattle.std.proofs.lemmas.Result.{err_from_is_err_and}
 use Rattle.sgf_lines.proofs.Running.{no_reading_run, has_read_all, has_given_all}
 use Rattle.sgf_lines.proofs.run.split_counted.Goals as goal
@@ -19,3 +20,9 @@ returns-clause-runs g c =
     let same = rw c.in_default.is at c.give_rest.follows.holds-at-none.0 in
     let read = c.in_ok-read_all.ensures in
     c.split_text-2.ensures _ _ (has_read_all _ _ _ _ _ (rw same at read.answer) (rw same at read.failures) c.deref.ensures.value)
+
+pub split_text-requires-2-clause-sink_countable : goal.split_text-requires-2-clause-sink_countable
+split_text-requires-2-clause-sink_countable g c = c.requires.sink_countable
+
+pub returns-clause-one_end : goal.returns-clause-one_end
+returns-clause-one_end g c = let same = rw c.in_default.is at c.give_rest.follows.holds-at-none.1 in omega (arith, c.in_ok-read_all.ensures.one_end, same)

@@ -118,3 +118,9 @@ pub returns-in-Ok-flush-clause-answer : goal.returns-in-Ok-flush-clause-answer
 returns-in-Ok-flush-clause-answer g c =
     let h = whole g (goal.at.returns-in-Ok-flush-clause-answer g c).After-flush in
     (Appends-kept _ _ _ _ h.0 c.in-Ok-flush.ensures.taken, h.1, h.2)
+
+pub returns-in-Ok-flush-clause-failures : goal.returns-in-Ok-flush-clause-failures
+returns-in-Ok-flush-clause-failures g c = omega (arith, c.in-Ok-flush.ensures.failures, c.page.invariant.written.failures)
+
+pub returns-in-Ok-flush-clause-delivered : goal.returns-in-Ok-flush-clause-delivered
+returns-in-Ok-flush-clause-delivered g c = c.in-Ok-flush.ensures.delivered
