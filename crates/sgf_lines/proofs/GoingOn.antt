@@ -1,5 +1,5 @@
 -- The cursor went on to the next line, and so many nodes are played for that line.
-use Rattle.std.proofs.Common.{◌≡◌, ℕ, ◌-◌, ◌<◌, length, Result, Ok, Err, inr, ap, subst, arith, rules}
+use Rattle.std.proofs.Common.{◌≡◌, ◌≢◌, ℕ, ◌-◌, ◌<◌, length, Result, Ok, Err, OnErr, inr, ap, refl, subst, arith, rules}
 use Rattle.std.proofs.lemmas.Grind.{common_steps}
 use Rattle.std.specs.Prelude.{Bool}
 use Rattle.std.specs.Result.{IsErr}
@@ -8,7 +8,7 @@ use Rattle.tree_lines.specs.declared.sequence_cursor.Front.{Front}
 use Rattle.sgf_lines.specs.declared.over_lines.Before.{Before}
 use Rattle.sgf_lines.specs.declared.over_lines.Before.TheVariants.{Unheld, Held, Refused}
 use Rattle.tree_lines.specs.Following.{nodes_before, path_before, Continues}
-use Rattle.sgf_lines.specs.inner.GoingOn.{AreHeld, GoesOnBy, HasPlays, PlaysLine, StandsBy, index_by}
+use Rattle.sgf_lines.specs.inner.GoingOn.{AreHeld, GoesOnBy, HasPlays, PlaysLine, StandsBy, index_by, next_by}
 use Rattle.sgf_lines.specs.inner.Keeping.{PlaysUpTo, fresh_plays}
 use Rattle.tree_lines.specs.Sequences.{SequencesState}
 use Rattle.sgf_lines.proofs.Keeping.{some_node}
@@ -44,6 +44,12 @@ goes_on Holds Refused old new held stands go = record {
 
 pub has_plays : (before : Before) (old new : SequencesState) (held : Front) → IsNext before old new held → (counts : ℕ → ℕ) → HasPlays counts before old.at (counts (fresh_plays (nodes_before new.at) held.nodes))
 has_plays before old new held next counts = first_of (search rules, grind (arith, common_steps, line_is, some_before, some_line))
+
+-- a line for which memory was refused is next again
+pub next_again : {A E : Type 0} (r : Result A E) (before : Before) (old new : SequencesState) (held : Front) → IsNext before old new held
+    → OnErr r ((Refused ≢ Held) × (next_by Refused new.at ≡ next_by before old.at))
+next_again (Ok x) before old new held next = tt
+next_again (Err e) before old new held next = (search rules, rw (next.games, next.index) refl)
 
 -- what was counted for it
 pub plays_refused : {E F : Type 0} (A : Type 0) (counts : ℕ → ℕ) (b : Before) (at : CursorState) (old new count : ℕ) (e : E) (r : Result Bool F) → IsErr r → HasPlays counts b at count

@@ -1,6 +1,6 @@
 -- The next line stands before the cursor that went on, and was shown to the keeper.
 use Rattle.sgf_lines.specs.inner.GoingOn.{GoesOnBy}
-use Rattle.sgf_lines.proofs.GoingOn.{IsNext, goes_on, has_plays, plays_refused}
+use Rattle.sgf_lines.proofs.GoingOn.{IsNext, goes_on, has_plays, next_again, plays_refused}
 use Rattle.sgf_lines.proofs.over_lines.OverLines.next.Given.{Over}
 use Rattle.sgf_lines.proofs.over_lines.OverLines.next.Goals as goal
 use Rattle.sgf_lines.proofs.over_lines.OverLines.next.Goals.{After-len-nodes}
@@ -13,6 +13,10 @@ next_is g c =
 
 pub returns-in_err-follow-clause-stands : goal.returns-in_err-follow-clause-stands
 returns-in_err-follow-clause-stands g c = (next_is g (goal.at.returns-in_err-follow-clause-stands g c).After-len-nodes).some_node
+
+pub returns-in_err-follow-clause-refused : goal.returns-in_err-follow-clause-refused
+returns-in_err-follow-clause-refused g c =
+    next_again c.from_residual-in_err-follow.result _ _ _ _ (next_is g (goal.at.returns-in_err-follow-clause-refused g c).After-len-nodes)
 
 pub returns-in_err-follow-clause-plays : goal.returns-in_err-follow-clause-plays
 returns-in_err-follow-clause-plays g c =
