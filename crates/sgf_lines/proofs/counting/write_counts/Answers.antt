@@ -1,5 +1,5 @@
 -- The sink failed within the row, or at the flush after it.
-use Rattle.std.proofs.Common.{Ok, Err, [], ◌+◌, ◌∙◌, ap, append-nil, drop, refl, sym, take}
+use Rattle.std.proofs.Common.{Ok, Err, [], ◌+◌, ◌∙◌, ap, append-nil, drop, refl, rules, sym, take}
 use Rattle.std.proofs.KnownBytes.{Appends-kept}
 use Rattle.std.proofs.lemmas.List.{take-append-drop}
 use Rattle.sgf_lines.specs.Counts.{counts_row}
@@ -18,3 +18,6 @@ returns-in-Err g c =
     let whole : PutsAll {E = Unit {0}} (g.T.Sink.state c.args.sink.now) (g.T.Sink.state c.put_all.new.sink) row (Ok c.in-Ok.field-0) = rw (c.text.ensures, c.lay_out_counts.ensures) at c.in-Ok.ensures in
     let kept = Appends-kept _ _ _ row whole.0 c.in-Err.ensures.taken in
     record { answers = (refl, (row, [], sym (append-nil row), kept)); sink_failures = c.in-Err.ensures.failures ∙ ap (λ n. n + 1) whole.1 }
+
+pub returns-in-Ok-flush : goal.returns-in-Ok-flush
+returns-in-Ok-flush g c = search rules

@@ -124,3 +124,6 @@ returns-in-Ok-flush-clause-failures g c = omega (arith, c.in-Ok-flush.ensures.fa
 
 pub returns-in-Ok-flush-clause-delivered : goal.returns-in-Ok-flush-clause-delivered
 returns-in-Ok-flush-clause-delivered g c = c.in-Ok-flush.ensures.delivered
+
+pub returns-in-Err-flush-clause-failures : goal.returns-in-Err-flush-clause-failures
+returns-in-Err-flush-clause-failures g c = omega (arith, c.in-Err-flush.ensures.failures, c.page.invariant.written.failures)
