@@ -25,4 +25,6 @@ pub split_text-requires-2-clause-sink_countable : goal.split_text-requires-2-cla
 split_text-requires-2-clause-sink_countable g c = c.requires.sink_countable
 
 pub returns-clause-one_end : goal.returns-clause-one_end
-returns-clause-one_end g c = let same = rw c.in_default.is at c.give_rest.follows.holds-at-none.1 in omega (arith, c.in_ok-read_all.ensures.one_end, same)
+returns-clause-one_end g c =
+    let same = rw c.in_default.is at c.give_rest.follows.holds-at-none.1 in
+    omega (arith, c.in_ok-read_all.ensures.one_end, same)
