@@ -30,7 +30,7 @@ fn is_pass(raw: &[u8], size: Size) -> bool
     raw.is_empty() || (raw == b"tt".as_slice() && size.side() <= MAX_LETTER_PASS_SIDE)
 }
 
-/// The player that a colour value names, `B` or `W`; None for any other value.
+/// The player that a value of PL names, `B` or `W`; None for any other value.
 pub(crate) fn player_value(raw: &[u8]) -> Option<Colour>
     ensures { result ≡ player_value_rule raw.now }
 {

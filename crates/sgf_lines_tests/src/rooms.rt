@@ -41,13 +41,18 @@ fn games(alloc: Global, count: u8, seen: &mut Seen) {
     if let Ok(collection) = collection(alloc, text, seen) {
         seen.right(collection.games() == count, "the number of games");
         has_nodes(&collection, count, seen);
-        for i in 0..collection.nodes() {
-            let is_so = collection.game_of(i) == i + 1 && collection.last_below(i) == i;
-            let is_place = collection.place(i) == i.wrapping_mul(3).wrapping_add(1);
-            seen.right(is_so && is_place, "one of many games");
-        }
+        each_is_a_game(&collection, seen);
     }
     measures(alloc, text, (count, count, count), seen);
+}
+
+/// Each node must be a game of its own.
+fn each_is_a_game(collection: &Collection<'_>, seen: &mut Seen) {
+    for i in 0..collection.nodes() {
+        let is_so = collection.game_of(i) == i + 1 && collection.last_below(i) == i;
+        let is_place = collection.place(i) == i.wrapping_mul(3).wrapping_add(1);
+        seen.right(is_so && is_place, "one of many games");
+    }
 }
 
 /// A text of a game with variations of a node each: `(;(;)(;)..(;))`.
@@ -62,13 +67,18 @@ fn variations(alloc: Global, count: u8, seen: &mut Seen) {
     let text = front(&text, 3 * count + 3);
     if let Ok(collection) = collection(alloc, text, seen) {
         has_nodes(&collection, count + 1, seen);
-        for i in 1..collection.nodes() {
-            let is_so = collection.parent(i) == Some(0) && collection.last_below(i) == i;
-            let is_place = collection.place(i) == i.wrapping_mul(3);
-            seen.right(is_so && is_place, "one of many variations");
-        }
+        each_is_a_variation(&collection, seen);
     }
     measures(alloc, text, (1, count + 1, count), seen);
+}
+
+/// Each node but the root must be a variation.
+fn each_is_a_variation(collection: &Collection<'_>, seen: &mut Seen) {
+    for i in 1..collection.nodes() {
+        let is_so = collection.parent(i) == Some(0) && collection.last_below(i) == i;
+        let is_place = collection.place(i) == i.wrapping_mul(3);
+        seen.right(is_so && is_place, "one of many variations");
+    }
 }
 
 /// A text of a game without variations: `(;;..;)`.
@@ -81,13 +91,18 @@ fn nodes(alloc: Global, count: u8, seen: &mut Seen) {
     let text = front(&text, count + 2);
     if let Ok(collection) = collection(alloc, text, seen) {
         has_nodes(&collection, count, seen);
-        for i in 0..collection.nodes() {
-            let is_so = collection.last_below(i) == last && collection.place(i) == i + 1;
-            let is_leaf = collection.is_leaf(i) == (i == last);
-            seen.right(is_so && is_leaf, "one of many nodes");
-        }
+        each_goes_on(&collection, last, seen);
     }
     measures(alloc, text, (1, count, 1), seen);
+}
+
+/// Each node must go on from the one before, up to the last.
+fn each_goes_on(collection: &Collection<'_>, last: usize, seen: &mut Seen) {
+    for i in 0..collection.nodes() {
+        let is_so = collection.last_below(i) == last && collection.place(i) == i + 1;
+        let is_leaf = collection.is_leaf(i) == (i == last);
+        seen.right(is_so && is_leaf, "one of many nodes");
+    }
 }
 
 /// The byte at offset `i` of `(;)(;)..(;)`.

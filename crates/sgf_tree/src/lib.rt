@@ -56,7 +56,8 @@
 //!
 //! The same table in `sgf_properties` has the rules of names, raw values, decoded text, numbers, and the bytes of white space.
 //!
-//! The plain code is complete without the shortcuts in `quick`. A shortcut ensures no more than the plain function that it stands in for.
+//! The plain code is complete without the shortcuts in `quick`, which may be skipped. A shortcut ensures no more than the plain function that
+//! it stands in for.
 //! Outside `quick` two things are there only for speed: the lengths of long values (`long`), and what a glance shows of a node (`NextNode::Led`,
 //! `NextNode::Empty`, `NodeRef::front`). A first reader may take `long` to be empty.
 //!

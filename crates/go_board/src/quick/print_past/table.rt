@@ -187,7 +187,8 @@ impl Table {
         })
     }
 
-    /// Whether the present stretch has this colouring; `print` is its print. All that have the print are compared one by one.
+    /// Whether the present stretch has this colouring; `print` is its print. All that have the print are compared one by one: this
+    /// is the plain way.
     pub(crate) fn has(&self, colourings: &Colourings, board: &Board, print: u64) -> bool
         requires table { IsTable (all_of colourings.now) self.now }
         requires print { print ≡ print_of board.now }
@@ -202,7 +203,8 @@ impl Table {
         false
     }
 
-    /// The same by the trie, which must have all colourings. If none has the print, no colouring is worked out.
+    /// The same by the trie, which must have all colourings: a run decides positional superko by this. If none has the print, no colouring is
+    /// worked out.
     pub(crate) fn find(&self, colourings: &Colourings, board: &Board, print: u64) -> bool
         requires table { IsTable (all_of colourings.now) self.now }
         requires all { item_count self.now.trie ≡ length self.now.prints.items }

@@ -39,3 +39,15 @@ loop-point-smaller c =
     let before = c.loop-point.invariant in
     let some = ap (λ (l : _). length l) c.in-Some.ensures.taken ∙ length_push c.take_one.new.self.waiting c.in-Some.point in
     omega (arith, c.tick.ensures, before.counted, count_by-le-length (λ b. b) c.loop-point.search.marking.marks, before.way.all, some)
+
+-- these two are only there for speed
+pub tick-requires : goal.tick-requires
+tick-requires c =
+    let before = c.loop-point.invariant in
+    let some = ap (λ (l : _). length l) c.in-Some.ensures.taken ∙ length_push c.take_one.new.self.waiting c.in-Some.point in
+    omega (arith, before.counted, count_by-le-length (λ b. b) c.loop-point.search.marking.marks, before.way.all, some, c.requires)
+
+pub returns-clause-at_most : goal.returns-clause-at_most
+returns-clause-at_most c =
+    let same : c.into_marks.result ≡ c.loop-point.search.marking = c.into_marks.ensures ∙ c.in_default.ensures.marking in
+    omega (arith, count_by-le-length (λ b. b) c.loop-point.search.marking.marks, c.loop-point.invariant.way.all, ap marked_count same)

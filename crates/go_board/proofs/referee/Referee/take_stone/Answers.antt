@@ -1,5 +1,6 @@
-use Rattle.std.proofs.Common.{◌≡◌, ◌+◌, ◌++◌, [], ◌∷◌, false, true, Contains, Some, None, refl, ap, sym, ◌∙◌, arith, rules}
+use Rattle.std.proofs.Common.{◌≡◌, ◌+◌, ◌-◌, ◌≤◌, ◌++◌, length, reverse, [], ◌∷◌, false, true, Contains, Some, None, refl, ap, sym, ◌∙◌, arith, rules}
 use Rattle.std.proofs.lemmas.Bool.{false≢true}
+use Rattle.std.proofs.lemmas.List.{length-reverse, reverse-append}
 use Rattle.go_board.specs.declared.referee.plays.Play.TheVariants.{Stone}
 use Rattle.go_board.specs.Clearing.{play}
 use Rattle.go_board.specs.Past.{newest_grid, with_next, present_stretch}
@@ -50,3 +51,20 @@ invariant_of-self-2 g c =
     IsRefereeKept-grown past was.player was.passes was.turns was.earlier.items
     kept.result true (kept.ensures.player ∙ sym (ap (λ (states : States). states.present.player) c.self.view_is)) (kept.ensures.passes ∙ sym (ap (λ (states : States). states.present.passes) c.self.view_is)) kept.ensures.grew kept.ensures.turned
     (was.turns + 1) (omega arith) c.self.invariant (g.P.Past.held c.play.new.self) made false (Some c.opponent.result) c.push.new.self.items now (side_play (newest_grid past) c.args.colour c.args.point) items
+
+-- these two are only there for speed
+pub overflow_add-self : goal.overflow_add-self
+overflow_add-self g c =
+    let few : c.self.inside.turns ≤ length (reverse c.self.inside.earlier.items) = c.self.invariant.few_turns in
+    omega (arith, rw length-reverse at few)
+
+pub returns-clause-ok : goal.returns-clause-ok
+returns-clause-ok g c =
+    let was = c.self.inside in
+    let kept = c.present_kept-present in
+    let past = g.P.Past.held was.past in
+    let now : g.P.Past.held c.play.new.self ≡ with_next past (play (newest_grid past) c.args.colour c.args.point) false = rw c.if-not-branch.false at c.in_ok-play.ensures.ok in
+    let items : c.push.new.self.items ≡ was.earlier.items ++ kept.result ∷ [] = search rules in
+    let newest : reverse c.push.new.self.items ≡ kept.result ∷ reverse was.earlier.items = ap reverse items ∙ reverse-append was.earlier.items (kept.result ∷ []) in
+    let turns : was.turns + 1 - 1 ≡ was.turns = omega arith in
+    rw (sym c.self.view_is) (simp (now, newest, kept.ensures.grew, kept.ensures.turned, kept.ensures.player, kept.ensures.passes, c.opponent.ensures, turns) (search rules))

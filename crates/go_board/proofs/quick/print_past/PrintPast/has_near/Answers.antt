@@ -15,3 +15,7 @@ returns c = λ is.
     let has = has_colouring (all_of inside) c.in-Some.number c.put.new.self (omega (arith, c.in-Some.ensures.0, c.stretch_start-start.ensures.start))
     (omega (arith, c.in-Some.ensures.1, tabled (all_of inside) c.self.inside.table c.self.invariant.tabled)) number in
     subst (λ (past : PastColourings). Contains (present_stretch past) (play (newest_grid c.args.self.now) k p)) c.self.view_is (subst (λ (g : Grid). Contains (present_stretch inside) g) made has)
+
+-- only there for speed
+pub is_at-requires : goal.is_at-requires
+is_at-requires c = omega (arith, c.in-Some.ensures.1, tabled (all_of c.self.inside.colourings) c.self.inside.table c.self.invariant.tabled)

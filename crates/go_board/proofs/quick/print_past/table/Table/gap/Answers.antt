@@ -45,3 +45,14 @@ returns-clause-gap c =
           (λ p h. ap (λ n. bit_at (bit_xor c.args.print n) p) (sym print) ∙ lowest.2 p h) (ap (λ n. bit_at (bit_xor c.args.print n) place) (sym print) ∙ lowest.1) in
           c.opening.ensures.opening WIDTH (keys_of (next ∷ held)) (keys_of (next ∷ held) (length held)) 64 (linked next) (walk next) lowest.0 parts.0 parts.1;
     }
+
+-- these two are only there for speed
+pub descend-from-requires-clause-some : goal.descend-from-requires-clause-some
+descend-from-requires-clause-some c = omega (arith, c.link.ensures.all, tabled (all_of c.args.colourings.now) c.link.new.self c.link.ensures.table)
+
+pub index-requires : goal.index-requires
+index-requires c =
+    let keys = keys_of (all_of c.args.colourings.now) in
+    let linked = c.link.ensures.table.linked in
+    let near = way_nearest WIDTH keys c.link.new.self.trie linked c.descend-from.result (c.descend-from.ensures.way WIDTH keys linked) (omega arith) in
+    omega (arith, c.kid.ensures, c.link.ensures.all, near.there)

@@ -4,7 +4,7 @@ use Rattle.go_board.specs.Past.{all_of}
 use Rattle.go_board.specs.inner.Key.{bits_of, keys_of}
 use Rattle.key_trie.specs.Key.{Agree}
 use Rattle.key_trie.specs.Trie.{item_count, IsNearest}
-use Rattle.go_board.proofs.TableLemmas.{tabled_with}
+use Rattle.go_board.proofs.TableLemmas.{tabled, tabled_with}
 use Rattle.key_trie.proofs.TrieLemmas.{agree_back, agree_on, agree_self, parts_as}
 use Rattle.go_board.proofs.quick.print_past.table.Table.link_by_board.Goals as goal
 use Rattle.go_board.proofs.quick.print_past.table.Table.link_by_board.Goals.{After-key_of-other}
@@ -50,3 +50,19 @@ returns-in-None c =
       next = c.repeat.ensures.more;
       prints = refl {A = List ℕ};
     }
+
+-- these four are only there for speed
+pub board_at-board-requires : goal.board_at-board-requires
+board_at-board-requires c = omega (arith, c.len-next.ensures, c.requires.unlinked.more, tabled (all_of c.args.colourings.now) c.args.self.now c.requires.unlinked.table)
+
+pub key_of-key-requires-clause-number : goal.key_of-key-requires-clause-number
+key_of-key-requires-clause-number c =
+    omega (arith, c.len-next.ensures, c.requires.unlinked.more, tabled (all_of c.args.colourings.now) c.args.self.now c.requires.unlinked.table)
+
+pub board_at-past-requires : goal.board_at-past-requires
+board_at-past-requires c =
+    omega (arith, c.nearest-near.ensures.there, c.requires.unlinked.more, tabled (all_of c.args.colourings.now) c.args.self.now c.requires.unlinked.table)
+
+pub key_of-other-requires-clause-number : goal.key_of-other-requires-clause-number
+key_of-other-requires-clause-number c =
+    omega (arith, c.nearest-near.ensures.there, c.requires.unlinked.more, tabled (all_of c.args.colourings.now) c.args.self.now c.requires.unlinked.table)

@@ -3,7 +3,7 @@ use Rattle.go_board.specs.Past.{all_of}
 use Rattle.go_board.specs.declared.quick.print_past.key.TheConstants.{WIDTH}
 use Rattle.go_board.specs.inner.Key.{keys_of}
 use Rattle.key_trie.specs.Trie.{item_count}
-use Rattle.go_board.proofs.TableLemmas.{tabled_with}
+use Rattle.go_board.proofs.TableLemmas.{tabled, tabled_with}
 use Rattle.key_trie.proofs.TrieLemmas.{parts_as}
 use Rattle.go_board.proofs.quick.print_past.table.Table.link_next.Goals as goal
 
@@ -22,3 +22,12 @@ returns-in-Some c =
       next = c.part.ensures.more;
       prints = refl {A = List ℕ};
     }
+
+-- these two are only there for speed
+pub key_of-key-requires-clause-number : goal.key_of-key-requires-clause-number
+key_of-key-requires-clause-number c =
+    omega (arith, c.len-number.ensures, c.requires.unlinked.more, tabled (all_of c.args.colourings.now) c.args.self.now c.requires.unlinked.table)
+
+pub key_of-other-requires-clause-number : goal.key_of-other-requires-clause-number
+key_of-other-requires-clause-number c =
+    omega (arith, c.nearest-near.ensures.there, c.requires.unlinked.more, tabled (all_of c.args.colourings.now) c.args.self.now c.requires.unlinked.table)
