@@ -117,14 +117,14 @@ for _ in range(2):
 
 for names, text in three_ways("illegal_lines.py"):
     same(sorted(text.splitlines()), sorted(shown(name) + b":4:2: turn 2: W[bb]: repeat" for name in dots(names)), "illegal_lines.py")
-# The command of the README shows each name in one row, as `ls -b` does.
+# The command of the README shows each name in one row, as `ls -b` does, and the number of its game.
 command = next(line[6:] for line in open(sys.argv[1] + "/README.md", encoding="utf-8") if line.startswith("    $ find examples "))
 command = command.replace("find examples ", "find . ").replace("sgfsplit split", '"$SGFSPLIT" split')
 text = subprocess.run(["bash", "-c", command], stdout=subprocess.PIPE, stderr=subprocess.DEVNULL, timeout=300).stdout
 plain = {b"n": b"\n", b"r": b"\r", b"t": b"\t"}
 text = [re.sub(rb"\\([0-7]{3}|.)", lambda found: plain.get(found[1]) or (bytes([int(found[1], 8)]) if found[1].isdigit() else found[1]), row)
         for row in text.splitlines()]
-same(sorted(text), sorted(b"./" + name for name in LISTED), "the command of the README")
+same(sorted(text), sorted(b"./" + name + b" 1" for name in LISTED), "the command of the README")
 for names, text in three_ways("parts.py"):
     same(text, b"".join(rows) * len(names), "parts.py")
 for names, text in three_ways("openings.py", "2"):

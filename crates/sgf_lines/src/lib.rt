@@ -30,8 +30,8 @@
 //! [`judge_at`] needs only the place of a line.
 //!
 //! The code outside `judging/quick` is complete and can be read by itself. `judging/quick` has a faster way for nodes that are recognized at a
-//! glance, and may be skipped. What else saves work stands in one function each: `LineNodes::next` takes the nodes so recognized,
-//! `Contents::of_lone` and `Contents::of_front` (`judging/contents`) hold what the glance showed, `push_text_of` (`form/commands`) decodes a
+//! glance, and may be skipped. What else saves work stands in these functions: `LineNodes::next` takes the nodes so recognized,
+//! `Contents::of_lone` and `Contents::of_front` (`judging/contents`) return what the glance showed, `push_text_of` (`form/commands`) decodes a
 //! comment of one row in place, and `split_counted` and `count` first ask a source for all that is left at once (`Source::give_rest`).
 //!
 //! | Module | What it has |

@@ -114,8 +114,8 @@ impl<'c, 'a> SequenceNodes<'c, 'a> {
         Some(self.open())
     }
 
-    /// The same for a node that isn't recognized. There must be a node. This is the plain way; it only looks, besides, whether the node
-    /// begins with a lone property.
+    /// The same for a node that isn't recognized. There must be a node. This is the plain way. It also looks whether the node begins
+    /// with a lone property.
     fn open(&mut self) -> NextNode<'a>
         requires { 0 < length self.old.nodes }
         ensures { (node : Node) × (self.old.nodes ≡ node ∷ self.new.nodes)

@@ -18,7 +18,7 @@ impl Board {
     /// The points that reach a colour (Tromp-Taylor); points of that colour are among them. Adds one step for each marked point:
     /// at most as many as the board has points. The count of steps must have room for that.
     ///
-    /// This is the plain way, point by point. Clearing and the score fill whole rows instead, so only tests call it here.
+    /// This is the plain way, point by point. Clearing and the score fill whole rows instead, so in this repository only tests call it.
     pub fn reaching(&self, target: Cell, steps: &mut Steps) -> Marks
         requires { steps.old + self.now.side * self.now.side ≤ u64.MAX }
         ensures side { result.side ≡ self.now.side }

@@ -203,7 +203,7 @@ fn with_player(setup: Setup, last: Option<Colour>) -> Setup
     }
 }
 
-/// The player that the values of a PL name last; None if one of them names no player.
+/// The player that the last value of a PL names; None if one of its values names no player.
 fn last_player(property: &PropRef<'_>) -> Option<Colour>
     ensures { (before : Option Colour) → last_player_rule before (values property.now) ≡ option_map Some result }
 {

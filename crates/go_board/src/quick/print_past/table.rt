@@ -203,8 +203,8 @@ impl Table {
         false
     }
 
-    /// The same by the trie, which must have all colourings: a run decides positional superko by this. If none has the print, no colouring is
-    /// worked out.
+    /// The same by the trie, which must have all colourings. A run asks this last, if nothing before decides positional superko. If no
+    /// colouring has the print, none is worked out.
     pub(crate) fn find(&self, colourings: &Colourings, board: &Board, print: u64) -> bool
         requires table { IsTable (all_of colourings.now) self.now }
         requires all { item_count self.now.trie ≡ length self.now.prints.items }

@@ -3,9 +3,6 @@ use Rattle.std.proofs.lemmas.Grind.{common_steps}
 use Rattle.std.proofs.Common.{refl, arith, rules}
 use Rattle.sgf_properties.proofs.text.push_text.Goals as goal
 
-pub returns-in_err-reserve-clause-unchanged : goal.returns-in_err-reserve-clause-unchanged
-returns-in_err-reserve-clause-unchanged c = search rules
-
 pub loop-rest-init : goal.loop-rest-init
 loop-rest-init c = record { so_far = refl; room = search rules }
 
