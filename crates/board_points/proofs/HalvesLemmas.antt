@@ -1,16 +1,16 @@
 -- Sets of points in the halves of words.
-use Rattle.std.proofs.Common.{◌≡◌, ◌≢◌, inl, inr, ℕ, ◌+◌, ◌-◌, ◌*◌, ◌/◌, ◌%◌, ◌^◌, ◌<◌, ◌≤◌, ◌==◌, ◌&&◌, true, nat_lt, List, slice_index, sym, ap, ◌∙◌, arith, length, subst}
+use Rattle.std.proofs.Common.{◌≡◌, ◌≢◌, inl, inr, ℕ, ◌+◌, ◌-◌, ◌*◌, ◌/◌, ◌%◌, ◌^◌, ◌<◌, ◌≤◌, ◌==◌, ◌&&◌, true, nat_lt, List, slice_index, refl, sym, ap, ◌∙◌, arith, length, subst}
 use Rattle.std.proofs.lemmas.Grind.{common_steps}
 use Rattle.std.proofs.lemmas.Bool.{and_parts, and_from, cases_lt}
 use Rattle.std.proofs.lemmas.Bool.Decides.{Decides-ltb}
 use Rattle.std.proofs.Math.ListN.{get_or-map}
 use Rattle.std.proofs.lemmas.Nat.{mod_below, pow_pos}
 use Rattle.std.proofs.lemmas.Nat.Bits.{bit_at_cat_high}
-use Rattle.std.proofs.lemmas.List.{length-map}
+use Rattle.std.proofs.lemmas.List.{length-map, get_or_past}
 use Rattle.board_points.specs.declared.points.Point.{Point}
 use Rattle.board_points.specs.Point.{AreAdjacent}
 use Rattle.board_points.specs.Rows.{has_bit, is_set, IsAmong, IsClosed}
-use Rattle.board_points.specs.Halves.{low_halves, high_halves, AreOthersPaired}
+use Rattle.board_points.specs.Halves.{low_halves, high_halves, ArePaired, AreOthersPaired}
 use Rattle.board_points.proofs.WordLemmas.{same_bools, bit_at-mod, column_below}
 use Rattle.board_points.proofs.ColumnLemmas.{AreOthers}
 use Rattle.board_points.proofs.RowLemmas.{AreRowsOf-others}
@@ -128,6 +128,24 @@ IsPair black white row word = (word % 2 ^ 32 ≡ slice_index black row) × (word
 abbrev pub IsPairOfOthers : ℕ → List ℕ → List ℕ → ℕ → ℕ → Type 0
 IsPairOfOthers side black white row word =
     AreOthers side (slice_index white row) (word % 2 ^ 32) × AreOthers side (slice_index black row) (word / 2 ^ 32)
+
+-- half a word of a row, where it is the row of a set up to the last row
+half_row : (f : ℕ → ℕ) (rows set : List ℕ) → f 0 ≡ 0 → length rows ≡ length set → ((r : ℕ) → r < length rows → f (slice_index rows r) ≡ slice_index set r) → (r : ℕ) → f (slice_index rows r) ≡ slice_index set r
+half_row f rows set none long each r =
+    elim (cases_lt r (length rows)) [
+      | inl below ↦ each r below
+      | inr above ↦ ap f (get_or_past rows r 0 above) ∙ none ∙ sym (get_or_past set r 0 (omega (arith, above, long)))
+    ]
+
+pub paired_all : (black white rows : List ℕ) → length rows ≡ length black → length rows ≡ length white → ((r : ℕ) → r < length rows → IsPair black white r (slice_index rows r)) → ArePaired black white rows
+paired_all black white rows long_black long_white each = record {
+  low = λ p.
+      ap (λ w. has_bit w p.col)
+      (get_or-map (λ w. w % 2 ^ 32) rows p.row 0 ∙ half_row (λ w. w % 2 ^ 32) rows black refl long_black (λ r below. (each r below).0) p.row);
+  high = λ p.
+      ap (λ w. has_bit w p.col)
+      (get_or-map (λ w. w / 2 ^ 32) rows p.row 0 ∙ half_row (λ w. w / 2 ^ 32) rows white refl long_white (λ r below. (each r below).1) p.row);
+}
 
 pub others_paired_all : (black white rows : List ℕ) → length rows ≡ length black → length rows ≡ length white → ((r : ℕ) → r < length rows → IsPairOfOthers (length black) black white r (slice_index rows r)) → AreOthersPaired black white rows
 others_paired_all black white rows long_black long_white each = record {

@@ -1,5 +1,5 @@
 //! How a program uses `sgf_lines` with a text in memory: it gets the
-//! records of the lines in memory, or goes over the lines itself.
+//! records of the lines in memory, or goes over the lines itself. `sgfsplit_job_tests` tests these functions.
 #![tactic(auto)]
 
 ghost use Rattle.std.specs.Prelude.{◌≡◌, List, IfOk};
@@ -13,9 +13,6 @@ use sgf_lines::{
     judge, split,
 };
 use std::alloc::Global;
-
-#[cfg(test)]
-mod tests;
 
 /// Splits the collection that the text spells (SGF FF[4]), and returns the records of the lines that
 /// the options select. See `sgf_lines::split` for the faults.

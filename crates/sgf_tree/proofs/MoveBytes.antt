@@ -2,7 +2,7 @@
 use Rattle.std.proofs.lemmas.Grind.{common_steps}
 use Rattle.std.proofs.Common.{◌≡◌, ◌∙◌, ℕ, ◌+◌, ◌/◌, ◌%◌, ◌^◌, ◌<◌, ◌≤◌, List, [], ◌∷◌, length, get_or, refl, ap, arith, le-leb}
 use Rattle.std.proofs.lemmas.Bool.{and_from, cases_lt}
-use Rattle.sgf_tree.specs.inner.Progress.{IsMove, IsMoveNode}
+use Rattle.sgf_tree.specs.inner.Progress.{IsMove, IsMoveNode, EndsNode}
 use Rattle.sgf_properties.proofs.PlacedBytes
 use Rattle.sgf_properties.proofs.PlacedBytes.{above}
 use Rattle.sgf_properties.proofs.PointBytes.{other-than, in-place}
@@ -47,3 +47,9 @@ module _ (t : List ℕ) (at : ℕ) (room : at + 16 ≤ length t) (fits : (i : �
           move = move-from t (at + 6 + 1) fits (omega arith) (all-there 7 (at + 6 + 1) (omega arith) (omega arith) refl) (all-there 8 (at + 6 + 1 + 1) (omega arith) (omega arith) refl)
               (all-there 9 (at + 6 + 1 + 2) (omega arith) (omega arith) refl) (all-there 10 (at + 6 + 1 + 3) (omega arith) (omega arith) refl) (all-there 11 (at + 6 + 1 + 4) (omega arith) (omega arith) refl);
         }
+
+    -- the byte after them
+    pub node-ended : EndsNode t (at + 12)
+    node-ended =
+        let byte : above (get_or t (at + 12) 0) 33 ≤ 31 = all-there 12 (at + 12) refl (omega arith) refl in
+        record { within = omega arith; above = omega (arith, byte, fits (at + 12)); below = omega (arith, byte, fits (at + 12)) }

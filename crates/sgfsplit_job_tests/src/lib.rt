@@ -7,8 +7,11 @@
 //! | `streams` | a reader and a writer that count their calls, and may fail |
 //! | `jobs` | jobs over such a reader and such writers: how many calls are made, and that none follows a failure |
 //! | `words` | the jobs that words ask for |
+//! | `examples` | the functions of the example `lines_in_memory` |
 #![tactic(auto)]
 
+#[cfg(test)]
+mod examples;
 mod in_memory;
 #[cfg(test)]
 mod jobs;

@@ -1,5 +1,8 @@
-use Rattle.std.proofs.Common.{◌≡◌, ℕ, Some, List, [], ◌∷◌, length, get_or, sym, ◌∙◌, arith}
+use Rattle.std.proofs.lemmas.Grind.{common_steps}
+use Rattle.std.proofs.Common.{◌≡◌, ℕ, Option, Some, IfSome, List, [], ◌∷◌, length, get_or, sym, ◌∙◌, arith}
 use Rattle.board_points.specs.declared.points.Point.{Point}
+use Rattle.board_points.specs.declared.points.Rect.{Rect}
+use Rattle.board_points.specs.Point.{IsOn, IsRectOn}
 use Rattle.board_points.specs.Values.{colon, point_of, rect_of, rect_value}
 use Rattle.board_points.proofs.values.rect.Goals as goal
 
@@ -21,3 +24,16 @@ returns-in_ok-point_of-in-58-clause-value c =
     ∙ sym (two_points c.args.raw.now c.args.size _ _ (omega (arith, c.in-58.len_at_least, c.in-58.len_below)) between
     (sym c.point_of-in-58.ensures.value ∙ c.in_ok-first-in-58.was)
     (sym c.point_of-in-58-2.ensures.value ∙ c.in_ok-point_of-in-58.was))
+
+-- the two answers below are only there for speed
+on_board : (side : ℕ) (first last : Point) (found : Option Rect) → IsOn side first → IsOn side last → found ≡ rect_of first last → IfSome found (IsRectOn side)
+on_board side first last found first_on last_on is = grind (arith, common_steps)
+
+pub returns-in_ok-only-in-len2-clause-on_board : goal.returns-in_ok-only-in-len2-clause-on_board
+returns-in_ok-only-in-len2-clause-on_board c =
+    let on = c.in_ok-only-in-len2.ensures.on_board in
+    on_board c.args.size _ _ c.ordered.result on on c.ordered.ensures
+
+pub returns-in_ok-point_of-in-58-clause-on_board : goal.returns-in_ok-point_of-in-58-clause-on_board
+returns-in_ok-point_of-in-58-clause-on_board c =
+    on_board c.args.size _ _ c.ordered-in-58.result c.in_ok-first-in-58.ensures.on_board c.in_ok-point_of-in-58.ensures.on_board c.ordered-in-58.ensures

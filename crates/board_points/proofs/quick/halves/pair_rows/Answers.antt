@@ -1,7 +1,7 @@
 use Rattle.std.proofs.Common.{◌∙◌, sym, subst, length, slice_index, arith}
 use Rattle.board_points.proofs.ColumnLemmas.{AreOthers}
 use Rattle.board_points.proofs.RowLemmas.{written_more}
-use Rattle.board_points.proofs.HalvesLemmas.{fits_half, IsPair, IsPairOfOthers, others_paired_all}
+use Rattle.board_points.proofs.HalvesLemmas.{fits_half, IsPair, IsPairOfOthers, paired_all, others_paired_all}
 use Rattle.board_points.proofs.quick.halves.pair_rows.Goals as goal
 
 pub paired-requires-clause-low : goal.paired-requires-clause-low
@@ -17,6 +17,17 @@ paired-requires-in-rows-clause-low c = fits_half _ (length c.args.black.now) c.r
 
 pub paired-requires-in-rows-clause-high : goal.paired-requires-in-rows-clause-high
 paired-requires-in-rows-clause-high c = fits_half _ (length c.args.black.now) c.requires.stones.few c.other_columns-in-rows.ensures.off
+
+-- the next two answers are only there for speed
+pub rows-init : goal.rows-init
+rows-init c = record { areas = λ r low. absurd (omega arith); region = λ r low. absurd (omega arith) }
+
+pub returns-clause-areas : goal.returns-clause-areas
+returns-clause-areas c =
+    let l = c.rows in
+    let long = l.auto.areas ∙ c.requires.areas in
+    paired_all c.args.black.now c.args.white.now l.areas long (long ∙ sym c.requires.stones.same)
+    (λ r below. l.invariant.areas r (omega (arith, below, long, c.rows-test.false)))
 
 pub rows-preserved : goal.rows-preserved
 rows-preserved c =

@@ -79,3 +79,13 @@ stretches-preserved c =
       appended = ap (λ s. s ++ rest) c.in_ok-extend_from_slice-2.ensures.items ∙ append_assoc out copied rest ∙ ap (λ s. out ++ s) (sym left) ∙ c.stretches.invariant.appended;
       goes_on = (more ++ copied, c.in_ok-extend_from_slice-2.ensures.items ∙ ap (λ s. s ++ copied) before ∙ append_assoc c.args.out.now.items more copied);
     }
+
+-- the answers below are only there for speed
+pub returns-then-is_written-clause-goes_on : goal.returns-then-is_written-clause-goes_on
+returns-then-is_written-clause-goes_on c = (c.part-written.result.now, c.in_ok-extend_from_slice.ensures.items)
+
+pub returns-in_err-extend_from_slice-clause-goes_on : goal.returns-in_err-extend_from_slice-clause-goes_on
+returns-in_err-extend_from_slice-clause-goes_on c = ([], c.in_err-extend_from_slice.ensures.items ∙ sym (append-nil c.args.out.now.items))
+
+pub returns-in_err-extend_from_slice-2-clause-goes_on : goal.returns-in_err-extend_from_slice-2-clause-goes_on
+returns-in_err-extend_from_slice-2-clause-goes_on c = let (more, before) = c.stretches.invariant.goes_on in (more, c.in_err-extend_from_slice-2.ensures.items ∙ before)

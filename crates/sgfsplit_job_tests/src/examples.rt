@@ -1,4 +1,6 @@
-use crate::{first_illegal, first_verdict, longest_line, records};
+//! The functions of the example `lines_in_memory`.
+
+use lines_in_memory::{first_illegal, first_verdict, longest_line, records};
 use sgf_lines::{Form, Options, Verdict, read};
 use std::test::Fail;
 
