@@ -1,10 +1,14 @@
 -- A text without a line feed is one row.
-use Rattle.std.proofs.Common.{◌≡◌, ◌++◌, OnOk, length, codes, ap, sym, subst, ◌∙◌, arith}
+use Rattle.std.proofs.Common.{◌≡◌, ℕ, ◌++◌, List, OnOk, length, take, codes, ap, sym, subst, ◌∙◌, arith}
+use Rattle.std.proofs.lemmas.Grind.{common_steps}
 use Rattle.std.specs.Prelude.{not}
 use Rattle.std.proofs.lemmas.Bool.{eqb-false}
 use Rattle.sgf_properties.specs.Text.{text_of}
 use Rattle.sgf_lines.proofs.CutTexts.{joins_three, appended_last, one_row}
 use Rattle.sgf_lines.proofs.form.commands.push_text_of.Goals as goal
+
+front : (old mark text : List ℕ) (row : ℕ) → row ≡ length old → take row ((old ++ mark) ++ text) ≡ old
+front old mark text row is = grind (arith, common_steps)
 
 pub returns-then-is_none : goal.returns-then-is_none
 returns-then-is_none c =
@@ -18,3 +22,14 @@ returns-then-is_none c =
     let row = one_row text c.memchr.result some (rw last at c.memchr.ensures) (c.is_none.ensures ∙ ap not c.if-is_none.true) in
     subst (λ bs. OnOk r (new ≡ old ++ bs)) (sym row)
     (joins_three r old head c.push_text.new.out.items new (codes "# ") text (codes "\n") c.in_ok-push_bytes.ensures c.in_ok-push_text.ensures.decoded c.push_bytes-then-is_none.ensures)
+
+pub returns : goal.returns
+returns c =
+    let old = c.args.output.now.items in
+    let head = c.push_bytes.new.output.items in
+    let text = text_of c.args.raw.now in
+    let last = appended_last head text c.deref-2.result.now c.len-start.result (c.deref-2.ensures.value ∙ c.in_ok-push_text.ensures.decoded) (omega (arith, c.len-start.ensures, c.push_bytes.new.output.ok.0)) in
+    let told : c.deref-3.result.now ≡ text = c.deref-3.ensures.value ∙ c.in_ok-extend_from_slice.ensures.items ∙ rw c.new-text.ensures.items last in
+    let whole : c.push_text.new.out.items ≡ (old ++ codes "# ") ++ text = c.in_ok-push_text.ensures.decoded ∙ ap (λ (bs : List ℕ). bs ++ text) c.in_ok-push_bytes.ensures in
+    let kept : c.truncate.new.self.items ≡ old = c.truncate.ensures.items ∙ rw whole (front old (codes "# ") text c.len-row.result (omega (arith, c.len-row.ensures, c.args.output.now.ok.0))) in
+    rw (← kept, ← told) c.push_text_rows.ensures

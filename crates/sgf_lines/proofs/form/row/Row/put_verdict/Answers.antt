@@ -1,0 +1,23 @@
+-- The parts of a verdict are put from its last to its first.
+use Rattle.std.proofs.Common.{append_assoc}
+use Rattle.sgf_lines.proofs.form.row.Row.put_verdict.Goals as goal
+
+pub returns-in-Illegal-clause-text : goal.returns-in-Illegal-clause-text
+returns-in-Illegal-clause-text c =
+    rw (
+      c.put-in-Illegal-4.ensures.text,
+      c.put_number-in-Illegal-2.ensures.text,
+      c.put-in-Illegal-3.ensures.text,
+      c.put_number-in-Illegal.ensures.text,
+      c.put-in-Illegal-2.ensures.text,
+      c.put-in-Illegal.ensures.text,
+      c.as_bytes.ensures.value,
+      c.word.ensures,
+      c.in-Illegal.is,
+    ) (simp append_assoc)
+
+pub returns-in-NotGo-clause-text : goal.returns-in-NotGo-clause-text
+returns-in-NotGo-clause-text c = rw c.in-NotGo.is c.put-in-NotGo.ensures.text
+
+pub returns-in-BadSize-clause-text : goal.returns-in-BadSize-clause-text
+returns-in-BadSize-clause-text c = rw c.in-BadSize.is c.put-in-BadSize.ensures.text
