@@ -362,7 +362,8 @@ fn add_stone(
 }
 
 /// Whether the present stretch has the colouring that a stone makes. If so, positional superko forbids the stone. `print` is that
-/// colouring's print, and `taken` is what the stone takes off. If it has a gap in the trie, the stretch can't have it. Otherwise all points are compared.
+/// colouring's print, and `taken` is what the stone takes off. If it has a gap in the trie, the stretch can't have it. Otherwise all
+/// points are compared.
 fn has_made(
     colourings: &Colourings,
     table: &Table,
