@@ -1,1 +1,1 @@
-pub mod SliceEnds
+pub mod SliceStreams

@@ -22,7 +22,7 @@ pub trait Source {
 
     /// How often it has answered that it is at its end, if it counts that. A source that doesn't count leaves this out. What is proved of
     /// every source is proved of those that count.
-    ghost ends: { Self → ℕ } = { λ _. 0 };
+    ghost end_answers: { Self → ℕ } = { λ _. 0 };
 
     /// Writes the next bytes to the front of `buffer`, which must not be empty.
     /// Returns the number of these bytes. It is 0 at the end of the source, and only there.
@@ -32,7 +32,7 @@ pub trait Source {
         requires room { 0 < length buffer.old }
         requires countable { (state self.old).failures < u64.MAX }
         ensures gets { IsGet (state self.old) (state self.new) buffer.new result }
-        ensures ends { ends self.new ≤ ends self.old + ends_told result };
+        ensures end_answers { end_answers self.new ≤ end_answers self.old + ends_told result };
 
     /// How often it has failed.
     fn failures(&self) -> u64
@@ -43,7 +43,7 @@ pub trait Source {
     /// answer, and the only one of a source that has failed.
     fn give_rest(&mut self, most: usize) -> Option<&[u8]>
         ensures* rest { sem 𝓛 (Rests Self.row self.entry (λ new. GivesRest most (state self.old) (state new) result
-            × (ends new ≤ ends self.old + rests_told result))) }
+            × (end_answers new ≤ end_answers self.old + rests_told result))) }
     {
         let _most = most;
         None

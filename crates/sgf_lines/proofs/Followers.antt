@@ -1,4 +1,4 @@
--- A follower goes on by a line: the verdict that it gives, and the nodes that it plays for the lines judged in a row.
+-- A follower goes on by a line: the verdict that it gives, and the nodes that it plays for the lines of its streak.
 use Rattle.std.proofs.Common.{◌≡◌, ℕ, ◌+◌, ◌-◌, ◌<◌, ◌≤◌, List, length, take, drop, slice_get, Some, refl, sym, ap, subst, ◌∙◌, arith, rules}
 use Rattle.std.proofs.lemmas.Grind.{common_steps}
 use Rattle.std.specs.Prelude.{option_map}
@@ -19,66 +19,66 @@ use Rattle.tree_lines.specs.Following.{nodes_of, line_before, nodes_before, path
 use Rattle.sgf_lines.specs.inner.GoingOn.{AreHeld, HasPlays, StandsBy, index_by, next_by}
 use Rattle.sgf_lines.specs.inner.Judging.{Judging}
 use Rattle.sgf_lines.specs.inner.Keeping.{HoldsJudgement}
-use Rattle.sgf_lines.specs.inner.Followers.{state_by, IsRow, Follows}
+use Rattle.sgf_lines.specs.inner.Followers.{state_by, IsStreak, Follows}
 use Rattle.sgf_lines.proofs.Keeping.{line_next}
 use Rattle.tree_lines.proofs.LeafLines.{lines_within}
 use Rattle.sgf_lines.proofs.Pages.{get_dropped, get_taken}
 use Rattle.sgf_lines.proofs.PlayCounts.{page_from, few, adds, shares_by, Shares}
 
-module _ (before : Before) (old : CursorState) (now : Judging) (path : List ℕ) (row : ℕ) (h : Follows before old now path row) where
-  row_within : row ≤ index_by before old.index
-  row_within = first_of (search rules, grind (arith, common_steps))
+module _ (before : Before) (old : CursorState) (now : Judging) (path : List ℕ) (streak : ℕ) (h : Follows before old now path streak) where
+  streak_within : streak ≤ index_by before old.index
+  streak_within = first_of (search rules, grind (arith, common_steps))
 
   abbrev first : ℕ
-  first = index_by before old.index - row
+  first = index_by before old.index - streak
 
   pub few_played : PlacesRise old.games → now.plays ≤ node_count old.games
   few_played rise =
-      let page = page_from old.games first row in
-      let fewer : length (all_judged_places (take row page)) ≤ node_count old.games = few old.games rise first row list_form row in
-      omega (arith, h.plays_are, fewer, ap (λ ls. length (all_judged_places ls)) (take-take row row (drop first (lines old.games)) (omega arith)))
+      let page = page_from old.games first streak in
+      let fewer : length (all_judged_places (take streak page)) ≤ node_count old.games = few old.games rise first streak list_form streak in
+      omega (arith, h.plays_are, fewer, ap (λ ls. length (all_judged_places ls)) (take-take streak streak (drop first (lines old.games)) (omega arith)))
 
   -- the next line was judged
   module _ (count : ℕ) (p : HasPlays (λ n. n) before old count) where
-    pub row_countable : row < node_count old.games
-    row_countable = omega (arith, row_within, slice_get_within (lines old.games) (index_by before old.index) p.line p.found, lines_within old.games)
+    pub streak_countable : streak < node_count old.games
+    streak_countable = omega (arith, streak_within, slice_get_within (lines old.games) (index_by before old.index) p.line p.found, lines_within old.games)
 
     module _ (new : CursorState) (moved : new ≡ advanced (next_by before old)) where
       line_is : line_before new ≡ Some p.line
       line_is = ap line_before moved ∙ line_next (next_by before old) ∙ p.found
 
       -- in terms of the follower's state
-      pub given : (at : FollowerState) → state_by before old row ≡ at → (told : Verdict) → told ≡ verdict_of (nodes_before new) → option_map verdict (slice_get (lines at.games) at.index) ≡ Some told
+      pub given : (at : FollowerState) → state_by before old streak ≡ at → (told : Verdict) → told ≡ verdict_of (nodes_before new) → option_map verdict (slice_get (lines at.games) at.index) ≡ Some told
       given at is told told_is = rw (← is) (ap (option_map verdict) p.found ∙ ap Some (sym (told_is ∙ ap (λ o. verdict_of (nodes_of o)) line_is)))
 
       module _ (rise : PlacesRise old.games) where
-        shares : Shares old.games rise first (row + 1) row p.held
-        shares = by before h.is_row p.are_held refl
+        shares : Shares old.games rise first (streak + 1) streak p.held
+        shares = by before h.is_streak p.are_held refl
           where
-            by : (b : Before) → IsRow b old.index row → AreHeld b old p.held → before ≡ b → Shares old.games rise first (row + 1) row p.held
-            by Unheld is held same = subst (λ k. Shares old.games rise first (row + 1) k p.held) (sym is) held
-            by Refused is held same = subst (λ k. Shares old.games rise first (row + 1) k p.held) (sym is) held
+            by : (b : Before) → IsStreak b old.index streak → AreHeld b old p.held → before ≡ b → Shares old.games rise first (streak + 1) streak p.held
+            by Unheld is held same = subst (λ k. Shares old.games rise first (streak + 1) k p.held) (sym is) held
+            by Refused is held same = subst (λ k. Shares old.games rise first (streak + 1) k p.held) (sym is) held
             by Held is held same =
-                let there : old.index ≡ first + row = omega (arith, is.1, ap (λ b. index_by b old.index) same) in
-                shares_by old.games rise first (row + 1) row Held old p.held refl there (λ none. absurd (omega (arith, is.0, none))) (λ _. refl) held
+                let there : old.index ≡ first + streak = omega (arith, is.1, ap (λ b. index_by b old.index) same) in
+                shares_by old.games rise first (streak + 1) streak Held old p.held refl there (λ none. absurd (omega (arith, is.0, none))) (λ _. refl) held
 
         -- it was played from where it leaves the line before it
         pub follows_on : (judging : Judging) (new_path : List ℕ) → StandsBy Held (nodes_before new) (HoldsJudgement (nodes_before new) judging.judgement × (new_path ≡ path_before new))
-            → judging.plays ≡ now.plays + count → Follows Held new judging new_path (row + 1)
+            → judging.plays ≡ now.plays + count → Follows Held new judging new_path (streak + 1)
         follows_on judging new_path stands plays =
             let rest = drop first (lines old.games) in
-            let page = take (row + 1) rest in
+            let page = take (streak + 1) rest in
             let games = ap (λ (s : CursorState). s.games) moved in
             let index = ap (λ (s : CursorState). s.index) moved in
-            let next : new.index - (row + 1) ≡ first = omega (arith, index, row_within) in
-            let here : slice_get page row ≡ Some p.line =
-            get_taken rest (row + 1) row (omega arith) ∙ get_dropped (lines old.games) first row ∙ ap (slice_get (lines old.games)) (omega (arith, row_within)) ∙ p.found in
-            let more : length (all_judged_places (take (row + 1) page)) ≡ length (all_judged_places (take row page)) + (length (judged_nodes p.line) - p.held) =
-            adds old.games rise first (row + 1) list_form row p.held p.line here shares in
-            let whole : take (row + 1) page ≡ page = take-take (row + 1) (row + 1) rest (omega arith) in
-            let front : take row page ≡ take row rest = take-take row (row + 1) rest (omega arith) in
+            let next : new.index - (streak + 1) ≡ first = omega (arith, index, streak_within) in
+            let here : slice_get page streak ≡ Some p.line =
+            get_taken rest (streak + 1) streak (omega arith) ∙ get_dropped (lines old.games) first streak ∙ ap (slice_get (lines old.games)) (omega (arith, streak_within)) ∙ p.found in
+            let more : length (all_judged_places (take (streak + 1) page)) ≡ length (all_judged_places (take streak page)) + (length (judged_nodes p.line) - p.held) =
+            adds old.games rise first (streak + 1) list_form streak p.held p.line here shares in
+            let whole : take (streak + 1) page ≡ page = take-take (streak + 1) (streak + 1) rest (omega arith) in
+            let front : take streak page ≡ take streak rest = take-take streak (streak + 1) rest (omega arith) in
             record {
               stands = stands;
-              is_row = (omega arith, omega (arith, row_within, index));
+              is_streak = (omega arith, omega (arith, streak_within, index));
               plays_are = rw (games, next, ← whole) (omega (arith, more, ap (λ ls. length (all_judged_places ls)) front, p.count_is, h.plays_are, plays));
             }

@@ -6,24 +6,24 @@ use Rattle.sgf_lines.specs.Lines.{Line, lines}
 use Rattle.sgf_lines.specs.Verdict.{verdict}
 use Rattle.sgf_lines.specs.declared.verdict.Verdict.{Verdict}
 
--- A collection; the index of the follower's next line, from 0; and how many lines directly before that one were judged in a row.
--- The follower shows the last of these. After a refusal of memory a new row begins.
+-- A collection; the index of the follower's next line, from 0; and the follower's streak: how many lines directly before that one it
+-- has judged. The follower shows the last of these. After a refusal of memory a new streak begins.
 pub record FollowerState : Type 0 where
   pub games : Games
   pub index : ℕ
-  pub row : ℕ
+  pub streak : ℕ
 
--- the lines judged in a row
+-- the lines of the streak
 abbrev pub lines_judged : FollowerState → List Line
-lines_judged follower = take follower.row (drop (follower.index - follower.row) (lines follower.games))
+lines_judged follower = take follower.streak (drop (follower.index - follower.streak) (lines follower.games))
 
 -- the verdict of the next line; None after the last one
 abbrev pub GivesVerdict : FollowerState → Option Verdict → Type 0
 GivesVerdict follower told = option_map verdict (slice_get (lines follower.games) follower.index) ≡ told
 
--- A returned verdict takes the follower one line on, and its row with it.
--- At the end it is unchanged. After a refusal the same line is next, and no line was judged in a row.
+-- A returned verdict takes the follower one line on, and makes its streak longer by this line. At the end the follower is unchanged.
+-- After a refusal the same line is next, and the streak has no line.
 abbrev pub LeavesFollower : FollowerState → FollowerState → Result (Option Verdict) MemoryFault → Type 0
-LeavesFollower old new (Ok (Some told)) = new ≡ record { games = old.games; index = old.index + 1; row = old.row + 1 }
+LeavesFollower old new (Ok (Some told)) = new ≡ record { games = old.games; index = old.index + 1; streak = old.streak + 1 }
 LeavesFollower old new (Ok None) = new ≡ old
-LeavesFollower old new (Err fault) = new ≡ record { games = old.games; index = old.index; row = 0 }
+LeavesFollower old new (Err fault) = new ≡ record { games = old.games; index = old.index; streak = 0 }

@@ -6,7 +6,7 @@ ghost use Rattle.byte_streams.specs.Streams.{SourceState};
 ghost use Rattle.sgf_lines.specs.inner.Running.{HasReadAll};
 
 use crate::fault::RunFault;
-use crate::form::row::Row;
+use crate::form::text_row::TextRow;
 use crate::run::read_all;
 use byte_streams::{Sink, SinkFault, Source, put_all};
 use sgf_tree::{MAX_LENGTH, measure};
@@ -36,7 +36,7 @@ pub struct Counts {
 pub fn count<S: Source>(alloc: Global, source: &mut S) -> Result<Counts, RunFault>
     requires { (S.state source.old).failures < u64.MAX }
     ensures counts { IsCount (S.state source.old) (S.state source.new) result }
-    ensures one_end { S.ends source.new ≤ S.ends source.old + 1 }
+    ensures one_end { S.end_answers source.new ≤ S.end_answers source.old + 1 }
 {
     if let Some(text) = source.give_rest(MAX_LENGTH) {
         return count_text(alloc, text);
@@ -69,7 +69,7 @@ pub fn write_counts<T: Sink>(sink: &mut T, counts: &Counts) -> Result<(), RunFau
     ensures { IsWriting (counts_row counts.now) (T.state sink.old) (T.state sink.new) result }
 {
     let fault = RunFault::Write { lines: 0 };
-    let mut row = Row::new();
+    let mut row = TextRow::new();
     row.lay_out_counts(counts);
     let Ok(()) = put_all(row.text(), sink) else {
         return Err(fault);

@@ -36,15 +36,15 @@ impl LineKeeper for JudgedLine {
     }
 }
 
-/// A follower goes over the lines after a cursor, in file order, and judges each. Nodes that a
-/// line shares with the line before it are not played again. Contracts see it as the collection, the
-/// index (from 0) of its next line, and how many lines directly before that one were judged in a row.
+/// A follower goes over the lines after a cursor, in file order, and judges each. Nodes that a line shares with the line before it are
+/// not played again. Contracts see it as the collection, the index (from 0) of its next line, and its streak: how many lines directly
+/// before that one it has judged, since it began or since memory was last refused.
 #[derive(Drop)]
 pub struct Follower<'c, 'a> {
     lines: OverLines<'c, 'a, JudgedLine>,
 
-    /// The number of lines that were judged in a row.
-    row: u64,
+    /// How many lines it has judged, since it began or since memory was last refused.
+    streak: u64,
 }
 
 impl<'c, 'a> Model for Follower<'c, 'a> {
@@ -56,9 +56,9 @@ impl<'c, 'a> Model for Follower<'c, 'a> {
 
     ghost coded = { follower_state_code };
 
-    ghost view = { λ f. state_by f.lines.before f.lines.cursor.at f.row };
+    ghost view = { λ f. state_by f.lines.before f.lines.cursor.at f.streak };
 
-    ghost invariant = { λ f. Follows f.lines.before f.lines.cursor.at f.lines.keeper.judge f.lines.keeper.path.items f.row };
+    ghost invariant = { λ f. Follows f.lines.before f.lines.cursor.at f.lines.keeper.judge f.lines.keeper.path.items f.streak };
 }
 
 impl<'c, 'a> Follower<'c, 'a> {
@@ -67,7 +67,7 @@ impl<'c, 'a> Follower<'c, 'a> {
 
     /// A follower of the lines after a cursor. This takes no memory.
     pub fn new(alloc: Global, cursor: Cursor<'c, 'a>) -> Follower<'c, 'a>
-        ensures { result ≡ record { games = cursor.entry.games; index = cursor.entry.index; row = 0 } }
+        ensures { result ≡ record { games = cursor.entry.games; index = cursor.entry.index; streak = 0 } }
     {
         let (cursor, path) = cursor.into_parts();
         let keeper = JudgedLine {
@@ -79,7 +79,7 @@ impl<'c, 'a> Follower<'c, 'a> {
             before: Before::Unheld,
             keeper,
         };
-        Follower { lines, row: 0 }
+        Follower { lines, streak: 0 }
     }
 
     /// Goes on by one line, and returns its verdict, the same as `judge` returns. After the last line it returns None, however
@@ -92,12 +92,12 @@ impl<'c, 'a> Follower<'c, 'a> {
         let _nodes = self.lines.cursor.outline().nodes();
         match self.lines.next() {
             Ok(true) => {
-                self.row += 1;
+                self.streak += 1;
                 Ok(Some(self.lines.keeper.judge.verdict()))
             }
             Ok(false) => Ok(None),
             Err(MemoryFault) => {
-                self.row = 0;
+                self.streak = 0;
                 self.lines.keeper.judge.count_anew();
                 Err(MemoryFault)
             }
@@ -106,14 +106,14 @@ impl<'c, 'a> Follower<'c, 'a> {
 
     /// The line whose verdict `next` returned last. There must be such a verdict, and memory mustn't have been refused since then.
     pub fn line(&self) -> LineRef<'_>
-        requires { 0 < self.now.row }
+        requires { 0 < self.now.streak }
         ensures { IsLine self.now.games (self.now.index - 1) result }
     {
         line_with(&self.lines.cursor, &self.lines.keeper.path)
     }
 
-    /// The number of nodes that were played for the lines judged in a row: each node that is judged on at least one of them,
-    /// once. That is at most as many as these lines touch (`laws::touched`).
+    /// The number of nodes that were played for the lines of the streak: each node that is judged on at least one of them, once. That
+    /// is at most as many as these lines touch (`laws::touched`).
     pub fn plays(&self) -> u64
         ensures { result ≡ length (all_judged_places (lines_judged self.now)) }
     {

@@ -3,7 +3,7 @@
 //! | Module | What it has |
 //! |---|---|
 //! | `list`, `sgf`, `gtp` | the forms: what each keeps of a line, and the record that it makes |
-//! | `row` | the row of a line, alone or as a comment; the row of counts |
+//! | `text_row` | the row of a line, alone or as a comment; the row of counts |
 //! | `script`, `commands` | the script of a line in gtp form; the commands of a node |
 //! | `pieces` | a text in pieces |
 
@@ -24,9 +24,9 @@ pub(crate) mod commands;
 pub(crate) mod gtp;
 pub(crate) mod list;
 pub(crate) mod pieces;
-pub(crate) mod row;
 pub(crate) mod script;
 pub(crate) mod sgf;
+pub(crate) mod text_row;
 
 /// A form of records. It keeps of each line what the line's record needs.
 pub(crate) trait LineForm: LineKeeper {

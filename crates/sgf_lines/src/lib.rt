@@ -65,7 +65,7 @@
 //! | TURN, PLACE and REASON of the first illegal node | `Judge::take` (`judging/judge`) |
 //! | the verdict of a line; `over` or `open` | `Judge::verdict`; `score` (`judging/judge`) |
 //! | PLACE, GAME and NODES of a row | `SequenceCursor::place`, `SequenceCursor::game`, `SequenceCursor::len` of `tree_lines` (`sequence_cursor`) |
-//! | a row; the row of counts | `Row::lay_out`; `Row::lay_out_counts` (`form/row`); the counts: `measure` of `sgf_tree` (`reader`) |
+//! | a row; the row of counts | `TextRow::lay_out`; `TextRow::lay_out_counts` (`form/text_row`); the counts: `measure` of `sgf_tree` (`reader`) |
 //! | that a script stops before an illegal node | `judge_line` (`judging/judged`) |
 //! | which lines have no commands: not judged, or over side 25; a setup leaves a stone without a liberty | `Script::keep`; `leaves_unreaching`, `Script::text` (`form/script`) |
 //! | a script; a node's commands | `Script::begin`, `Script::say`, `Script::text` (`form/script`); `push_step` (`form/commands`) |

@@ -56,7 +56,7 @@ pub fn split<S: Source, T: Sink>(
     requires sink_countable { (T.state sink.old).failures < u64.MAX }
     ensures runs { IsRun options.now (S.state source.old) (S.state source.new)
         (T.state sink.old) (T.state sink.new) result }
-    ensures one_end { S.ends source.new ≤ S.ends source.old + 1 }
+    ensures one_end { S.end_answers source.new ≤ S.end_answers source.old + 1 }
 {
     let mut plays = Plays::new();
     split_counted(alloc, source, sink, options, &mut plays)
@@ -82,7 +82,7 @@ pub fn split_counted<S: Source, T: Sink>(
     requires plays_countable { plays.old + MAX_LENGTH ≤ u64.MAX }
     ensures runs { IsRunWithPlays options.now (S.state source.old) (S.state source.new)
         (T.state sink.old) (T.state sink.new) plays.old plays.new result }
-    ensures one_end { S.ends source.new ≤ S.ends source.old + 1 }
+    ensures one_end { S.end_answers source.new ≤ S.end_answers source.old + 1 }
 {
     if let Some(text) = source.give_rest(MAX_LENGTH) {
         return split_text(alloc, text, sink, options, plays);
@@ -126,7 +126,7 @@ pub(crate) fn read_all<S: Source>(source: &mut S, text: &mut Vec<u8>) -> Result<
     ensures answer { IsReading (S.state source.old) (S.state source.new) text.new.items result }
     ensures failures { (S.state source.new).failures
         ≡ (S.state source.old).failures + read_failures result }
-    ensures one_end { S.ends source.new ≤ S.ends source.old + 1 }
+    ensures one_end { S.end_answers source.new ≤ S.end_answers source.old + 1 }
 {
     let mut chunk = [0u8; CHUNK];
     'read: loop {
@@ -150,10 +150,10 @@ fn read_some<S: Source>(
         → AnswersSome start (S.state source.new) text.new.items result }
     ensures grows { IfOk result (λ count. length text.new.items ≡ length text.old.items + count) }
     ensures short { IfOk result (λ count. length text.new.items ≤ MAX_LENGTH) }
-    ensures goes_on { IfOk result (λ count. 0 < count → S.ends source.new ≤ S.ends source.old) }
+    ensures goes_on { IfOk result (λ count. 0 < count → S.end_answers source.new ≤ S.end_answers source.old) }
     ensures failures { (S.state source.new).failures
         ≡ (S.state source.old).failures + read_failures result }
-    ensures one_end { S.ends source.new ≤ S.ends source.old + 1 }
+    ensures one_end { S.end_answers source.new ≤ S.end_answers source.old + 1 }
 {
     let Ok(count) = source.get(chunk) else {
         return Err(RunFault::Read);

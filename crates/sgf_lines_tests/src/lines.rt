@@ -161,7 +161,7 @@ fn follow(follower: &mut Follower<'_, '_>, line: Followed, seen: &mut Seen) {
 
 /// The line that was followed must have this verdict and this place.
 fn is_followed(follower: &Follower<'_, '_>, verdict: Verdict, line: Followed, seen: &mut Seen)
-    requires { 0 < follower.now.row }
+    requires { 0 < follower.now.streak }
 {
     let Some((black, white, place)) = line else {
         return seen.wrong("a line after the last one");

@@ -1,6 +1,6 @@
 -- The exit status of each fault, and its row on standard error.
-use Rattle.std.specs.Prelude.{ℕ, ◌++◌, ◌==◌, List, codes, decimal, if◌then◌else◌}
-use Rattle.sgf_lines.specs.Answer.{MAX_LENGTH}
+use Rattle.std.specs.Prelude.{ℕ, ◌++◌, List, codes, decimal, if◌then◌else◌}
+use Rattle.sgf_lines.specs.Answer.{MAX_LENGTH, ends_too_early}
 use Rattle.sgf_lines.specs.declared.fault.RunFault.TheVariants.{Read, TooLong, NotSgf, NoSuchLine, Write, Memory}
 use Rattle.sgfsplit_job.specs.declared.fault.Fault.{Fault}
 use Rattle.sgfsplit_job.specs.declared.fault.Fault.TheVariants.{Open, NotUtf8, Run}
@@ -26,7 +26,7 @@ message_of NotUtf8 = codes "a word isn't UTF-8"
 message_of (Run Read) = codes "read failed"
 message_of (Run TooLong) = codes "input is longer than " ++ decimal MAX_LENGTH ++ codes " bytes"
 message_of (Run (NotSgf at len)) =
-    codes "byte " ++ decimal at ++ (if at == len then codes ": input ends too early" else codes ": not SGF")
+    codes "byte " ++ decimal at ++ (if ends_too_early (NotSgf at len) then codes ": input ends too early" else codes ": not SGF")
 message_of (Run (NoSuchLine place)) = codes "no line ends at " ++ decimal place
 message_of (Run (Write lines)) = codes "write failed"
 message_of (Run (Memory lines)) = codes "out of memory"

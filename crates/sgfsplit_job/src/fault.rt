@@ -3,7 +3,7 @@
 ghost use Rattle.std.specs.Prelude.{◌≡◌, ◌<◌, ◌≤◌, ◌+◌, ◌++◌, length};
 
 use crate::short_text::ShortText;
-use sgf_lines::{MAX_LENGTH, RunFault, Sink};
+use sgf_lines::{MAX_LENGTH, RunFault};
 
 /// Why the program ends with a status other than 0. (A mistake in the words is clap's error instead, with status 2.)
 #[derive(Clone, Copy, Debug, PartialEq, Eq)]

@@ -14,22 +14,22 @@ use Rattle.sgf_lines.specs.inner.Judging.{Judging}
 use Rattle.sgf_lines.specs.inner.Keeping.{HoldsJudgement}
 
 abbrev pub state_by : Before → CursorState → ℕ → FollowerState
-state_by before cursor row = record { games = cursor.games; index = index_by before cursor.index; row = row }
+state_by before cursor streak = record { games = cursor.games; index = index_by before cursor.index; streak = streak }
 
--- the row goes on if the line before the cursor is held
-abbrev pub IsRow : Before → ℕ → ℕ → Type 0
-IsRow Unheld index row = row ≡ 0
-IsRow Held index row = (0 < row) × (row ≤ index)
-IsRow Refused index row = row ≡ 0
+-- the streak goes on if the line before the cursor is held
+abbrev pub IsStreak : Before → ℕ → ℕ → Type 0
+IsStreak Unheld index streak = streak ≡ 0
+IsStreak Held index streak = (0 < streak) × (streak ≤ index)
+IsStreak Refused index streak = streak ≡ 0
 
--- what a follower holds: the judgement on the line before its cursor, the path of that line, and the plays of its row
-pub record Follows (before : Before) (cursor : CursorState) (judging : Judging) (path : List ℕ) (row : ℕ) : Type 0 where
+-- what a follower holds: the judgement on the line before its cursor, the path of that line, and the plays of its streak
+pub record Follows (before : Before) (cursor : CursorState) (judging : Judging) (path : List ℕ) (streak : ℕ) : Type 0 where
   pub stands : StandsBy before (nodes_before cursor) (HoldsJudgement (nodes_before cursor) judging.judgement × (path ≡ path_before cursor))
-  pub is_row : IsRow before cursor.index row
-  pub plays_are : judging.plays ≡ length (all_judged_places (lines_judged (state_by before cursor row)))
+  pub is_streak : IsStreak before cursor.index streak
+  pub plays_are : judging.plays ≡ length (all_judged_places (lines_judged (state_by before cursor streak)))
 
 -- a follower's state is stored as its parts
 abbrev pub follower_state_code : Coded FollowerState
 follower_state_code =
-    code_by (Games × (ℕ × ℕ)) (coded× games_code (coded× coded_ℕ coded_ℕ)) (λ follower. (follower.games, (follower.index, follower.row)))
-    (λ p. record { games = p.0; index = p.1.0; row = p.1.1 }) (λ _. refl)
+    code_by (Games × (ℕ × ℕ)) (coded× games_code (coded× coded_ℕ coded_ℕ)) (λ follower. (follower.games, (follower.index, follower.streak)))
+    (λ p. record { games = p.0; index = p.1.0; streak = p.1.1 }) (λ _. refl)

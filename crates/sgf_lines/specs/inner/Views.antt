@@ -3,9 +3,9 @@ use Rattle.std.specs.Prelude.{ℕ, List, drop, length}
 use Rattle.sgf_lines.specs.Lines.{Line, place_of}
 use Rattle.sgf_lines.specs.ListRow.{row_text}
 use Rattle.sgf_lines.specs.declared.verdict.Verdict.{Verdict}
-use Rattle.sgf_lines.specs.declared.form.row.Row.{Row}
+use Rattle.sgf_lines.specs.declared.form.text_row.TextRow.{TextRow}
 
-abbrev pub built_text : Row → List ℕ
+abbrev pub built_text : TextRow → List ℕ
 built_text row = drop row.start row.bytes
 
 -- with this verdict, and without a line feed

@@ -8,8 +8,8 @@ ghost use Rattle.sgf_lines.specs.inner.Scripting.{script_ended, script_text};
 ghost use Rattle.sgf_lines.specs.inner.Views.{built_text};
 
 use crate::form::LineForm;
-use crate::form::row::Row;
 use crate::form::script::Script;
+use crate::form::text_row::TextRow;
 use crate::judging::judge::Judge;
 use crate::judging::judged::judge_line;
 use crate::over_lines::LineKeeper;
@@ -23,7 +23,7 @@ use tree_lines::{Front, SequenceCursor};
 pub(crate) struct GtpForm {
     judge: Judge,
     script: Script,
-    row: Row,
+    row: TextRow,
 }
 
 impl LineKeeper for GtpForm {
@@ -50,7 +50,7 @@ impl LineForm for GtpForm {
         GtpForm {
             judge: Judge::new(alloc),
             script: Script::new(alloc),
-            row: Row::new(),
+            row: TextRow::new(),
         }
     }
 

@@ -7,7 +7,7 @@ ghost use Rattle.sgf_lines.specs.inner.Keeping.{HoldsJudgement, IsRecord};
 ghost use Rattle.sgf_lines.specs.inner.Views.{built_text};
 
 use crate::form::LineForm;
-use crate::form::row::Row;
+use crate::form::text_row::TextRow;
 use crate::judging::judge::Judge;
 use crate::judging::judged::judge_line;
 use crate::over_lines::LineKeeper;
@@ -20,7 +20,7 @@ use tree_lines::{Front, SequenceCursor};
 #[derive(Drop)]
 pub(crate) struct ListForm {
     judge: Judge,
-    row: Row,
+    row: TextRow,
 }
 
 impl LineKeeper for ListForm {
@@ -43,7 +43,7 @@ impl LineForm for ListForm {
     fn new(alloc: Global) -> ListForm {
         ListForm {
             judge: Judge::new(alloc),
-            row: Row::new(),
+            row: TextRow::new(),
         }
     }
 

@@ -1,5 +1,6 @@
 -- What a fault says to a caller in C.
-use Rattle.std.specs.Prelude.{ℕ, ◌==◌, if◌then◌else◌}
+use Rattle.std.specs.Prelude.{ℕ, if◌then◌else◌}
+use Rattle.sgf_lines.specs.Answer.{ends_too_early}
 use Rattle.sgf_lines.specs.declared.fault.RunFault.{RunFault}
 use Rattle.sgf_lines.specs.declared.fault.RunFault.TheVariants.{TooLong as RunTooLong, NotSgf as RunNotSgf, NoSuchLine as RunNoSuchLine, Write, Memory}
 use Rattle.sgf_lines_c.specs.declared.status.Status.{Status}
@@ -8,7 +9,7 @@ use Rattle.sgf_lines_c.specs.declared.status.Status.TheVariants.{NotSgf, EndsEar
 -- the status of a fault
 abbrev pub status_of : RunFault → Status
 status_of RunTooLong = TooLong
-status_of (RunNotSgf at len) = if at == len then EndsEarly else NotSgf
+status_of (RunNotSgf at len) = if ends_too_early (RunNotSgf at len) then EndsEarly else NotSgf
 status_of (RunNoSuchLine place) = NoSuchLine
 status_of _ = OutOfMemory
 

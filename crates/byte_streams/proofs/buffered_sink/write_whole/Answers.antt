@@ -2,7 +2,7 @@
 use Rattle.std.proofs.Common.{arith}
 use Rattle.std.proofs.lemmas.Grind.{common_steps}
 use Rattle.std.proofs.lemmas.List.{length-drop}
-use Rattle.byte_streams.proofs.SliceEnds.{goes_on}
+use Rattle.byte_streams.proofs.SliceStreams.{goes_on}
 use Rattle.byte_streams.proofs.buffered_sink.write_whole.Goals as goal
 
 pub writes-preserved : goal.writes-preserved

@@ -9,7 +9,7 @@ invariant-read g l = record {
   bound : length l.text.items ≤ MAX_LENGTH;
   room : length l.chunk ≡ 65536;
   has_read : HasRead (g.S.Source.state l.initial.source) (g.S.Source.state l.source) l.text.items;
-  ends : g.S.Source.ends l.source ≤ g.S.Source.ends l.initial.source;
+  end_answers : g.S.Source.end_answers l.source ≤ g.S.Source.end_answers l.initial.source;
 }
 
 abbrev pub decreases-read : goal.decreases-read

@@ -1,7 +1,7 @@
 -- The writer was handed all that was held back, or a front of it.
 use Rattle.std.proofs.Common.{take, refl, arith}
 use Rattle.std.proofs.lemmas.Grind.{common_steps}
-use Rattle.byte_streams.proofs.SliceEnds.{handed_on, all_handed_on}
+use Rattle.byte_streams.proofs.SliceStreams.{handed_on, all_handed_on}
 use Rattle.byte_streams.proofs.buffered_sink.BufferedSink.write_out.Goals as goal
 
 pub returns-then-handed-len-clause-out : goal.returns-then-handed-len-clause-out

@@ -1,7 +1,7 @@
 -- What was taken is delivered at once.
 use Rattle.std.proofs.Common.{refl, arith, rules}
 use Rattle.std.proofs.lemmas.Grind.{common_steps}
-use Rattle.byte_streams.proofs.SliceEnds.{takes_at_once}
+use Rattle.byte_streams.proofs.SliceStreams.{takes_at_once}
 use Rattle.byte_streams.proofs.sink.ArraySinkSink.put.Goals as goal
 
 pub returns-clause-put : goal.returns-clause-put

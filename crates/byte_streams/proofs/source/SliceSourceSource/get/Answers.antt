@@ -1,6 +1,6 @@
 -- The bytes are the next of the slice.
 use Rattle.std.proofs.Common.{◌+◌, ◌-◌, drop, length, arith}
-use Rattle.byte_streams.proofs.SliceEnds.{slice_gives}
+use Rattle.byte_streams.proofs.SliceStreams.{slice_gives}
 use Rattle.byte_streams.proofs.source.SliceSourceSource.get.Goals as goal
 
 pub returns-clause-gets : goal.returns-clause-gets

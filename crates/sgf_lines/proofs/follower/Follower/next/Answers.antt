@@ -10,7 +10,7 @@ use Rattle.sgf_lines.specs.declared.over_lines.Before.TheVariants.{Held}
 use Rattle.tree_lines.specs.Following.{nodes_before, path_before}
 use Rattle.sgf_lines.specs.inner.GoingOn.{PlaysLine, StandsBy, next_by}
 use Rattle.sgf_lines.specs.inner.Keeping.{HoldsJudgement}
-use Rattle.sgf_lines.proofs.Followers.{given, row_countable, few_played, follows_on}
+use Rattle.sgf_lines.proofs.Followers.{given, streak_countable, few_played, follows_on}
 use Rattle.sgf_lines.proofs.RunRecords.{verdict_is}
 use Rattle.sgf_lines.proofs.follower.Follower.next.Goals as goal
 use Rattle.sgf_lines.proofs.follower.Follower.next.Goals.{After-nodes-nodes, In-Ok-true}
@@ -40,7 +40,7 @@ overflow_add-self c =
     let at = goal.at.overflow_add-self c in
     let old = c.self.inside.lines in
     let plays = plays at.In-Ok-true in
-    omega (arith, nodes at.After-nodes-nodes, row_countable old.before old.cursor.at old.keeper.judge old.keeper.path.items c.self.inside.row c.self.invariant plays.0 plays.1)
+    omega (arith, nodes at.After-nodes-nodes, streak_countable old.before old.cursor.at old.keeper.judge old.keeper.path.items c.self.inside.streak c.self.invariant plays.0 plays.1)
 
 pub invariant_of-self : goal.invariant_of-self
 invariant_of-self c =
@@ -49,7 +49,7 @@ invariant_of-self c =
     let new = c.next.new.self in
     let plays = plays at.In-Ok-true in
     let came = came at.In-Ok-true in
-    rw came.0 (follows_on old.before old.cursor.at old.keeper.judge old.keeper.path.items c.self.inside.row c.self.invariant plays.0 plays.1 new.cursor.at came.1 (rise at.After-nodes-nodes) new.keeper.judge
+    rw came.0 (follows_on old.before old.cursor.at old.keeper.judge old.keeper.path.items c.self.inside.streak c.self.invariant plays.0 plays.1 new.cursor.at came.1 (rise at.After-nodes-nodes) new.keeper.judge
     new.keeper.path.items (stands at.In-Ok-true) plays.2)
 
 pub returns-in-Ok-true-clause-verdict : goal.returns-in-Ok-true-clause-verdict
@@ -59,4 +59,4 @@ returns-in-Ok-true-clause-verdict c =
     let new = c.next.new.self in
     let plays = plays at.In-Ok-true in
     let told = verdict_is (nodes_before new.cursor.at) new.keeper.judge.judgement c.verdict.result c.verdict.ensures (stands at.In-Ok-true).1.0 in
-    given old.before old.cursor.at old.keeper.judge old.keeper.path.items c.self.inside.row c.self.invariant plays.0 plays.1 new.cursor.at (came at.In-Ok-true).1 c.args.self.now c.self.view_is c.verdict.result told
+    given old.before old.cursor.at old.keeper.judge old.keeper.path.items c.self.inside.streak c.self.invariant plays.0 plays.1 new.cursor.at (came at.In-Ok-true).1 c.args.self.now c.self.view_is c.verdict.result told

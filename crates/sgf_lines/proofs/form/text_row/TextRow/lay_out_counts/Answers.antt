@@ -1,6 +1,6 @@
 -- The row is put from its last number to its first.
 use Rattle.std.proofs.Common.{append_assoc}
-use Rattle.sgf_lines.proofs.form.row.Row.lay_out_counts.Goals as goal
+use Rattle.sgf_lines.proofs.form.text_row.TextRow.lay_out_counts.Goals as goal
 
 pub returns : goal.returns
 returns c =

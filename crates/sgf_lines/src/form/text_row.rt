@@ -16,23 +16,23 @@ use tree_lines::SequenceCursor;
 /// The number of bytes that there is room for: five numbers of up to 20 digits, and the words of a verdict.
 const ROOM: usize = 160;
 
-/// A row, or the end of it, which grows at its front.
+/// A text row, or the end of it, which grows at its front.
 #[derive(Drop)]
-pub(crate) struct Row {
+pub(crate) struct TextRow {
     bytes: [u8; ROOM],
     start: usize,
     ghost within: { start ≤ 160 },
 }
 
-impl Row {
+impl TextRow {
     ghost use Rattle.sgf_lines.specs.inner.Views.{built_text, row_of};
 
     /// The empty text.
-    pub(crate) fn new() -> Row
+    pub(crate) fn new() -> TextRow
         ensures text { built_text result ≡ [] }
         ensures room { result.start ≡ 160 }
     {
-        Row {
+        TextRow {
             bytes: [0; ROOM],
             start: ROOM,
         }

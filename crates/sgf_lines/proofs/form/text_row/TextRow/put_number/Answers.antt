@@ -1,6 +1,6 @@
 use Rattle.std.proofs.Common.{◌≤◌, length, decimal, rules, arith}
 use Rattle.std.proofs.lemmas.Fmt.{length-decimal-le}
-use Rattle.sgf_lines.proofs.form.row.Row.put_number.Goals as goal
+use Rattle.sgf_lines.proofs.form.text_row.TextRow.put_number.Goals as goal
 
 pub write_digits-self-requires : goal.write_digits-self-requires
 write_digits-self-requires c = search (rules, length-decimal-le 20)

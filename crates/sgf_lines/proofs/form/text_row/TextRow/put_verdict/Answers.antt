@@ -1,6 +1,6 @@
 -- The parts of a verdict are put from its last to its first.
 use Rattle.std.proofs.Common.{append_assoc}
-use Rattle.sgf_lines.proofs.form.row.Row.put_verdict.Goals as goal
+use Rattle.sgf_lines.proofs.form.text_row.TextRow.put_verdict.Goals as goal
 
 pub returns-in-Illegal-clause-text : goal.returns-in-Illegal-clause-text
 returns-in-Illegal-clause-text c =
