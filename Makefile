@@ -8,6 +8,7 @@
 #                 and the Python module. Defaults: PREFIX=/usr/local DESTDIR= PROGRAM=sgfsplit PYTHON_DIR=PREFIX/lib/python3/dist-packages
 # make uninstall  removes what `make install` with the same variables installed
 # make deb        makes a Debian package in out/
+# make wheel      makes a wheel of the Python module and its library in out/, for pip
 # make bench      measures the program (see docs/PERFORMANCE.md)
 PREFIX ?= /usr/local
 DESTDIR ?=
@@ -16,7 +17,7 @@ built = crates/sgfsplit/out/sgfsplit
 tried = crates/sgf_lines_tests/out/sgf_lines_tests
 library = out/libsgflines.so.0
 
-.PHONY: program try lib sgf_lines_tests check scripts install install_library uninstall uninstall_library deb bench
+.PHONY: program try lib sgf_lines_tests check scripts install install_library uninstall uninstall_library deb wheel bench
 
 program:
 	@packaging/prove.sh sgfsplit --help
@@ -61,7 +62,7 @@ install: $(built) install_library
 	$(named) completion/sgfsplit.fish > '$(share)/fish/vendor_completions.d/$(PROGRAM).fish'
 	install -m 755 $(tools:%=recipes/%) '$(share)/sgfsplit'
 	sed 's|^PROGRAM = "sgfsplit"|PROGRAM = "../../bin/$(PROGRAM)"|' recipes/sgfsplit.py > '$(share)/sgfsplit/sgfsplit.py'
-	chmod 644 '$(share)/sgfsplit/sgfsplit.py' '$(share)/sgfsplit/goboard.py'
+	chmod 644 '$(share)/sgfsplit/sgfsplit.py' '$(share)/sgfsplit/goboard.py' '$(share)/sgfsplit/tool.py'
 
 uninstall: uninstall_library
 	rm -rf '$(share)/sgfsplit/__pycache__'
@@ -85,7 +86,7 @@ install_library: $(library)
 	ln -sf libsgflines.so.0 '$(lib_dir)/libsgflines.so'
 	install -m 644 include/sgf_lines.h '$(DESTDIR)$(PREFIX)/include/sgf_lines.h'
 	sed 's|@PREFIX@|$(PREFIX)|; s|@VERSION@|$(shell cat VERSION)|' packaging/sgflines.pc.in > '$(lib_dir)/pkgconfig/sgflines.pc'
-	sed 's|^INSTALLED = None|INSTALLED = "$(installed)"|' python/sgflines.py > '$(DESTDIR)$(PYTHON_DIR)/sgflines.py'
+	sed 's|^INSTALLED: Optional\[str\] = None|INSTALLED: Optional[str] = "$(installed)"|' python/sgflines.py > '$(DESTDIR)$(PYTHON_DIR)/sgflines.py'
 	chmod 644 '$(DESTDIR)$(PYTHON_DIR)/sgflines.py'
 
 uninstall_library:
@@ -95,6 +96,9 @@ uninstall_library:
 
 deb: $(built) $(library)
 	packaging/make-deb.sh
+
+wheel: $(library)
+	@packaging/make-wheel.sh
 
 bench: $(built)
 	bench/compare.py

@@ -361,6 +361,48 @@ def labyrinth(size, filled, unit):
     return repeated(max(size, 20_000), "(;SZ[52]" + stones + "PL[B]", unit, ")")
 
 
+def serpent(side, standing):
+    """The points of a white group in a long corridor, the eye at its beginning, and the liberty at its end. Its legs lie along the rows, or
+    stand along the columns. All other points are Black's, one group with that liberty, too."""
+    white = {(col, row) for col in (1, 2, 3) for row in (1, 2, 3)} - {(2, 2)} | {(1, 4)}
+    left, row = True, 5
+    while True:
+        white |= {(col, row) for col in range(1, side - 1)}
+        left = not left
+        if row + 2 > side - 2:
+            break
+        white.add((1 if left else side - 2, row + 1))
+        row += 2
+    spots = [white, {(2, 2)}, {(0 if left else side - 1, row)}]
+    white, eye, liberty = [{(row, col) for col, row in some} for some in spots] if standing else spots
+    return white, min(eye), min(liberty)
+
+
+def besieged(size, side, standing, unit):
+    """The board of a serpent, and copies of `unit`, in which EYE and LIBERTY are those points."""
+    white, eye, liberty = serpent(side, standing)
+    black = [(col, row) for row in range(side) for col in range(side) if (col, row) not in white | {eye, liberty}]
+    front = f"(;SZ[{side}]AB" + "".join(f"[{point(*spot)}]" for spot in black) + "AW" + "".join(f"[{point(*spot)}]" for spot in sorted(white)) + "PL[B]"
+    unit = unit.replace("EYE", point(*eye)).replace("LIBERTY", point(*liberty))
+    return repeated(max(size, len(front) + 3 * len(unit) + 1), front, unit, ")")
+
+
+def maze(size, side, standing, unit):
+    """An open corridor through the board between white walls, a black stone at its one end, and copies of `unit`, in which NEXT is the point
+    after that stone. The legs of the corridor lie along the rows, or stand along the columns."""
+    path = set()
+    for row in range(0, side, 2):
+        path |= {(col, row) for col in range(side)}
+        if row + 2 < side:
+            path.add((side - 1 if row % 4 == 0 else 0, row + 1))
+    if standing:
+        path = {(row, col) for col, row in path}
+    walls = [(col, row) for row in range(side) for col in range(side) if (col, row) not in path]
+    front = f"(;SZ[{side}]AB[aa]AW" + "".join(f"[{point(*spot)}]" for spot in walls)
+    unit = unit.replace("NEXT", "ab" if standing else "ba")
+    return repeated(max(size, len(front) + 3 * len(unit) + 1), front, unit, ")")
+
+
 def fan(count):
     """A long line that very many variations share."""
     return "(;" + ";C[x]" * count + "(;)" * count + ")"
@@ -420,6 +462,27 @@ INPUTS = {
     "chased": ("variations that play one stone beside that group, whose last liberty is then at the other end",
                lambda n: labyrinth(n, True, "(;B[aa])"), ["list", "count"]),
     "emptied": ("variations that set up one empty point at an end of that group", lambda n: labyrinth(n, True, "(;AE[aa])"), ["list", "count"]),
+    "eye52": ("variations that put a stone into an eye, all of whose neighbours are of one group on side 52. Its other liberty is far away; its legs lie",
+             lambda n: besieged(n, 52, False, "(;B[EYE])"), ["list", "count"]),
+    "maze52": ("variations that only score an open corridor on side 52, whose legs lie",
+               lambda n: maze(n, 52, False, "(;)"), ["list", "count"]),
+    "eye52s": ("variations that put a stone into an eye, all of whose neighbours are of one group on side 52. Its other liberty is far away; its legs stand",
+             lambda n: besieged(n, 52, True, "(;B[EYE])"), ["list", "count"]),
+    "maze52s": ("variations that only score an open corridor on side 52, whose legs stand",
+               lambda n: maze(n, 52, True, "(;)"), ["list", "count"]),
+    "eye19": ("variations that put a stone into an eye, all of whose neighbours are of one group on side 19. Its other liberty is far away; its legs lie",
+             lambda n: besieged(n, 19, False, "(;B[EYE])"), ["list", "count"]),
+    "maze19": ("variations that only score an open corridor on side 19, whose legs lie",
+               lambda n: maze(n, 19, False, "(;)"), ["list", "count"]),
+    "eye19s": ("variations that put a stone into an eye, all of whose neighbours are of one group on side 19. Its other liberty is far away; its legs stand",
+             lambda n: besieged(n, 19, True, "(;B[EYE])"), ["list", "count"]),
+    "maze19s": ("variations that only score an open corridor on side 19, whose legs stand",
+               lambda n: maze(n, 19, True, "(;)"), ["list", "count"]),
+    "paces": ("variations that play one stone in the corridor of `maze52s`", lambda n: maze(n, 52, True, "(;B[NEXT])"), ["list", "count"]),
+    "same": ("one line of setups that change nothing on the board of `eye52s`", lambda n: besieged(n, 52, True, ";AE[LIBERTY]"), ["list", "count"]),
+    "blinks": ("one line of setups that fill the eye of `eye52s`, and empty it",
+               lambda n: besieged(n, 52, True, ";AB[EYE];AE[EYE]"), ["list", "count"]),
+    "siege": ("variations that take the one liberty of all black stones of `eye52s`, a suicide of 1,522 stones", lambda n: besieged(n, 52, True, "(;B[LIBERTY])"), ["list", "count"]),
     "flips": ("setups that make all points of a board of 52 black, then white, again and again",
               lambda n: repeated(n, "(;SZ[52]", ";AB[aa:ZZ];AW[aa:ZZ]", ")"), ["list", "count"]),
     "fan": ("a long line that very many variations share", lambda n: fan((n - 3) // 8), ["list", "count"]),

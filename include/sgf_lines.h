@@ -118,7 +118,9 @@ struct sgf_lines_judged {
 };
 
 /* Judges the line with this place, which is the offset in bytes, from 0, of the `;` of its last node. The verdict is the one in the
- * row of the line. Returns an enum sgf_lines_status: DONE, NOT_SGF, ENDS_EARLY, TOO_LONG, NO_SUCH_LINE or OUT_OF_MEMORY. */
+ * row of the line. Returns an enum sgf_lines_status: DONE, NOT_SGF, ENDS_EARLY, TOO_LONG, NO_SUCH_LINE or OUT_OF_MEMORY.
+ *
+ * The call needs memory for the nodes of the line, and 20 bytes or more for each parenthesis that opens a game or a variation. */
 uint32_t sgf_lines_judge(const uint8_t *text, size_t text_length, uint64_t place, struct sgf_lines_judged *answer);
 
 #ifdef __cplusplus

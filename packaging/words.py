@@ -245,9 +245,11 @@ def check_options(table):
     lists(HEADER, "struct sgf_lines_asked", r"struct sgf_lines_asked \{(.*?)^\}", r"^ *\w+ (\w+);", [form[0], *flags, *names[1:]])
     lists("crates/sgf_lines_c/src/**/*.rt", "Asked", r"pub struct Asked \{(.*?)^\}", r"pub (\w+):", [form[0], *flags, *names[1:]])
     lists("crates/sgf_lines/src/**/*.rt", "Options", r"pub struct Options \{(.*?)^\}", r"pub (\w+):", names)
-    arguments = [f'{form[0]}="{forms[0]}"', *(f"{name}=None" for name in names[1:])]
-    for call, wanted in [("output", arguments), ("records", [form[0], *arguments[1:]]), ("rows", arguments[1:])]:
-        made(MODULE, call, rf"^def {call}\(text, ([^)]*)\):", ", ".join(wanted))
+    arguments = [f"{name}: Optional[SupportsIndex] = None" for name in names[1:]]
+    with_form = f"{form[0]}: {form[0].capitalize()}"
+    for call, wanted in [("output", [f'{with_form} = "{forms[0]}"', *arguments]), ("records", [with_form, *arguments]),
+                         ("iter_rows", arguments), ("rows", arguments)]:
+        made(MODULE, call, rf"^def {call}\(text: _Text, ([^)]*)\) ->", ", ".join(wanted))
     made(MODULE, "the forms of output", r'^    form: ("[^.\n]*)\.', " or ".join([quoted(forms[:-1]), quoted(forms[-1:])]))
 
 
@@ -286,7 +288,6 @@ def check_forms(table):
     helps = [[word, help] for word, _, help in table["form"]]
     names = [in_rust(word) for word in forms]
     modules = [word.replace("-", "_") for word in forms]
-    in_benches = [*forms, table["command"][1][0]]
     code = "crates/sgf_lines/src/**/*.rt"
     made(code, "the words of forms", r"const WORDS: (\[&str; \d+\] = \[[^\]]*\]);", f"[&str; {len(forms)}] = [{quoted(forms)}]")
     made(code, "the forms", r"^pub enum Form \{\n(.*?)^\}", variants(names, [help for _, help in helps]))
@@ -309,19 +310,31 @@ def check_forms(table):
     lists("crates/sgf_lines/specs/*.antt", "entry_of", r"^entry_of form(.*?)^(?:\n|\Z)", r'word = codes "([^"]+)"', forms)
     shown("forms", "Forms", helps)
     lists(MANUAL, "the forms", r"^\.Sh FORMS(.*?)^\.Sh", r"^\.It Cm (\w+)$", forms)
+    lists("crates/sgf_lines_c/src/**/*.rt", "the numbers of forms", r"pub struct Asked \{(.*?)pub form:", r"\b(\d+) as\b",
+          [str(number) for number in range(len(forms))])
     lists("docs/OUTPUT.md", "the headings", r"(.*)", r"^## The (\w+) form$", forms)
     for path in ("README.md", "tests/program.sh"):
         used = re.findall(r"--form[ =]([\w-]+)", read(path))
         faults.extend(f"{path} lacks: --form {form}" for form in forms[1:] if form not in used)
     made(HEADER, "enum sgf_lines_form", r"^enum sgf_lines_form \{\n(.*?)^\}", constants([in_c(form) for form in forms], 0, [help for _, help in helps]))
-    made(MODULE, "FORMS", r"^FORMS = \{(.*?)\}", ", ".join(f'"{form}": {number}' for number, form in enumerate(forms)))
+    made(MODULE, "Form", r"^Form = Literal\[([^\]]*)\]", quoted(forms))
+    made(MODULE, "FORMS", r"^FORMS: dict\[Form, int\] = \{(.*?)\}", ", ".join(f'"{form}": {number}' for number, form in enumerate(forms)))
     made(MODULE, "_ENDS", r"^_ENDS = \{(.*?)\}", ", ".join(f'"{form}": b"{ENDS[end].decode()}"'.replace("\n", "\\n") for form, end in ends.items()))
     made("recipes/sgfsplit.py", "ENDS", r"^ENDS = \{(.*?)\}", ", ".join(f'"{form}": "{end}"' for form, end in ends.items()))
+
+
+def check_measures(table):
+    """What is measured: each form, and a count."""
+    in_benches = [*(word for word, *_ in table["form"]), table["command"][1][0]]
     for path in ("bench/hostile.py", "bench/growth.py"):
         made(path, "FORMS", r"^FORMS = \[(.*?)\]", quoted(in_benches))
     for path, within in [("bench/hostile.py", r"--forms ([a-z,]+)\]"), ("bench/compare.py", r"--forms ([a-z,]+)\]"),
                          ("bench/compare.py", r'"--forms", default="([a-z,]+)"')]:
         made(path, "--forms", within, ",".join(in_benches))
+    path, _, matches = places("docs/PERFORMANCE.md", "a table of the forms", rf"^\| Input \| ((?:[\w-]+ \| )+{in_benches[-1]}) \|")
+    for match in matches:
+        compare(path, "a table of the forms", match[1].split(" | "), in_benches)
+    lists("docs/figures/growth.svg", "the names of the curves", r"(.*)", r'<path [^>]*stroke-width="2"/><text [^>]*>(\w+)</text>', in_benches)
 
 
 def check_verdicts(table):
@@ -338,7 +351,8 @@ def check_verdicts(table):
         lists(path, "the verdicts", r"(.*)", r"`((?:score|illegal|unjudged) [A-Za-z ]+)`", rows, any_order=True)
     made(HEADER, "enum sgf_lines_verdict", r"^enum sgf_lines_verdict \{\n(.*?)^\}", constants(["NO_VERDICT", *names], 0, ["", *helps]))
     made(MODULE, "the numbers of verdicts", r"^(NO_VERDICT, [^\n]*)", f"{', '.join(['NO_VERDICT', *names])} = range({len(names) + 1})")
-    lists(MODULE, "the classes of verdicts", r"(.*)", rf"^(?:class )?({'|'.join(variants)})(?: = namedtuple|\(_Unjudged)", variants)
+    lists(MODULE, "the classes of verdicts", r"(.*)", rf"^class ({'|'.join(variants)})\((?:NamedTuple|_Unjudged)\)", variants)
+    made(MODULE, "Verdict", r"^Verdict = Union\[([^\]]*)\]", ", ".join(variants))
 
 
 def check_reasons(table):
@@ -357,6 +371,7 @@ def check_reasons(table):
     shown("reasons", "Reasons, ", table["reason"])
     lists(MANUAL, "the reasons", r"^\.Sh REASONS(.*?)^\.Sh", r"^\.It Cm (\S+)$", reasons)
     made(HEADER, "enum sgf_lines_reason", r"^enum sgf_lines_reason \{\n(.*?)^\}", constants(["NO_REASON", *map(in_c, reasons)], 0, ["", *helps]))
+    made(MODULE, "Reason", r"^Reason = Literal\[([^\]]*)\]", quoted(reasons))
     made(MODULE, "REASONS", r"^REASONS = \[(.*?)\]", quoted(["", *reasons]))
     lists("docs/RULES.md", "the reasons", r"(.*)", r"^ *\| `([a-z-]+)` \|", reasons, any_order=True)
     lists("docs/OUTPUT.md", "the rows of the reasons", r"(.*)", r"^    \d+ \d+ \d+ illegal \d+ \d+ (\S+)$", reasons)
@@ -364,6 +379,17 @@ def check_reasons(table):
     lists("tests/program.sh", "the reasons", r"(.*)", r" illegal \d+ \d+ ([a-z-]+)", reasons, any_order=True)
     made("tests/library.c", "the reasons", r'((?:^    \[SGF_LINES_\w+\] = "[^\n]*\n)+)',
          joined(f'    [SGF_LINES_{in_c(word)}] = "{word}",' for word in reasons))
+
+
+def tells(path, name, messages):
+    """What each variant of an enum of faults tells is one of the messages."""
+    path, whole, matches = places(path, name, rf"pub enum {name} \{{(.*?)^\}}")
+    wrongs = re.findall(r'^        "([^"]*)"$', whole, re.MULTILINE)  # what stands for the {} of a message
+    for match in matches:
+        told = [row.replace("{}", wrong) for row in re.findall(r'error\("([^"]*)"', match[1]) for wrong in (wrongs if "{}" in row else [""])]
+        faults.extend(f"{path} has {row}, which isn't a message" for row in told if row not in messages)
+        if len(told) < len(re.findall(r"^    [A-Z]", match[1], re.MULTILINE)):
+            faults.append(f"{path}: a variant of {name} tells no message")
 
 
 def check_ends(table):
@@ -383,9 +409,8 @@ def check_ends(table):
     for kind in ("src/**/*.rt", "specs/**/*.antt"):
         quotes(f"crates/sgf*/{kind}", parts)
     told = [filled(text, "{at}", "{MAX_LENGTH}", "{place}") for _, text in table["message"]]
-    path, _, matches = places("crates/sgf_lines/src/**/*.rt", "RunFault", r"pub enum RunFault \{(.*?)^\}")
-    for match in matches:
-        faults.extend(f"{path} has {row}, which isn't a message" for row in re.findall(r'error\("([^"]*)"\)', match[1]) if row not in told)
+    tells("crates/sgf_lines/src/**/*.rt", "RunFault", told)
+    tells("crates/tree_lines/src/**/*.rt", "SeekFault", told)
     refused = [text for status, text in table["message"] if status == "1"]
     holds(MODULE, *(f'f"{filled(text, "{self.at}", "{MAX_LENGTH}", "{self.place}")}"' for text in refused))
     holds("tests/library.c", *(f'"sgfsplit: {filled(text, "%llu", "%d", "%llu")}\\n"' for text in refused))
@@ -407,7 +432,8 @@ def check_version():
 
 
 def check(table):
-    for check in (check_limit, check_commands, check_options, check_completions, check_forms, check_verdicts, check_reasons, check_ends):
+    for check in (check_limit, check_commands, check_options, check_completions, check_forms, check_measures, check_verdicts, check_reasons,
+                  check_ends):
         check(table)
     check_version()
 

@@ -1,5 +1,5 @@
 #!/usr/bin/env python3
-"""library.py [--sshlogin MACHINES] [-0] OUT FILE|FOLDER..
+USAGE = """library.py [--sshlogin MACHINES] [-0] OUT FILE|FOLDER..
 
 Splits a library on all cores, with a progress bar. OUT/dir/name.rows gets the
 rows of dir/name.sgf. If that file is refused, OUT/dir/name.fault gets the row
@@ -12,20 +12,24 @@ or that weren't split before.
                                  one); they must see the same folders
   find . -name '*.sgf' -mtime -7 -print0 | library.py -0 out
 
-OUT/.done.jsonl keeps a checksum of each file that was split. Rows of deleted
-files stay: remove OUT to begin anew. If a file can't be read, or the system
-fails, what stands in OUT stays too, and the next call tries the file again.
+OUT/.done.jsonl keeps a checksum of each file that was split, and one of its
+rows. If either has changed, the file is split again. Rows of deleted files
+stay: remove OUT to begin anew. If a file can't be read, or the system fails,
+what stands in OUT stays too, and the next call tries the file again.
 Status 1: a file was refused.
 """
+import os
+import sys
+
+sys.path.insert(0, os.path.dirname(os.path.realpath(__file__)))  # with PYTHONSAFEPATH it isn't there
+import tool
+
 import contextlib
 import hashlib
 import json
-import os
-import re
 import shutil
 import signal
 import subprocess
-import sys
 import tempfile
 import threading
 from concurrent.futures import ThreadPoolExecutor, as_completed
@@ -37,66 +41,69 @@ DONE = ".done.jsonl"
 
 
 def split_one(name, path, known):
-    """Writes the rows of a file, unless they exist and the file has the checksum `known`. Returns the file's checksum and None. If the file is
-    refused, returns None and the row that says why."""
+    """Writes the rows of a file, unless `known` has the checksums of the file and of the rows that stand. Returns these two checksums, and
+    None. If the file is refused, returns None and the row that says why."""
     try:
         if os.path.exists(name) and not os.path.isfile(name):
             raise sgfsplit.Failed(f"{sgfsplit.shown(name)}: not a file")
         text = sgfsplit.read(name)
         total = hashlib.blake2b(text.data, digest_size=16).hexdigest()
-        if total != known or not os.path.isfile(path + ".rows"):
-            keep(text, path)
-        return total, None
+        if known is None or [total, total_of(path + ".rows")] != known or os.path.lexists(path + ".fault"):
+            known = [total, keep(text, path)]
+        return known, None
     except sgfsplit.Refused as error:
         return None, str(error)
 
 
+def total_of(path):
+    """The checksum of the file at the path, or None if no file can be read there."""
+    try:
+        if os.path.isfile(path):
+            with open(path, "rb") as file:
+                return sgfsplit.checksum(file)
+    except OSError:
+        pass
+    return None
+
+
 def keep(text, path):
-    """Writes the rows of a text, or the row that says why it is refused. Then the other file, of an earlier call, is removed."""
+    """Writes the rows of a text, or the row that says why it is refused. Then the other file, of an earlier call, is removed. Returns the
+    checksum of the rows."""
     rows, fault = path + ".rows", path + ".fault"
-    name = re.escape(os.fsencode(sgfsplit.shown(os.path.basename(path))))
-    check(rows, sgfsplit.ROW)
-    check(fault, re.compile(rb"(.*/)?" + name + rb"(\.sgf)?: ?.+\n\Z"))
+    tool.check(rows, sgfsplit.ROW)
+    tool.check_fault(path)
     try:
         with sgfsplit.written(rows) as file:
             sgfsplit.write_rows(file, text)
-        remove(fault)
+            total = sgfsplit.checksum(file)
+        tool.remove(fault)
+        return total
     except sgfsplit.Failed:
         raise
     except sgfsplit.Refused as refused:
         with contextlib.suppress(sgfsplit.Failed):  # the row is reported in any case
             with sgfsplit.written(fault) as file:
-                file.write(os.fsencode(str(refused)) + b"\n")
-            remove(rows)
+                file.write(f"{refused}\n".encode("utf-8", "surrogateescape"))
+            tool.remove(rows)
         raise
 
 
-def check(path, pattern):
-    """Raises Failed if a file stands at the path that doesn't begin as one of this tool."""
-    if os.path.isfile(path):
-        begin = sgfsplit.read(path, sgfsplit.PIECE).data
-        if begin and not pattern.match(begin):
-            raise sgfsplit.Failed(f"{sgfsplit.shown(path)}: library.py didn't write this file, so it stays as it is")
-
-
-def remove(path):
-    try:
-        if os.path.isfile(path):
-            os.unlink(path)
-    except OSError as error:
-        raise sgfsplit.Failed(f"{sgfsplit.shown(path)}: {error.strerror}") from error
-
-
 def split_batch(batch):
-    """The result for each file of a batch: its name, the path of its output without the ending, and what `split_one` returns."""
-    return [(name, path, *split_one(name, path, known)) for name, path, known in batch]
+    """The result for each file of a batch: its name, the path of its output without the ending, and what `split_one` returns. Names are as
+    `in_utf8` gives them: another machine may have another locale."""
+    return [(name, path, *split_one(named(name), named(path), known)) for name, path, known in batch]
+
+
+def named(text):
+    """The name that `in_utf8` has given as text."""
+    return os.fsdecode(text.encode("utf-8", "surrogateescape"))
 
 
 def batches(files, most):
     """The files in batches. A batch ends at `most` files, or when it has more than BYTES bytes. So no batch keeps a core busy for long."""
     batch, size = [], 0
     for name, path, known in files:
-        batch.append((name, path, known))
+        batch.append((sgfsplit.in_utf8(name), sgfsplit.in_utf8(path), known))
         with contextlib.suppress(OSError):
             size += os.path.getsize(name)
         if len(batch) == most or size > BYTES:
@@ -175,7 +182,7 @@ def there(work, machines):
 
 def serve():
     """Does the batches on standard input, one in each row."""
-    sgfsplit.end_by(signal.SIGINT, signal.SIGTERM, signal.SIGHUP)
+    tool.end_by(signal.SIGINT, signal.SIGTERM, signal.SIGHUP)
     try:
         sgfsplit.program()
     except sgfsplit.Trouble as trouble:
@@ -191,20 +198,30 @@ def serve():
 def bar(done, total):
     if sys.stderr.isatty():
         cells = 40 * done // total
-        print(f"\r[{'#' * cells}{' ' * (40 - cells)}] {done}/{total} files", end="" if done < total else "\n", file=sys.stderr, flush=True)
+        sgfsplit.say(f"\r[{'#' * cells}{' ' * (40 - cells)}] {done}/{total} files", end="" if done < total else "\n")
 
 
 def known_of(path):
-    """The results of earlier calls: for each path below OUT, the checksum of the file whose rows it has, or None. A row that was cut off is
+    """The results of earlier calls: for each path below OUT, the checksums of the file and of its rows, or None. A row that was cut off is
     ignored."""
     known = {}
     with open(path, "rb") as journal:
         for line in journal:
             with contextlib.suppress(TypeError, ValueError, RecursionError):
-                place, total = json.loads(line)
-                if isinstance(place, str) and (total is None or isinstance(total, str)):
-                    known[place] = total
+                place, *totals = json.loads(line)
+                if isinstance(place, str) and (totals == [None] or len(totals) == 2 and all(isinstance(total, str) for total in totals)):
+                    known[place] = None if totals == [None] else totals
     return known
+
+
+def place_of(path, out):
+    """The path below OUT by which .done.jsonl knows an output."""
+    return sgfsplit.in_utf8(os.path.relpath(path, out))
+
+
+def entry(place, totals):
+    """The row of .done.jsonl about an output."""
+    return json.dumps([place, *(totals or [None])]).encode() + b"\n"
 
 
 def main(job):
@@ -215,21 +232,22 @@ def main(job):
     done = os.path.join(out, DONE)
     with sgfsplit.locked(done) as journal:
         known = known_of(done)
-        files = [(name, path, known.get(os.path.relpath(path, out))) for name, path in pairs]
+        files = [(name, path, known.get(place_of(path, out))) for name, path in pairs]
         machines = job.options.get("--sshlogin")
         work = list(batches(files, FILES if machines is None else FILES_THERE))
         left, refused = {name for name, _, _ in files}, []
         for answers in here(work) if machines is None else there(work, machines):
-            for name, path, total, fault in answers:
+            for name, path, totals, fault in answers:
+                name, place = named(name), place_of(named(path), out)
                 left.discard(name)
-                known[os.path.relpath(path, out)] = total
-                journal.write(json.dumps([os.path.relpath(path, out), total]).encode() + b"\n")
+                known[place] = totals
+                journal.write(entry(place, totals))
                 if fault is not None:
                     refused.append((name, fault))
             journal.flush()
             bar(len(files) - len(left), len(files))
         with sgfsplit.written(done) as file:
-            file.writelines(json.dumps([path, known[path]]).encode() + b"\n" for path in sorted(known))
+            file.writelines(entry(place, known[place]) for place in sorted(known))
     for _, fault in sorted(refused):
         job.refuse(fault)
     for name in sorted(left):
@@ -240,4 +258,4 @@ if __name__ == "__main__":
     if sys.argv[1:] == ["--batches"]:
         serve()
     else:
-        sgfsplit.start(main, __doc__, values=("--sshlogin",), first=1)
+        tool.start(main, USAGE, values=("--sshlogin",), first=1)

@@ -1,5 +1,5 @@
 #!/usr/bin/env python3
-"""openings.py [--games] [--symmetry] [--setup] [--csv] [-0] N FILE|FOLDER..
+USAGE = """openings.py [--games] [--symmetry] [--setup] [--csv] [-0] N FILE|FOLDER..
 
 Makes an opening table: the first N moves of each line of play, and how many
 lines begin with them, the most frequent first. A row is COUNT SIDE MOVE..,
@@ -20,8 +20,13 @@ line without moves doesn't count, and neither does a line that isn't judged. On
 sides over 25 a point is written as its two letters in SGF. Status 1: a file
 was refused.
 """
-import csv
+import os
 import sys
+
+sys.path.insert(0, os.path.dirname(os.path.realpath(__file__)))  # with PYTHONSAFEPATH it isn't there
+import tool
+
+import csv
 from collections import Counter
 
 import goboard
@@ -46,11 +51,16 @@ def upper_right(moves, side):
     return min(([(colour, viewed(point, view, side)) for colour, point in moves] for view in VIEWS), key=key)
 
 
-def opening(line, count, options):
-    """The side and the first moves of a line of play as words, or None if the line doesn't count."""
-    side, moves = line.board.side, line.moves[:count]
-    if line.set_ups and line.set_ups[0][0] < count:
-        return (str(side), "setup") if "--setup" in options else None
+def opening(record, end, count, options):
+    """The side and the first moves of a line of play as words, or None if the line doesn't count. The line is a record in the sgf form, and its
+    legal nodes end at the offset `end`."""
+    side, moves = goboard.side_of(record), []
+    for _, name, value in goboard.turns_and_setups(record, end):
+        if len(moves) == count:
+            break
+        if name in goboard.SETUPS:
+            return (str(side), "setup") if "--setup" in options else None
+        moves.append(goboard.move_of(name, value, side))
     if not moves:
         return None
     if "--symmetry" in options:
@@ -64,8 +74,8 @@ def openings(job, count):
     for name in job.files():
         with job.going_on():
             seen = set()
-            for row, line in goboard.lines(name, most=count):
-                words = opening(line, count, job.options)
+            for row, record, end in goboard.records(name):
+                words = None if row.verdict == "unjudged" else opening(record, end, count, job.options)
                 if words is not None and not (by_games and (row.game, words) in seen):
                     counts[words] += 1
                     seen.add((row.game, words))
@@ -73,7 +83,7 @@ def openings(job, count):
 
 
 def main(job):
-    count = sgfsplit.number_of(job.first[0], 1, 1000, "N is how many moves")
+    count = tool.number_of(job.first[0], 1, 1000, "N is how many moves")
     table = sorted(((often, *words) for words, often in openings(job, count).items()), key=lambda row: (-row[0], row[1:]))
     if "--csv" in job.options:
         head = ("count", "side", *(f"move {number}" for number in range(1, count + 1)))
@@ -84,4 +94,4 @@ def main(job):
 
 
 if __name__ == "__main__":
-    sgfsplit.start(main, __doc__, flags=("--games", "--symmetry", "--setup", "--csv"), first=1)
+    tool.start(main, USAGE, flags=("--games", "--symmetry", "--setup", "--csv"), first=1)

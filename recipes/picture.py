@@ -1,5 +1,5 @@
 #!/usr/bin/env python3
-"""picture.py [--line PLACE] FILE > picture.svg
+USAGE = """picture.py [--line PLACE] FILE > picture.svg
 picture.py [--line PLACE] [-0] --out OUT FILE|FOLDER..
 
 Draws the board at the end of each line of play as SVG, with the line's row
@@ -19,6 +19,9 @@ them. Lines that aren't judged have no board. Status 1: a file was refused.
 """
 import os
 import sys
+
+sys.path.insert(0, os.path.dirname(os.path.realpath(__file__)))  # with PYTHONSAFEPATH it isn't there
+import tool
 
 import goboard
 import sgfsplit
@@ -135,7 +138,7 @@ def drawn(name, place):
 def main(job):
     place = job.options.get("--line")
     if place is not None:
-        place = sgfsplit.number_of(place, 0, sgfsplit.LIMIT, "--line wants a place, the first number of a row")
+        place = tool.number_of(place, 0, sgfsplit.LIMIT, "--line wants a place, the first number of a row")
     if "--out" in job.options:
         for name, folder in job.outputs(job.options["--out"], "", ".svg"):
             with job.going_on():
@@ -145,10 +148,10 @@ def main(job):
     else:
         files = list(job.files())
         if len(files) != 1:
-            raise sgfsplit.Words("one file at a time, or --out OUT")
+            raise tool.Words("one file at a time, or --out OUT")
         with job.going_on():
             sys.stdout.write(drawn(files[0], place))
 
 
 if __name__ == "__main__":
-    sgfsplit.start(main, __doc__, values=("--line", "--out"))
+    tool.start(main, USAGE, values=("--line", "--out"))

@@ -1,5 +1,5 @@
 #!/usr/bin/env python3
-"""prose.py < mail.txt | sgfsplit split
+USAGE = """prose.py < mail.txt | sgfsplit split
 prose.py [-0] OUT FILE|FOLDER..
 
 Writes spaces over the text around the games, such as mail headers or a
@@ -16,8 +16,13 @@ Prose that looks like a game, such as `(;`, is treated as a game, and sgfsplit
 refuses it. Status 1: a file was refused, for example because it has more than
 256 MiB.
 """
-import re
+import os
 import sys
+
+sys.path.insert(0, os.path.dirname(os.path.realpath(__file__)))  # with PYTHONSAFEPATH it isn't there
+import tool
+
+import re
 
 import goboard
 import sgfsplit
@@ -71,4 +76,4 @@ def main(job):
 
 
 if __name__ == "__main__":
-    sgfsplit.start(main, __doc__, first=1, is_filter=True)
+    tool.start(main, USAGE, first=1, is_filter=True)

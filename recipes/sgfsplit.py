@@ -1,5 +1,5 @@
 """The part that the tools of this folder share, and a module for your own scripts. It passes files to the program sgfsplit, and returns
-its rows as named tuples and its records one by one.
+its rows as named tuples and its records one by one. (The tools share tool.py too, which reads their command lines.)
 
     import sgfsplit
     for row in sgfsplit.rows("game.sgf"):
@@ -11,7 +11,8 @@ its rows as named tuples and its records one by one.
 A call that takes a name reads the file. If two calls have to see the same bytes, pass them what `read` returns.
 
 A file that is refused raises Refused. If it can't be read or the program fails, that is Failed, which is a kind of Refused. The text of
-both is the row that says why: FILE:LINE:COLUMN: not SGF. Names are str, as os.fsdecode returns them. The variable SGFSPLIT names the program, or else PROGRAM does. Boards and nodes are in goboard.py.
+both is the row that says why: FILE:LINE:COLUMN: not SGF. Names are str, as os.fsdecode returns them. The variable SGFSPLIT names the
+program, or else PROGRAM does. Boards and nodes are in goboard.py.
 """
 import contextlib
 import errno
@@ -22,20 +23,20 @@ import itertools
 import os
 import re
 import shutil
-import signal
 import stat
 import subprocess
 import sys
 import threading
+import time
 from typing import NamedTuple, Optional
 
 PROGRAM = "sgfsplit"  # a name to look for in PATH; `make install` replaces it by a path from this file's folder
 LIMIT = 67108864  # the most bytes that the program takes
 ENDS = {"list": "row", "sgf": "game", "gtp": "empty row"}  # the forms, and what each record ends with
 PIECE = 1 << 20
+TIMES = 50  # how often a lock is asked for in a second
 MOST = 1 << 28  # the most bytes that are read of a mail, and of names on standard input
 ROW = re.compile(rb"[0-9]{1,20} [0-9]+ [0-9]+ (score|illegal|unjudged) [a-z0-9 -]+\n")
-ESCAPE, VALUE = re.compile(rb"\\.", re.DOTALL), re.compile(rb"\[[^\]]*\]")
 # Control characters (also as bytes that aren't UTF-8), those that change the direction of text or end a row, and the backslash.
 HIDDEN = re.compile("[\x00-\x1f\x7f-\x9f\udc80-\udc9f\u061c\u200e\u200f\u2028-\u202e\u2066-\u2069\\\\]")
 ESCAPES = {"\n": "\\n", "\t": "\\t", "\\": "\\\\"}
@@ -142,15 +143,33 @@ def is_ours(path):
     return answer == b"1 1 1\n"
 
 
+def in_utf8(name):
+    """A name as text that is the same in every locale: its bytes are read as UTF-8, and one that isn't UTF-8 becomes a surrogate."""
+    return os.fsencode(name).decode("utf-8", "surrogateescape")
+
+
 def shown(name):
     """A name as it is shown in a row of text: hidden characters as \\n, \\x1b or \\u202e, and \\ as \\\\."""
-    return HIDDEN.sub(lambda found: ESCAPES.get(found[0]) or escape(ord(found[0])), name)
+    return escaped(in_utf8(name))
+
+
+def escaped(text):
+    """A text as it is shown in a row, as `shown` shows a name."""
+    return HIDDEN.sub(lambda found: ESCAPES.get(found[0]) or escape(ord(found[0])), text)
 
 
 def escape(code):
     """The escape of a character. The codes from 0xdc80 stand for bytes that aren't UTF-8."""
     code = code - 0xdc00 if code >= 0xdc80 else code
     return f"\\x{code:02x}" if code < 256 else f"\\u{code:04x}"
+
+
+def say(row, end="\n"):
+    """Writes a row to standard error. If it can't be written, nobody is left to read it, so the work goes on."""
+    said = f"{row}{end}".encode("utf-8", "surrogateescape")
+    with contextlib.suppress(OSError, AttributeError):  # without standard error, Python has None in its place
+        while said:
+            said = said[os.write(sys.stderr.fileno(), said):]
 
 
 def read(name, most=LIMIT + 1):
@@ -230,23 +249,36 @@ def write_rows(file, text, after=None):
         raise refusal(text, run.returncode, run.stderr)
 
 
+def checksum(file):
+    """The checksum of the bytes of an open file, which is read from its begin."""
+    total, at = hashlib.blake2b(digest_size=16), 0
+    while piece := os.pread(file.fileno(), PIECE, at):
+        total.update(piece)
+        at += len(piece)
+    return total.hexdigest()
+
+
 def page(after, limit):
     """The options that ask for the lines after the one with the place `after`, and for at most the first `limit` of these."""
     return [word for option, number in (("--after", after), ("--limit", limit)) if number is not None for word in (option, str(number))]
 
 
+def lines(file, after=None, limit=None):
+    """The row of each line of play of a file, in file order, as a line of bytes."""
+    with output(text_of(file), "split", *page(after, limit)) as given:
+        yield from whole(given)
+
+
 def rows(file, after=None, limit=None):
     """The row of each line of play of a file, in file order."""
-    with output(text_of(file), "split", *page(after, limit)) as lines:
-        for line in whole(lines):
-            yield Row.read(line)
+    return map(Row.read, lines(file, after, limit))
 
 
 def records(file, form="sgf", after=None, limit=None):
     """The record of each line of play of a file in a form, in file order. Values may contain line feeds and brackets."""
-    with output(text_of(file), "split", "--form", form, *page(after, limit)) as lines:
+    with output(text_of(file), "split", "--form", form, *page(after, limit)) as given:
         record, inside = [], False
-        for line in whole(lines):
+        for line in whole(given):
             record.append(line)
             inside = ENDS[form] == "game" and is_inside(line, inside)
             if not inside and (ENDS[form] != "empty row" or line == b"\n"):
@@ -269,27 +301,53 @@ def whole(lines):
 
 
 def is_inside(line, inside):
-    """Whether a value is open after a row of the sgf form; `inside` says whether one was open before. In this form, line feeds stand only in
-    values and after games."""
-    line = ESCAPE.sub(b"", line)
-    if inside:
-        _, closed, line = line.partition(b"]")
-        if not closed:
-            return True
-    return b"[" in VALUE.sub(b"", line)
+    """Whether a value is open after a row of the sgf form; `inside` says whether one was open before. Outside values this form has neither
+    line feeds, except after a game, nor backslashes. So the last `]` that isn't escaped ends a value."""
+    end = len(line)
+    while (end := line.rfind(b"]", 0, end)) >= 0 and is_escaped(line, end):
+        pass
+    return line.find(b"[", end + 1) >= 0 or inside and end < 0
+
+
+def is_escaped(text, at, begin=0):
+    """Whether an odd number of backslashes stands right before the offset `at` of a value that begins at `begin`."""
+    first = at
+    while first > begin and text[first - 1] == 92:  # a backslash
+        first -= 1
+    return (at - first) % 2 == 1
+
+
+def end_of_value(text, begin):
+    """The offset after the `]` that ends the value whose text begins at `begin`, or -1 if the value doesn't end."""
+    at = begin
+    while (end := text.find(b"]", at)) >= 0 and is_escaped(text, end, begin):
+        at = end + 1
+    return end + 1 if end >= 0 else -1
 
 
 def locked(path):
-    """Opens the file at the path for appending bytes, and locks it. Waits as long as another process has it locked."""
+    """Opens the file at the path for appending bytes, and locks it. Waits as long as another process has it locked, and says so."""
     while True:
         file = open(os.open(path, os.O_RDWR | os.O_CREAT | os.O_APPEND | os.O_NOFOLLOW, 0o666), "ab")
-        fcntl.flock(file, fcntl.LOCK_EX)
+        if not locks_soon(file):
+            say(f"{shown(path)}: another process has it locked; waiting")
+            fcntl.flock(file, fcntl.LOCK_EX)
         if is_same(path, file.fileno()):
             break
         file.close()
     if not is_plain(file):
         raise OSError(errno.EINVAL, "not a file with one name", path)
     return file
+
+
+def locks_soon(file):
+    """Locks an open file within a second. Returns whether it could."""
+    for _ in range(TIMES):
+        with contextlib.suppress(BlockingIOError):
+            fcntl.flock(file, fcntl.LOCK_EX | fcntl.LOCK_NB)
+            return True
+        time.sleep(1 / TIMES)
+    return False
 
 
 def is_plain(file):
@@ -344,217 +402,9 @@ def make_folders(folder):
             os.mkdir(folder)
 
 
-class Words(Exception):
-    """The words of a command line are wrong. The text says what is wrong with them."""
-
-
-class Job:
-    """One call of a tool: its options, its first words and its files, and whether a file was refused."""
-
-    def __init__(self, options, first, names):
-        self.options, self.first, self.names, self.status = options, first, names, 0
-        self.left_out = None
-
-    def refuse(self, row):
-        """Says that a file was refused. The tool goes on, and ends with status 1."""
-        sys.stdout.flush()
-        print(row, file=sys.stderr, flush=True)
-        self.status = 1
-
-    @contextlib.contextmanager
-    def going_on(self):
-        """For the work on one file. If that work raises Refused, reports it, and the tool goes on."""
-        try:
-            yield
-        except Refused as refused:
-            self.refuse(refused)
-
-    def files(self):
-        """The name of each file: the words themselves, and each .sgf file below a folder."""
-        for name in self.names:
-            if os.path.isdir(name):
-                yield from self.below(name)
-            else:
-                yield name
-
-    def below(self, folder):
-        """The .sgf files below a folder, in the order of their names. Those below `left_out`, the tool's own outputs, are left out."""
-        waiting = [folder]
-        while waiting:
-            path = waiting.pop()
-            try:
-                with os.scandir(path) as entries:
-                    inner = sorted(entries, key=lambda entry: os.fsencode(entry.name))
-            except OSError as error:
-                self.refuse(f"{shown(path)}: {error.strerror}")
-                continue
-            folders = []
-            for entry in inner:
-                if is_folder(entry):
-                    folders.append(entry)
-                elif entry.name.lower().endswith(".sgf"):
-                    if os.path.exists(entry.path) and not os.path.isfile(entry.path):
-                        self.refuse(f"{shown(entry.path)}: not a file")
-                    else:
-                        yield entry.path
-            waiting += [entry.path for entry in reversed(folders) if not entry.is_symlink() and not is_same(entry.path, self.left_out)]
-
-    def outputs(self, out, ending, *endings):
-        """The name of each file, and the path of its output below the folder `out`: out/dir/name.ending. `endings` are those of the files
-        that the tool writes below `out`. A file there with such an ending could be overwritten, so the tool doesn't begin at all."""
-        self.left_out, inside = out, os.path.realpath(out)
-        names, taken = list(self.files()), {}
-        for name in names:
-            if any(is_below(place, inside) and place.lower().endswith((*endings, ".part")) for place in places(name)):
-                raise Words(f"{shown(name)} stands below the folder {shown(out)}, in which files are written")
-        for name in names:
-            path = kept(out, name, ending)
-            first = taken.setdefault(path, name)
-            if not all(is_below(place, inside) for place in places(path)):
-                self.refuse(f"{shown(name)}: left out, since links lead from {shown(path)} out of the folder {shown(out)}")
-            elif first is name:
-                yield name, path
-            elif not is_same(first, name):
-                self.refuse(f"{shown(name)}: left out, since what {shown(first)} gives is kept at {shown(path)}")
-
-
-def is_folder(entry):
-    """Whether an entry of a folder is a folder or leads to one."""
-    try:
-        return entry.is_dir()
-    except OSError:
-        return False
-
-
 def is_same(path, other):
-    """Whether two paths lead to the same file."""
+    """Whether two paths lead to the same file. Either may be the number of an open file."""
     try:
         return other is not None and os.path.samefile(path, other)
     except OSError:
         return False
-
-
-def places(path):
-    """Where a path stands, and where it leads if it is a link, both without links on the way."""
-    stands = os.path.join(real(os.path.dirname(path)), os.path.basename(path))
-    return (stands, os.path.realpath(path)) if os.path.islink(path) else (stands,)
-
-
-real = functools.lru_cache(maxsize=1024)(os.path.realpath)  # for folders, which many files share
-
-
-def is_below(place, folder):
-    """Whether a place is below a folder, or is that folder, both without links on the way."""
-    return os.path.commonpath([place, folder]) == folder
-
-
-def kept(out, name, ending):
-    """The path out/dir/name.ending for a file dir/name.sgf. A name that doesn't end in .sgf stays whole. So do `.sgf` and `...sgf`,
-    because the rest of such a name would mean a folder. The path never leaves `out`."""
-    path = os.path.normpath(name)
-    if os.path.isabs(path) or path.split(os.sep)[0] == os.pardir:
-        path = os.path.relpath(os.path.abspath(path), os.sep)
-    folder, last = os.path.split(path)
-    if last.endswith(".sgf") and last[:-4] not in ("", os.curdir, os.pardir):
-        last = last[:-4]
-    return os.path.join(out, folder, last + ending)
-
-
-def number_of(word, least, most, what):
-    """The number in a word, from `least` to `most`. Raises Words for any other word, and that message begins with `what`."""
-    if not re.fullmatch("[0-9]{1,18}", word) or not least <= int(word) <= most:
-        raise Words(f"{what}, from {least} to {most}")
-    return int(word)
-
-
-def options_of(words, flags, values):
-    """The options at the front of a command line, and how many words they are. The options end at `--` or at the first other word. So no name
-    after that is taken for an option. A word that is an option and also a file's name is refused, unless `--` is among the words."""
-    options, at, known = {}, 0, {"-h", "--help", "-0", *flags, *values}
-    is_sure = "--" in words and not os.path.lexists("--")
-    while at < len(words) and words[at].startswith("-") and words[at] != "-":
-        whole = words[at]
-        option, sign, value = whole.partition("=")
-        is_option = whole == "--" or option in known and (not sign or option in values)
-        is_name = os.path.lexists(whole) and not is_sure
-        if is_name and is_option:
-            raise Words(f"{shown(whole)} is an option and a file's name; write ./ before the name, or -- after the options")
-        if is_name:
-            break
-        if not is_option:
-            raise Words(f"no option {shown(whole)}")
-        at += 1
-        if whole == "--":
-            break
-        if option in values and not sign:
-            if at == len(words):
-                raise Words(f"{option} wants a word after it")
-            value, at = words[at], at + 1
-        options[option] = value
-    return options, at
-
-
-def job_of(words, flags, values, first, is_filter):
-    """The job of a command line, or None for help."""
-    options, at = options_of(words, flags, values)
-    if "-h" in options or "--help" in options:
-        return None
-    if is_filter and not words:
-        return Job({}, [], [])
-    names = words[at + first:]
-    if len(words) - at < first or not names and "-0" not in options:
-        raise Words("too few words")
-    if "-0" in options:
-        more = read_from(sys.stdin.buffer, "standard input", MOST)
-        if len(more) == MOST:
-            raise Words("standard input has too many names")
-        names += [os.fsdecode(name) for name in more.split(b"\0") if name]
-    return Job(options, words[at:at + first], names)
-
-
-def ended(tool, usage, *takes):
-    """Does the job of the command line. Returns the status, and a row about the failure, or None."""
-    try:
-        job = job_of(sys.argv[1:], *takes)
-        if job is None:
-            print(usage.strip())
-        else:
-            tool(job)
-        sys.stdout.flush()
-        return (0 if job is None else job.status), None
-    except Words as wrong:
-        me = os.path.basename(sys.argv[0])
-        return 2, f"{wrong} ({me} -h says what it takes)"
-    except (Trouble, Refused) as trouble:
-        return 3, trouble
-    except MemoryError:
-        return 3, "no memory is left"
-    except OSError as error:
-        os.dup2(os.open(os.devnull, os.O_WRONLY), sys.stdout.fileno())  # so Python doesn't try to write the lost output again
-        told = error.strerror if error.filename is None else f"{shown(os.fsdecode(error.filename))}: {error.strerror}"
-        return (0, None) if isinstance(error, BrokenPipeError) else (3, told)
-    except KeyboardInterrupt:
-        return 130, None
-
-
-def end_by(*signals):
-    """Lets these signals end the tool as an exception does, so that no file remains that is half written. Ignored ones stay ignored."""
-    for number in signals:
-        if signal.getsignal(number) != signal.SIG_IGN:
-            signal.signal(number, lambda number, frame: sys.exit(128 + number))
-
-
-def start(tool, usage, flags=(), values=(), first=0, is_filter=False):
-    """Runs a tool with the Job of the command line, and ends with the tool's status. `flags` are its options without a value, and `values` are
-    those with a value. `first` is how many words come before the names of files. A filter may be called without words.
-    Status 1: a file was refused; 2: wrong words; 3: the program or the system failed."""
-    if None in (sys.stdin, sys.stdout, sys.stderr):
-        status, fault = 3, "a standard stream is closed"
-    else:
-        end_by(signal.SIGTERM, signal.SIGHUP)
-        for stream in (sys.stdout, sys.stderr):
-            stream.reconfigure(encoding=sys.getfilesystemencoding(), errors="surrogateescape")
-        status, fault = ended(tool, usage, flags, values, first, is_filter)
-    if fault is not None:
-        print(f"{os.path.basename(sys.argv[0])}: {fault}", file=sys.stderr)
-    sys.exit(status)

@@ -1,5 +1,5 @@
 #!/usr/bin/env python3
-"""verdicts.py [--csv|--json|--sqlite DB] [-0] FILE|FOLDER..
+USAGE = """verdicts.py [--csv|--json|--sqlite DB] [-0] FILE|FOLDER..
 
 Makes one table for a library, with a row for each line of play. Its columns are
 file, place, game, nodes, verdict, black, white, ended, turn, fault (the place
@@ -15,21 +15,28 @@ SQLite's table is filled in one transaction. If you fill it again, the new rows
 of a file replace its old rows. A refused file has no rows. If the system failed
 while a file was split, its old rows stay. If another process has the database
 locked, the tool waits up to ten minutes. A file's name that isn't UTF-8 is
-stored as a BLOB. Status 1: a file was refused.
+stored as a BLOB. A table `lines` that isn't one of this tool is refused.
+A spreadsheet may take a file's name in CSV that begins with `=` for a formula
+and run it, so import the column as text. Status 1: a file was refused.
 """
+import os
+import sys
+
+sys.path.insert(0, os.path.dirname(os.path.realpath(__file__)))  # with PYTHONSAFEPATH it isn't there
+import tool
+
 import contextlib
 import csv
 import json
-import os
 import sqlite3
-import sys
 
 import sgfsplit
 
 COLUMNS = ("file", *sgfsplit.Row._fields)
+KEY = ("file", "place")
 WIDTHS = (9, 6, 6, 8, 5, 5, 5, 5, 9, 9)
 FORMS = ("--csv", "--json", "--sqlite")
-SECONDS, TIMES = 5, 120  # how long a locked database is waited for, and how often
+SECONDS, TIMES = 1, 600  # how long a locked database is waited for, and how often
 
 
 def table(job):
@@ -61,29 +68,37 @@ class Csv:
 
 
 def as_csv(job):
-    named = sgfsplit.shown if sys.stdout.isatty() else str  # no name may give orders to a terminal
+    named = sgfsplit.shown if sys.stdout.isatty() else sgfsplit.in_utf8  # no name may give orders to a terminal
     csv.writer(Csv(), lineterminator="\r\n").writerows((named(name), *cells) for name, *cells in head_and(table(job)))
 
 
 def as_json(job):
-    for row in table(job):
-        print(json.dumps(dict(zip(COLUMNS, row))))
+    for name, *cells in table(job):
+        print(json.dumps(dict(zip(COLUMNS, (sgfsplit.in_utf8(name), *cells)))))
 
 
 def as_sqlite(job):
     path, job.names = job.options["--sqlite"], list(job.files())
     if path in ("", ":memory:"):
-        raise sgfsplit.Words("--sqlite wants the path of a file")
+        raise tool.Words("--sqlite wants the path of a file")
     for name in job.names:
         if any(sgfsplit.is_same(name, path + ending) for ending in ("", "-journal", "-wal", "-shm")):
-            raise sgfsplit.Words(f"{sgfsplit.shown(name)} is a file of the database")
+            raise tool.Words(f"{sgfsplit.shown(name)} is a file of the database")
     with contextlib.closing(sqlite3.connect(path, timeout=SECONDS, isolation_level=None)) as base:
         patiently(base, path, "BEGIN IMMEDIATE")
-        base.execute(f"CREATE TABLE IF NOT EXISTS lines ({', '.join(COLUMNS)}, PRIMARY KEY (file, place))")
+        base.execute(f"CREATE TABLE IF NOT EXISTS lines ({', '.join(COLUMNS)}, PRIMARY KEY ({', '.join(KEY)}))")
+        if not is_ours(base):
+            raise sgfsplit.Trouble(f"{sgfsplit.shown(path)}: its table `lines` isn't one of this tool")
         for name in job.names:
             with job.going_on():
                 replace(base, name)
         patiently(base, path, "COMMIT")
+
+
+def is_ours(base):
+    """Whether the table `lines` has our columns and our key. It may have more columns, in any order."""
+    columns = {name: number for _, name, _, _, _, number in base.execute("PRAGMA table_info(lines)")}
+    return set(COLUMNS) <= set(columns) and set(KEY) == {name for name, number in columns.items() if number}
 
 
 def patiently(base, path, command):
@@ -95,7 +110,7 @@ def patiently(base, path, command):
             if "locked" not in str(error) or time == TIMES - 1:
                 raise
         if time == 0:
-            print(f"{sgfsplit.shown(path)}: another process has it locked; waiting", file=sys.stderr, flush=True)
+            sgfsplit.say(f"{sgfsplit.shown(path)}: another process has it locked; waiting")
 
 
 def replace(base, name):
@@ -109,24 +124,24 @@ def replace(base, name):
         refused = error
     key = as_text(name)
     base.execute("DELETE FROM lines WHERE file = ?", (key,))
-    base.executemany(f"INSERT INTO lines VALUES ({', '.join('?' * len(COLUMNS))})", ((key, *row) for row in rows))
+    places = ", ".join("?" * len(COLUMNS))
+    base.executemany(f"INSERT INTO lines ({', '.join(COLUMNS)}) VALUES ({places})", ((key, *row) for row in rows))
     if refused is not None:
         raise refused
 
 
 def as_text(name):
-    """The name, or its bytes if it isn't UTF-8."""
+    """The name, or its bytes if it isn't UTF-8, whatever the locale."""
     try:
-        name.encode()
-        return name
-    except UnicodeEncodeError:
+        return os.fsencode(name).decode()
+    except UnicodeDecodeError:
         return os.fsencode(name)
 
 
 def main(job):
     forms = [form for form in FORMS if form in job.options]
     if len(forms) > 1:
-        raise sgfsplit.Words(f"{forms[0]} or {forms[1]}, not both")
+        raise tool.Words(f"{forms[0]} or {forms[1]}, not both")
     try:
         {"--csv": as_csv, "--json": as_json, "--sqlite": as_sqlite, None: as_columns}[forms[0] if forms else None](job)
     except sqlite3.Error as error:
@@ -134,4 +149,4 @@ def main(job):
 
 
 if __name__ == "__main__":
-    sgfsplit.start(main, __doc__, flags=("--csv", "--json"), values=("--sqlite",))
+    tool.start(main, USAGE, flags=("--csv", "--json"), values=("--sqlite",))

@@ -39,7 +39,7 @@ script() {
     timeout 900 "tests/$1.sh" < /dev/null > "$log" 2>&1 || status=$?
     counts=$(tail -n 1 "$log" | sed -n 's/^\([0-9][0-9]*\) passed, \([0-9][0-9]*\) failed, \([0-9][0-9]*\) skipped$/\1 \2 \3/p')
     case $status in
-        0) echo "passed: $1"; counts=${counts:-1 0 0} ;;
+        0) echo "passed: $1"; sed -n 's/^left out: /    &/p' "$log"; counts=${counts:-1 0 0} ;;
         77) echo "$(tail -n 1 "$log") ($1)"; counts='0 0 1' ;;
         *) echo "FAILED: $1 (status $status)"; sed 's/^/    /' "$log"; counts=${counts:-0 1 0} ;;
     esac

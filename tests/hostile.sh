@@ -139,8 +139,9 @@ answer 'stones in one stretch' "$(($(stat -c %s input.sgf) - 7)) 1 140557 score 
 { printf '(;SZ[1];B[aa]'; times 300000 ';B[aa]'; printf ')'; } > input.sgf
 answer 'moves after an illegal one' '1800007 1 300002 illegal 1 7 repeat' split
 
-# ---- the past: inputs of bench/hostile.py in small, each with a stone at its end that repeats a colouring. A separate referee judges them.
-# small KIND BYTES END: the rows of the input of this kind, with END before its last parenthesis.
+# ---- the past, and labyrinths: inputs of bench/hostile.py in small. A separate referee judges them.
+# small KIND BYTES END [LAST]: the rows of the input of this kind, with END before its last parenthesis. The last row ends with the word LAST
+# (`repeat`: its last stone repeats a colouring).
 small() {
     python3 -B - "$1" "$2" "$3" "$top/bench" > input.sgf <<'PROGRAM'
 import sys
@@ -149,8 +150,19 @@ import hostile
 sys.stdout.write(hostile.INPUTS[sys.argv[1]][1](int(sys.argv[2]))[:-1] + sys.argv[3] + ")")
 PROGRAM
     python3 -B "$top/tests/verdicts.py" < input.sgf > want
-    check "$1: the last row" repeat "$(tail -n 1 want | cut -d ' ' -f 7)"
+    check "$1: the last row" "${4:-repeat}" "$(tail -n 1 want | cut -d ' ' -f 7)"
     answer "$1" "$(cat want)" split
+}
+
+# scored KIND SCORES: each variation of the smallest input of this kind ends with these scores.
+scored() {
+    python3 -B - "$1" "$top/bench" > input.sgf <<'PROGRAM'
+import sys
+sys.path.insert(0, sys.argv[2])
+import hostile
+sys.stdout.write(hostile.INPUTS[sys.argv[1]][1](0))
+PROGRAM
+    answer "$1" "$(grep -ob '(;[^()]*)' input.sgf | sed -E "s/:.*/ + 1/; s/.*/echo \$((&)) 1 2 score $2 open/" | sh)" split
 }
 
 if command -v python3 > /dev/null; then
@@ -158,8 +170,20 @@ if command -v python3 > /dev/null; then
     small walks 0 '(;W[eZ];B[];W[dZ])'
     small low 12000 ';B[nb]'
     small restarts 1000 ';AE[aa:ZZ]AW[ab][ba];B[aa]'
+    for kind in eye19 eye19s eye52 eye52s; do
+        small "$kind" 0 '(;AE[aa];B[cc])'
+    done
+    small maze19 0 '(;B[ba])(;)' open
+    small maze19s 0 '(;B[ab])(;)' open
+    small same 0 '' open
+    small blinks 0 '' open
+    # White has the walls, and Black her stones. Both reach the corridor. In `siege` Black's own group is left without a liberty.
+    scored maze52 '1 1327'
+    scored maze52s '1 1327'
+    scored paces '2 1327'
+    scored siege '0 2704'
 else
-    skipped=4
+    skipped=16
 fi
 
 echo "$passed passed, $failed failed, $skipped skipped"

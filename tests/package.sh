@@ -1,6 +1,6 @@
 #!/usr/bin/env bash
-# The Debian package is installed into an empty root. The program runs there, its documents are there, and the package names the other program of
-# this name.
+# The Debian package is installed into an empty root. The program runs there, its documents are there, the README's examples run beside them, and
+# the package names the other program of this name.
 . "$(dirname "$0")/lib.sh"
 [ "$SGFSPLIT" = "$top/crates/sgfsplit/out/sgfsplit" ] || skipped "another program than the built one is tried"
 needs dpkg dpkg-deb strip objdump
@@ -37,6 +37,7 @@ if [ "$(id -u)" = 0 ] && chroot "$root" /usr/bin/sgfsplit --help > /dev/null 2>&
 "$SGFSPLIT" split --form sgf < "$top/examples/corner.sgf" > want
 same want got
 if command -v python3 > /dev/null; then
+    (cd "$root/usr/share/doc/sgfsplit" && env -i LC_ALL=C PATH="$root/usr/bin:/usr/bin:/bin" python3 "$top/tests/examples.py" README.md) > ran || failed "$(cat ran)"
     "$SGFSPLIT" count "$top/examples/corner.sgf" > want
     PYTHONPATH=$root/usr/lib/python3/dist-packages PYTHONDONTWRITEBYTECODE=1 env -u SGFLINES python3 -c '
 import sys, sgflines

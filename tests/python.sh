@@ -1,7 +1,8 @@
 #!/usr/bin/env bash
 # The Python module over the shared library. On the examples and on inputs made to hurt it returns what the program writes, in every form
 # and on pages. Its faults are the program's, with their places. Its records and rows are those of the output. Threads split at once. With
-# each Python from 3.9 on that is found, it keeps what it says of texts, arguments, faults, threads, processes and its library.
+# each Python from 3.9 on that is found, it keeps what it says of texts, arguments, faults, rows one by one, threads, processes and its
+# library, and with one of them also without docstrings, assertions and the script's folder.
 . "$(dirname "$0")/lib.sh"
 [ -e "$top/out/libsgflines.so.0" ] || failed "no library at $top/out/libsgflines.so.0: run make lib first"
 needs python3
@@ -26,6 +27,9 @@ for python in "${pythons[@]}"; do
     "$python" "$top/tests/python_calls.py" calls || failed "$python: status $?"
     rm -r calls
 done
+mkdir calls
+PYTHONOPTIMIZE=2 PYTHONSAFEPATH=1 "${pythons[-1]}" "$top/tests/python_calls.py" calls || failed "${pythons[-1]} with PYTHONOPTIMIZE=2 and PYTHONSAFEPATH: status $?"
+rm -r calls
 echo "tried with ${pythons[*]}"
 
 python3 - inputs <<'PYTHON'

@@ -2,10 +2,11 @@
 """Tests what the module sgflines promises beside the program's answers: python_calls.py FOLDER, with the module's folder in PYTHONPATH.
 
 FOLDER is empty, and not in a folder that all users may write to. The test tells of texts that aren't bytes, of wrong arguments, faults,
-verdicts, threads and processes, of memory, and of where the library is looked for.
+verdicts, rows one by one, threads and processes, of memory, and of where the library is looked for.
 """
 import array
 import copy
+import functools
 import itertools
 import mmap
 import multiprocessing
@@ -17,11 +18,13 @@ import subprocess
 import sys
 import threading
 import time
+import typing
 
 import sgflines
 
 TWO = b"(;SZ[3](;B[aa])(;B[bb];W[aa]))"
-CALLS = [sgflines.output, sgflines.rows, lambda text: sgflines.records(text, "sgf"), sgflines.count, lambda text: sgflines.judge(text, 8)]
+CALLS = [sgflines.output, sgflines.rows, lambda text: sgflines.records(text, "sgf"), sgflines.count, lambda text: sgflines.judge(text, 8),
+         lambda text: list(sgflines.iter_rows(text))]
 LIBRARY = os.path.realpath(sgflines._LIBRARY._name)
 with open(os.path.join(os.path.dirname(os.path.realpath(__file__)), "..", "packaging", "words.txt"), encoding="utf-8") as table:
     FORMS = [row.split()[1] for row in table if row.startswith("form ")]
@@ -100,6 +103,80 @@ def texts_are_given_back():
     agree("the fault of a mapped file", (sgflines.NotSgf, 0), (type(kept), kept.at))
 
 
+def a_fault_keeps_no_copy_of_the_text():
+    """None of the functions of the module that the fault came through holds it."""
+    for call in CALLS:
+        for text in (bytearray(b"(;SZ[3]"), bytearray(b"(;)x")):
+            trace, seen = fault(lambda: call(text)).__traceback__, 0
+            while trace is not None:
+                if trace.tb_frame.f_code.co_filename == sgflines.__file__:
+                    held = [name for name, value in trace.tb_frame.f_locals.items() if value == text and value is not text]
+                    agree(f"copies in {trace.tb_frame.f_code.co_name}", [], held)
+                    seen += 1
+                trace = trace.tb_next
+            agree("the fault came through the module", True, seen > 1)
+
+
+def rows_come_one_by_one():
+    """They are those of the output, on either side of a page's end too. Faults and wrong arguments are raised before the first is asked for."""
+    pair = b"(;B[aa])(;B[bb];W[cc])"
+    text = b"(;SZ[5]" + pair * 5000 + b")"
+    whole = sgflines.output(text).decode().splitlines()
+    listed = sgflines.rows(text)
+    agree("rows", whole, [f"{row.place} {row.game} {row.nodes} score {row.verdict.black} {row.verdict.white} open" for row in listed])
+    first, least = sgflines._FIRST_PAGE, sgflines._LEAST_PAGE
+    agree("there are more pages than two", True, len(listed) > first + 2 * least)
+    for limit in (0, 1, first - 1, first, first + 1, first + least - 1, first + least, first + least + 1, 2 ** 64 - 1):
+        agree(f"rows up to {limit}", listed[:limit], list(sgflines.iter_rows(text, limit=limit)))
+    for at in (0, first - 1, first, first + least, len(listed) - first - 1, len(listed) - 2, len(listed) - 1):
+        agree(f"rows after {at}", listed[at + 1:], list(sgflines.iter_rows(text, after=listed[at].place)))
+        agree(f"a row after {at}", listed[at + 1:][:1], list(sgflines.iter_rows(text, listed[at].place, 1)))
+    agree("a text of one page", first, len(list(sgflines.iter_rows(b"(;SZ[5]" + pair * (first // 2) + b")"))))
+    for call in (lambda: sgflines.iter_rows(b"(;)x"), lambda: sgflines.iter_rows(TWO, after=9), lambda: sgflines.iter_rows("(;)"),
+                 lambda: sgflines.iter_rows(TWO, limit=-1), lambda: sgflines.iter_rows(TWO, after=1.0)):
+        agree("raised by the call", True, isinstance(fault(call), (ValueError, TypeError)))
+    lent = bytearray(text)
+    given = sgflines.iter_rows(lent)
+    begun = [next(given) for _ in range(3)]
+    lent[:] = b" " * 9
+    agree("rows of a text that is gone", listed, begun + list(given))
+
+
+def the_first_row_comes_early():
+    """It takes far less time than all rows, since not all lines are judged for it."""
+    text = b"(;SZ[19]" + b";B[aa];W[bb];B[cc];W[dd]" + b"(;B[ee];W[ff])(;B[gg];W[hh])" * 100000 + b")"
+
+    def seconds(call):
+        began = time.perf_counter()
+        call()
+        return time.perf_counter() - began
+
+    first = min(seconds(lambda: next(sgflines.iter_rows(text))) for _ in range(3))
+    whole = min(seconds(lambda: sgflines.output(text)) for _ in range(3))
+    if first * 2 > whole:
+        sys.exit(f"the first row took {first} seconds, and the whole output {whole}")
+
+
+def rows_take_little_memory():
+    """One by one, the rows of many small games take far less memory beside that for reading than their own text has bytes."""
+    code = """
+import resource
+import sgflines
+text = b"(;)" * (1 << 20)
+sgflines.output(text, limit=1)
+before = resource.getrusage(resource.RUSAGE_SELF).ru_maxrss
+number = sum(1 for row in sgflines.iter_rows(text))
+print(number, resource.getrusage(resource.RUSAGE_SELF).ru_maxrss - before << 10, len(sgflines.output(text)))
+"""
+    ran = subprocess.run([sys.executable, "-c", code], capture_output=True, text=True)
+    if ran.returncode != 0:
+        sys.exit(ran.stderr)
+    number, grown, joined = map(int, ran.stdout.split())
+    agree("the number of rows", 1 << 20, number)
+    if grown * 2 > joined:
+        sys.exit(f"{number} rows took {grown} bytes beside those for reading, and their own text has {joined}")
+
+
 def faults():
     return [sgflines.NotSgf(8), sgflines.EndsEarly(7), sgflines.TooLong(), sgflines.NoSuchLine(5)]
 
@@ -162,13 +239,23 @@ def arguments_are_looked_at():
     agree("the greatest limit", sgflines.rows(TWO), sgflines.rows(TWO, limit=2 ** 64 - 1))
 
 
+def every_public_call_is_annotated():
+    """Also for programs that ask for the types while they run."""
+    for name in sgflines.__all__:
+        public = getattr(sgflines, name)
+        if callable(public) and not isinstance(public, type) and not hasattr(public, "__origin__"):
+            arguments = public.__code__.co_varnames[:public.__code__.co_argcount]
+            agree(f"the types of {name}", {*arguments, "return"}, set(typing.get_type_hints(public)))
+    agree("the types of a row", ["place", "game", "nodes", "verdict"], list(typing.get_type_hints(sgflines.Row)))
+
+
 def a_writer_has_no_effect():
     """Another thread writes to a text all the time, and each answer is that of one of the two texts that stood there."""
     many = b"(;SZ[9]" + b"(;B[aa]C[x];W[bb])" * 4000 + b")"
     one = b"(;SZ[9]C[" + b"x" * (len(many) // 2) + b"](;B[aa])"
     one += b"(" + b";" * (len(many) - len(one) - 3) + b"))"
     agree("their lengths", len(many), len(one))
-    calls = [sgflines.rows, lambda text: sgflines.output(text, "sgf"), lambda text: sgflines.output(text, "gtp"), sgflines.count]
+    calls = [sgflines.rows, *(functools.partial(sgflines.output, form=form) for form in FORMS), sgflines.count]
     lent, stop = bytearray(many), threading.Event()
 
     def write():
@@ -276,11 +363,16 @@ def hostile_values_are_divided_right():
         agree(f"the records of {text!r:.80}", [1, 1], [sgflines.count(record).lines for record in records])
 
 
-def loaded(module, **variables):
-    """The path of the library that a copy of the module loads; None if it finds none but the system's."""
+def imported(module, folder, **variables):
+    """How a process ends that stands in a folder, imports a copy of the module and prints the name of its library."""
     code = f"import sys; sys.path.insert(0, {os.path.dirname(module)!r}); import sgflines; print(sgflines._LIBRARY._name)"
     environment = {name: value for name, value in os.environ.items() if name not in ("SGFLINES", "PYTHONPATH", "LD_LIBRARY_PATH")}
-    ran = subprocess.run([sys.executable, "-c", code], env={**environment, **variables}, capture_output=True, text=True)
+    return subprocess.run([sys.executable, "-c", code], env={**environment, **variables}, cwd=folder, capture_output=True, text=True)
+
+
+def loaded(module, folder=None, **variables):
+    """The path of the library that a copy of the module loads; None if it finds none but the system's."""
+    ran = imported(module, folder, **variables)
     name = ran.stdout.strip() if ran.returncode == 0 else os.path.basename(LIBRARY)
     if ran.returncode != 0 and "cannot open shared object file" not in ran.stderr:
         sys.exit(f"{module}: {ran.stderr}")
@@ -330,21 +422,62 @@ def only_its_own_library_is_loaded(folder):
     agree("a copy beside a library that all may write", None, loaded(copied))
 
 
+def a_link_is_followed(folder):
+    """A library isn't loaded through a link that leads into a folder that all users may write to, or through such a folder."""
+    folder, name = os.path.realpath(folder), os.path.basename(LIBRARY)
+    shared, home = os.path.join(folder, "all"), os.path.join(folder, "own")
+    planted = put(LIBRARY, shared, "planted")
+    os.chmod(shared, 0o1777)
+    own = put(LIBRARY, home, "lib", "own")
+    module = put(sgflines.__file__, home, "python", "sgflines.py")
+    os.symlink(own, os.path.join(shared, "back"))
+    os.symlink(os.path.join("..", "..", "all", "planted"), os.path.join(home, "lib", "away"))
+    links = [("a link to a library", own, own), ("a relative link", os.path.join("..", "lib", "own"), own),
+             ("a link into a shared folder", planted, None), ("a link to a link into it", os.path.join("..", "lib", "away"), None),
+             ("a link through a shared folder", os.path.join(shared, "back"), None)]
+    for what, target, want in links:
+        os.symlink(target, os.path.join(home, "python", name))
+        agree(what, want, loaded(module))
+        agree(f"{what}, named", os.path.realpath(target if os.path.isabs(target) else os.path.join(home, "python", target)),
+              loaded(module, SGFLINES=os.path.join(home, "python", name)))
+        os.remove(os.path.join(home, "python", name))
+
+
+def a_name_is_that_of_a_file(folder):
+    """SGFLINES names a file, with a slash or without one. A file without our functions is named by an ImportError."""
+    folder = os.path.realpath(folder)
+    module = put(sgflines.__file__, folder, "named", "sgflines.py")
+    named = put(LIBRARY, folder, "named", "lib", "mine")
+    agree("a name without a slash", named, loaded(module, os.path.dirname(named), SGFLINES="mine"))
+    agree("a relative name", named, loaded(module, os.path.join(folder, "named"), SGFLINES="lib/mine"))
+    agree("a name of no file here", None, loaded(module, folder, SGFLINES=os.path.basename(LIBRARY)))
+    for wrong in (sys.modules["_ctypes"].__file__, "/nowhere/lib.so"):
+        told = imported(module, folder, SGFLINES=wrong).stderr.strip().splitlines()[-1]
+        agree(f"an ImportError names {wrong}", (True, True), (told.startswith("ImportError: "), wrong in told))
+
+
 def main():
     escapes_take_little_memory()  # the first, since it measures the most memory that the process ever had
     every_type_of_text()
     too_long_a_text_is_not_copied(sys.argv[1])
     address_and_length_are_of_the_same_bytes()
     texts_are_given_back()
+    a_fault_keeps_no_copy_of_the_text()
+    rows_come_one_by_one()
+    the_first_row_comes_early()
+    rows_take_little_memory()
     faults_are_copied_whole()
     different_verdicts_are_unequal()
     arguments_are_looked_at()
+    every_public_call_is_annotated()
     hostile_values_are_divided_right()
     children_call()
     many_threads_call()
     others_run_during_a_call()
     a_writer_has_no_effect()
     only_its_own_library_is_loaded(sys.argv[1])
+    a_link_is_followed(sys.argv[1])
+    a_name_is_that_of_a_file(sys.argv[1])
 
 
 if __name__ == "__main__":

@@ -37,7 +37,7 @@ for words in 'picture.py' 'picture.py --line 170' 'openings.py 2'; do
     while_doing 'mv other game.sgf' $words game.sgf > got
     same want got "what $words makes of a file that was replaced"
 done
-if command -v gnugo > /dev/null; then
+if can gnugo replay.py; then
     while_doing 'mv other game.sgf' replay.py game.sgf > got
     echo '4 lines agree, 0 differ, 0 left out' > want
     same want got

@@ -2,7 +2,7 @@
 # Whatever fails or is killed while a tool works, what earlier calls wrote stays until its replacement is whole. A killed worker of
 # library.py costs its own batch. A tool that is asked to end leaves no file half written.
 . "$(dirname "$0")/lib.sh"
-needs python3 sqlite3
+needs python3
 recipes=$top/recipes
 export TRUE_SGFSPLIT=$SGFSPLIT
 mkdir games
@@ -35,7 +35,7 @@ diff -r rows out >&2 || failed "another call didn't mend it"
 
 # So do the rows in a database, and the other tools say what happened and go on.
 "$recipes/verdicts.py" --sqlite games.db games
-sqlite3 games.db 'SELECT * FROM lines' > want
+asked games.db 'SELECT * FROM lines' > want
 printf 'games/%s.sgf: the program was ended by signal 9\n' corner ko > want.faults
 for way in killed cut_off; do
     for words in "verdicts.py --sqlite games.db" verdicts.py openings.py\ 2 illegal_lines.py files.py\ lines parts.py \
@@ -45,7 +45,7 @@ for way in killed cut_off; do
         [ "$status" = 1 ] || failed "$words with a program that was $way: status $status"
         same want.faults faults "what $words says of a program that was $way"
     done
-    sqlite3 games.db 'SELECT * FROM lines' > got
+    asked games.db 'SELECT * FROM lines' > got
     same want got "after a program that was $way, the table"
 done
 

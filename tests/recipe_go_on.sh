@@ -44,9 +44,23 @@ printf 'Dear Sir,\n' > rows
 refused library.sgf "rows: its last row isn't one of sgfsplit"
 
 cp "$top/examples/corner.sgf" rows
-refused rows "rows: its last row isn't one of sgfsplit"
+cp rows other.sgf
+refused other.sgf "rows: its last row isn't one of sgfsplit"
 printf '(;SZ[9];B[aa])' > rows
-refused rows "rows: its last row isn't one of sgfsplit"
+refused other.sgf "rows: its last row isn't one of sgfsplit"
+
+# A file can't be its own rows, by whatever name, and not even if it is empty.
+ln -s rows rows.sgf
+for file in rows ./rows rows.sgf; do
+    for text in '(;SZ[9];B[aa])' ''; do
+        printf %s "$text" > rows
+        status=0
+        "$go_on" rows "$file" 2> fault || status=$?
+        echo "go_on.py: $file is both ROWS and FILE (go_on.py -h says what it takes)" > said
+        same said fault "after status $status, what is said of $file"
+        [ "$status" = 2 ] && [ "$(cat rows)" = "$text" ] || failed "go_on.py rows $file: status $status"
+    done
+done
 
 # ROWS keeps its mode, and a link to it stays a link.
 "$SGFSPLIT" split library.sgf > want
@@ -57,6 +71,37 @@ ln -sf kept rows
 [ -L rows ] && [ "$(stat -c %a kept)" = 640 ] || failed "it is now $(ls -l rows kept)"
 same want kept
 rm rows
+# As root, so do its owner and its group. Any other user is told that they can't be kept. Then the members of the new group may read it no
+# more than all others may.
+if [ "$(id -u)" = 0 ] && can setpriv 'the owner of rows'; then
+    head -c 40 want > rows
+    chown 1234:2345 rows
+    chmod 640 rows
+    "$go_on" rows library.sgf
+    [ "$(stat -c %u:%g:%a rows)" = 1234:2345:640 ] || failed "it is now $(stat -c %u:%g:%a rows)"
+    same want rows
+    head -c 40 want > rows
+    chmod 755 .
+    cp -R "$top/recipes" .
+    cp "$SGFSPLIT" program
+    chmod 755 program
+    chown 2222:2222 .
+    chmod -R a+rX library.sgf recipes
+    as_other() { SGFSPLIT=$work/program setpriv --reuid 2222 --regid 2222 --clear-groups env PYTHONDONTWRITEBYTECODE=1 recipes/go_on.py "$@"; }
+    chmod 644 rows
+    as_other rows library.sgf 2> fault || failed "status $? of another user, $(cat fault)"
+    echo "rows: the system doesn't allow to keep the group and the owner of the rows" > said
+    same said fault "what another user is told"
+    same want rows
+    head -c 40 want > rows
+    chown 2222:2345 rows
+    chmod 660 rows
+    as_other rows library.sgf 2> fault
+    echo "rows: the system doesn't allow to keep the group of the rows" > said
+    same said fault "what a user of another group is told"
+    [ "$(stat -c %u:%g:%a rows)" = 2222:2222:600 ] || failed "it is now $(stat -c %u:%g:%a rows)"
+    rm rows
+fi
 # A gigabyte without a line feed isn't read as a whole.
 truncate -s 1G rows
 status=0
@@ -85,3 +130,16 @@ for file in games/*.sgf; do
     "$SGFSPLIT" split "$file" > want
     same want "out/${file%.sgf}.rows"
 done
+# The row about an earlier fault is removed. A file of others that stands there stays, and the rows too.
+echo 'games/ko.sgf:1:1: not SGF' > out/games/ko.fault
+rm out/games/ko.rows
+"$go_on" out games
+[ ! -e out/games/ko.fault ] || failed "a fault stands beside new rows"
+"$SGFSPLIT" split games/ko.sgf > want
+same want out/games/ko.rows
+echo 'Dear Sir,' > out/games/ko.fault
+rm out/games/ko.rows
+if "$go_on" out games 2> fault; then failed "a letter was taken for a fault"; fi
+echo "out/games/ko.fault: library.py didn't write this file, so it stays as it is" > said
+same said fault
+[ ! -e out/games/ko.rows ] && [ "$(cat out/games/ko.fault)" = 'Dear Sir,' ] || failed "files of others were changed"

@@ -2,7 +2,7 @@
 # Each tool on files whose names are options, commands, replacement strings, rows of text, or not UTF-8: as words, below a folder, and from
 # standard input. It treats each file like one with a plain name, and names the refused one. It never runs what a name says.
 . "$(dirname "$0")/lib.sh"
-needs python3 parallel gnugo
+needs python3
 cat > hostile.py <<'PYTHON'
 import csv
 import io
@@ -93,7 +93,7 @@ def check_library(names, kept):
 
 for names, kept in three_ways("library.py", "../out", out="../out"):
     check_library(names, kept)
-for machines in ("--sshlogin=:", "--sshlogin=1/machine"):
+for machines in ("--sshlogin=:", "--sshlogin=1/machine") if "parallel" in sys.argv[2:] else ():
     shutil.rmtree("../out")
     run(TOOLS + "library.py", machines, "--", "../out", *NAMES, BAD)
     check_library(NAMES, held("../out"))
@@ -117,14 +117,14 @@ for _ in range(2):
 
 for names, text in three_ways("illegal_lines.py"):
     same(sorted(text.splitlines()), sorted(shown(name) + b":4:2: turn 2: W[bb]: repeat" for name in dots(names)), "illegal_lines.py")
-# The command of the README shows each name in one row, as `ls -b` does, and the number of its game.
-command = next(line[6:] for line in open(sys.argv[1] + "/README.md", encoding="utf-8") if line.startswith("    $ find examples "))
+# The shell command of docs/RECIPES.md shows each name in one row, as `ls -b` does, and the number of its game.
+command = next(line[6:] for line in open(sys.argv[1] + "/docs/RECIPES.md", encoding="utf-8") if line.startswith("    $ find examples "))
 command = command.replace("find examples ", "find . ").replace("sgfsplit split", '"$SGFSPLIT" split')
 text = subprocess.run(["bash", "-c", command], stdout=subprocess.PIPE, stderr=subprocess.DEVNULL, timeout=300).stdout
 plain = {b"n": b"\n", b"r": b"\r", b"t": b"\t"}
 text = [re.sub(rb"\\([0-7]{3}|.)", lambda found: plain.get(found[1]) or (bytes([int(found[1], 8)]) if found[1].isdigit() else found[1]), row)
         for row in text.splitlines()]
-same(sorted(text), sorted(b"./" + name + b" 1" for name in LISTED), "the command of the README")
+same(sorted(text), sorted(b"./" + name + b" 1" for name in LISTED), "the shell command")
 for names, text in three_ways("parts.py"):
     same(text, b"".join(rows) * len(names), "parts.py")
 for names, text in three_ways("openings.py", "2"):
@@ -151,7 +151,8 @@ def read(end):
 pty.spawn([os.fsencode(TOOLS + "verdicts.py"), b"--csv", b"--", *NAMES], read)
 if re.search(rb"[\x00-\x09\x0b\x0c\x0e-\x1f\x7f\x9b]|\xe2\x80\xae|\xe2\x81\xa6|\xd8\x9c", b"".join(seen)):
     sys.exit(f"a terminal gets hidden characters: {seen}")
-same(run(TOOLS + "replay.py", "--", *NAMES, BAD), b"%d lines agree, 0 differ, 0 left out\n" % (2 * len(NAMES)), "replay.py")
+if "gnugo" in sys.argv[2:]:
+    same(run(TOOLS + "replay.py", "--", *NAMES, BAD), b"%d lines agree, 0 differ, 0 left out\n" % (2 * len(NAMES)), "replay.py")
 
 # A bare name in the place of options: it is a file, unless it is also an option. Then the tool accepts neither.
 for name in (b"--sshlogin=touch x.sgf", b"--rpl={} touch pwned.sgf", b"-x.sgf", b"--form=gtp", b"-"):
@@ -173,4 +174,7 @@ shift
 SHELL=/bin/sh exec sh -c "$*"
 SSH
 chmod +x ssh
-PARALLEL_SSH=$work/ssh python3 hostile.py "$top"
+programs=
+if can parallel 'library.py on other machines'; then programs+=' parallel'; fi
+if can gnugo replay.py; then programs+=' gnugo'; fi
+PARALLEL_SSH=$work/ssh python3 hostile.py "$top" $programs

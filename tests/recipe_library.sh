@@ -2,7 +2,7 @@
 # A library on all cores. The rows or the fault of each file are in its own folder. Later calls do only what was added, changed or repaired, or
 # had failed. A removed folder is made again with the same bytes. Killed runs and runs on other machines also end with the same bytes.
 . "$(dirname "$0")/lib.sh"
-needs python3 parallel
+needs python3
 library=$top/recipes/library.py
 mkdir -p games/x/y games/z
 cp "$top"/examples/*.sgf games/x
@@ -77,9 +77,17 @@ find games -name '*.sgf' -print0 | sort -rz | "$library" -0 out
 call there games/x games/z games --sshlogin
 [ "$status" = 1 ] && grep -q '^--sshlogin: No such file' faults || failed "an option after the files was taken for one"
 rm -r there
-call --sshlogin=: there games
-[ "$status" = 0 ] || failed "by GNU Parallel: $(cat faults)"
-for folder in out there; do
+folders=out
+if can parallel 'library.py by GNU Parallel'; then
+    call --sshlogin=: there games
+    [ "$status" = 0 ] || failed "by GNU Parallel: $(cat faults)"
+    folders='out there'
+else
+    call --sshlogin=: there games
+    echo "library.py: --sshlogin needs GNU Parallel, which isn't installed" > want
+    same want faults "after status $status, what is said without GNU Parallel"
+fi
+for folder in $folders; do
     sed -i '/broken/d' want.out/.done.jsonl
     diff -r want.out "$folder" >&2 || failed "$folder isn't the folder that later calls made"
 done
@@ -99,10 +107,12 @@ cat > ssh <<'SSH'
 exit 255
 SSH
 chmod +x ssh
-PARALLEL_SSH=$work/ssh call --sshlogin=1/nowhere late games
-[ "$status" = 1 ] && [ "$(grep -c 'not done$' faults)" = "$(find games -name '*.sgf' | wc -l)" ] || failed "a lost machine: $(cat faults)"
-call late games
-whole late
+if can parallel "a machine that doesn't exist"; then
+    PARALLEL_SSH=$work/ssh call --sshlogin=1/nowhere late games
+    [ "$status" = 1 ] && [ "$(grep -c 'not done$' faults)" = "$(find games -name '*.sgf' | wc -l)" ] || failed "a lost machine: $(cat faults)"
+    call late games
+    whole late
+fi
 
 # A call that was killed at some moment, and another call. The journal of finished files may end in the middle of a row.
 mkdir many
@@ -119,6 +129,52 @@ for count in 1 20 40; do
 done
 "$library" killed many
 diff -r all killed >&2 || failed "a killed run wasn't mended"
+
+# A call is stopped while it replaces rows, by whatever. The earlier games are put back, and so are their rows: none of the other games stays.
+mkdir some
+cat > stops <<'STOPS'
+#!/bin/sh
+if [ "$1" = split ]; then
+    echo >> splits
+    echo $PPID > worker
+    [ "$(wc -l < splits)" != 30 ] || kill -"$SIGNAL" "$(cat tool)"
+fi
+exec "$TRUE_SGFSPLIT" "$@"
+STOPS
+chmod +x stops
+for signal in KILL TERM INT; do
+    for number in $(seq 60); do cp "$top/examples/corner.sgf" "some/$number.sgf"; done
+    rm -rf put
+    "$library" put some
+    cp -R put want.put
+    for number in $(seq 60); do cp "$top/examples/ko.sgf" "some/$number.sgf"; done
+    : > splits
+    status=0
+    TRUE_SGFSPLIT=$SGFSPLIT SGFSPLIT=$work/stops SIGNAL=$signal bash -c 'echo $$ > tool; exec "$@"' bash "$library" put some 2> faults || status=$?
+    while kill -0 "$(cat worker)" 2> /dev/null; do sleep 0.05; done
+    [ "$status" != 0 ] && [ "$(wc -l < splits)" -ge 30 ] || failed "$signal: status $status after $(wc -l < splits) files"
+    diff -r want.put put > /dev/null && failed "$signal: the call was stopped before it replaced any rows"
+    for number in $(seq 60); do cp "$top/examples/corner.sgf" "some/$number.sgf"; done
+    "$library" put some
+    diff -r want.put put >&2 || failed "$signal: rows of other games stay"
+    rm -r want.put
+done
+# The same if rows were changed in another way, or a run was stopped between the fault of a file and the removal of its rows.
+cp -R put want.put
+cat "$top/examples/ko.sgf" >> some/1.sgf
+"$top/recipes/go_on.py" put some/1.sgf
+cp "$top/examples/corner.sgf" some/1.sgf
+cmp -s want.put/some/1.rows put/some/1.rows && failed "go_on.py added no rows"
+: > put/some/2.rows
+echo 'some/3.sgf:1:1: not SGF' > put/some/3.fault
+call put some
+[ "$status" = 0 ] && [ "$(anew put)" = 'put/some/1.rows put/some/2.rows put/some/3.rows ' ] || failed "status $status, written again: $(anew put)"
+diff -r want.put put >&2 || failed "changed rows stay"
+# A journal without the checksums of rows, as earlier versions wrote it, doesn't know which rows stand.
+sed -i 's/, "[0-9a-f]*"\]$/]/' put/.done.jsonl
+: > put/some/2.rows
+"$library" put some
+diff -r want.put put >&2 || failed "rows of an earlier version stay"
 
 # Two calls at once, and a call that gets a signal to end.
 "$library" both many &

@@ -36,6 +36,120 @@ for file in open.sgf damaged.sgf front.sgf empty.sgf mark_between.sgf; do
     done
 done
 
+# The cut that the program accepts is the one that is found game by game. So the rows are the same, and for a refused text, too, the fault and
+# the rows before it, with any number of jobs. The texts have variations, comments that look like the ends of games, and damage at any byte.
+cat > cuts.py <<'PYTHON'
+import io
+import random
+import sys
+
+sys.path.insert(0, sys.argv[1] + "/recipes")
+import parts
+import sgfsplit
+
+ROOTS = ["GM[1]", "FF[4]SZ[9]", "SZ[3]", "", "C[a]", " CA[UTF-8]"]
+COMMENTS = ["", "C[) (;FF[4\\]]", "C[)\n(;GM[1\\]B[aa\\])(;]", "C[\\\\]", "C[x)]", "N[(;SZ]"]
+BETWEEN = ["", "\n", "\n\n", " \r\n\t", "  "]
+
+
+def tree(depth):
+    text = "".join(";" + random.choice(["B[aa]", "W[]", ""]) + random.choice(COMMENTS) for _ in range(random.randrange(1, 3)))
+    if depth and random.random() < 0.5:
+        text += "".join(random.choice(BETWEEN) + "(" + tree(depth - 1) + ")" for _ in range(random.randrange(1, 4)))
+    return text
+
+
+def collection():
+    text = "".join(random.choice(BETWEEN) + "(;" + random.choice(ROOTS) + random.choice(COMMENTS) + tree(2) + ")"
+                   for _ in range(random.randrange(1, 12))) + random.choice(BETWEEN)
+    data = bytearray(text.encode())
+    for _ in range(random.choice([0, 0, 1, 4])):
+        at = random.randrange(len(data))
+        data[at:at + random.choice([0, 1])] = random.choice([b"(", b")", b"[", b"]", b"\\", b"x", b";", b" ", b"", b"\xef\xbb\xbf"])
+    return bytes(data)
+
+
+def given(text, most, jobs):
+    """The rows, and the fault or None."""
+    rows = []
+    sgfsplit.opened = lambda name: io.BytesIO(text)
+    try:
+        rows.extend(parts.rows_of("text", most, jobs))
+    except sgfsplit.Refused as refused:
+        return b"".join(rows), str(refused)
+    return b"".join(rows), None
+
+
+def by_games(text, most):
+    """The same in the old way, game by game."""
+    new = parts.Parts.next
+    parts.Parts.next = lambda self, tried: None
+    try:
+        return given(text, most, 1)
+    finally:
+        parts.Parts.next = new
+
+
+random.seed(77)
+refused, kept = 0, {"cut": 0, "by games": 0}
+for way, name in (("next", "cut"), ("next_by_games", "by games")):
+    def counted(self, *words, plain=getattr(parts.Parts, way), name=name):
+        part = plain(self, *words)
+        kept[name] += part is not None
+        return part
+    setattr(parts.Parts, way, counted)
+for number in range(150):
+    text, most = collection(), random.choice([1, 30, 100, 200, 400, 1000])
+    want = by_games(text, most)
+    refused += want[1] is not None
+    got = given(text, most, random.choice([1, 2, 5]))
+    if got != want:
+        sys.exit(f"parts of {most} bytes of {text}:\n{got}\nnot\n{want}")
+print(30 < refused < 120 and kept["cut"] > 100 or (refused, kept))
+PYTHON
+python3 cuts.py "$top" > got || failed "$(cat got)"
+echo True > want
+same want got "how often the texts are refused and cut"
+
+# A library of 8 MB in parts of 1 MB is never gone through game by game, and the program is asked once for each part.
+python3 - <<'PYTHON'
+game = b"(;GM[1]FF[4]SZ[9]C[" + b"x" * 500 + b"]" + b";B[aa](;W[bb])\n(;W[cc]))\n"
+with open("library.sgf", "wb") as file:
+    file.writelines([game] * 15000)
+PYTHON
+cat > counts <<'COUNTS'
+#!/bin/sh
+echo "$1" >> calls
+exec "$TRUE_SGFSPLIT" "$@"
+COUNTS
+chmod +x counts
+: > calls
+TRUE_SGFSPLIT=$SGFSPLIT SGFSPLIT=$work/counts "$tool" --most 1000000 library.sgf > got
+"$SGFSPLIT" split library.sgf > want
+same want got "the rows of a library in parts"
+[ "$(grep -c split calls)" = 9 ] || failed "$(wc -c < library.sgf) bytes in parts of 1000000: $(grep -c split calls) calls"
+# With four jobs four programs run at a time, and no more.
+cat > meets <<'MEETS'
+#!/bin/sh
+if [ "$1" = split ]; then
+    : > "here.$$"
+    ls here.* | wc -l >> met
+    for _ in $(seq 100); do
+        [ "$(ls here.* | wc -l)" -lt 4 ] || : > all_met
+        [ ! -e all_met ] || break
+        sleep 0.1
+    done
+    "$TRUE_SGFSPLIT" "$@"
+    rm "here.$$"
+else
+    exec "$TRUE_SGFSPLIT" "$@"
+fi
+MEETS
+chmod +x meets
+TRUE_SGFSPLIT=$SGFSPLIT SGFSPLIT=$work/meets "$tool" --jobs 4 --most 1000000 library.sgf > got
+same want got "the rows of four jobs"
+[ "$(sort -n met | tail -n 1)" = 4 ] || failed "with four jobs $(sort -n met | tail -n 1) programs ran at a time"
+
 # More than the program accepts: 48 games of about 1.5 MB, and the same once more.
 python3 - <<'PYTHON'
 game = b"(;SZ[9]C[" + b"x" * 1500000 + b"];B[aa](;W[bb])(;W[cc]))\n"

@@ -2,7 +2,7 @@
 # The table of a library. Columns, CSV, objects and SQLite have the same cells. A repeated call makes no duplicates in SQLite, and a file that
 # changed or is now refused keeps no old row.
 . "$(dirname "$0")/lib.sh"
-needs python3 sqlite3
+needs python3
 tool=$top/recipes/verdicts.py
 cp -R "$top/examples" games
 printf '(;SZ[2];B[];W[])' > games/over.sgf
@@ -47,13 +47,13 @@ echo '{"file": "games/corner.sgf", "place": 95, "game": 1, "nodes": 4, "verdict"
     '"turn": null, "fault": null, "reason": null}' > want
 same want got
 
-table() { sqlite3 -csv games.db 'SELECT * FROM lines ORDER BY file, place' | tr -d '\r"'; }
+table() { asked games.db 'SELECT * FROM lines ORDER BY file, place' | tr '|' ,; }
 for _ in 1 2 3; do
     "$tool" --sqlite games.db games
     table > got
     same cells got "the table in SQLite"
 done
-sqlite3 games.db "SELECT typeof(place), typeof(black), typeof(file), count(*) FROM lines WHERE black > white" > got
+asked games.db "SELECT typeof(place), typeof(black), typeof(file), count(*) FROM lines WHERE black > white" > got
 echo 'integer|integer|text|6' > want.types
 same want.types got "what the cells are"
 
@@ -118,3 +118,26 @@ cp games/over.sgf $'a,"b"\nc.sgf'
 "$tool" --csv $'a,"b"\nc.sgf' | tail -n +2 > got
 printf '"a,""b""\nc.sgf",7,1,2,score,4,0,open,,,\n' > want
 same want got
+
+# A table that has more columns, in another order, takes the rows. A table or view of others is refused, and stays as it is.
+base() { python3 -c 'import sqlite3, sys; sqlite3.connect(sys.argv[1]).executescript(sys.argv[2])' "$@"; }
+base own.db 'CREATE TABLE lines (note DEFAULT "none", place, file, reason, fault, turn, ended, white, black, verdict, nodes, game, PRIMARY KEY (place, file))'
+"$tool" --sqlite own.db games/over.sgf games/illegal.sgf
+asked own.db 'SELECT file, place, game, nodes, verdict, black, white, ended, turn, fault, reason, note FROM lines ORDER BY file DESC, place LIMIT 2' > got
+printf 'games/over.sgf|7|1|2|score|4|0|open||||none\ngames/illegal.sgf|45|1|3|illegal||||1|45|mixed|none\n' > want
+same want got
+columns=file,place,game,nodes,verdict,black,white,ended,turn,fault,reason
+for statement in "CREATE TABLE lines (a, b, c, d, e, f, g, h, i, j, k)" "CREATE TABLE lines (${columns/file/name}, PRIMARY KEY (place))" \
+    "CREATE TABLE lines ($columns)" "CREATE TABLE lines ($columns, PRIMARY KEY (file))" \
+    "CREATE TABLE x ($columns); CREATE VIEW lines AS SELECT * FROM x" 'CREATE TABLE lines (file, place, PRIMARY KEY (file, place))'; do
+    rm -f other.db
+    base other.db "$statement"
+    asked other.db 'SELECT * FROM sqlite_master' > want
+    status=0
+    "$tool" --sqlite other.db games/over.sgf 2> faults || status=$?
+    [ "$status" = 3 ] && [ "$(cat faults)" = 'verdicts.py: other.db: its table `lines` isn'"'"'t one of this tool' ] ||
+        failed "$statement: status $status, $(cat faults)"
+    asked other.db 'SELECT * FROM sqlite_master' > got
+    same want got "$statement, afterwards"
+    [ -z "$(asked other.db 'SELECT * FROM lines')" ] || failed "$statement: it has rows"
+done

@@ -1,7 +1,7 @@
 #!/usr/bin/env bash
 # The behaviour of each tool with its words, with missing files, with a reader that closes the pipe, with a full device, and without our program.
 . "$(dirname "$0")/lib.sh"
-needs python3 gnugo
+needs python3
 cp "$top/examples/ko.sgf" ko.sgf
 mkdir folder
 cp "$top"/examples/*.sgf folder
@@ -23,6 +23,7 @@ for path in "$top"/recipes/*.py; do
     [ -x "$path" ] || continue
     tool=$(basename "$path" .py)
     tools=$((tools + 1))
+    [ "$tool" != replay ] || can gnugo replay.py || continue
     words=(${first[$tool]-})
     ends 0 "$tool -h" "$path" -h
     grep -q "^  $tool.py " out.txt && head -n 1 out.txt | grep -q "^$tool.py " || failed "$tool -h has no example"

@@ -1,7 +1,8 @@
 #!/usr/bin/env bash
 # Every place that repeats a word of packaging/words.txt, or the version, agrees with it. In a copy of the table each field is changed in turn,
 # and the order of two rows, and each change is found. In a copy of the whole tree the table gets a form, a reason and a message. Then
-# `words.py --write` writes what the table determines, and names just the places with words that are left to a person.
+# `words.py --write` writes what the table determines, and names just the places with words that are left to a person. Other words in single
+# files are found.
 . "$(dirname "$0")/lib.sh"
 needs python3
 "$top/packaging/words.py" || failed 'these places differ from packaging/words.txt or from the file VERSION'
@@ -60,14 +61,19 @@ import sys
 
 # what a person changes for a new form, a new reason and a new message
 BY_HAND = ["README.md", "crates/go_board/specs/Reason.antt", "crates/sgf*/specs/**/*.antt", "crates/sgf*/src/**/*.rt",
-           "crates/sgf_lines/specs/Form.antt", "docs/OUTPUT.md", "docs/RULES.md", "examples/illegal.sgf", "man/sgfsplit.1",
-           "python/sgflines.py", "tests/library.c", "tests/program.sh"]
+           "crates/sgf_lines/specs/Form.antt", "crates/sgf_lines_c/src/asked.rt", "docs/OUTPUT.md", "docs/PERFORMANCE.md", "docs/RULES.md",
+           "docs/figures/growth.svg", "examples/illegal.sgf", "man/sgfsplit.1", "python/sgflines.py", "tests/library.c", "tests/program.sh"]
 # and what is written then
 WRITTEN = ["README.md", "bench/compare.py", "bench/growth.py", "bench/hostile.py", "completion/_sgfsplit", "completion/sgfsplit.bash",
            "completion/sgfsplit.fish", "crates/go_board/src/reason.rt", "crates/sgf_lines/src/form.rt",
            "crates/sgf_lines/src/options.rt", "crates/sgf_lines/src/run.rt",
            "crates/sgf_lines_c/src/answer.rt", "crates/sgfsplit_job/proofs/PlainWords.antt", "crates/sgfsplit_job/src/command.rt",
            "include/sgf_lines.h", "man/sgfsplit.1", "python/sgflines.py", "recipes/sgfsplit.py", "tests/help.sh", "tests/library.c"]
+# words in files whose rows in the table other files have too, and other words there
+OTHER_WORDS = [("crates/sgf_lines/src/fault.rt", "no line ends at {place}", "no line ends before {place}"),
+               ("crates/tree_lines/src/seek.rt", "no line ends at {place}", "no line ends before {place}"),
+               ("crates/tree_lines/src/seek.rt", "out of memory", "memory refused"),
+               ("crates/sgf_lines_c/src/asked.rt", ", 2 as", ", 3 as"), ("docs/figures/growth.svg", ">gtp<", ">moves<")]
 TABLE = "tree/packaging/words.txt"
 shutil.copytree(sys.argv[1], "tree", symlinks=True, ignore=shutil.ignore_patterns("out", ".git", "__pycache__"))
 
@@ -99,6 +105,15 @@ def wanted(what, want, got):
 status, told, files = changed(["--write"])
 wanted("the status of a tree that agrees", 0, status)
 wanted("what is written then", [], files)
+for path, old, new in OTHER_WORDS:
+    whole = bytes_of(f"tree/{path}")
+    wanted(f"how often {path} has {old}", 1, whole.count(old.encode()))
+    with open(f"tree/{path}", "wb") as file:
+        file.write(whole.replace(old.encode(), new.encode()))
+    status, told, _ = changed([])
+    wanted(f"{new} in {path}", (1, [path]), (status, [re.match(r"[^ ,:]+", row)[0] for row in told.splitlines()]))
+    with open(f"tree/{path}", "wb") as file:
+        file.write(whole)
 table = bytes_of(TABLE).decode()
 for kind, row in [("form", "form     untried  row  a form that nobody has tried"),
                   ("reason", "reason   not-tried  nobody has tried the move"),

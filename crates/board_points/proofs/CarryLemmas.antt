@@ -1,13 +1,15 @@
 -- Widening a set of columns: a sum carries from a column on as far as there is region, and steps go back from there.
-use Rattle.std.proofs.Common.{◌≡◌, ◌⊎◌, inl, inr, ℕ, zero, suc, ◌+◌, ◌-◌, ◌*◌, ◌/◌, ◌%◌, ◌^◌, ◌<◌, ◌≤◌, Bool, true, false, not, bit_and, bit_or, w64, sym, ap, ◌∙◌, arith, rules}
+use Rattle.std.proofs.Common.{◌≡◌, ◌⊎◌, inl, inr, ℕ, zero, suc, ◌+◌, ◌-◌, ◌*◌, ◌/◌, ◌%◌, ◌^◌, ◌<◌, ◌≤◌, ◌≢◌, ◌&&◌, Bool, true, false, not, bit_and, bit_or, w64, sym, ap, ◌∙◌, arith, rules}
 use Rattle.std.proofs.lemmas.Grind.{common_steps}
-use Rattle.std.specs.Int.{bit_at, bit_not}
+use Rattle.std.specs.Int.{bit_at, bit_not, trailing_zeros}
+use Rattle.std.proofs.Math.Bool.{and-false}
 use Rattle.std.proofs.Math.Nat.{add-mod, add-mod_left, mod-eq_of_lt, two-pow-succ}
 use Rattle.std.proofs.lemmas.Bool.{or_cases, or_left, or_right, and_parts, and_from, false≢true, cases_lt, cases_Bool}
 use Rattle.std.proofs.lemmas.Nat.{mod-pow-add, mod_below, pow_pos}
 use Rattle.board_points.specs.Rows.{has_bit}
 use Rattle.board_points.specs.inner.Columns.{IsPart, HasBeside, HasNext, IsWidened}
-use Rattle.board_points.proofs.WordLemmas.{has_bit-or, has_bit-and, has_bit-without, has_bit-low, has_bit-right, bit_at-there, bit_at-gone, column_below}
+use Rattle.board_points.proofs.WordLemmas.{has_bit-or, has_bit-and, has_bit-without, has_bit-low, has_bit-right, bit_at-there, bit_at-gone, column_below, has_bit-zero, le_from_part}
+use Rattle.board_points.proofs.ColumnLemmas.{lowest_left}
 
 -- a word with one column more of it
 low-more : (n c : ℕ) → n % 2 ^ suc c ≡ bit_at n c * 2 ^ c + n % 2 ^ c
@@ -145,36 +147,59 @@ module _ (region seed : ℕ) (low : region < 2 ^ 64) (part : IsPart (has_bit see
   pub IsWidened-carried : IsWidened region seed carried
   IsWidened-carried = search (rules, carried-kept, carried-least, carried-next, carried-within)
 
--- a set with the columns before its own that there is region for
-abbrev pub with_before : ℕ → ℕ → ℕ
-with_before word region = bit_or word (bit_and region (word / 2 ^ 1))
+-- a set with more columns of the region, each just before one of its own
+module _ (region seed word before : ℕ) (widened : IsWidened region seed word) (in_room : IsPart (has_bit before) (has_bit region)) (next : (c : ℕ) → has_bit before c ≡ true → has_bit word (suc c) ≡ true) where
+  before_or_own : (c : ℕ) → has_bit (bit_or word before) c ≡ true → (has_bit word c ≡ true) ⊎ (has_bit before c ≡ true)
+  before_or_own c is = or_cases _ _ (sym (has_bit-or word before c) ∙ is)
 
-module _ (region seed word : ℕ) (widened : IsWidened region seed word) where
-  before_or_own : (c : ℕ) → has_bit (with_before word region) c ≡ true → (has_bit word c ≡ true) ⊎ ((has_bit region c ≡ true) × (has_bit word (suc c) ≡ true))
-  before_or_own c is = grind (arith, common_steps, and_parts, has_bit-and, has_bit-or, has_bit-right, or_cases)
+  keeps : IsPart (has_bit word) (has_bit (bit_or word before))
+  keeps c is = has_bit-or word before c ∙ or_left _ _ is
 
-  keeps : IsPart (has_bit word) (has_bit (with_before word region))
-  keeps c is = has_bit-or word _ c ∙ or_left _ _ is
-
-  pub IsWidened-before : IsWidened region seed (with_before word region)
+  pub IsWidened-before : IsWidened region seed (bit_or word before)
   IsWidened-before = record {
-    within = λ c is. elim (before_or_own c is) [ inl own ↦ widened.within c own | inr far ↦ far.0 ];
+    within = λ c is. elim (before_or_own c is) [ inl own ↦ widened.within c own | inr far ↦ in_room c far ];
     kept = λ c is. keeps c (widened.kept c is);
-    next = λ c is in_room.
+    next = λ c is there.
         keeps (suc c)
-        (elim (before_or_own c is) [ inl own ↦ widened.next c own in_room | inr far ↦ far.1 ]);
+        (elim (before_or_own c is) [ inl own ↦ widened.next c own there | inr far ↦ next c far ]);
     least = λ set beside part c is.
         elim (before_or_own c is) [
           | inl own ↦ widened.least set beside part c own
-          | inr far ↦ beside c (suc c) (inl (omega arith)) far.0 (widened.least set beside part (suc c) far.1)
+          | inr far ↦ beside c (suc c) (inl (omega arith)) (in_room c far) (widened.least set beside part (suc c) (next c far))
         ];
   }
 
-  pub HasBeside-before : with_before word region ≡ word → HasBeside (has_bit region) (has_bit word)
-  HasBeside-before same c d (inl right) in_room is =
-      ap (λ w. has_bit w c) (sym same)
-      ∙ has_bit-or word _ c
-      ∙ or_right _ _ (has_bit-and region _ c ∙ and_from _ _ in_room (has_bit-right word c ∙ ap (has_bit word) (omega (arith, right)) ∙ is))
-  HasBeside-before same c d (inr left) in_room is =
-      let at : c ≡ suc d = omega (arith, left) in
-      ap (has_bit word) at ∙ widened.next d is (ap (has_bit region) (sym at) ∙ in_room)
+-- the columns of the region that a set lacks, and which of them are just before one of its own
+abbrev pub AreLeft : ℕ → ℕ → ℕ → Type 0
+AreLeft region word left = (c : ℕ) → has_bit left c ≡ (has_bit region c && not (has_bit word c))
+
+pub in_before : (word left c : ℕ) → has_bit (bit_and (word / 2 ^ 1) left) c ≡ true → (has_bit word (suc c) ≡ true) × (has_bit left c ≡ true)
+in_before word left c is =
+    let both = and_parts _ _ (sym (has_bit-and (word / 2 ^ 1) left c) ∙ is) in (sym (has_bit-right word c) ∙ both.0, both.1)
+
+pub HasBeside-none : (region seed word left : ℕ) → IsWidened region seed word → AreLeft region word left → bit_and (word / 2 ^ 1) left ≡ 0 → HasBeside (has_bit region) (has_bit word)
+HasBeside-none region seed word left widened left_is none c d (inl right) in_room is =
+    elim (cases_Bool (has_bit word c)) [
+      | inl own ↦ own
+      | inr gone ↦
+          absurd (false≢true
+          (sym (ap (λ w. has_bit w c) none ∙ has_bit-zero c)
+          ∙ has_bit-and (word / 2 ^ 1) left c
+          ∙ and_from _ _ (has_bit-right word c ∙ ap (has_bit word) (omega (arith, right)) ∙ is) (left_is c ∙ and_from _ _ in_room (ap (λ b. not b) gone))))
+    ]
+HasBeside-none region seed word left widened left_is none c d (inr after) in_room is =
+    let at : c ≡ suc d = omega (arith, after) in
+    ap (has_bit word) at ∙ widened.next d is (ap (has_bit region) (sym at) ∙ in_room)
+
+-- what is left once a set has some of it
+pub AreLeft-before : (region word left before next : ℕ) → AreLeft region word left → ((c : ℕ) → has_bit next c ≡ (has_bit left c && not (has_bit before c))) → AreLeft region (bit_or word before) next
+AreLeft-before region word left before next left_is next_is c = grind (arith, common_steps, has_bit-or, left_is, next_is)
+
+pub fewer_left : (left before next : ℕ) → before ≢ 0 → before < 2 ^ 64 → IsPart (has_bit before) (has_bit left) → ((c : ℕ) → has_bit next c ≡ (has_bit left c && not (has_bit before c))) → next < left
+fewer_left left before next some low part next_is =
+    let there = (lowest_left before before some low (λ _ is. is)).0 in
+    let lowest = trailing_zeros w64 before in
+    let at_most = le_from_part next left (λ c is. (and_parts _ _ (sym (next_is c) ∙ is)).0) in
+    let gone : has_bit next lowest ≡ false = next_is lowest ∙ ap (λ b. has_bit left lowest && not b) there ∙ and-false (has_bit left lowest) in
+    let differs : next ≢ left = λ same. false≢true (sym gone ∙ ap (λ w. has_bit w lowest) same ∙ part lowest there) in
+    omega (arith, at_most, differs)

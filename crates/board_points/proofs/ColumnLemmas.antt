@@ -1,11 +1,11 @@
 -- Words as sets of columns: the columns of a row, those between two of them, and a word with a column added or taken.
 use Rattle.std.proofs.Common.{◌≡◌, ◌≢◌, inl, inr, ℕ, ◌+◌, ◌-◌, ◌*◌, ◌^◌, ◌%◌, ◌<◌, ◌==◌, ◌||◌, ◌&&◌, Bool, true, false, not, bit_and, bit_or, w64, refl, sym, ap, ◌∙◌, arith, ◌≤◌, nat_le}
 use Rattle.std.proofs.lemmas.Grind.{common_steps}
-use Rattle.std.proofs.lemmas.Bool.{or_right, and_parts, and_from, false≢true, cases_lt, leb-true, le-leb}
-use Rattle.std.specs.Int.{bit_not, trailing_zeros}
-use Rattle.std.proofs.Math.Nat.{mod-eq_of_lt}
-use Rattle.std.proofs.lemmas.Nat.{pow_below, mod_below, pow_pos}
-use Rattle.std.proofs.lemmas.Nat.Bits.{bit_at_set_same, bit_at_set_other, bit_at_mask_inside, bit_at_mask_above, bit_at_mask_below, bit_at-trailing_zeros}
+use Rattle.std.proofs.lemmas.Bool.{or_right, and_parts, and_from, false≢true, cases_eq, cases_lt, leb-true, le-leb}
+use Rattle.std.specs.Int.{bit_at, bit_not, trailing_zeros, leading_zeros}
+use Rattle.std.proofs.Math.Nat.{mod-eq_of_lt, two-pow-succ}
+use Rattle.std.proofs.lemmas.Nat.{pow_below, mod_below, pow_pos, leading_top}
+use Rattle.std.proofs.lemmas.Nat.Bits.{bit_at_set_same, bit_at_set_other, bit_at_mask_inside, bit_at_mask_above, bit_at_mask_below, bit_at-trailing_zeros, bit_at_cat_high}
 use Rattle.board_points.specs.Rows.{has_bit}
 use Rattle.board_points.specs.inner.Columns.{IsPart}
 use Rattle.board_points.proofs.WordLemmas.{has_bit-and, has_bit-without, has_bit-zero, has_bit-less, same_bools, le_from_part}
@@ -73,6 +73,32 @@ pub lowest_left : (columns left : ℕ) → left ≢ 0 → columns < 2 ^ 64 → I
 lowest_left columns left some low part =
     let found = bit_at-trailing_zeros w64 left (omega (arith, some)) (omega (arith, low, le_from_part left columns part)) in
     (ap (λ n. n == 1) found.1, found.0)
+
+-- the highest column of a word
+pub highest : (word : ℕ) → word < 2 ^ 64 → word ≢ 0 → has_bit word (63 - leading_zeros w64 word) ≡ true
+highest word low some =
+    let top = leading_top 64 word (omega (arith, some)) low in
+    let j = top.0 in
+    let at : 63 - leading_zeros w64 word ≡ j = omega (arith, top.1) in
+    let whole : 1 * 2 ^ j + (word - 2 ^ j) ≡ word = omega (arith, top.2) in
+    let double = two-pow-succ j in
+    let under : word - 2 ^ j < 2 ^ j = omega (arith, top.2, top.3, double) in
+    let first : j - j ≡ 0 = omega arith in
+    ap (has_bit word) at
+    ∙ ap (λ n. n == 1)
+    (ap (λ n. bit_at n j) (sym whole) ∙ bit_at_cat_high 1 j (word - 2 ^ j) j under (omega arith) ∙ ap (bit_at 1) first)
+
+-- a word without one of its columns is a smaller number
+pub without_smaller : (word next col : ℕ) → has_bit word col ≡ true → has_bit next col ≡ false → ((k : ℕ) → k ≢ col → has_bit next k ≡ has_bit word k) → next < word
+without_smaller word next col is gone elsewhere =
+    let part : IsPart (has_bit next) (has_bit word) = λ k there.
+    elim (cases_eq k col) [
+      | inl same ↦ ap (has_bit word) same ∙ is
+      | inr other ↦ sym (elsewhere k other) ∙ there
+    ] in
+    let at_most = le_from_part next word part in
+    let differs : next ≢ word = λ same. false≢true (sym gone ∙ ap (λ w. has_bit w col) same ∙ is) in
+    omega (arith, at_most, differs)
 
 -- what is left without its lowest column
 module _ (columns left next : ℕ) (some : left ≢ 0) (low : columns < 2 ^ 64) (part : IsPart (has_bit left) (has_bit columns)) (there : has_bit next (trailing_zeros w64 left) ≡ false) (elsewhere : (k : ℕ) → k ≢ trailing_zeros w64 left → has_bit next k ≡ has_bit left k) where

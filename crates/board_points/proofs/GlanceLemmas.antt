@@ -2,17 +2,18 @@
 use Rattle.std.proofs.Common.{◌≡◌, ◌≢◌, ◌⊎◌, inl, inr, ℕ, ◌+◌, ◌^◌, ◌<◌, ◌||◌, ◌&&◌, Bool, true, false, not, List, length, get_or, bit_and, bit_or, w64, refl, sym, ap, ◌∙◌, arith, subst, rules}
 use Rattle.std.proofs.lemmas.Grind.{common_steps}
 use Rattle.std.specs.Int.{bit_not}
-use Rattle.std.proofs.lemmas.Bool.{or_cases, or_parts, and_parts, and_from, or_right, not-true, false≢true}
+use Rattle.std.proofs.lemmas.Bool.{cases_Bool, or_cases, or_parts, and_parts, and_from, or_right, not-true, false≢true}
 use Rattle.std.proofs.lemmas.Nat.{le_or_l, le_or_r}
 use Rattle.board_points.specs.declared.points.Point.{Point}
 use Rattle.board_points.specs.declared.liberty.RowStones.{RowStones}
+use Rattle.board_points.specs.declared.quick.glance.Around.{Around}
 use Rattle.board_points.specs.Point.{IsOn, DifferByOne, AreAdjacent}
-use Rattle.board_points.specs.inner.Look.{IsRowAt, AreFree, IsLookedAt}
-use Rattle.board_points.specs.Glance.{StaysOpen, Lives}
+use Rattle.board_points.specs.inner.Look.{IsRowAt, AreFree, IsLookedAt, IsSeenAround}
+use Rattle.board_points.specs.Glance.{StaysOpen, Lives, LeavesAcross}
 use Rattle.board_points.specs.Rows.{has_bit, is_set}
 use Rattle.board_points.specs.inner.Columns.{IsInOrBeside}
 use Rattle.board_points.proofs.ColumnLemmas.{lowest_left}
-use Rattle.board_points.proofs.WordLemmas.{in_the_other, has_bit-or, has_bit-and, has_bit-without, has_bit-zero, column_below}
+use Rattle.board_points.proofs.WordLemmas.{in_the_other, has_bit-or, has_bit-and, has_bit-without, has_bit-less, has_bit-zero, column_below}
 
 -- a word that isn't 0 has a column
 pub some_bit : (w : ℕ) → w < 2 ^ 64 → w ≢ 0 → (c : ℕ) × (has_bit w c ≡ true)
@@ -136,8 +137,42 @@ module _ (own others : List ℕ) (p : Point) (i columns above : ℕ) (row : RowS
       ]
 
   -- a stone of the opponent keeps a liberty
-  pub left_there : (q : Point) → columns < 2 ^ 64 → near < 2 ^ 64 → bit_and (bit_and columns row.others) (bit_not w64 near) ≡ 0 → q.row + 2 ≡ p.row + (i + 1) → has_bit columns q.col ≡ true → is_set others q ≡ true → StaysOpen own others p q
+  pub left_there : (q : Point) → columns < 2 ^ 64 → near < 2 ^ 64 → has_bit (bit_and (bit_and columns row.others) (bit_not w64 near)) q.col ≡ false → q.row + 2 ≡ p.row + (i + 1) → has_bit columns q.col ≡ true → is_set others q ≡ true → StaysOpen own others p q
   left_there q low few none at there set =
       stays_open q at
       (in_the_other _ _ (has_bit-and columns row.others q.col ∙ and_from _ _ there (is.stones.has_others q at set))
-      (sym (has_bit-without (bit_and columns row.others) near q.col few (column_below 64 columns q.col low there)) ∙ ap (λ w. has_bit w q.col) none ∙ has_bit-zero q.col))
+      (sym (has_bit-without (bit_and columns row.others) near q.col few (column_below 64 columns q.col low there)) ∙ none))
+
+-- a column that a word less another doesn't have is in the other, or isn't in the word
+in_either : (near far c : ℕ) → near < 2 ^ 64 → far < 2 ^ 64 → bit_and near (bit_not w64 far) ≡ 0 → (has_bit near c ≡ false) ⊎ (has_bit far c ≡ true)
+in_either near far c low few none =
+    elim (cases_Bool (has_bit near c)) [
+      | inl is ↦ inr (in_the_other _ _ is (sym (has_bit-less near far c low few) ∙ ap (λ w. has_bit w c) none ∙ has_bit-zero c))
+      | inr gone ↦ inl gone
+    ]
+
+-- the rows around show an empty point beside the stones above and below
+pub left_across : (own others : List ℕ) (p : Point) (around : Around) → IsSeenAround own others p around → around.up ≡ 0 → around.down ≡ 0 → LeavesAcross own others p
+left_across own others p around seen no_up no_down q set next =
+    elim next.1 [
+      | inl row ↦ seen.down q set (next.0, row) (ap (λ w. has_bit w q.col) no_down ∙ has_bit-zero q.col)
+      | inr row ↦ seen.up q set (next.0, row) (ap (λ w. has_bit w q.col) no_up ∙ has_bit-zero q.col)
+    ]
+
+-- the free columns of the rows beyond are above and below the stones that the rows around show no empty point beside
+pub left_beyond : (own others : List ℕ) (p : Point) (around : Around) (first last : ℕ) → IsSeenAround own others p around
+    → AreFree own others p 0 first → AreFree own others p 4 last
+    → around.up < 2 ^ 64 → around.down < 2 ^ 64 → first < 2 ^ 64 → last < 2 ^ 64
+    → bit_or (bit_and around.up (bit_not w64 first)) (bit_and around.down (bit_not w64 last)) ≡ 0 → LeavesAcross own others p
+left_beyond own others p around first last seen free_first free_last up_low down_low first_low last_low none q set next =
+    let both = none_of_two (bit_and around.up (bit_not w64 first)) (bit_and around.down (bit_not w64 last)) none in
+    elim next.1 [
+      | inl row ↦ elim (in_either around.down last q.col down_low last_low both.1) [
+        | inl near ↦ seen.down q set (next.0, row) near
+        | inr far ↦ (let f = free_last q.col far in (f.0, f.2, f.3, inl (sym f.1.0, inl (omega (arith, f.1.1, row)))))
+      ]
+      | inr row ↦ elim (in_either around.up first q.col up_low first_low both.0) [
+        | inl near ↦ seen.up q set (next.0, row) near
+        | inr far ↦ (let f = free_first q.col far in (f.0, f.2, f.3, inl (sym f.1.0, inr (omega (arith, f.1.1, row)))))
+      ]
+    ]

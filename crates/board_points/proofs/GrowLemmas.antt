@@ -1,18 +1,16 @@
 -- Filling a set of points, as rows of words: one row grown; the rows that wait, and those that don't.
-use Rattle.std.proofs.Common.{◌≡◌, ◌≢◌, inl, inr, ℕ, zero, suc, ◌+◌, ◌^◌, ◌<◌, ◌≤◌, ◌||◌, Bool, true, List, length, get_or, set, bit_and, bit_or, refl, sym, ap, ◌∙◌, arith, slice_index, ◌⊎◌, ◌&&◌, false, not, nat_eq, w64, subst, rules}
+use Rattle.std.proofs.Common.{◌≡◌, ◌≢◌, inl, inr, ℕ, zero, suc, ◌+◌, ◌^◌, ◌<◌, ◌≤◌, ◌||◌, Bool, true, List, length, get_or, set, bit_and, bit_or, refl, sym, ap, ◌∙◌, arith, slice_index, ◌⊎◌, false, not, nat_eq}
 use Rattle.std.proofs.lemmas.Grind.{common_steps}
 use Rattle.std.proofs.lemmas.Bool.{or_cases, or_left, or_right, and_parts, and_from, false≢true, cases_eq, cases_Bool}
 use Rattle.std.proofs.lemmas.List.{get_or-set_same, get_or-set_other}
 use Rattle.std.proofs.Math.ListN.{get_or-eq_default}
 use Rattle.std.proofs.lemmas.List.Sums.{sum_by-set}
-use Rattle.std.specs.Int.{bit_not}
 use Rattle.std.proofs.lemmas.Bool.Decides.{Decides-eqb}
 use Rattle.board_points.specs.declared.points.Point.{Point}
-use Rattle.board_points.specs.Point.{DifferByOne}
 use Rattle.board_points.specs.Rows.{has_bit, is_set, IsAmong, IsClosed, Grows}
-use Rattle.board_points.specs.inner.Fill.{row_above, IsRowClosed, lacking, IsFilledBut}
-use Rattle.board_points.specs.inner.Columns.{IsPart, HasBeside, IsTaken}
-use Rattle.board_points.proofs.WordLemmas.{has_bit-or, has_bit-and, has_bit-zero, in_the_other, has_bit-without, column_below}
+use Rattle.board_points.specs.inner.Fill.{row_above, lacking}
+use Rattle.board_points.specs.inner.Columns.{IsPart, HasBeside}
+use Rattle.board_points.proofs.WordLemmas.{has_bit-or, has_bit-and, has_bit-zero}
 
 -- a point that is set has a row
 pub row_below : (rows : List ℕ) (p : Point) → is_set rows p ≡ true → p.row < length rows
@@ -49,7 +47,7 @@ seed_of rows region row beside = bit_and (bit_or (get_or rows row 0) beside) (ge
 pub lacking-more : (rows : List ℕ) (row grown : ℕ) → row < length rows → get_or rows row 0 ≤ grown → grown < 2 ^ 64 → grown ≢ get_or rows row 0 → lacking (set rows row grown) < lacking rows
 lacking-more rows row grown within more low other = grind (arith, common_steps, sum_by-set)
 
-module _ (rows region : List ℕ) (row beside grown : ℕ) (within_row : row < length rows) (within : IsAmong (is_set rows) (is_set region)) (beside_in : IsPart (has_bit beside) (has_bit (bit_or (row_above rows row) (slice_index rows (row + 1))))) (in_room : IsPart (has_bit grown) (has_bit (get_or region row 0))) (from_seed : IsPart (has_bit (seed_of rows region row beside)) (has_bit grown)) (closed : HasBeside (has_bit (get_or region row 0)) (has_bit grown)) (least : (set : ℕ → Bool) → HasBeside (has_bit (get_or region row 0)) set → IsPart (has_bit (seed_of rows region row beside)) set → IsPart (has_bit grown) set) where
+module _ (rows region : List ℕ) (row beside grown : ℕ) (within_row : row < length rows) (within : IsAmong (is_set rows) (is_set region)) (beside_in : IsPart (has_bit beside) (has_bit (bit_or (row_above rows row) (slice_index rows (row + 1))))) (in_room : IsPart (has_bit grown) (has_bit (get_or region row 0))) (from_seed : IsPart (has_bit (seed_of rows region row beside)) (has_bit grown)) (least : (set : ℕ → Bool) → HasBeside (has_bit (get_or region row 0)) set → IsPart (has_bit (seed_of rows region row beside)) set → IsPart (has_bit grown) set) where
   abbrev grown_rows : List ℕ
   grown_rows = set rows row grown
 
@@ -113,25 +111,9 @@ module _ (rows region : List ℕ) (row beside grown : ℕ) (within_row : row < l
         ];
   }
 
-  pub IsRowClosed-row : beside ≡ bit_or (row_above rows row) (slice_index rows (row + 1)) → IsRowClosed (is_set region) (is_set grown_rows) row
-  IsRowClosed-row beside_is = grind (arith, common_steps, above_at, beside_seed, elsewhere, has_bit-or, here, or_left, or_right, slice_index)
-
 -- a word that isn't told from 0
-zero_of : (n : ℕ) → not (nat_eq n 0) ≡ false → n ≡ 0
+pub zero_of : (n : ℕ) → not (nat_eq n 0) ≡ false → n ≡ 0
 zero_of n none = grind (arith, common_steps, Decides-eqb, nat_eq)
-
--- where a word has none of what a row lacks, the row has what the word has of the region
-and_left : (a b : Bool) → b ≡ true → (a && b) ≡ false → a ≡ false
-and_left true b is none = sym is ∙ none
-and_left false b is none = refl
-
-pub none_left : (word region here left : ℕ) → left ≡ bit_and region (bit_not w64 here) → region < 2 ^ 64 → here < 2 ^ 64 → not (nat_eq (bit_and left word) 0) ≡ false → (col : ℕ) → has_bit region col ≡ true → has_bit word col ≡ true → has_bit here col ≡ true
-none_left word region here left left_is low_room low_here none col there is =
-    in_the_other (has_bit region col) (has_bit here col) there
-    (sym (has_bit-without region here col low_here (column_below 64 region col low_room there))
-    ∙ ap (λ n. has_bit n col) (sym left_is)
-    ∙ and_left (has_bit left col) (has_bit word col) is
-    (sym (has_bit-and left word col) ∙ ap (λ n. has_bit n col) (zero_of (bit_and left word) none) ∙ has_bit-zero col))
 
 -- a set of rows with one more, if it is to be
 module _ (word next col : ℕ) (b : Bool) (there : has_bit next col ≡ (has_bit word col || b)) where
@@ -143,26 +125,3 @@ module _ (word next col : ℕ) (b : Bool) (there : has_bit next col ≡ (has_bit
 
   pub from_with : ((k : ℕ) → k ≢ col → has_bit next k ≡ has_bit word k) → (k : ℕ) → has_bit next k ≡ true → (has_bit word k ≡ true) ⊎ (k ≡ col)
   from_with elsewhere k is = elim (cases_eq k col) [ inl same ↦ inr same | inr other ↦ inl (sym (elsewhere k other) ∙ is) ]
-
--- with no row that waits, all is filled
-pub IsClosed-all : (region first rows : List ℕ) (waiting : ℕ) → IsFilledBut region first rows waiting (length region) → waiting ≡ 0 → IsClosed (is_set region) (is_set rows)
-IsClosed-all region first rows waiting done none = grind (arith, common_steps, has_bit-zero, row_below)
-
--- where another row grew of which a row lacks nothing, the row is closed as before
-pub closed_still : (region rows next : List ℕ) (row r : ℕ) → IsAmong (is_set rows) (is_set next) → ((k : ℕ) → k ≢ row → slice_index next k ≡ slice_index rows k) → r ≢ row → IsRowClosed (is_set region) (is_set rows) r → (DifferByOne r row → IsTaken region next r (slice_index next row)) → IsRowClosed (is_set region) (is_set next) r
-closed_still region rows next row r kept others other was taken = search (rules, here)
-
--- one row grown, and perhaps one row more among the first ones
-pub filled_more : (region first rows next : List ℕ) (waiting after row from count : ℕ) → IsFilledBut region first rows waiting from → ((r : ℕ) → r < count → r ≢ row → r < from) → length next ≡ length rows → Grows (is_set region) (is_set rows) (is_set next) → IsRowClosed (is_set region) (is_set next) row → ((k : ℕ) → k ≢ row → slice_index next k ≡ slice_index rows k) → ((r : ℕ) → r ≢ row → has_bit after r ≡ false → has_bit waiting r ≡ false) → ((r : ℕ) → has_bit after r ≡ true → r < length region) → ((r : ℕ) → DifferByOne r row → r < count → has_bit after r ≡ false → IsTaken region next r (slice_index next row)) → IsFilledBut region first next after count
-filled_more region first rows next waiting after row from count was below_from long grows closed others kept rows_in taken = record {
-  all = long ∙ was.all;
-  grows = Grows-twice region first rows next was.grows grows;
-  rows_in = rows_in;
-  closed = λ r below none.
-      elim (cases_eq r row) [
-        | inl e ↦ subst (IsRowClosed (is_set region) (is_set next)) (sym e) closed
-        | inr other ↦
-            closed_still region rows next row r grows.kept others other (was.closed r (below_from r below other) (kept r other none))
-            (λ differ. taken r differ below none)
-      ];
-}

@@ -7,6 +7,7 @@ pub mod WordLemmas
 pub mod ColumnLemmas
 pub mod CarryLemmas
 pub mod GrowLemmas
+pub mod GiveLemmas
 pub mod RowLemmas
 pub mod CountLemmas
 pub mod LinkedLemmas

@@ -1,19 +1,18 @@
 -- The group of a stone, and the points beside it.
-use Rattle.std.proofs.Common.{◌≡◌, ◌≢◌, inl, inr, ℕ, zero, suc, ◌+◌, ◌*◌, ◌/◌, ◌%◌, ◌^◌, ◌<◌, subst, true, false, w64, List, length, set, take, replicate, bit_and, bit_or, slice_index, refl, sym, ap, ◌∙◌, arith, rules}
+use Rattle.std.proofs.Common.{◌≡◌, ◌≢◌, inl, inr, ℕ, zero, suc, ◌+◌, ◌*◌, ◌/◌, ◌%◌, ◌^◌, ◌<◌, subst, Bool, not, ◌&&◌, true, false, w64, List, length, set, take, replicate, bit_and, bit_or, slice_index, refl, sym, ap, ◌∙◌, arith, rules}
 use Rattle.std.proofs.lemmas.Grind.{common_steps}
-use Rattle.std.proofs.lemmas.Bool.{or_cases, or_left, or_right, and_parts, and_from, false≢true}
+use Rattle.std.proofs.lemmas.Bool.{or_cases, or_left, or_right, and_parts, and_from, false≢true, cases_Bool}
 use Rattle.std.specs.Int.{trailing_zeros}
-use Rattle.std.proofs.lemmas.List.{length-set, get_or-set_other}
 use Rattle.board_points.specs.declared.points.Point.{Point}
 use Rattle.board_points.specs.declared.liberty.RowStones.{RowStones}
 use Rattle.board_points.specs.Point.{IsOn, DifferByOne, AreAdjacent}
-use Rattle.board_points.specs.Rows.{has_bit, is_set}
-use Rattle.board_points.specs.inner.Columns.{IsPart, HasBeside, IsTaken, IsInOrBeside}
-use Rattle.board_points.specs.inner.Fill.{IsRowClosed, IsFilledBut}
-use Rattle.board_points.specs.Linked.{HasLiberty, HaveLiberty}
+use Rattle.board_points.specs.Rows.{has_bit, is_set, IsAmong, IsClosed, Grows}
+use Rattle.board_points.specs.inner.Columns.{IsPart, IsInOrBeside}
+use Rattle.board_points.specs.Linked.{HasLiberty, HaveLiberty, IsLinked, IsLiberty}
+use Rattle.board_points.specs.inner.Joined.{HasOneAlive}
 use Rattle.board_points.specs.inner.Look.{IsRowAt}
-use Rattle.board_points.proofs.PointLemmas.{DifferByOne-sym}
-use Rattle.board_points.proofs.GrowLemmas.{set_there, set_elsewhere, closed_still, row_below}
+use Rattle.board_points.proofs.PointLemmas.{AreAdjacent-sym, DifferByOne-sym}
+use Rattle.board_points.proofs.GrowLemmas.{set_there, set_elsewhere, row_below}
 use Rattle.board_points.proofs.WordLemmas.{has_bit-or, has_bit-and, has_bit-left, from_left, has_bit-right, has_bit-zero, column_below}
 use Rattle.board_points.proofs.ColumnLemmas.{lowest_left}
 
@@ -82,16 +81,9 @@ module _ (own old : List ℕ) (row word : ℕ) (none : (p : Point) → is_set ol
   pub in_first : (p : Point) → is_set (set old row word) p ≡ true → (p.row ≡ row) × (has_bit word p.col ≡ true)
   in_first p is = grind (arith, common_steps, set_elsewhere, set_there)
 
-  module _ (part : IsPart (has_bit word) (has_bit (slice_index own row))) (shut : HasBeside (has_bit (slice_index own row)) (has_bit word)) where
-    row_closed : IsRowClosed (is_set own) (is_set first) row
-    row_closed p q same (inl (cols, differ)) own_p is = absurd (omega (arith, differ, same, (in_first q is).0))
-    row_closed p q same (inr (rows, differ)) own_p is =
-        ap (λ r. has_bit (slice_index first r) p.col) same
-        ∙ of_first p.col (shut p.col q.col differ (ap (λ r. has_bit (slice_index own r) p.col) (sym same) ∙ own_p) (in_first q is).1)
-
-    -- all rows but those that wait are closed
-    pub first_filled : (waiting : ℕ) → length old ≡ length own → ((r : ℕ) → has_bit waiting r ≡ true → r < length own) → ((r : ℕ) → DifferByOne r row → r < length own → has_bit waiting r ≡ false → IsTaken own (set old row word) r (slice_index (set old row word) row)) → IsFilledBut own (set old row word) (set old row word) waiting (length own)
-    first_filled waiting long rows_in taken = grind (arith, common_steps, closed_still, get_or-set_other, in_first, length-set, row_closed, slice_index)
+  pub first_within : IsPart (has_bit word) (has_bit (slice_index own row)) → IsAmong (is_set first) (is_set own)
+  first_within part p is =
+      let w = in_first p is in ap (λ r. has_bit (slice_index own r) p.col) w.0 ∙ part p.col w.1
 
 -- a word has the stones of a row that have a liberty
 pub record AreAlive (own others : List ℕ) (row alive : ℕ) : Type 0 where
@@ -106,3 +98,52 @@ HaveLiberty-all own others alive long each = record {
   from = λ q is. (each q.row (rw (← long) (row_below alive q is))).from q.col is;
   to = λ q low stone free. (each q.row (row_below own q stone)).to q.col low stone free;
 }
+
+-- a group that grew from stones linked to a stone is linked to it
+pub alive_linked : (own others start rows : List ℕ) (from : Point) → Grows (is_set own) (is_set start) (is_set rows) → ((p : Point) → is_set start p ≡ true → IsLinked (is_set own) from p) → HasOneAlive own others rows → (p : Point) × IsLiberty own others from p
+alive_linked own others start rows from grows linked alive = (
+  alive.0,
+  record {
+    own_stone = grows.within alive.0 alive.1;
+    linked = λ set closed has. grows.least set closed (λ p is. linked p is set closed has) alive.0 alive.1;
+    liberty = alive.2;
+  },
+)
+
+-- a stone that is linked to another one is linked back
+module _ (region : Point → Bool) (a b : Point) (there : region a ≡ true) (linked : IsLinked region a b) (set : Point → Bool) (closed : IsClosed region set) (has : set b ≡ true) where
+  others_of : Point → Bool
+  others_of p = region p && not (set p)
+
+  others_closed : IsClosed region others_of
+  unfolding others_of
+  others_closed p q adjacent is other =
+      let parts = and_parts (region q) (not (set q)) other in
+      elim (cases_Bool (set p)) as (λ _. (region p && not (set p)) ≡ true) [
+        | inl in_set ↦ absurd (false≢true (sym (ap (λ x. not x) (closed q p (AreAdjacent-sym p q adjacent) parts.0 in_set)) ∙ parts.1))
+        | inr out ↦ and_from _ _ is (ap (λ x. not x) out)
+      ]
+
+  linked_set : set a ≡ true
+  unfolding others_of
+  linked_set =
+      elim (cases_Bool (set a)) as (λ _. set a ≡ true) [
+        | inl is ↦ is
+        | inr out ↦ absurd (false≢true (sym (ap (λ x. not x) has) ∙ (and_parts (region b) (not (set b)) (linked others_of others_closed (and_from _ _ there (ap (λ x. not x) out)))).1))
+      ]
+
+pub IsLinked-back : (region : Point → Bool) (a b : Point) → region a ≡ true → IsLinked region a b → IsLinked region b a
+IsLinked-back region a b there linked = λ set closed has. linked_set region a b there linked set closed has
+
+-- a stone of a group that has a liberty
+pub IsLiberty-linked : (own others : List ℕ) (from point stone : Point) → is_set own from ≡ true → IsLinked (is_set own) from point → IsLiberty own others from stone → IsLiberty own others point stone
+IsLiberty-linked own others from point stone there linked lives = record {
+  own_stone = lives.own_stone;
+  linked = λ set closed has. lives.linked set closed (IsLinked-back (is_set own) from point there linked set closed has);
+  liberty = lives.liberty;
+}
+
+-- each stone that a group grew by is linked to it
+pub part_linked : (own start rows : List ℕ) (from : Point) → Grows (is_set own) (is_set start) (is_set rows) → ((p : Point) → is_set start p ≡ true → IsLinked (is_set own) from p) → (stone : Point) → is_set rows stone ≡ true → (is_set own stone ≡ true) × IsLinked (is_set own) from stone
+part_linked own start rows from grows linked stone is =
+    (grows.within stone is, λ set closed has. grows.least set closed (λ p there. linked p there set closed has) stone is)

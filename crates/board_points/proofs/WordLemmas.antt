@@ -2,9 +2,10 @@
 use Rattle.std.proofs.Common.{◌≡◌, inl, inr, ℕ, zero, suc, ◌+◌, ◌-◌, ◌*◌, ◌/◌, ◌%◌, ◌^◌, ◌<◌, ◌≤◌, ◌==◌, ◌||◌, ◌&&◌, min, max, Bool, true, false, not, bit_and, bit_or, w64, refl, sym, ap, ◌∙◌, arith, subst, rules}
 use Rattle.std.proofs.lemmas.Grind.{common_steps}
 use Rattle.std.specs.Int.{bit_at, bit_not}
+use Rattle.std.specs.Int.Bits.{bit_xor}
 use Rattle.std.proofs.lemmas.Bool.{not-false, false_from_ne_true, false≢true, cases_lt, eqb-true, eqb-false}
 use Rattle.std.proofs.lemmas.Nat.{le_or_l, and_mask, mod_below, pow_pos}
-use Rattle.std.proofs.lemmas.Nat.Bits.{bit_at_and, bit_at_or, bit_at_not, bit_at-lt, bit_at-suc, bit_at-zero, bit_at_above, bit_at_ones, bit_at_cat_high, bit_at_cat_low, same_from_bits}
+use Rattle.std.proofs.lemmas.Nat.Bits.{bit_at_and, bit_at_or, bit_at_not, bit_at_xor, bit_at-lt, bit_at-suc, bit_at-zero, bit_at_above, bit_at_ones, bit_at_cat_high, bit_at_cat_low, same_from_bits}
 use Rattle.board_points.specs.Rows.{has_bit}
 use Rattle.board_points.specs.inner.Columns.{IsPart}
 
@@ -49,6 +50,13 @@ has_bit-less word other c low few =
           let none = ap (λ n. n == 1) (bit_at_above word 64 c low past) in
           has_bit-and word _ c ∙ ap (λ b. b && has_bit (bit_not w64 other) c) none ∙ sym (ap (λ b. b && not (has_bit other c)) none)
     ]
+
+-- a bit of one of two bits that aren't equal, where the second is set only if the first is
+test_apart : (a b : ℕ) → a < 2 → b < 2 → ((b == 1) ≡ true → (a == 1) ≡ true) → ((a + b) % 2 == 1) ≡ ((a == 1) && not (b == 1))
+test_apart = by_bits (λ a b. ((b == 1) ≡ true → (a == 1) ≡ true) → ((a + b) % 2 == 1) ≡ ((a == 1) && not (b == 1))) (λ _. refl) (λ part. absurd (false≢true (part refl))) (λ _. refl) (λ _. refl)
+
+pub has_bit_apart : (word part c : ℕ) → IsPart (has_bit part) (has_bit word) → has_bit (bit_xor word part) c ≡ (has_bit word c && not (has_bit part c))
+has_bit_apart word part c within = ap (λ n. n == 1) (bit_at_xor word part c) ∙ test_apart (bit_at word c) (bit_at part c) (bit_at-lt word c) (bit_at-lt part c) (within c)
 
 -- what isn't in a set isn't in a part of it
 pub not_in_part : (some all : ℕ → Bool) (k : ℕ) → IsPart some all → all k ≡ false → some k ≡ false

@@ -1,5 +1,5 @@
 -- The group of a stone, as sets of points: the stones of its colour that are linked to it, and their liberties.
-use Rattle.std.specs.Prelude.{◌≡◌, ◌||◌, ℕ, Bool, false, IsTrue, IsFalse, List, length, ◌<◌}
+use Rattle.std.specs.Prelude.{◌≡◌, ◌⊎◌, ◌||◌, ℕ, Bool, false, IsTrue, IsFalse, List, length, ◌<◌}
 use Rattle.board_points.specs.declared.points.Point.{Point}
 use Rattle.board_points.specs.Point.{IsOn, AreAdjacent}
 use Rattle.board_points.specs.Rows.{is_set, AreOfOneBoard, IsAmong, IsClosed}
@@ -46,3 +46,9 @@ pub record AddsIfShut (own others : List ℕ) (from : Point) (old new : List ℕ
   pub lives : IsFalse added → (new ≡ old) × ((stone : Point) × IsLiberty own others from stone)
   pub shut : IsTrue added → (group : List ℕ) × IsShutIn own others from group × (length new ≡ length old)
       × ((point : Point) → is_set new point ≡ (is_set old point || is_set group point))
+
+-- Stones were added to the rows. The group of each of them has a liberty.
+pub record AddsAlive (own others old new : List ℕ) : Type 0 where
+  pub all : length new ≡ length old
+  pub alive : (point : Point) → IsTrue (is_set new point)
+      → IsTrue (is_set old point) ⊎ (IsTrue (is_set own point) × ((stone : Point) × IsLiberty own others point stone))

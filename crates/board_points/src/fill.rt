@@ -1,137 +1,180 @@
 //! Filling sets of points: a word for each row, with a bit for each column.
 
-ghost use Rattle.std.specs.Prelude.{◌≡◌, ◌≢◌, ◌⊎◌, ℕ, ◌+◌, ◌*◌, ◌^◌, ◌<◌, ◌≤◌, false, Bool, IsTrue, List, length, slice_index};
-ghost use Rattle.board_points.specs.Point.{DifferByOne};
-ghost use Rattle.board_points.specs.inner.Fill.{IsFilledBut, IsRowGrown, SomeWait, row_above, lacking};
+ghost use Rattle.std.specs.Prelude.{◌≡◌, ◌≢◌, ℕ, ◌+◌, ◌<◌, Bool, not, ◌&&◌, ◌||◌, IsTrue, List, length, slice_index};
+ghost use Rattle.board_points.specs.declared.fill.Direction.TheVariants.{Up};
+ghost use Rattle.board_points.specs.inner.Fill.{IsFilledBut, IsNext, AreRowsBelow, HaveMore, row_above};
 ghost use Rattle.board_points.specs.Rows.{IsWithin, has_bit, is_set, IsClosed, Grows};
-ghost use Rattle.board_points.specs.inner.Columns.{IsPart, HasBeside, IsWidened, IsTaken};
+ghost use Rattle.board_points.specs.inner.Columns.{IsPart, HasBeside, IsWidened};
 
-use crate::columns::{with_column, without_column};
+use crate::columns::{columns_apart, with_column, without_column};
 
 /// Adds to a set all points that a path within `region` connects to it. This is the plain way to find whole groups or areas.
 ///
-/// Each row adds the points of the region that are beside points of the set. If a row has grown, those of the rows above and below it that
-/// can now add a point wait for their turn. All points of the set must be in the region, and both must have as many words as the board has
-/// rows, fewer than 64.
+/// First each row gives its points to the row below it, from the top. Then rows that can give a point to the row above them do so, from the
+/// bottom, and rows that can give one downwards do so, from the top, until none can. A row that takes points gives them on at once: so a
+/// corridor is followed as far as it goes up or down. All points of the set must be in the region, and both must have as many words as the
+/// board has rows, fewer than 64.
 pub fn fill(rows: &mut [u64], region: &[u64])
     requires { IsWithin rows.old region.now }
     ensures grows { Grows (is_set region.now) (is_set rows.old) (is_set rows.new) }
     ensures closed { IsClosed (is_set region.now) (is_set rows.new) }
 {
-    let mut waiting = grow_down(rows, region);
-    'rows: while waiting != 0 {
-        let (_, left) = grow_lowest(rows, region, waiting);
-        waiting = left;
+    let mut ups = give_down_once(rows, region);
+    'passes: while ups != 0 {
+        let downs = give_all(rows, region, ups, Direction::Up);
+        ups = give_all(rows, region, downs, Direction::Down);
     }
 }
 
-/// Grows the first row that waits (`grow_row`). If the row gets new points, those of the rows above and below it that can take
-/// a point from it wait, too. Returns the number of the row, and the rows that wait afterwards.
-pub(crate) fn grow_lowest(rows: &mut [u64], region: &[u64], waiting: u64) -> (usize, u64)
-    requires within { IsWithin rows.old region.now }
-    requires wait { SomeWait waiting (length region.now) }
-    ensures row { result.0 < length rows.new }
-    ensures filled { (first : List ℕ) → IsFilledBut region.now first rows.old waiting (length region.now)
-        → IsFilledBut region.now first rows.new result.1 (length region.now) }
-    ensures others { (other : ℕ) → other ≢ result.0 → (slice_index rows.new other ≡ slice_index rows.old other)
-        × (IsTrue (has_bit waiting other) → IsTrue (has_bit result.1 other)) }
-    ensures less { lacking rows.new * 2 ^ 64 + result.1 < lacking rows.old * 2 ^ 64 + waiting }
-{
-    let row = waiting.trailing_zeros() as usize;
-    let left = without_column(waiting, row);
-    let old = rows[row];
-    let above = row_above(rows, row);
-    grow_row(rows, region, row, above);
-    if rows[row] == old {
-        return (row, left);
-    }
-    (row, with_rows_lacking(left, rows, region, row))
-}
-
-/// Grows each row (`grow_row`), from the first row to the last.
-/// Returns the rows that can take a point from the row below them.
-fn grow_down(rows: &mut [u64], region: &[u64]) -> u64
+/// From the first row to the last, each row is widened, and takes what the row above it gives. Returns the rows that can give to the row
+/// above them.
+fn give_down_once(rows: &mut [u64], region: &[u64]) -> u64
     requires { IsWithin rows.old region.now }
-    ensures { IsFilledBut region.now rows.old rows.new result (length region.now) }
+    ensures { IsFilledBut region.now rows.old rows.new Up result 0 0 0 }
 {
-    // the row above, and what it lacks of the region, stay at hand for the row below it
     let mut above = 0;
-    let mut lacking = 0;
-    let mut waiting_above = 0;
+    let mut above_lacks = 0;
+    let mut ups = 0;
     'rows: for row in 0..rows.len() {
-        grow_row(rows, region, row, above);
-        above = rows[row];
-        waiting_above = with_column(waiting_above, row, lacking & above != 0);
-        lacking = region[row] & !above;
+        let (word, lacks) = widened((rows[row] | above) & region[row], region[row]);
+        rows[row] = word;
+        ups = with_mark(ups, row, above_lacks & word != 0);
+        above = word;
+        above_lacks = lacks;
     }
-    waiting_above >> 1
+    ups
 }
 
-/// The rows that wait, and those of the rows above and below `row` that can take a point from it.
-pub(crate) fn with_rows_lacking(waiting: u64, rows: &[u64], region: &[u64], row: usize) -> u64
-    requires same { length region.now ≡ length rows.now }
-    requires few { length rows.now < 64 }
-    requires row { row < length rows.now }
-    ensures kept { IsPart (has_bit waiting) (has_bit result) }
-    ensures from { (r : ℕ) → IsTrue (has_bit result r) → IsTrue (has_bit waiting r) ⊎ (r < length rows.now) }
-    ensures taken { (r : ℕ) → DifferByOne r row → r < length rows.now → has_bit result r ≡ false
-        → IsTaken region.now rows.now r (slice_index rows.now row) }
-{
-    let word = rows[row];
-    let above = with_row_lacking(waiting, rows, region, row.wrapping_sub(1), row > 0, word);
-    with_row_lacking(above, rows, region, row + 1, row + 1 < rows.len(), word)
+/// The ways from row to row.
+#[derive(Clone, Copy)]
+pub(crate) enum Direction {
+    Up,
+    Down,
 }
 
-/// The rows that wait, and `row` if the board has it (`there`) and it can take a point from the columns of `word`.
-fn with_row_lacking(
-    waiting: u64,
-    rows: &[u64],
-    region: &[u64],
-    row: usize,
-    there: bool,
-    word: u64,
-) -> u64
-    requires same { length region.now ≡ length rows.now }
-    requires few { length rows.now < 64 }
-    requires there { IsTrue there → row < length rows.now }
-    ensures kept { IsPart (has_bit waiting) (has_bit result) }
-    ensures from { (r : ℕ) → IsTrue (has_bit result r) → IsTrue (has_bit waiting r) ⊎ (r < length rows.now) }
-    ensures taken { IsTrue there → has_bit result row ≡ false → IsTaken region.now rows.now row word }
-{
-    if there {
-        with_column(waiting, row, region[row] & !rows[row] & word != 0)
-    } else {
-        waiting
+impl Direction {
+    /// The row after a row. If the board has none, this is the number of no row.
+    #[inline(always)]
+    pub(crate) fn next(self, row: usize) -> usize
+        requires { row < 64 }
+        ensures next { result < 64 → IsNext self row result }
+        ensures only { (next : ℕ) → IsNext self row next → result ≡ next }
+    {
+        match self {
+            Direction::Up => row.wrapping_sub(1),
+            Direction::Down => row + 1,
+        }
+    }
+
+    /// The marked row that is farthest back.
+    #[inline(always)]
+    fn first(self, marks: u64) -> usize
+        requires { marks ≢ 0 }
+        ensures there { IsTrue (has_bit marks result) }
+        ensures below { result < 64 }
+    {
+        match self {
+            Direction::Up => 63 - marks.leading_zeros() as usize,
+            Direction::Down => marks.trailing_zeros() as usize,
+        }
     }
 }
 
-/// Adds the points of a row that are in the region and beside points of the set. `above` is the row above it.
-fn grow_row(rows: &mut [u64], region: &[u64], row: usize, above: u64)
+/// Each marked row gives its points in a direction (`give`). Returns the rows that can give some back.
+#[inline(always)]
+fn give_all(rows: &mut [u64], region: &[u64], marks: u64, direction: Direction) -> u64
     requires within { IsWithin rows.old region.now }
-    requires row { row < length rows.old }
-    requires above { above ≡ row_above rows.old row }
-    ensures { IsRowGrown region.now rows.old rows.new row }
+    requires marks { AreRowsBelow (length region.now) marks }
+    ensures filled { (first : List ℕ) → IsFilledBut region.now first rows.old direction marks 0 0 0
+        → IsFilledBut region.now first rows.new direction 0 result 0 0 }
+    ensures more { HaveMore rows.old rows.new 0 result }
 {
-    let beside = above | row_below(rows, row);
-    rows[row] = widened((rows[row] | beside) & region[row], region[row]);
+    let mut waiting = marks;
+    let mut back = 0;
+    'marks: while waiting != 0 {
+        let row = direction.first(waiting);
+        waiting = without_column(waiting, row);
+        back = give(rows, region, row, direction, back);
+    }
+    back
 }
 
-/// Widens a set of columns by the columns of the region beside it, until there are no more.
-pub(crate) fn widened(seed: u64, region: u64) -> u64
+/// A row gives its points to the next row in a direction, which gives those that it takes to the row after it, and so on. `back` has the
+/// rows that can give points back. Returns these and those of the rows that took some that now can.
+#[inline(always)]
+fn give(rows: &mut [u64], region: &[u64], first: usize, direction: Direction, back: u64) -> u64
+    requires within { IsWithin rows.old region.now }
+    requires first { first < length rows.old }
+    ensures within { IsWithin rows.new region.now }
+    ensures filled { (start : List ℕ) → (marks : ℕ)
+        → IsFilledBut region.now start rows.old direction marks back first (slice_index rows.old first)
+        → IsFilledBut region.now start rows.new direction marks result 0 0 }
+    ensures more { HaveMore rows.old rows.new back result }
+{
+    let mut row = first;
+    let mut given = rows[row];
+    let mut lacks = columns_apart(region[row], given);
+    let mut marks = back;
+    'rows: loop {
+        let next = direction.next(row);
+        if next >= rows.len() {
+            return marks;
+        }
+        let here = columns_apart(region[next], rows[next]);
+        if here & given == 0 {
+            return marks;
+        }
+        let (taken, left) = widened(here & given, here);
+        rows[next] |= taken;
+        marks = with_mark(marks, next, lacks & taken != 0);
+        row = next;
+        given = taken;
+        lacks = left;
+    }
+}
+
+/// The marked rows, and `row` if `mark` is true. Few rows are marked, and a branch to what marks them costs less than to do so each time.
+#[inline(always)]
+fn with_mark(marks: u64, row: usize, mark: bool) -> u64
+    requires { row < 64 }
+    ensures there { has_bit result row ≡ (has_bit marks row || mark) }
+    ensures elsewhere { (other : ℕ) → other ≢ row → has_bit result other ≡ has_bit marks other }
+{
+    if mark { marked(marks, row) } else { marks }
+}
+
+/// The marked rows, and one more.
+#[cold]
+#[inline(never)]
+fn marked(marks: u64, row: usize) -> u64
+    requires { row < 64 }
+    ensures there { IsTrue (has_bit result row) }
+    ensures elsewhere { (other : ℕ) → other ≢ row → has_bit result other ≡ has_bit marks other }
+{
+    with_column(marks, row, true)
+}
+
+/// Widens a set of columns by the columns of the region beside it, until there are no more. Returns them, and the columns of the region that
+/// are left.
+#[inline(always)]
+pub(crate) fn widened(seed: u64, region: u64) -> (u64, u64)
     requires { IsPart (has_bit seed) (has_bit region) }
-    ensures within { IsPart (has_bit result) (has_bit region) }
-    ensures kept { IsPart (has_bit seed) (has_bit result) }
-    ensures closed { HasBeside (has_bit region) (has_bit result) }
+    ensures within { IsPart (has_bit result.0) (has_bit region) }
+    ensures kept { IsPart (has_bit seed) (has_bit result.0) }
+    ensures closed { HasBeside (has_bit region) (has_bit result.0) }
     ensures least { (set : ℕ → Bool) → HasBeside (has_bit region) set → IsPart (has_bit seed) set
-        → IsPart (has_bit result) set }
+        → IsPart (has_bit result.0) set }
+    ensures left { (col : ℕ) → has_bit result.1 col ≡ (has_bit region col && not (has_bit result.0 col)) }
 {
     let mut word = carried(seed, region);
+    let mut left = columns_apart(region, word);
     'widen: loop {
-        let wider = with_before(word, region);
-        if wider == word {
-            return word;
+        let before = word >> 1 & left;
+        if before == 0 {
+            return (word, left);
         }
-        word = wider;
+        word |= before;
+        left = columns_apart(left, before);
     }
 }
 
@@ -141,15 +184,6 @@ fn carried(seed: u64, region: u64) -> u64
     ensures { IsWidened region seed result }
 {
     region & !region.wrapping_add(seed) | seed
-}
-
-/// A set of columns, widened by the columns of the region just before one of them.
-fn with_before(word: u64, region: u64) -> u64
-    ensures widened { (seed : ℕ) → IsWidened region seed word → IsWidened region seed result }
-    ensures closed { (seed : ℕ) → IsWidened region seed word → result ≡ word → HasBeside (has_bit region) (has_bit word) }
-    ensures at_least { word ≤ result }
-{
-    word | region & word >> 1
 }
 
 /// The row above a row; empty above the first.

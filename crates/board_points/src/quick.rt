@@ -3,7 +3,7 @@
 //! | Shortcut | Stands in for |
 //! |---|---|
 //! | `glance`: the rows around most stones show that these and the stones beside them live | finding their groups |
-//! | `group`: one group is found row by row, and only as far as it takes to find a liberty | filling from all stones with a liberty |
+//! | `group`: one group, straight up and down from a stone until a liberty is found, and else the whole | filling from all stones with a liberty |
 //! | `halves`: one filling fills two sets of points of a small board | two fillings |
 //!
 //! `#[inline(always)]` is on a look at rows, which is compiled for each number of rows, and `#[inline(never)]` on what few stones need. Without

@@ -6,7 +6,8 @@ ghost use Rattle.board_points.specs.declared.points.Point.{Point};
 ghost use Rattle.board_points.specs.Point.{IsOn};
 ghost use Rattle.board_points.specs.Rows.{is_set, AreRowsOf, IsDifference, count_apart};
 
-use crate::columns::other_columns;
+use crate::columns::{has_column, other_columns};
+use crate::points::Point;
 use crate::size::MAX_ROWS;
 
 /// `MAX_ROWS` rows without a set bit: enough for every board.
@@ -14,6 +15,15 @@ pub fn no_rows() -> [u64; MAX_ROWS]
     ensures { result ≡ replicate MAX_ROWS 0 }
 {
     [0; MAX_ROWS]
+}
+
+/// Whether a set has a point. It must have the point's row.
+pub fn has_point(rows: &[u64], point: Point) -> bool
+    requires row { point.row < length rows.now }
+    requires column { point.col < 64 }
+    ensures { result ≡ is_set rows.now point }
+{
+    has_column(rows[usize::from(point.row)], usize::from(point.col))
 }
 
 /// Whether a set has no point. It may have any number of rows.

@@ -9,8 +9,8 @@ ghost use Rattle.sgf_lines.specs.Answer.{HasPage};
 
 use sgf_lines::laws::named;
 use sgf_lines::{
-    Collection, Cursor, Follower, MemoryFault, Options, RunFault, SliceSource, Verdict, WriteSink,
-    judge, split,
+    Collection, Cursor, Follower, MemoryFault, Options, Outline, RunFault, SliceSource, Verdict,
+    WriteSink, judge, split,
 };
 use std::alloc::Global;
 
@@ -33,7 +33,7 @@ pub fn first_verdict(
 ) -> Result<Option<Verdict>, MemoryFault> {
     // Each line ends in a leaf, so `judge` may be called.
     named();
-    let mut cursor = Cursor::new(alloc, collection);
+    let mut cursor = Cursor::new(alloc, collection.outline());
     match cursor.next()? {
         Some(line) => Ok(Some(judge(alloc, collection, line.leaf())?)),
         None => Ok(None),
@@ -41,11 +41,8 @@ pub fn first_verdict(
 }
 
 /// The place of the first line in which the referee finds an illegal node; None if there is no such line.
-pub fn first_illegal(
-    alloc: Global,
-    collection: &Collection<'_>,
-) -> Result<Option<u64>, MemoryFault> {
-    next_illegal(&mut Follower::new(alloc, Cursor::new(alloc, collection)))
+pub fn first_illegal(alloc: Global, outline: &Outline<'_>) -> Result<Option<u64>, MemoryFault> {
+    next_illegal(&mut Follower::new(alloc, outline))
 }
 
 /// The place of the next line in which the referee finds an illegal node; None if no such line follows. It only borrows the follower, so
@@ -60,8 +57,8 @@ fn next_illegal(follower: &mut Follower<'_, '_>) -> Result<Option<u64>, MemoryFa
 }
 
 /// The number of nodes of the longest line of a collection; 0 if it has no line.
-pub fn longest_line(alloc: Global, collection: &Collection<'_>) -> Result<usize, MemoryFault> {
-    let mut cursor = Cursor::new(alloc, collection);
+pub fn longest_line(alloc: Global, outline: &Outline<'_>) -> Result<usize, MemoryFault> {
+    let mut cursor = Cursor::new(alloc, outline);
     let mut longest = 0;
     'lines: while let Some(line) = cursor.next()? {
         longest = line.path().len().max(longest);

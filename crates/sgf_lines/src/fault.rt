@@ -23,7 +23,7 @@ pub enum RunFault {
     /// The first `at` bytes are the beginning of some text of the grammar, and no
     /// more of the bytes are. So if `at` is `len`, the input ends too early.
     /// Nothing was written.
-    #[error("byte {at}: not SGF")]
+    #[error("byte {at}: {}", wrong_there(*.at, *.len))]
     NotSgf { at: usize, len: usize },
 
     /// No line has the place that was asked for.
@@ -40,6 +40,15 @@ pub enum RunFault {
     /// The sink has taken exactly the records of the first `lines` lines, and wasn't flushed.
     #[error("out of memory")]
     Memory { lines: u64 },
+}
+
+/// What is wrong at the first fault of a text of `len` bytes.
+fn wrong_there(at: usize, len: usize) -> &'static str {
+    if at == len {
+        "input ends too early"
+    } else {
+        "not SGF"
+    }
 }
 
 /// For memory that is refused before a line is written.

@@ -9,7 +9,7 @@ use crate::judging::judge::Judge;
 use crate::judging::judged::judge_line;
 use crate::over_lines::{Before, LineKeeper, OverLines};
 use crate::verdict::Verdict;
-use sgf_tree::MemoryFault;
+use sgf_tree::{MemoryFault, Outline};
 use std::alloc::Global;
 use std::marker::Model;
 use tree_lines::{Cursor, Front, LineRef, SequenceCursor, line_with, write_path};
@@ -36,7 +36,7 @@ impl LineKeeper for JudgedLine {
     }
 }
 
-/// A follower goes over the lines after a cursor, in file order, and judges each. Nodes that a line shares with the line before it are
+/// A follower goes over lines in file order, all or those after a cursor, and judges each. Nodes that a line shares with the line before it are
 /// not played again. Contracts see it as the collection, the index (from 0) of its next line, and its streak: how many lines directly
 /// before that one it has judged, since it began or since memory was last refused.
 #[derive(Drop)]
@@ -65,8 +65,15 @@ impl<'c, 'a> Follower<'c, 'a> {
     ghost use Rattle.sgf_lines.specs.Cursor.{IsLine};
     ghost use Rattle.sgf_lines.specs.Follower.{GivesVerdict, LeavesFollower, lines_judged};
 
+    /// A follower of all lines. (A `Collection` lends its outline.) This takes no memory.
+    pub fn new(alloc: Global, outline: &'c Outline<'a>) -> Follower<'c, 'a>
+        ensures { result ≡ record { games = outline.now; index = 0; streak = 0 } }
+    {
+        Follower::after(alloc, Cursor::new(alloc, outline))
+    }
+
     /// A follower of the lines after a cursor. This takes no memory.
-    pub fn new(alloc: Global, cursor: Cursor<'c, 'a>) -> Follower<'c, 'a>
+    pub fn after(alloc: Global, cursor: Cursor<'c, 'a>) -> Follower<'c, 'a>
         ensures { result ≡ record { games = cursor.entry.games; index = cursor.entry.index; streak = 0 } }
     {
         let (cursor, path) = cursor.into_parts();

@@ -1,18 +1,18 @@
 //! Judges the lines of play of a Smart Game Format (SGF FF[4]) collection, from the root of a game to a leaf, and writes them as records.
 //!
 //! The crate `tree_lines` has the lines and the cursors over them; this crate passes on its types. A [`Cursor`] returns the lines one by one,
-//! in file order, over a collection that was read once. [`judge`] returns the verdict of a line: its first illegal node, or the area score at
-//! its end (Tromp-Taylor), or that its game isn't judged. A [`Follower`] judges the lines after a cursor one by one, and plays shared nodes
-//! once. [`split`] writes each line as a record, a text of its own.
+//! in file order, over an outline that was read once. [`judge`] returns the verdict of a line: its first illegal node, or the area score at
+//! its end (Tromp-Taylor), or that its game isn't judged. A [`Follower`] judges the lines one by one, and plays shared nodes once. [`split`]
+//! writes each line as a record, a text of its own.
 //!
 //! ```text
-//! let collection = read(alloc, text)?;
-//! let mut cursor = Cursor::new(alloc, &collection);
+//! let outline = read_outline(alloc, text)?;
+//! let mut cursor = Cursor::new(alloc, &outline);
 //! 'lines: while let Some(line) = cursor.next()? {
 //!     // line.path(), line.leaf(), line.game(), line.place()
 //! }
 //!
-//! let mut follower = Follower::new(alloc, Cursor::new(alloc, &collection));
+//! let mut follower = Follower::new(alloc, &outline);
 //! 'verdicts: while let Some(verdict) = follower.next()? {
 //!     // follower.line().place()
 //! }
@@ -26,8 +26,8 @@
 //! decreases-verdicts l = length (lines l.follower.games) - l.follower.index
 //! ```
 //!
-//! The node given to `judge` must be a leaf. By [`laws::named`] the last node of each line is a leaf.
-//! [`judge_at`] needs only the place of a line.
+//! [`judge_at`] needs only the place of a line. [`judge`] needs a [`Collection`], which knows more of each node and takes more memory. The
+//! node given to it must be a leaf. By [`laws::named`] the last node of each line is a leaf.
 //!
 //! The code outside `judging/quick` is complete and can be read by itself. `judging/quick` has a faster way for nodes that are recognized at a
 //! glance, and may be skipped. What else saves work stands in these functions: `LineNodes::next` takes the nodes so recognized,
@@ -102,6 +102,6 @@ pub use judging::one_line::{judge, judge_at};
 pub use options::{Form, Options};
 pub use plays::Plays;
 pub use run::{split, split_counted};
-pub use sgf_tree::{Collection, MAX_LENGTH, MemoryFault, ReadFault, read};
+pub use sgf_tree::{Collection, MAX_LENGTH, MemoryFault, Outline, ReadFault, read, read_outline};
 pub use tree_lines::{Cursor, LineRef, SeekFault};
 pub use verdict::Verdict;

@@ -8,7 +8,7 @@ use crate::answer::JudgeAnswer;
 use crate::refusal;
 use crate::status::Status;
 use sgf_lines::{RunFault, SeekFault, judge_at};
-use sgf_tree::{Collection, read};
+use sgf_tree::{Outline, read_outline};
 use std::alloc::Global;
 
 /// Judges a line of the collection that the text spells (SGF FF[4], EBNF), by the Tromp-Taylor rules. The line is named by its
@@ -37,8 +37,8 @@ pub extern "C" fn sgf_lines_judge(
 fn judge_text(alloc: Global, text: &[u8], place: u64) -> (Status, JudgeAnswer)
     ensures { Says text.now place result.1 result.0 }
 {
-    match read(alloc, text) {
-        Ok(collection) => judge_line(alloc, &collection, place),
+    match read_outline(alloc, text) {
+        Ok(outline) => judge_line(alloc, &outline, place),
         Err(fault) => {
             let fault = RunFault::unread(fault, text.len());
             (
@@ -50,11 +50,11 @@ fn judge_text(alloc: Global, text: &[u8], place: u64) -> (Status, JudgeAnswer)
 }
 
 /// Judges the line of a collection that has this place.
-fn judge_line(alloc: Global, collection: &Collection<'_>, place: u64) -> (Status, JudgeAnswer)
-    ensures { (text : List ℕ) → length text ≤ MAX_LENGTH → Spells collection.now text
+fn judge_line(alloc: Global, outline: &Outline<'_>, place: u64) -> (Status, JudgeAnswer)
+    ensures { (text : List ℕ) → length text ≤ MAX_LENGTH → Spells outline.now text
         → Says text place result.1 result.0 }
 {
-    match judge_at(alloc, collection, place) {
+    match judge_at(alloc, outline, place) {
         Ok(verdict) => (Status::Done, JudgeAnswer::of(verdict)),
         Err(SeekFault::NoSuchLine { place }) => (Status::NoSuchLine, JudgeAnswer::at(place)),
         Err(SeekFault::Memory) => (Status::OutOfMemory, JudgeAnswer::at(0)),

@@ -53,17 +53,18 @@ fn ko(alloc: Global, seen: &mut Seen) {
 
 /// Goes over the lines of the game of two lines, and seeks places.
 fn goes_over(alloc: Global, two: &Collection<'_>, seen: &mut Seen) {
-    let mut cursor = Cursor::new(alloc, two);
+    let outline = two.outline();
+    let mut cursor = Cursor::new(alloc, outline);
     both(&mut cursor, seen);
-    cursor = Cursor::new(alloc, two);
+    cursor = Cursor::new(alloc, outline);
     places(&mut cursor, seen);
-    cursor = Cursor::new(alloc, two);
+    cursor = Cursor::new(alloc, outline);
     next(&mut cursor, Some((&[0, 1], 8)), seen);
     // If memory is refused to the seek, the cursor stays before the second line.
     if cursor.seek_after(22).is_err() {
         seen.want();
     } else {
-        cursor = Cursor::new(alloc, two);
+        cursor = Cursor::new(alloc, outline);
         next(&mut cursor, Some((&[0, 1], 8)), seen);
     }
     next(&mut cursor, Some((&[0, 2, 3], 22)), seen);
@@ -133,10 +134,15 @@ fn seek(cursor: &mut Cursor<'_, '_>, place: u64, is_line: bool, seen: &mut Seen)
     }
 }
 
-/// Follows both lines of the game of two lines. The next call must find the end.
+/// Follows both lines of the game of two lines. The next call must find the end. Then follows the line after the first.
 fn follows(alloc: Global, two: &Collection<'_>, seen: &mut Seen) {
-    let mut follower = Follower::new(alloc, Cursor::new(alloc, two));
+    let mut follower = Follower::new(alloc, two.outline());
     follow(&mut follower, Some((9, 0, 8)), seen);
+    follow(&mut follower, Some((1, 1, 22)), seen);
+    follow(&mut follower, None, seen);
+    let mut cursor = Cursor::new(alloc, two.outline());
+    seek(&mut cursor, 8, true, seen);
+    follower = Follower::after(alloc, cursor);
     follow(&mut follower, Some((1, 1, 22)), seen);
     follow(&mut follower, None, seen);
 }

@@ -10,7 +10,7 @@ ghost use Rattle.tree_lines.specs.Sequences.{SharesFront, nodes_in};
 use crate::line::LineRef;
 use crate::seek::SeekFault;
 use crate::sequence_cursor::{Front, NO_FRONT, SequenceCursor};
-use sgf_tree::{Collection, MemoryFault};
+use sgf_tree::{MemoryFault, Outline};
 use std::alloc::Global;
 use std::marker::Model;
 
@@ -44,12 +44,12 @@ impl<'c, 'a> Cursor<'c, 'a> {
     ghost use Rattle.tree_lines.specs.Cursor.{GivesLine, LeavesCursor, IsAfterPlace, IsSeekFault};
     ghost use Rattle.tree_lines.specs.Lending.{OnceReturned};
 
-    /// A cursor before the first line. This takes no memory.
-    pub fn new(alloc: Global, collection: &'c Collection<'a>) -> Cursor<'c, 'a>
-        ensures { result ≡ record { games = collection.now; index = 0 } }
+    /// A cursor before the first line. (A `Collection` lends its outline.) This takes no memory.
+    pub fn new(alloc: Global, outline: &'c Outline<'a>) -> Cursor<'c, 'a>
+        ensures { result ≡ record { games = outline.now; index = 0 } }
     {
         Cursor {
-            sequences: SequenceCursor::new(alloc, collection.outline()),
+            sequences: SequenceCursor::new(alloc, outline),
             path: Vec::new(alloc),
         }
     }

@@ -1,40 +1,55 @@
 -- Filling a set of points within a region, row by row.
-use Rattle.std.specs.Prelude.{◌≡◌, ◌≢◌, ℕ, ◌<◌, false, IsTrue, List, length, slice_index, zero, suc, ◌-◌, ◌^◌, Bool, sum_by}
+use Rattle.std.specs.Prelude.{◌≡◌, ◌⊎◌, ℕ, ◌+◌, ◌-◌, ◌^◌, ◌<◌, false, IsTrue, List, length, slice_index, sum_by, zero, suc}
+use Rattle.board_points.specs.declared.fill.Direction.{Direction}
+use Rattle.board_points.specs.declared.fill.Direction.TheVariants.{Up, Down}
 use Rattle.board_points.specs.Rows.{has_bit, is_set, Grows}
-use Rattle.board_points.specs.declared.points.Point.{Point}
-use Rattle.board_points.specs.Point.{AreAdjacent}
+use Rattle.board_points.specs.inner.Columns.{HasBeside, IsTaken}
 
 -- the row above a row; above the first row no bit is set
 abbrev pub row_above : List ℕ → ℕ → ℕ
 row_above rows zero = 0
 row_above rows (suc row) = slice_index rows row
 
--- the set has each point of the region that is in this row and adjacent to one of the set's points
-abbrev pub IsRowClosed : (Point → Bool) → (Point → Bool) → ℕ → Type 0
-IsRowClosed region set row =
-    (point other : Point) → point.row ≡ row → AreAdjacent point other
-    → IsTrue (region point) → IsTrue (set other) → IsTrue (set point)
+-- the row `next` comes after a row in a direction
+abbrev pub IsNext : Direction → ℕ → ℕ → Type 0
+IsNext Up row next = next + 1 ≡ row
+IsNext Down row next = row + 1 ≡ next
+
+abbrev pub opposite : Direction → Direction
+opposite Up = Down
+opposite Down = Up
+
+-- each marked row is one of the first `count` rows
+abbrev pub AreRowsBelow : ℕ → ℕ → Type 0
+AreRowsBelow count marks = (row : ℕ) → IsTrue (has_bit marks row) → row < count
+
+-- Each row that isn't marked has given its points to the next row in a direction: the next row has each column of the region that the
+-- row has. Only the row `at` has some columns left to give.
+abbrev pub HaveGivenBut : Direction → List ℕ → List ℕ → ℕ → ℕ → ℕ → Type 0
+HaveGivenBut direction region rows marks at given =
+    (row next : ℕ) → IsNext direction row next → has_bit marks row ≡ false → (col : ℕ) → IsTrue (has_bit (slice_index region next) col)
+    → IsTrue (has_bit (slice_index rows row) col) → IsTrue (has_bit (slice_index rows next) col) ⊎ ((row ≡ at) × IsTrue (has_bit given col))
+
+-- the same, with nothing left to give
+abbrev pub HaveGiven : Direction → List ℕ → List ℕ → ℕ → Type 0
+HaveGiven direction region rows marks =
+    (row next : ℕ) → IsNext direction row next → has_bit marks row ≡ false → IsTaken region rows next (slice_index rows row)
+
+-- `rows` was filled from `first` within `region`, but for what rows can still give: those in `marks` and the row `at` in a direction,
+-- those in `back` in the opposite one.
+pub record IsFilledBut (region first rows : List ℕ) (direction : Direction) (marks back at given : ℕ) : Type 0 where
+  pub all : length rows ≡ length region
+  pub grows : Grows (is_set region) (is_set first) (is_set rows)
+  pub wide : (row : ℕ) → HasBeside (has_bit (slice_index region row)) (has_bit (slice_index rows row))
+  pub marks_in : AreRowsBelow (length region) marks
+  pub back_in : AreRowsBelow (length region) back
+  pub ahead : HaveGivenBut direction region rows marks at given
+  pub behind : HaveGiven (opposite direction) region rows back
 
 -- what the words lack to be full: the more bits are set, the less they lack
 abbrev pub lacking : List ℕ → ℕ
 lacking rows = sum_by (λ word. 2 ^ 64 - word) rows
 
--- some rows wait, and each is one of the board's
-pub record SomeWait (waiting count : ℕ) : Type 0 where
-  pub some : waiting ≢ 0
-  pub rows_in : (row : ℕ) → IsTrue (has_bit waiting row) → row < count
-
--- A row got all points of the region that are in it and beside points of the set. No other row changed. If the row changed, less is lacking.
-pub record IsRowGrown (region old new : List ℕ) (row : ℕ) : Type 0 where
-  pub grows : Grows (is_set region) (is_set old) (is_set new)
-  pub closed : IsRowClosed (is_set region) (is_set new) row
-  pub others : (other : ℕ) → other ≢ row → slice_index new other ≡ slice_index old other
-  pub unchanged : slice_index new row ≡ slice_index old row → new ≡ old
-  pub fuller : slice_index new row ≢ slice_index old row → lacking new < lacking old
-
--- `rows` was filled from `first` within `region`. Each of the first `count` rows is closed, except for some that wait.
-pub record IsFilledBut (region first rows : List ℕ) (waiting count : ℕ) : Type 0 where
-  pub all : length rows ≡ length region
-  pub grows : Grows (is_set region) (is_set first) (is_set rows)
-  pub rows_in : (row : ℕ) → IsTrue (has_bit waiting row) → row < length region
-  pub closed : (row : ℕ) → row < count → has_bit waiting row ≡ false → IsRowClosed (is_set region) (is_set rows) row
+-- the rows got more points, or else nothing changed, and no other rows are marked
+abbrev pub HaveMore : List ℕ → List ℕ → ℕ → ℕ → Type 0
+HaveMore old new back marks = ((new ≡ old) × (marks ≡ back)) ⊎ (lacking new < lacking old)

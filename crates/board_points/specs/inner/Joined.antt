@@ -17,3 +17,7 @@ pub record IsShutRow (own others : List ℕ) (from : Point) (joined : ℕ) : Typ
   pub stone : IsStone own others from
   pub linked : IsJoined own from joined
   pub shut : (col : ℕ) → IsTrue (has_bit joined col) → ¬ (HasLiberty own others (record { col = col; row = from.row }))
+
+-- a stone of the group has a liberty
+abbrev pub HasOneAlive : List ℕ → List ℕ → List ℕ → Type 0
+HasOneAlive own others group = (stone : Point) × IsTrue (is_set group stone) × HasLiberty own others stone

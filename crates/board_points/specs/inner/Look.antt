@@ -1,13 +1,13 @@
 -- What the words of bits around a point say about a player's stone that is put there, and about the stones beside it. The rows around
 -- the point are counted from the second row above it: 0 and 1 are above it, 2 is its own, 3 and 4 are below it.
-use Rattle.std.specs.Prelude.{◌≡◌, ◌≢◌, ℕ, ◌+◌, IsTrue, List}
+use Rattle.std.specs.Prelude.{◌≡◌, ◌≢◌, false, ℕ, ◌+◌, IsTrue, List}
 use Rattle.board_points.specs.declared.points.Point.{Point}
 use Rattle.board_points.specs.declared.liberty.RowStones.{RowStones}
 use Rattle.board_points.specs.declared.quick.glance.Around.{Around}
 use Rattle.board_points.specs.Point.{AreAdjacent}
 use Rattle.board_points.specs.Linked.{IsFree}
 use Rattle.board_points.specs.Rows.{has_bit, is_set}
-use Rattle.board_points.specs.Glance.{Lives, LeavesAlong, LeavesAcross}
+use Rattle.board_points.specs.Glance.{Lives, LeavesAlong, StaysOpen}
 
 -- the point is in the column `col` and in the row with this index around the row `middle`
 abbrev pub IsInRowAround : ℕ → ℕ → ℕ → Point → Type 0
@@ -32,7 +32,10 @@ pub record IsSeenAround (own others : List ℕ) (point : Point) (around : Around
   pub free : around.free ≢ 0 → Lives own others point
   pub alive : around.alive ≢ 0 → Lives own others point
   pub along : around.along ≡ 0 → LeavesAlong own others point
-  pub across : around.across ≡ 0 → LeavesAcross own others point
+  pub up : (stone : Point) → IsTrue (is_set others stone) → (point.col ≡ stone.col) × (stone.row + 1 ≡ point.row)
+      → has_bit around.up stone.col ≡ false → StaysOpen own others point stone
+  pub down : (stone : Point) → IsTrue (is_set others stone) → (point.col ≡ stone.col) × (point.row + 1 ≡ stone.row)
+      → has_bit around.down stone.col ≡ false → StaysOpen own others point stone
 
 -- a look at the row with the index `index + 1` around the point's row, in columns beside the point; `above` and `below` are free columns
 -- of the rows before and after it

@@ -5,7 +5,7 @@ ghost use Rattle.std.specs.Prelude.{◌≡◌, ◌≢◌, ◌+◌, false, ℕ, I
 ghost use Rattle.board_points.specs.declared.points.Point.{Point};
 ghost use Rattle.board_points.specs.Point.{IsOn};
 ghost use Rattle.board_points.specs.inner.Look.{AreFree, IsLookedAt, IsSeenAround};
-ghost use Rattle.board_points.specs.Glance.{LeavesAcross, LeavesAllAlive, Lives, StaysOpen};
+ghost use Rattle.board_points.specs.Glance.{LeavesAllAlive, Lives, StaysOpen};
 ghost use Rattle.board_points.specs.Rows.{has_bit, is_set, AreOfOneBoard};
 
 use crate::columns::{all_columns, other_columns, with_column, without_column};
@@ -24,14 +24,15 @@ struct Look {
 
 /// What the rows around a player's stone show. `free` isn't 0 if they show a liberty of the stone itself, and `alive` isn't 0 if they show
 /// one of the stone or of a stone beside it.
-/// `along` is 0 if they show an empty point beside each stone of the opponent to its left and right, and `across` is 0 if they show one
-/// beside each stone of the opponent above and below it.
+/// `along` is 0 if they show an empty point beside each stone of the opponent to its left and right. `up` is 0 if they show one beside a
+/// stone of the opponent above it, and `down` if they show one beside such a stone below it.
 #[derive(Clone, Copy)]
 struct Around {
     free: u64,
     alive: u64,
     along: u64,
-    across: u64,
+    up: u64,
+    down: u64,
 }
 
 /// Whether a player's stone on a point has a free point to its left or right, and no stone of the opponent beside it. This is the
@@ -52,7 +53,7 @@ pub fn stands_apart(own: &[u64], others: &[u64], point: Point) -> bool
 
 /// Whether a glance at the rows around a point shows two things about a player's stone there. The stone has a liberty, by itself or
 /// by a stone beside it. And each stone of the opponent beside it still has an empty point beside itself. Usually three rows show this. The
-/// point must be on the board of these rows.
+/// rows beyond them may show a free point above the stone above, or below the stone below. The point must be on the board of these rows.
 #[tactic(auto, using(crate::proofs::GlanceLemmas::none_free))]
 pub fn leaves_all_alive(own: &[u64], others: &[u64], point: Point) -> bool
     requires rows { AreOfOneBoard own.now others.now }
@@ -66,7 +67,14 @@ pub fn leaves_all_alive(own: &[u64], others: &[u64], point: Point) -> bool
     if near.along != 0 {
         return false;
     }
-    near.across == 0 || five_rows_leave_across(own, others, point)
+    if near.up | near.down == 0 {
+        return true;
+    }
+    let all = all_columns(own.len());
+    let middle = usize::from(point.row);
+    let first = row_at(own, others, all, middle, 0);
+    let last = row_at(own, others, all, middle, 4);
+    near.up & !first.free | near.down & !last.free == 0
 }
 
 /// The same as `leaves_all_alive`, by five rows. It is for a stone without a free point beside it, which may live by a stone beside it.
@@ -76,33 +84,12 @@ fn five_rows_show_alive(own: &[u64], others: &[u64], point: Point) -> bool
     requires on_board { IsOn (length own.now) point }
     ensures { IsTrue result → LeavesAllAlive own.now others.now point }
 {
-    let around = look_at_five_rows(own, others, point);
-    around.alive != 0 && around.along | around.across == 0
-}
-
-/// Whether five rows show that each stone of the opponent just above or below a point still has an empty point beside itself, once a
-/// player's stone is on the point.
-#[inline(never)]
-fn five_rows_leave_across(own: &[u64], others: &[u64], point: Point) -> bool
-    requires rows { AreOfOneBoard own.now others.now }
-    requires on_board { IsOn (length own.now) point }
-    ensures { IsTrue result → LeavesAcross own.now others.now point }
-{
-    look_at_five_rows(own, others, point).across == 0
-}
-
-/// Looks at the two rows above a player's stone on a point, its own row, and the two rows below it.
-#[inline(always)]
-fn look_at_five_rows(own: &[u64], others: &[u64], point: Point) -> Around
-    requires rows { AreOfOneBoard own.now others.now }
-    requires on_board { IsOn (length own.now) point }
-    ensures { IsSeenAround own.now others.now point result }
-{
     let middle = usize::from(point.row);
     let all = all_columns(own.len());
     let first = row_at(own, others, all, middle, 0);
     let last = row_at(own, others, all, middle, 4);
-    look_around(own, others, point, first.free, last.free)
+    let around = look_around(own, others, point, first.free, last.free);
+    around.alive != 0 && around.along | around.up | around.down == 0
 }
 
 /// Looks at the three rows around a player's stone on a point. `first` and `last` are free columns of the rows before and after them.
@@ -129,7 +116,8 @@ fn look_around(own: &[u64], others: &[u64], point: Point, first: u64, last: u64)
         free: up.free | along.free | down.free,
         alive: up.alive | along.alive | down.alive,
         along: along.shut,
-        across: up.shut | down.shut,
+        up: up.shut,
+        down: down.shut,
     }
 }
 
@@ -140,7 +128,7 @@ fn look_at_row(columns: u64, above: u64, row: RowStones, below: u64) -> Look
     ensures alive { (own others : List ℕ) (point : Point) (i : ℕ) → IsLookedAt own others point i columns above row below
         → result.alive ≢ 0 → Lives own others point }
     ensures shut { (own others : List ℕ) (point stone : Point) (i : ℕ) → IsLookedAt own others point i columns above row below
-        → result.shut ≡ 0 → stone.row + 2 ≡ point.row + (i + 1) → IsTrue (has_bit columns stone.col) → IsTrue (is_set others stone) → StaysOpen own others point stone }
+        → has_bit result.shut stone.col ≡ false → stone.row + 2 ≡ point.row + (i + 1) → IsTrue (has_bit columns stone.col) → IsTrue (is_set others stone) → StaysOpen own others point stone }
 {
     let open = columns_beside(above, row.free, below);
     Look {

@@ -1,13 +1,14 @@
-//! The group of a stone, and whether it has a liberty. The group is found row by row, and only as far as it takes to find a liberty.
+//! The group of a stone, and whether it has a liberty. Most groups show one in the stone's row, or straight above or below it. Only if none does,
+//! the whole group is filled.
 
-ghost use Rattle.std.specs.Prelude.{◌<◌, ◌≤◌, IsTrue, IsFalse, length};
+ghost use Rattle.std.specs.Prelude.{◌≡◌, ◌<◌, ◌≤◌, IsTrue, IsFalse, length};
 ghost use Rattle.board_points.specs.declared.points.Point.{Point};
-ghost use Rattle.board_points.specs.Rows.{is_set, HasNoPoint};
-ghost use Rattle.board_points.specs.Linked.{AddsIfShut, IsLiberty, IsShutIn, IsStone};
-ghost use Rattle.board_points.specs.inner.Joined.{IsJoined, IsShutRow};
+ghost use Rattle.board_points.specs.Rows.{is_set, AreOfOneBoard, HasNoPoint, Grows, IsWithin};
+ghost use Rattle.board_points.specs.Linked.{AddsAlive, AddsIfShut, IsLinked, HasLiberty, IsLiberty, IsShutIn, IsStone};
+ghost use Rattle.board_points.specs.inner.Joined.{HasOneAlive, IsJoined, IsShutRow};
 
 use crate::columns::with_column;
-use crate::fill::{grow_lowest, widened, with_rows_lacking};
+use crate::fill::{Direction, fill, widened};
 use crate::liberty::columns_with_liberty;
 use crate::points::Point;
 use crate::rows::{add_points, no_rows};
@@ -27,6 +28,47 @@ pub fn add_if_shut(own: &[u64], others: &[u64], from: Point, shut: &mut [u64]) -
         return false;
     }
     add_if_shut_beyond(own, others, from, joined, shut)
+}
+
+/// Adds the group of the stone on `from` to `shut` if it has no liberty, as `add_if_shut` does. Otherwise adds the stones of it that were found
+/// to `alive`: so these needn't be asked about. Returns whether it has no liberty.
+#[inline(never)]
+pub fn add_to_either(
+    own: &[u64],
+    others: &[u64],
+    from: Point,
+    shut: &mut [u64],
+    alive: &mut [u64],
+) -> bool
+    requires stone { IsStone own.now others.now from }
+    requires few { length own.now ≤ MAX_ROWS }
+    requires shut { length own.now ≤ length shut.old }
+    requires alive { length own.now ≤ length alive.old }
+    ensures shut { AddsIfShut own.now others.now from shut.old shut.new result }
+    ensures alive { AddsAlive own.now others.now alive.old alive.new }
+{
+    let joined = joined_in_row(own, from);
+    let row = usize::from(from.row);
+    if joined & columns_with_liberty(own, others, row) != 0 {
+        return false;
+    }
+    let mut words = no_rows();
+    let group = &mut words[..own.len()];
+    if has_liberty(own, others, from, joined, group) {
+        add_points(group, alive);
+        return false;
+    }
+    add_points(group, shut);
+    true
+}
+
+/// Whether a stone of the row of the stone on `from`, linked to it within the row, has a liberty.
+pub fn lives_in_row(own: &[u64], others: &[u64], from: Point) -> bool
+    requires stone { IsStone own.now others.now from }
+    ensures { IsTrue result → (stone : Point) × IsLiberty own.now others.now from stone }
+{
+    let joined = joined_in_row(own, from);
+    joined & columns_with_liberty(own, others, usize::from(from.row)) != 0
 }
 
 /// The same as `add_if_shut`, for a group that may have a liberty only in other rows. `joined` has its stones in the row of `from`.
@@ -53,24 +95,73 @@ fn add_if_shut_beyond(
 }
 
 /// Whether the group of the stone on `from` has a liberty. `joined` has its stones in the row of `from`, and none of these has one.
-/// `group` must be empty. It grows from these row by row, until one of its stones has a liberty. If no stone has one, `group` becomes the
-/// whole group.
+/// `group` must be empty. It gets stones of the group, and all of them if none has a liberty.
 fn has_liberty(own: &[u64], others: &[u64], from: Point, joined: u64, group: &mut [u64]) -> bool
     requires row { IsShutRow own.now others.now from joined }
     requires none { HasNoPoint (length own.now) group.old }
     ensures lives { IsTrue result → (p : Point) × IsLiberty own.now others.now from p }
     ensures shut { IsFalse result → IsShutIn own.now others.now from group.new }
+    ensures part { (stone : Point) → IsTrue (is_set group.new stone) → IsTrue (is_set own.now stone) × IsLinked (is_set own.now) from stone }
+    ensures all { length group.new ≡ length own.now }
 {
     let first = usize::from(from.row);
     group[first] = joined;
-    let mut waiting = with_rows_lacking(0, group, own, first);
-    'rows: while waiting != 0 {
-        let (row, left) = grow_lowest(group, own, waiting);
-        let alive = group[row] & columns_with_liberty(own, others, row);
-        if alive != 0 {
+    // most groups have a liberty straight above or below these stones
+    if lives_ahead(own, others, first, Direction::Up, group) {
+        return true;
+    }
+    if lives_ahead(own, others, first, Direction::Down, group) {
+        return true;
+    }
+    fill(group, own);
+    some_lives(own, others, group)
+}
+
+/// Adds to a group stones that a row of it is linked to straight up or down, row by row. Ends at the first of these rows that has a stone with
+/// a liberty, and returns whether there is one.
+#[inline(always)]
+fn lives_ahead(
+    own: &[u64],
+    others: &[u64],
+    first: usize,
+    direction: Direction,
+    group: &mut [u64],
+) -> bool
+    requires rows { AreOfOneBoard own.now others.now }
+    requires group { IsWithin group.old own.now }
+    requires first { first < length own.now }
+    ensures grows { Grows (is_set own.now) (is_set group.old) (is_set group.new) }
+    ensures all { length group.new ≡ length group.old }
+    ensures lives { IsTrue result → HasOneAlive own.now others.now group.new }
+{
+    let mut row = first;
+    let mut given = group[first];
+    'rows: loop {
+        let next = direction.next(row);
+        if next >= own.len() || own[next] & given == 0 {
+            return false;
+        }
+        let (taken, _) = widened(own[next] & given, own[next]);
+        group[next] |= taken;
+        if taken & columns_with_liberty(own, others, next) != 0 {
             return true;
         }
-        waiting = left;
+        row = next;
+        given = taken;
+    }
+}
+
+/// Whether a stone of a group has a liberty.
+fn some_lives(own: &[u64], others: &[u64], group: &[u64]) -> bool
+    requires rows { AreOfOneBoard own.now others.now }
+    requires group { length group.now ≡ length own.now }
+    ensures lives { IsTrue result → HasOneAlive own.now others.now group.now }
+    ensures shut { IsFalse result → (stone : Point) → IsTrue (is_set group.now stone) → ¬ (HasLiberty own.now others.now stone) }
+{
+    'rows: for row in 0..group.len() {
+        if group[row] != 0 && group[row] & columns_with_liberty(own, others, row) != 0 {
+            return true;
+        }
     }
     false
 }
@@ -83,5 +174,6 @@ fn joined_in_row(own: &[u64], from: Point) -> u64
     ensures { IsJoined own.now from result }
 {
     let stone = with_column(0, usize::from(from.col), true);
-    widened(stone, own[usize::from(from.row)])
+    let (joined, _) = widened(stone, own[usize::from(from.row)]);
+    joined
 }

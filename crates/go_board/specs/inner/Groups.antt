@@ -100,3 +100,8 @@ pub record IsMove (grid : Grid) (colour : Colour) (point : Point) (rows : List �
   pub on_board : IsOn grid.side point
   pub empty : cell_at grid point ≡ Empty
   pub taken : TakesOff grid colour point rows
+
+-- rows of stones of a colour that reach empty
+pub record AreKnownAlive (grid : Grid) (colour : Colour) (rows : List ℕ) : Type 0 where
+  pub all : length rows ≡ grid.side
+  pub reach : (point : Point) → IsTrue (is_set rows point) → Reaches grid Empty point

@@ -19,8 +19,13 @@ impl Board {
         ensures value { self.new ≡ fold with_area self.old ops.now }
         ensures side { self.new.side ≡ self.old.side }
     {
+        let before = self.copy();
         for op in ops {
             self.colour_area(*op);
+        }
+        // where no point changed, what was known of the stones still holds
+        if self.same(&before) {
+            self.restore(before.is_settled());
         }
     }
 

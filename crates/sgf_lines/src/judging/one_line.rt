@@ -10,7 +10,7 @@ ghost use Rattle.sgf_lines.specs.Cursor.{IsSeekFault};
 use crate::judging::judge::Judge;
 use crate::judging::judged::judge_line;
 use crate::verdict::Verdict;
-use sgf_tree::{Collection, MemoryFault};
+use sgf_tree::{Collection, MemoryFault, Outline};
 use std::alloc::Global;
 use tree_lines::{NO_FRONT, SeekFault, SequenceCursor};
 
@@ -48,18 +48,14 @@ fn judge_before(alloc: Global, cursor: &SequenceCursor<'_, '_>) -> Result<Verdic
 }
 
 /// The verdict of the line with this place, the same as `judge` returns. A line's
-/// place is the offset in bytes, from 0, of the `;` of its last node.
+/// place is the offset in bytes, from 0, of the `;` of its last node. (A `Collection` lends its outline.)
 ///
 /// `NoSuchLine` comes exactly if no line has that place, unless memory was refused.
-pub fn judge_at(
-    alloc: Global,
-    collection: &Collection<'_>,
-    place: u64,
-) -> Result<Verdict, SeekFault>
-    ensures verdict { IfOk result (IsVerdictOf collection.now place) }
-    ensures why { IfErr result (IsSeekFault collection.now place) }
+pub fn judge_at(alloc: Global, outline: &Outline<'_>, place: u64) -> Result<Verdict, SeekFault>
+    ensures verdict { IfOk result (IsVerdictOf outline.now place) }
+    ensures why { IfErr result (IsSeekFault outline.now place) }
 {
-    let mut cursor = SequenceCursor::new(alloc, collection.outline());
+    let mut cursor = SequenceCursor::new(alloc, outline);
     cursor.seek_after(place)?;
     Ok(judge_before(alloc, &cursor)?)
 }

@@ -1,8 +1,34 @@
-use Rattle.board_points.proofs.GrowLemmas.{IsClosed-all}
+use Rattle.std.proofs.Common.{◌<◌, ◌^◌, subst, arith, rules}
+use Rattle.board_points.specs.declared.fill.Direction.TheVariants.{Up, Down}
+use Rattle.board_points.specs.inner.Fill.{IsFilledBut}
+use Rattle.board_points.proofs.GiveLemmas.{turned, fewer_marks, IsClosed-all}
 use Rattle.board_points.proofs.fill.fill.Goals as goal
 
-pub rows-preserved : goal.rows-preserved
-rows-preserved c = c.grow_lowest-left.ensures.filled c.args.rows.now c.rows.invariant
+pub give_all-ups-requires-clause-within : goal.give_all-ups-requires-clause-within
+give_all-ups-requires-clause-within c =
+    let up = c.give_all-downs.ensures.filled c.args.rows.now c.passes.invariant in
+    record {
+      same = up.all;
+      few = omega (arith, up.all, c.requires.same, c.requires.few);
+      within = up.grows.within;
+    }
+
+pub give_all-ups-requires-clause-marks : goal.give_all-ups-requires-clause-marks
+give_all-ups-requires-clause-marks c = (c.give_all-downs.ensures.filled c.args.rows.now c.passes.invariant).back_in
+
+pub passes-preserved : goal.passes-preserved
+passes-preserved c =
+    let up = c.give_all-downs.ensures.filled c.args.rows.now c.passes.invariant in
+    let down = c.give_all-ups.ensures.filled c.args.rows.now (turned Up c.args.region.now c.args.rows.now c.give_all-downs.new.rows c.give_all-downs.result up) in
+    turned Down c.args.region.now c.args.rows.now c.give_all-ups.new.rows c.give_all-ups.result down
+
+pub passes-smaller : goal.passes-smaller
+passes-smaller c =
+    let low : c.give_all-ups.result < 2 ^ 64 = search rules in
+    fewer_marks c.passes.rows c.give_all-downs.new.rows c.give_all-ups.new.rows c.passes.ups c.give_all-downs.result c.give_all-ups.result c.passes-test.true low
+    c.give_all-downs.ensures.more c.give_all-ups.ensures.more
 
 pub returns-clause-closed : goal.returns-clause-closed
-returns-clause-closed c = IsClosed-all c.args.region.now c.args.rows.now c.rows.rows c.rows.waiting c.rows.invariant c.rows-test.false
+returns-clause-closed c =
+    IsClosed-all c.args.region.now c.args.rows.now c.passes.rows
+    (subst (λ w. IsFilledBut c.args.region.now c.args.rows.now c.passes.rows Up w 0 0 0) c.passes-test.false c.passes.invariant)

@@ -1,10 +1,11 @@
--- The rows are filled, but for those that wait; a row that grew lacks less.
-use Rattle.std.proofs.Common.{◌+◌, ◌*◌, ◌^◌, length}
+-- The rows are filled, but for those that can give to the row above them. More rows lack less; else fewer rows are marked.
+use Rattle.std.proofs.Common.{◌+◌, ◌*◌, ◌^◌}
+use Rattle.board_points.specs.declared.fill.Direction.TheVariants.{Up}
 use Rattle.board_points.specs.inner.Fill.{lacking, IsFilledBut}
 use Rattle.board_points.proofs.fill.fill.Given as goal
 
-abbrev pub invariant-rows : goal.invariant-rows
-invariant-rows l = IsFilledBut l.region l.fn.rows l.rows l.waiting (length l.region)
+abbrev pub invariant-passes : goal.invariant-passes
+invariant-passes l = IsFilledBut l.region l.fn.rows l.rows Up l.ups 0 0 0
 
-abbrev pub decreases-rows : goal.decreases-rows
-decreases-rows l = lacking l.rows * 2 ^ 64 + l.waiting
+abbrev pub decreases-passes : goal.decreases-passes
+decreases-passes l = lacking l.rows * 2 ^ 64 + l.ups

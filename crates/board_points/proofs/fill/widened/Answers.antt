@@ -1,8 +1,28 @@
+use Rattle.std.proofs.Common.{◌/◌, ◌<◌, ◌^◌, bit_and, sym, ◌∙◌, rules}
+use Rattle.std.proofs.lemmas.Bool.{and_parts}
+use Rattle.board_points.proofs.CarryLemmas.{IsWidened-before, in_before, HasBeside-none, AreLeft-before, fewer_left}
 use Rattle.board_points.proofs.fill.widened.Goals as goal
 
-pub returns-then-wider-word-clause-closed : goal.returns-then-wider-word-clause-closed
-returns-then-wider-word-clause-closed c =
-    c.with_before-wider.ensures.closed c.args.seed c.widen.invariant c.if-wider-word.true
+pub returns-then-before-eq0-clause-closed : goal.returns-then-before-eq0-clause-closed
+returns-then-before-eq0-clause-closed c =
+    HasBeside-none c.args.region c.args.seed c.widen.word c.widen.left c.widen.invariant.wide c.widen.invariant.left c.if-before-eq0.true
+
+pub columns_apart-left-requires-in-widen : goal.columns_apart-left-requires-in-widen
+columns_apart-left-requires-in-widen c = λ col is. (in_before c.widen.word c.widen.left col is).1
+
+pub widen-smaller : goal.widen-smaller
+widen-smaller c =
+    let low : bit_and (c.widen.word / 2 ^ 1) c.widen.left < 2 ^ 64 = search rules in
+    fewer_left c.widen.left (bit_and (c.widen.word / 2 ^ 1) c.widen.left) c.columns_apart-left-in-widen.result c.if-before-eq0.false low
+    (λ col is. (in_before c.widen.word c.widen.left col is).1) c.columns_apart-left-in-widen.ensures
 
 pub widen-preserved : goal.widen-preserved
-widen-preserved c = c.with_before-wider.ensures.widened c.args.seed c.widen.invariant
+widen-preserved c =
+    let w = c.widen in
+    let before = bit_and (w.word / 2 ^ 1) w.left in
+    record {
+      wide = IsWidened-before c.args.region c.args.seed w.word before w.invariant.wide
+          (λ col is. (and_parts _ _ (sym (w.invariant.left col) ∙ (in_before w.word w.left col is).1)).0)
+          (λ col is. (in_before w.word w.left col is).0);
+      left = AreLeft-before c.args.region w.word w.left before c.columns_apart-left-in-widen.result w.invariant.left c.columns_apart-left-in-widen.ensures;
+    }

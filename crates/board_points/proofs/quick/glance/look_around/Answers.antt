@@ -1,9 +1,9 @@
 use Rattle.std.proofs.Common.{◌≡◌, ◌≢◌, ◌<◌, ◌^◌, rules, ℕ, inl, inr, sym, ap, ◌∙◌, arith, subst, slice_index}
 use Rattle.board_points.specs.inner.Look.{IsRowAt, IsLookedAt}
 use Rattle.board_points.specs.Rows.{has_bit}
-use Rattle.board_points.proofs.WordLemmas.{column_below}
+use Rattle.board_points.proofs.WordLemmas.{column_below, has_bit-zero}
 use Rattle.board_points.proofs.PointLemmas.{DifferByOne-sym}
-use Rattle.board_points.proofs.GlanceLemmas.{column_there, beside_up, beside_down, beside_along, row_here, free_here, none_free, free_elsewhere, some_of_three, none_of_two}
+use Rattle.board_points.proofs.GlanceLemmas.{column_there, beside_up, beside_down, beside_along, row_here, free_here, none_free, free_elsewhere, some_of_three}
 use Rattle.board_points.proofs.quick.glance.look_around.Goals as goal
 
 pub returns : goal.returns
@@ -52,13 +52,8 @@ returns c =
           ];
       along = λ none q set next.
           let low : slice_index others q.row < 2 ^ 64 = search rules in
-          c.look_at_row-along.ensures.shut own others p q 1 along none (omega (arith, next.0))
+          c.look_at_row-along.ensures.shut own others p q 1 along (ap (λ w. has_bit w q.col) none ∙ has_bit-zero q.col) (omega (arith, next.0))
           (c.columns_beside.ensures.to q.col (column_below 64 _ q.col low set) (inr (inr (p.col, DifferByOne-sym p.col q.col next.1, there)))) set;
-      across = λ none q set next.
-          let both = none_of_two c.look_at_row-up.result.shut c.look_at_row-down.result.shut none in
-          let in_column = ap (has_bit stone) (sym next.0) ∙ there in
-          elim next.1 [
-            | inl row ↦ c.look_at_row-down.ensures.shut own others p q 2 down both.1 (omega (arith, row)) in_column set
-            | inr row ↦ c.look_at_row-up.ensures.shut own others p q 0 up both.0 (omega (arith, row)) in_column set
-          ];
+      up = λ q set next gone. c.look_at_row-up.ensures.shut own others p q 0 up gone (omega (arith, next.1)) (ap (has_bit stone) (sym next.0) ∙ there) set;
+      down = λ q set next gone. c.look_at_row-down.ensures.shut own others p q 2 down gone (omega (arith, next.1)) (ap (has_bit stone) (sym next.0) ∙ there) set;
     }

@@ -16,12 +16,12 @@ one_column from col word at elsewhere k is =
 
 pub returns : goal.returns
 returns c = record {
-  start = c.widened.ensures.kept c.args.from.col
+  start = c.widened-joined.ensures.kept c.args.from.col
       (ap (has_bit c.with_column-stone.result) (sym c.from.ensures) ∙ c.with_column-stone.ensures.there ∙ or-true (has_bit 0 c.from.result));
-  within = subst (λ r. IsPart (has_bit c.widened.result) (has_bit (slice_index c.args.own.now r))) c.from-2.ensures c.widened.ensures.within;
-  closed = subst (λ r. HasBeside (has_bit (slice_index c.args.own.now r)) (has_bit c.widened.result)) c.from-2.ensures c.widened.ensures.closed;
+  within = subst (λ r. IsPart (has_bit c.widened-joined.result.0) (has_bit (slice_index c.args.own.now r))) c.from-2.ensures c.widened-joined.ensures.within;
+  closed = subst (λ r. HasBeside (has_bit (slice_index c.args.own.now r)) (has_bit c.widened-joined.result.0)) c.from-2.ensures c.widened-joined.ensures.closed;
   linked = λ col is set closed has.
-      c.widened.ensures.least (λ k. set (record { col = k; row = c.args.from.row }))
+      c.widened-joined.ensures.least (λ k. set (record { col = k; row = c.args.from.row }))
       (λ k beside differ there in_set.
       closed (record { col = k; row = c.args.from.row }) (record { col = beside; row = c.args.from.row }) (inr (refl, differ))
       (ap (λ r. has_bit (slice_index c.args.own.now r) k) (sym c.from-2.ensures) ∙ there) in_set)

@@ -1,67 +1,46 @@
-use Rattle.std.proofs.Common.{◌≡◌, ◌∙◌, inl, inr, sym, subst, arith}
+use Rattle.std.proofs.Common.{false, inl, inr, sym, subst, refl, arith}
 use Rattle.std.specs.List.{Contains}
+use Rattle.std.proofs.lemmas.Bool.{false≢true}
 use Rattle.std.proofs.lemmas.List.{take_all}
 use Rattle.board_points.specs.Point.{IsOn}
-use Rattle.go_board.specs.inner.Groups.{IsTakenOrReaches}
-use Rattle.std.proofs.lemmas.Bool.{or_cases, or_parts, false≢true}
 use Rattle.board_points.specs.declared.points.Point.{Point}
-use Rattle.go_board.specs.Colour.{stone_of}
-use Rattle.go_board.specs.Grid.{cell_at}
+use Rattle.go_board.specs.inner.Groups.{AddsShut, AreShutGroups, ReachesIfStone}
 use Rattle.board_points.proofs.PointLemmas.{Contains-take_more}
-use Rattle.go_board.proofs.TakenLemmas.{taken_still}
 use Rattle.go_board.proofs.board.Board.find_shut_beside.Goals as goal
-use Rattle.go_board.proofs.board.Board.find_shut_beside.Goals.{then-has_stone, else-has_stone}
 
 pub loop-at-preserved : goal.loop-at-preserved
-loop-at-preserved c =
-    let g = c.args.self.now in
-    let k = c.args.colour in
-    let before = c.loop-at.invariant in
-    let turn = λ (q : Point). Contains-take_more c.neighbours-beside.result c.loop-at.at-index q (omega arith) in
-    elim c.if-has_stone.branch [
-      | then-has_stone w ↦
-          let now = w.find_shut-some.ensures in
-          rw w.shut-is
-          (record {
-            adds = record {
-              shut = now.adds.shut;
-              kept = λ q is. now.adds.kept q (before.adds.kept q is);
-              none = λ fails.
-                  let neither = or_parts _ _ (sym w.some-is ∙ fails) in
-                  now.adds.none neither.1 ∙ before.adds.none neither.0;
-              some = λ holds.
-                  elim (or_cases _ _ (sym w.some-is ∙ holds)) [
-                    | inl some ↦ (let p = before.adds.some some in (p.0, now.adds.kept p.0 p.1))
-                    | inr some ↦ now.adds.some some
-                  ];
-            };
-            beside = λ q among on.
-                elim ((turn q).0 among) [
-                  | inl earlier ↦ taken_still g k _ _ q now.adds.kept (before.beside q earlier on)
-                  | inr is ↦ subst (IsTakenOrReaches g k w.find_shut-some.new.shut) (sym is) now.here
-                ];
-          })
-      | else-has_stone w ↦
-          rw w.shut-is
-          (record {
-            adds = record {
-              shut = before.adds.shut;
-              kept = before.adds.kept;
-              none = λ fails. before.adds.none (sym w.some-is ∙ fails);
-              some = λ holds. before.adds.some (sym w.some-is ∙ holds);
-            };
-            beside = λ q among on stone.
-                elim ((turn q).0 among) [
-                  | inl earlier ↦ before.beside q earlier on stone
-                  | inr is ↦ absurd (false≢true (sym w.if-has_stone.false ∙ c.has_stone.ensures.1 (subst (λ p. IsOn g.side p × (cell_at g p ≡ stone_of k)) is (on, stone))))
-                ];
-          })
-    ]
+loop-at-preserved c = record {
+  same = c.loop-at.invariant.same;
+  beside = λ q among on.
+      let turn = λ (p : Point). Contains-take_more c.neighbours-beside.result c.loop-at.at-index p (omega arith) in
+      elim ((turn q).0 among) [
+        | inl earlier ↦ c.loop-at.invariant.beside q earlier on
+        | inr is ↦
+            subst (λ p. IsOn c.args.self.now.side p → ReachesIfStone c.args.self.now c.args.colour p) (sym is) (c.may_be_shut.ensures c.if-may_be_shut.false) on
+      ];
+}
+
+pub find_shut_among-requires-clause-shut : goal.find_shut_among-requires-clause-shut
+find_shut_among-requires-clause-shut c = subst (AreShutGroups c.args.self.now c.args.colour) (sym c.loop-at.invariant.same) c.requires.shut
+
+pub returns-then-may_be_shut-clause-adds : goal.returns-then-may_be_shut-clause-adds
+returns-then-may_be_shut-clause-adds c =
+    subst (λ rows. AddsShut c.args.self.now c.args.colour rows c.find_shut_among.new.shut c.find_shut_among.result) c.loop-at.invariant.same c.find_shut_among.ensures.adds
+
+pub returns-clause-adds : goal.returns-clause-adds
+returns-clause-adds c =
+    subst (λ rows. AddsShut c.args.self.now c.args.colour c.args.shut.now rows false) (sym c.loop-at.invariant.same)
+    (record {
+      shut = c.requires.shut;
+      kept = λ _ is. is;
+      none = λ _. refl;
+      some = λ no. absurd (false≢true no);
+    })
 
 pub returns-clause-beside : goal.returns-clause-beside
-returns-clause-beside c = λ q on next.
+returns-clause-beside c = λ q on next stone.
     let few = c.has_all_cells.ensures.few in
-    c.loop-at.invariant.beside q
+    inr (c.loop-at.invariant.beside q
     (subst (λ l. Contains l q) (sym (take_all c.loop-at.at-index c.neighbours-beside.result (omega arith)))
     ((c.neighbours-beside.ensures q (omega (arith, few, on), omega (arith, few, on))).1 next))
-    on
+    on stone)

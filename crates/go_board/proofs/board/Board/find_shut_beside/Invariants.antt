@@ -1,10 +1,10 @@
-use Rattle.std.proofs.Common.{Contains, take}
+use Rattle.std.proofs.Common.{◌≡◌, Contains, take}
 use Rattle.board_points.specs.Point.{IsOn}
-use Rattle.go_board.specs.inner.Groups.{AddsShut, IsTakenOrReaches}
+use Rattle.go_board.specs.inner.Groups.{ReachesIfStone}
 use Rattle.go_board.proofs.board.Board.find_shut_beside.Given as goal
 
 abbrev pub invariant-loop-at : goal.invariant-loop-at
 invariant-loop-at l = record {
-  adds : AddsShut l.self l.colour l.fn.shut l.shut l.some;
-  beside : (q : _) → Contains (take l.at-index l.at-items) q → IsOn l.self.side q → IsTakenOrReaches l.self l.colour l.shut q;
+  same : l.shut ≡ l.fn.shut;
+  beside : (q : _) → Contains (take l.at-index l.at-items) q → IsOn l.self.side q → ReachesIfStone l.self l.colour q;
 }

@@ -1,0 +1,81 @@
+use Rattle.std.proofs.Common.{◌≡◌, ◌<◌, ◌^◌, length, set, slice_index, bit_or, inr, sym, ap, ◌∙◌, arith, rules}
+use Rattle.std.proofs.lemmas.Bool.{and_parts}
+use Rattle.std.proofs.lemmas.List.{length-set}
+use Rattle.board_points.specs.Rows.{has_bit}
+use Rattle.board_points.proofs.WordLemmas.{has_bit-and}
+use Rattle.board_points.proofs.GiveLemmas.{IsFilledBut-last, IsFilledBut-give, has_all, row_there, HaveMore-twice, IsAmong-taken, taken-there, left-there, lacking-taken}
+use Rattle.board_points.proofs.fill.give.Goals as goal
+
+pub columns_apart-lacks-requires : goal.columns_apart-lacks-requires
+columns_apart-lacks-requires c = λ col is. c.requires.within.within (record { col = col; row = c.args.first }) is
+
+pub returns-then-next-rows-clause-filled : goal.returns-then-next-rows-clause-filled
+returns-then-next-rows-clause-filled c = λ start marks was.
+    let l = c.rows in
+    IsFilledBut-last c.args.direction c.args.region.now start l.rows marks l.marks l.row l.given (l.invariant.filled start marks was)
+    (λ next step col there given.
+    let past = row_there c.args.region.now next col there in
+    let at : c.next-next.result ≡ next = c.next-next.ensures.only next step in
+    absurd (omega (arith, past, at, c.if-next-rows.true, l.invariant.within.same)))
+
+pub columns_apart-here-requires : goal.columns_apart-here-requires
+columns_apart-here-requires c = λ col is. c.rows.invariant.within.within (record { col = col; row = c.next-next.result }) is
+
+pub returns-then-here-given-eq0-clause-filled : goal.returns-then-here-given-eq0-clause-filled
+returns-then-here-given-eq0-clause-filled c = λ start marks was.
+    let l = c.rows in
+    IsFilledBut-last c.args.direction c.args.region.now start l.rows marks l.marks l.row l.given (l.invariant.filled start marks was)
+    (λ next step col there given.
+    let at : c.next-next.result ≡ next = c.next-next.ensures.only next step in
+    ap (λ k. has_bit (slice_index l.rows k) col) (sym at)
+    ∙ has_all (slice_index c.args.region.now c.next-next.result) (slice_index l.rows c.next-next.result) c.columns_apart-here.result l.given c.columns_apart-here.ensures c.if-here-given-eq0.true col
+    (ap (λ k. has_bit (slice_index c.args.region.now k) col) at ∙ there) given)
+
+pub widened-taken-requires : goal.widened-taken-requires
+widened-taken-requires c = λ col is. (and_parts _ _ (sym (has_bit-and _ _ col) ∙ is)).0
+
+pub rows-smaller : goal.rows-smaller
+rows-smaller c =
+    let l = c.rows in
+    let here = c.columns_apart-here in
+    let taken = c.widened-taken in
+    let next = c.next-next.result in
+    let low : here.result < 2 ^ 64 = search rules in
+    let room : slice_index c.args.region.now next < 2 ^ 64 = search rules in
+    lacking-taken c.args.region.now l.rows next l.given here.result taken.result.0 c.if-next-rows.false l.invariant.within.within here.ensures taken.ensures.within
+    c.if-here-given-eq0.false low room taken.ensures.kept
+
+pub rows-preserved : goal.rows-preserved
+rows-preserved c =
+    let l = c.rows in
+    let region = c.args.region.now in
+    let here = c.columns_apart-here in
+    let taken = c.widened-taken in
+    let next = c.next-next.result in
+    let word = bit_or (slice_index l.rows next) taken.result.0 in
+    let after = set l.rows next word in
+    let below : next < length l.rows = c.if-next-rows.false in
+    let low : here.result < 2 ^ 64 = search rules in
+    let room : slice_index region next < 2 ^ 64 = search rules in
+    let long : length after ≡ length l.rows = length-set l.rows next word in
+    let few = l.invariant.within.few in
+    let is_next = c.next-next.ensures.next (omega (arith, below, few)) in
+    let marks = c.with_mark-marks in
+    record {
+      within = record {
+        same = long ∙ l.invariant.within.same;
+        few = omega (arith, long, few);
+        within = IsAmong-taken region l.rows next l.given here.result taken.result.0 below l.invariant.within.within here.ensures taken.ensures.within;
+      };
+      row = omega (arith, long, below);
+      given = taken-there region l.rows next l.given here.result taken.result.0 below l.invariant.within.within here.ensures taken.ensures.within;
+      lacks = left-there region l.rows next l.given here.result taken.result.0 below l.invariant.within.within here.ensures taken.ensures.within taken.result.1 taken.ensures.left;
+      filled = λ start ahead was.
+          IsFilledBut-give c.args.direction region start l.rows ahead l.marks l.row next l.given here.result taken.result.0 (l.invariant.filled start ahead was) is_next below
+          l.invariant.given here.ensures taken.ensures.within taken.ensures.kept taken.ensures.closed taken.ensures.least
+          l.lacks marks.result l.invariant.lacks marks.ensures.there marks.ensures.elsewhere;
+      more =
+          HaveMore-twice c.args.rows.now l.rows after c.args.back l.marks marks.result l.invariant.more
+          (inr (lacking-taken region l.rows next l.given here.result taken.result.0 below l.invariant.within.within here.ensures taken.ensures.within
+          c.if-here-given-eq0.false low room taken.ensures.kept));
+    }

@@ -1,0 +1,8 @@
+use Rattle.std.proofs.Common.{◌<◌, IsTrue}
+use Rattle.board_points.specs.declared.points.Point.{Point}
+use Rattle.board_points.specs.Rows.{is_set}
+use Rattle.board_points.specs.Linked.{HasLiberty}
+use Rattle.board_points.proofs.quick.group.some_lives.Given as goal
+
+abbrev pub invariant-rows : goal.invariant-rows
+invariant-rows l = (stone : Point) → stone.row < l.row → IsTrue (is_set l.group stone) → ¬ (HasLiberty l.own l.others stone)

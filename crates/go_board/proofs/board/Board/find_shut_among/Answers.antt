@@ -1,0 +1,91 @@
+use Rattle.std.proofs.Common.{◌∙◌, inl, inr, sym, ap, subst, refl, arith, rules}
+use Rattle.std.specs.List.{Contains}
+use Rattle.std.proofs.lemmas.List.{take_all}
+use Rattle.board_points.specs.Point.{IsOn}
+use Rattle.go_board.specs.inner.Groups.{IsTakenOrReaches}
+use Rattle.std.proofs.lemmas.Bool.{or_cases, or_parts, false≢true}
+use Rattle.board_points.specs.declared.points.Point.{Point}
+use Rattle.go_board.specs.Grid.{cell_at}
+use Rattle.go_board.specs.Reaching.{Reaches}
+use Rattle.go_board.specs.declared.stones.Cell.TheVariants.{Empty}
+use Rattle.board_points.specs.Rows.{is_set}
+use Rattle.board_points.proofs.LinkedLemmas.{none_in_front}
+use Rattle.board_points.proofs.PointLemmas.{Contains-take_more}
+use Rattle.go_board.proofs.TakenLemmas.{taken_still}
+use Rattle.go_board.proofs.board.Board.find_shut_among.Goals as goal
+use Rattle.go_board.proofs.board.Board.find_shut_among.Goals.{then-is_unknown, else-is_unknown}
+
+pub loop-at-init : goal.loop-at-init
+loop-at-init c = record {
+  adds = record {
+    shut = c.requires.shut;
+    kept = λ _ is. is;
+    none = λ _. refl;
+    some = λ no. absurd (false≢true no);
+  };
+  alive = record {
+    all = search rules;
+    reach = λ p is. absurd (false≢true (sym (none_in_front c.from.result 52 c.no_rows-words.result p c.no_rows-words.ensures) ∙ is));
+  };
+  beside = search rules;
+}
+
+pub loop-at-preserved : goal.loop-at-preserved
+loop-at-preserved c =
+    let g = c.args.self.now in
+    let k = c.args.colour in
+    let before = c.loop-at.invariant in
+    let turn = λ (q : Point). Contains-take_more c.neighbours-beside.result c.loop-at.at-index q (omega arith) in
+    elim c.if-is_unknown.branch [
+      | then-is_unknown w ↦
+          let now = w.find_either-some.ensures.group in
+          rw (w.shut-is, w.alive-is)
+          (record {
+            alive = w.find_either-some.ensures.alive;
+            adds = record {
+              shut = now.adds.shut;
+              kept = λ q is. now.adds.kept q (before.adds.kept q is);
+              none = λ fails.
+                  let neither = or_parts _ _ (sym w.some-is ∙ fails) in
+                  now.adds.none neither.1 ∙ before.adds.none neither.0;
+              some = λ holds.
+                  elim (or_cases _ _ (sym w.some-is ∙ holds)) [
+                    | inl some ↦ (let p = before.adds.some some in (p.0, now.adds.kept p.0 p.1))
+                    | inr some ↦ now.adds.some some
+                  ];
+            };
+            beside = λ q among on.
+                elim ((turn q).0 among) [
+                  | inl earlier ↦ taken_still g k _ _ q now.adds.kept (before.beside q earlier on)
+                  | inr is ↦ subst (IsTakenOrReaches g k w.find_either-some.new.shut) (sym is) now.here
+                ];
+          })
+      | else-is_unknown w ↦
+          rw (w.shut-is, w.alive-is)
+          (record {
+            alive = before.alive;
+            adds = record {
+              shut = before.adds.shut;
+              kept = before.adds.kept;
+              none = λ fails. before.adds.none (sym w.some-is ∙ fails);
+              some = λ holds. before.adds.some (sym w.some-is ∙ holds);
+            };
+            beside = λ q among on stone.
+                elim ((turn q).0 among) [
+                  | inl earlier ↦ before.beside q earlier on stone
+                  | inr is ↦
+                      elim (c.is_unknown.ensures.known w.if-is_unknown.false (subst (IsOn g.side) is on) (ap (cell_at g) (sym is) ∙ stone)) [
+                        | inl shut ↦ inl (ap (is_set _) is ∙ shut)
+                        | inr alive ↦ inr (subst (Reaches g Empty) (sym is) (before.alive.reach _ alive))
+                      ]
+                ];
+          })
+    ]
+
+pub returns-clause-beside : goal.returns-clause-beside
+returns-clause-beside c = λ q on next.
+    let few = c.has_all_cells.ensures.few in
+    c.loop-at.invariant.beside q
+    (subst (λ l. Contains l q) (sym (take_all c.loop-at.at-index c.neighbours-beside.result (omega arith)))
+    ((c.neighbours-beside.ensures q (omega (arith, few, on), omega (arith, few, on))).1 next))
+    on
