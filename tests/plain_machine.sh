@@ -9,7 +9,8 @@ for folder in "${folders[@]}"; do
     for program in "$folder"/*; do
         case " $missing " in
             *" ${program##*/} "*) ;;
-            *) [ -e "bin/${program##*/}" ] || ln -s "$program" "bin/${program##*/}" ;;
+            # PATH may name folders that aren't there, and programs that are links to nothing
+            *) [ ! -e "$program" ] || [ -e "bin/${program##*/}" ] || ln -s "$program" "bin/${program##*/}" ;;
         esac
     done
 done
