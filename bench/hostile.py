@@ -403,6 +403,32 @@ def maze(size, side, standing, unit):
     return repeated(max(size, len(front) + 3 * len(unit) + 1), front, unit, ")")
 
 
+def shafts(size):
+    """On side 52, white shafts of 51 points between black walls. Stones that fill them are suicides, each of which changes 52 rows. After 25 of
+    these and five quiet stones come variations of one more, so that a look at the newest colourings goes over all of these rows."""
+    front = "(;SZ[52]AB" + "".join(f"[{point(col, 0)}:{point(col, 51)}]" for col in range(1, 52, 2))
+    front += "AW" + "".join(f"[{point(col, 0)}:{point(col, 50)}]" for col in range(0, 50, 2))
+    front += "".join(f";W[{point(col, 51)}];B[]" for col in range(0, 50, 2))
+    front += "".join(f";W[{point(48, row)}];B[]" for row in range(51, 41, -2))
+    return repeated(max(size, 2_000), front, f"(;W[{point(0, 51)}])", ")")
+
+
+def asked(size, unit):
+    """The corridor of `maze52s`, on a board all of whose points were emptied before, and 30 stones at its end. Then copies of `unit`, in which
+    NEXT is the point after these. It is asked whether a stone there repeats a colouring, and the newest ones don't tell."""
+    path = []
+    for col in range(0, 52, 2):
+        rows = range(52) if col % 4 == 0 else range(51, -1, -1)
+        path += [(col, row) for row in rows]
+        if col + 2 < 52:
+            path.append((col + 1, 51 if col % 4 == 0 else 0))
+    inside = set(path)
+    walls = [(col, row) for row in range(52) for col in range(52) if (col, row) not in inside]
+    front = "(;SZ[52]AB[aa:ZZ]AE[ab:aY];AE[aa:ZZ];AB[aa]AW" + "".join(f"[{point(*spot)}]" for spot in walls)
+    front += "".join(f";W[{point(50, row)}];B[]" for row in range(21, 51))
+    return repeated(max(size, len(front) + 200), front, unit.replace("NEXT", point(50, 51)), ")")
+
+
 def fan(count):
     """A long line that very many variations share."""
     return "(;" + ";C[x]" * count + "(;)" * count + ")"
@@ -479,6 +505,11 @@ INPUTS = {
     "maze19s": ("variations that only score an open corridor on side 19, whose legs stand",
                lambda n: maze(n, 19, True, "(;)"), ["list", "count"]),
     "paces": ("variations that play one stone in the corridor of `maze52s`", lambda n: maze(n, 52, True, "(;B[NEXT])"), ["list", "count"]),
+    "turns": ("the variations of `paces` and of `maze52s` by turns, so that each has another board than the one before it",
+              lambda n: maze(n, 52, True, "(;B[NEXT])(;)"), ["list", "count"]),
+    "asked": ("the variations of `paces` on points that were emptied before, so that it is asked whether each repeats a colouring",
+              lambda n: asked(n, "(;W[NEXT])"), ["list", "count"]),
+    "shafts": ("variations that fill a shaft of 51 points on side 52, a suicide, after 25 suicides of that kind", shafts, ["list", "count"]),
     "same": ("one line of setups that change nothing on the board of `eye52s`", lambda n: besieged(n, 52, True, ";AE[LIBERTY]"), ["list", "count"]),
     "blinks": ("one line of setups that fill the eye of `eye52s`, and empty it",
                lambda n: besieged(n, 52, True, ";AB[EYE];AE[EYE]"), ["list", "count"]),

@@ -16,10 +16,10 @@ file follow those of the file before.
                                  splits one part at a time; without --jobs as
                                  many as there are cores
 
-A file is read as it is split. For each job a part is in memory, and one more
-is, with a game. A single game of more than 64 MiB is still refused, once 64 MiB
-and a byte of it are read. Status 1: a file was refused; the rows of the parts
-before the fault are written.
+A file is read as it is split. For each job a part is in memory, and two more
+are, with a game. A single game of more than 64 MiB is still refused, once
+64 MiB and a byte of it are read. Status 1: a file was refused; the rows of the
+parts before the fault are written.
 """
 import os
 import sys

@@ -96,8 +96,17 @@ answer 'a huge name' '1 1 1 score 0 0 open' split
 answer 'a huge name as a game' '(;GM[1])' split --form sgf
 { printf '(;'; times 500000 'Aa'; printf '[1])'; } > input.sgf
 answer 'a name whose every second letter is in lower case' "(;$(times 500000 A)[1])" split --form sgf
+# As many stretches as there can be: half as many as a text of the greatest length has bytes. List form keeps them too.
+{ printf '(;'; times 33554429 'Aa'; printf '[1])'; } > input.sgf
+check 'such a name in the longest text' 67108864 "$(stat -c %s input.sgf)"
+answer 'such a name in the longest text' '1 1 1 score 0 0 open' split
 { printf '(;A'; times 500000 '[] '; printf ')'; } > input.sgf
 answer 'white space between values' "(;A$(times 500000 '[]'))" split --form sgf
+# No room is taken at first for as many sequences as the longest text can have.
+{ printf '(;C['; head -c 67108857 /dev/zero | tr '\0' x; printf '])'; } > input.sgf
+(ulimit -v 131072 && exec timeout 60 "$SGFSPLIT" split input.sgf) > out 2> err
+check 'the longest value, in 128 MiB: status' 0 $?
+check 'the longest value, in 128 MiB' '1 1 1 score 0 0 open' "$(cat out)"
 times 16384 "$(printf %063d 7)n" | tr n '\n' > comment
 { printf '(;SZ[3]C['; cat comment; printf ']AB[aa];W[bb])'; } > input.sgf
 timeout 60 "$SGFSPLIT" split --form gtp input.sgf > out 2> err
@@ -173,8 +182,13 @@ if command -v python3 > /dev/null; then
     for kind in eye19 eye19s eye52 eye52s; do
         small "$kind" 0 '(;AE[aa];B[cc])'
     done
-    small maze19 0 '(;B[ba])(;)' open
+    # A score is kept while the board stays: not over a stone, a setup, or the way back from them.
+    small maze19 0 '(;B[])(;B[ba](;)(;W[]))(;)(;AW[ba];PL[B])(;)' open
     small maze19s 0 '(;B[ab])(;)' open
+    small turns 0 '(;B[ab];W[])(;)' open
+    # Each of these variations asks whether it repeats a colouring.
+    small shafts 0 '(;W[aZ];B[];W[cZ])' open
+    small asked 0 '(;W[yZ];B[];W[ab])' open
     small same 0 '' open
     small blinks 0 '' open
     # White has the walls, and Black her stones. Both reach the corridor. In `siege` Black's own group is left without a liberty.
@@ -183,7 +197,7 @@ if command -v python3 > /dev/null; then
     scored paces '2 1327'
     scored siege '0 2704'
 else
-    skipped=16
+    skipped=19
 fi
 
 echo "$passed passed, $failed failed, $skipped skipped"

@@ -53,6 +53,17 @@ for commands in 'exec sleep 60' 'read -r line; exec sleep 60' 'cat > /dev/null' 
     echo 'replay.py: the engine gave no answer in 1 s (--timeout sets another limit)' > want
     same want faults "what is said of an engine that runs $commands"
 done
+# There is a limit without the option, too.
+engine 'exec sleep 60'
+status=0
+PYTHONPATH=$top/recipes ENGINE=./engine timeout 30 python3 -c '
+import sys
+import tool, replay
+replay.SECONDS, sys.argv = 1, ["replay.py", "one.sgf"]
+tool.start(replay.main, replay.USAGE, values=("--timeout",))' 2> faults || status=$?
+[ "$status" = 3 ] || failed "without --timeout: status $status, $(cat faults)"
+same want faults "what is said without --timeout"
+gone 'without --timeout'
 # Each answer has this time for itself.
 engine 'printf() { sleep 0.4; command printf "$@"; }'
 replays 0 30 --timeout 1

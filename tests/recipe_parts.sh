@@ -128,6 +128,50 @@ TRUE_SGFSPLIT=$SGFSPLIT SGFSPLIT=$work/counts "$tool" --most 1000000 library.sgf
 "$SGFSPLIT" split library.sgf > want
 same want got "the rows of a library in parts"
 [ "$(grep -c split calls)" = 9 ] || failed "$(wc -c < library.sgf) bytes in parts of 1000000: $(grep -c split calls) calls"
+# The tool doesn't go through each part token by token: 16 MB of moves take it less than three seconds of processor time.
+python3 - <<'PYTHON'
+game = b"(;GM[1]FF[4]SZ[19]" + b";B[aa];W[bb];B[cc];W[dd]" * 20 + b"(;B[ee])(;B[ff];W[gg]))\n"
+with open("moves.sgf", "wb") as file:
+    file.writelines([game] * ((16 << 20) // len(game)))
+PYTHON
+"$SGFSPLIT" split moves.sgf > want
+python3 - "$tool" --most 4000000 moves.sgf > got 2> said <<'PYTHON' || failed "$(cat said)"
+import os
+import subprocess
+import sys
+
+run = subprocess.Popen(sys.argv[1:])
+_, status, used = os.wait4(run.pid, 0)
+if status or used.ru_utime + used.ru_stime > 3:
+    sys.exit(f"status {status}, {used.ru_utime + used.ru_stime:.2f} seconds for 16 MB of moves")
+PYTHON
+same want got "the rows of 16 MB of moves"
+# For each job a part is in memory, and two more are, of however many: the one whose rows are written, and the one that is started next.
+cat > held.py <<'PYTHON'
+import sys
+
+sys.path.insert(0, sys.argv[1] + "/recipes")
+import parts
+
+for jobs in 1, 2, 5:
+    files, most, plain = [], 0, parts.unnamed
+
+    def counted():
+        global most
+        files.append(plain())
+        most = max(most, sum(not file.closed for file in files))
+        return files[-1]
+
+    parts.unnamed = counted
+    rows = b"".join(parts.rows_of("library.sgf", 500000, jobs))
+    parts.unnamed = plain
+    print(len(files) > 15, most - jobs, rows == open("want.library", "rb").read())
+PYTHON
+"$SGFSPLIT" split library.sgf > want.library
+python3 held.py "$top" > got
+for _ in 1 2 5; do echo True 2 True; done > want
+same want got "how many of many parts are held, beside one for each job"
+
 # With four jobs four programs run at a time, and no more.
 cat > meets <<'MEETS'
 #!/bin/sh
@@ -147,7 +191,7 @@ fi
 MEETS
 chmod +x meets
 TRUE_SGFSPLIT=$SGFSPLIT SGFSPLIT=$work/meets "$tool" --jobs 4 --most 1000000 library.sgf > got
-same want got "the rows of four jobs"
+same want.library got "the rows of four jobs"
 [ "$(sort -n met | tail -n 1)" = 4 ] || failed "with four jobs $(sort -n met | tail -n 1) programs ran at a time"
 
 # More than the program accepts: 48 games of about 1.5 MB, and the same once more.

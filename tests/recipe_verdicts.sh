@@ -119,6 +119,14 @@ cp games/over.sgf $'a,"b"\nc.sgf'
 printf '"a,""b""\nc.sgf",7,1,2,score,4,0,open,,,\n' > want
 same want got
 
+# A name that begins with `=` is written as it is. A spreadsheet may run it, so the help and the documents say so.
+cp games/over.sgf '=1+1.sgf'
+"$tool" --csv '=1+1.sgf' | tail -n +2 > got
+printf '=1+1.sgf,7,1,2,score,4,0,open,,,\n' > want
+same want got
+"$tool" -h | tr '\n' ' ' | grep -q 'A spreadsheet may take .* that begins with `=` for a formula and run it' || failed "the help says nothing of spreadsheets"
+grep -q '^A spreadsheet may take .* that begins with `=`.* for a formula, and run it' "$top/docs/RECIPES.md" || failed "RECIPES.md says nothing of spreadsheets"
+
 # A table that has more columns, in another order, takes the rows. A table or view of others is refused, and stays as it is.
 base() { python3 -c 'import sqlite3, sys; sqlite3.connect(sys.argv[1]).executescript(sys.argv[2])' "$@"; }
 base own.db 'CREATE TABLE lines (note DEFAULT "none", place, file, reason, fault, turn, ended, white, black, verdict, nodes, game, PRIMARY KEY (place, file))'

@@ -1,6 +1,6 @@
 -- Changes that lead back from a colouring to the one before it.
-use Rattle.std.proofs.Common.{◌≡◌, ◌≢◌, ◌⊎◌, ◌==◌, ℕ, ◌+◌, ◌*◌, ◌<◌, inl, inr, Bool, true, false, cond, List, [], ◌∷◌, ◌++◌, length, take, drop, refl, sym, ap, subst, ◌∙◌, append_assoc, All, slice_index, arith}
-use Rattle.std.proofs.lemmas.Bool.{cases_eq, false≢true}
+use Rattle.std.proofs.Common.{◌≡◌, ◌≢◌, ◌⊎◌, ◌==◌, ℕ, ◌+◌, ◌*◌, ◌<◌, inl, inr, Bool, true, false, cond, List, [], ◌∷◌, ◌++◌, length, take, drop, refl, sym, ap, subst, ◌∙◌, append_assoc, length-append, All, slice_index, arith}
+use Rattle.std.proofs.lemmas.Bool.{cases_Bool, cases_eq, false≢true}
 use Rattle.std.proofs.lemmas.Bool.Decides.{Decides-eqb}
 use Rattle.std.proofs.lemmas.List.{append-nil, take-append-drop, length-set}
 use Rattle.std.proofs.lemmas.List.Elements.{All-nil, All-push, All-head, All-tail, All-weaker}
@@ -8,18 +8,20 @@ use Rattle.go_board.specs.declared.stones.Cell.{Cell}
 use Rattle.go_board.specs.declared.stones.Cell.TheVariants.{Black, White, Empty}
 use Rattle.board_points.specs.declared.points.Point.{Point}
 use Rattle.go_board.specs.declared.quick.print_past.changes.Change.{Change}
+use Rattle.go_board.specs.declared.quick.print_past.changes.Older.{Older}
 use Rattle.go_board.specs.declared.stones.Colour.{Colour}
 use Rattle.go_board.specs.Colour.{same_cell, stone_of}
 use Rattle.board_points.specs.Point.{IsOn, index_of}
-use Rattle.go_board.specs.Grid.{Grid, cell_at, grid_of}
+use Rattle.go_board.specs.Grid.{Grid, cell_at, with_cell, grid_of}
 use Rattle.go_board.specs.Clearing.{play}
 use Rattle.go_board.specs.inner.Groups.{IsMove, TakesOff}
 use Rattle.go_board.specs.inner.Regions.{with_row}
 use Rattle.board_points.specs.Rows.{has_bit}
-use Rattle.go_board.specs.inner.Changes.{with_change, after_changes, AddsRow, AreOn, IsChangeOn, IsRowOf, IsSameRow, HasRow, KeepRows, MakeOne}
+use Rattle.go_board.specs.inner.Changes.{with_change, after_changes, AddsRow, AreOn, IsChangeOn, IsRowOf, IsSameRow, HasRow, KeepRows, MakeOne, step_back}
 use Rattle.go_board.proofs.RuleLemmas.{false_from_Decides}
-use Rattle.go_board.proofs.GridLemmas.{cell_at-grid_of, length-grid_of, cell_at-with_cell_elsewhere}
+use Rattle.go_board.proofs.GridLemmas.{cell_at-grid_of, length-grid_of, cell_at-with_cell, cell_at-with_cell_elsewhere}
 use Rattle.go_board.proofs.GroupLemmas.{grid_of-cells}
+use Rattle.board_points.proofs.PointLemmas.{same_or_not}
 use Rattle.board_points.proofs.GrowLemmas.{row_below}
 use Rattle.board_points.proofs.WordLemmas.{has_bit-zero}
 
@@ -54,6 +56,12 @@ after-side g (x ∷ xs) = side-changed (after_changes g xs) x ∙ after-side g x
 pub after-length : (g : Grid) (cs : List Change) → length g.cells ≡ g.side * g.side → length (after_changes g cs).cells ≡ g.side * g.side
 after-length g [] all = all
 after-length g (x ∷ xs) all = length-changed (after_changes g xs) x ∙ ap (λ n. n * n) (after-side g xs)
+
+pub step-side : (g : Grid) (o : Older) (cs : List Change) → (step_back g o cs).side ≡ g.side
+step-side g o cs = elim (cases_Bool o.alone) [
+  | inl is ↦ rw is refl
+  | inr not_so ↦ rw not_so (after-side g cs)
+]
 
 pub after-append : (g : Grid) (cs more : List Change) → after_changes g (cs ++ more) ≡ after_changes (after_changes g more) cs
 after-append g [] more = refl
@@ -202,7 +210,7 @@ has_row-parts row (x ∷ xs) c (inr later) = elim (has_row-parts row xs c later)
 
 -- what is kept of the first rows
 pub kept_none : (old new : Grid) (all : Bool) (cs : List Change) → KeepRows old new all 0 cs cs
-kept_none old new all cs = record { more = []; added = sym (append-nil cs); are = All-nil (IsRowOf old); each = λ r low. absurd (omega (arith, low)) }
+kept_none old new all cs = record { more = []; added = sym (append-nil cs); are = All-nil (IsRowOf old); few = omega arith; each = λ r low. absurd (omega (arith, low)) }
 
 module _ {old new : Grid} {all : Bool} {row : ℕ} {a b : List Change} (h : KeepRows old new all row a b) where
   pub kept_more : {next : List Change} → AddsRow old row b next → KeepRows old new all (row + 1) a next
@@ -210,6 +218,7 @@ module _ {old new : Grid} {all : Bool} {row : ℕ} {a b : List Change} (h : Keep
     more = h.more ++ adds.change ∷ [];
     added = adds.added ∙ ap (λ xs. xs ++ adds.change ∷ []) h.added ∙ append_assoc a h.more (adds.change ∷ []);
     are = All-push (IsRowOf old) h.more adds.change h.are adds.is;
+    few = omega (arith, h.few, length-append h.more (adds.change ∷ []));
     each = λ r low. elim (cases_eq r row) [
       | inl at ↦ inl (has_row-last r h.more adds.change (adds.at ∙ sym at))
       | inr other ↦ elim (h.each r (omega (arith, low, other))) [ inl there ↦ inl (has_row-front r h.more adds.change there) | inr same ↦ inr same ]
@@ -221,6 +230,7 @@ module _ {old new : Grid} {all : Bool} {row : ℕ} {a b : List Change} (h : Keep
     more = h.more;
     added = h.added;
     are = h.are;
+    few = omega (arith, h.few);
     each = λ r low. elim (cases_eq r row) [
       | inl at ↦ inr (none, subst (IsSameRow old new) (sym at) same)
       | inr other ↦ h.each r (omega (arith, low, other))
@@ -234,28 +244,27 @@ row_kept g k p taken row move low other none = λ col left.
     sym (move.taken.played.kept q (left, low) (λ gone. false≢true (sym (ap (λ w. has_bit w col) none ∙ has_bit-zero col) ∙ gone))
     ∙ cell_at-with_cell_elsewhere g p q (stone_of k) move.on_board (left, low) (λ same. other (ap (λ (x : Point). x.row) same)))
 
--- a stone that takes nothing off changes its own row alone
-pub kept_alone : (g : Grid) (k : Colour) (p : Point) (taken : List ℕ) (a b : List Change) → IsMove g k p taken → length taken ≡ 0 → AddsRow g p.row a b → KeepRows g (play g k p) false g.side a b
-kept_alone g k p taken a b move none adds = record {
-  more = adds.change ∷ [];
-  added = adds.added;
-  are = All-push (IsRowOf g) [] adds.change (All-nil (IsRowOf g)) adds.is;
-  each = λ r low. elim (cases_eq r p.row) [
-    | inl at ↦ inl (inl (adds.at ∙ sym at))
-    | inr other ↦
-        inr (
-          refl,
-          λ col left.
-              let q : Point = record { col = col; row = r } in
-              sym (move.taken.played.kept q (left, low) (λ gone. absurd (omega (arith, none, row_below taken q gone)))
-              ∙ cell_at-with_cell_elsewhere g p q (stone_of k) move.on_board (left, low) (λ same. other (ap (λ (x : Point). x.row) same))),
-        )
-  ];
-}
-
 pub play_cells : (g : Grid) (k : Colour) (p : Point) (taken : List ℕ) → length g.cells ≡ g.side * g.side → TakesOff g k p taken → length (play g k p).cells ≡ (play g k p).side * (play g k p).side
 play_cells g k p taken all takes =
     takes.played.all ∙ length-set g.cells (index_of g.side p) (stone_of k) ∙ all ∙ ap (λ n. n * n) (sym takes.played.same_side)
+
+-- a stone that takes nothing off, taken off again
+pub alone_back : (g : Grid) (k : Colour) (p : Point) (taken : List ℕ) → length g.cells ≡ g.side * g.side → IsMove g k p taken → length taken ≡ 0 → with_cell (play g k p) p Empty ≡ g
+alone_back g k p taken cells move none =
+    let made = play g k p in
+    let side : made.side ≡ g.side = move.taken.played.same_side in
+    let all : length made.cells ≡ made.side * made.side = play_cells g k p taken cells move.taken in
+    let on : IsOn made.side p = subst (λ n. IsOn n p) (sym side) move.on_board in
+    one_colouring (with_cell made p Empty) g side (length-set made.cells (index_of made.side p) Empty ∙ all) cells
+    (λ q at.
+    let here : IsOn g.side q = subst (λ n. IsOn n q) side at in
+    elim (same_or_not q p) [
+      | inl same ↦ ap (cell_at (with_cell made p Empty)) same ∙ cell_at-with_cell made p Empty on all ∙ sym move.empty ∙ ap (cell_at g) (sym same)
+      | inr other ↦
+          cell_at-with_cell_elsewhere made p q Empty on at other
+          ∙ move.taken.played.kept q here (λ gone. absurd (omega (arith, none, row_below taken q gone)))
+          ∙ cell_at-with_cell_elsewhere g p q (stone_of k) move.on_board here other
+    ])
 
 -- the rows kept lead back to the colouring, from the one that they are kept for, and if all are kept, from any
 module _ {old new : Grid} {all : Bool} {a b : List Change} (cells : length old.cells ≡ old.side * old.side) (h : KeepRows old new all old.side a b) where

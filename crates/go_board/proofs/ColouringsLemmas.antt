@@ -1,17 +1,21 @@
 -- Past colourings, as what is kept of them tells them.
-use Rattle.std.proofs.Common.{◌≡◌, ◌==◌, ℕ, zero, suc, ◌+◌, ◌-◌, ◌*◌, ◌<◌, ◌≤◌, inl, inr, List, [], ◌∷◌, ◌++◌, Some, Bool, true, false, cond, length, get_or, take, drop, reverse, slice_range, refl, sym, ap, subst, ◌∙◌, arith, length-take, length-append, IsTrue}
-use Rattle.std.proofs.lemmas.List.{take_more, take_all, take_at, drop_at, drop-drop, take-take, take-append-drop, reverse-append, length-reverse, get_or-reverse}
-use Rattle.std.proofs.lemmas.List.Elements.{All-take, All-append}
-use Rattle.std.proofs.lemmas.Bool.{cases_eq, cases_lt, eq-eqb, ne_eqb}
+use Rattle.std.proofs.Common.{◌≡◌, ◌≢◌, ◌↔◌, ◌==◌, ℕ, zero, suc, ◌+◌, ◌-◌, ◌*◌, ◌<◌, ◌≤◌, inl, inr, List, [], ◌∷◌, ◌++◌, Bool, true, false, cond, length, get_or, take, drop, reverse, slice_range, slice_set, append_assoc, refl, sym, ap, subst, ◌∙◌, arith, length-take, length-append, IsTrue, Contains}
+use Rattle.std.proofs.lemmas.List.{take_more, take_all, take_at, drop_at, drop-drop, drop-set, drop_all, take-take, append-nil, reverse-append, length-reverse, get_or-reverse}
+use Rattle.std.proofs.lemmas.List.Elements.{All-take, All-drop, All-append}
+use Rattle.std.proofs.lemmas.Bool.{cases_eq, eq-eqb, ne_eqb, false≢true}
 use Rattle.std.proofs.lemmas.Slice.{between_is}
+use Rattle.go_board.specs.declared.stones.Cell.TheVariants.{Empty}
+use Rattle.board_points.specs.Point.{IsOn}
 use Rattle.go_board.specs.declared.quick.print_past.changes.Change.{Change}
 use Rattle.go_board.specs.declared.quick.print_past.changes.Older.{Older}
-use Rattle.go_board.specs.Grid.{Grid}
+use Rattle.go_board.specs.declared.quick.print_past.changes.TheConstants.{MOST}
+use Rattle.go_board.specs.Grid.{Grid, cell_at, with_cell}
 use Rattle.go_board.specs.Clearing.{has_unreaching}
-use Rattle.go_board.specs.Past.{Held, PastColourings, all_of, with_next}
-use Rattle.go_board.specs.inner.Changes.{first_grid, after_changes, is_full, IsEndOf, KeepRows, IsChangeOn, MakeOne, before, changes_before, held_before, AreKept, AreStarted, AreOn, IsPast}
+use Rattle.go_board.specs.Past.{Held, PastColourings, all_of, with_next, stretch_of}
+use Rattle.go_board.specs.inner.Changes.{first_grid, after_changes, step_back, is_full, is_settled, is_fresh, IsEndOf, IsNumber, IsLastStone, KeepRows, IsChangeOn, MakeOne, before, changes_before, held_before, all_held, AreFresh, AreKept, AreStarted, AreOn, IsPast}
+use Rattle.go_board.specs.inner.Print.{print_of, prints_of}
 use Rattle.go_board.specs.inner.Key.{start_of, since}
-use Rattle.go_board.proofs.ChangesLemmas.{after-side, after-append, leads_back, makes_one, kept_on}
+use Rattle.go_board.proofs.ChangesLemmas.{step-side, leads_back, makes_one, kept_on}
 
 -- a stretch starts no later than at the newest colouring
 pub started-le : (start : ℕ) (os : List Older) → AreStarted start os → start ≤ length os
@@ -31,85 +35,109 @@ abbrev pub past_held : Grid → ℕ → List Older → List Change → PastColou
 past_held g start os changes =
     record { newest = record { colouring = g; begins = start == length os }; older = held_before g os changes }
 
--- the same as a list, newest first
-abbrev pub all_held : Grid → ℕ → List Older → List Change → List Held
-all_held g start os changes = all_of (past_held g start os changes)
-
 -- one colouring less
 pub past-pop : (g : Grid) (start : ℕ) (older older' : List Older) (o : Older) (changes : List Change) → older ≡ older' ++ o ∷ [] → IsPast g start older changes → IsPast (before g o changes) o.stretch_start older' (changes_before o changes)
 past-pop g start older older' o changes parts past =
     let turned : reverse older ≡ o ∷ reverse older' = ap reverse parts ∙ reverse-append older' (o ∷ []) in
     let kept = subst (λ (os : List Older). AreKept g os changes) turned past.kept in
     let started = subst (λ (os : List Older). AreStarted start os) turned past.started in
-    let side : (before g o changes).side ≡ g.side = after-side g (drop o.start changes) in
+    let fresh = subst (λ (os : List Older). AreFresh os (all_held g start os changes)) turned past.fresh in
+    let side : (before g o changes).side ≡ g.side = step-side g o (drop o.start changes) in
     record {
-      kept = kept.3;
+      kept = kept.4;
       started = started.2;
       on_grid = rw side (All-take (IsChangeOn g.side) o.start changes past.on_grid);
+      fresh = fresh.1;
+      few = omega (arith, length-take o.start changes, past.few);
     }
 
--- one colouring more
-module _ (g h : Grid) (stretch next : ℕ) (older : List Older) (o : Older) (changes more all : List Change) (begins : Bool) (follows : next ≡ cond begins (length older + 1) stretch) (same : o.stretch_start ≡ stretch) (start : o.start ≡ length changes) (added : all ≡ changes ++ more) (back : after_changes h more ≡ g) where
-  newest_are : drop o.start all ≡ more
-  newest_are = ap (λ xs. drop o.start xs) added ∙ drop_at changes more o.start (sym start)
-
-  rest_is : changes_before o all ≡ changes
-  rest_is = ap (λ xs. take o.start xs) added ∙ take_at changes more o.start (sym start)
-
-  before_is : before h o all ≡ g
-  before_is = ap (after_changes h) newest_are ∙ back
-
+-- One colouring more. The step back from it is known, and its changes are those that were added.
+module _ (g h : Grid) (stretch next : ℕ) (older : List Older) (o : Older) (changes all : List Change) (begins : Bool) (follows : next ≡ cond begins (length older + 1) stretch) (same : o.stretch_start ≡ stretch) (rest_is : changes_before o all ≡ changes) (before_is : before h o all ≡ g) where
   turned : reverse (older ++ o ∷ []) ≡ o ∷ reverse older
   turned = reverse-append older (o ∷ [])
 
-  past-push : IsPast g stretch older changes → (IsTrue o.settled → has_unreaching g ≡ false) → (IsTrue (is_full (length older)) → MakeOne g more) → AreOn h.side changes → AreOn h.side more → IsPast h next (older ++ o ∷ []) all
-  past-push past settled full on on_more = record {
+  next_held : AreStarted stretch (reverse older) → past_held h next (o ∷ reverse older) all ≡ with_next (past_held g stretch (reverse older) changes) h begins
+  next_held started = rw (begins_is begins follows, before_is, rest_is, same) refl
+    where
+      begins_is : (b : Bool) → next ≡ cond b (length older + 1) stretch → (next == suc (length (reverse older))) ≡ b
+      begins_is true e = eq-eqb next (suc (length (reverse older))) (omega (arith, e, length-reverse older))
+      begins_is false e = ne_eqb next (suc (length (reverse older))) (λ at. omega (arith, at, e, started-le stretch (reverse older) started))
+
+  pub held-push : AreStarted stretch (reverse older) → past_held h next (reverse (older ++ o ∷ [])) all ≡ with_next (past_held g stretch (reverse older) changes) h begins
+  held-push started = rw turned (next_held started)
+
+  pub past-push : IsPast g stretch older changes → o.start ≤ length all → (IsTrue o.alone → IsOn h.side o.point) → (IsTrue (is_settled o.known) → has_unreaching g ≡ false) → (IsTrue (is_full (length older)) → MakeOne g (drop o.start all)) → AreOn h.side all → length all ≤ MOST
+      → (IsTrue (is_fresh o.known) → IsLastStone (with_next (past_held g stretch (reverse older) changes) h begins) o.point) → IsPast h next (older ++ o ∷ []) all
+  past-push past start on_point settled full on few fresh = record {
     kept = rw turned (
-      omega (arith, start, ap (λ (xs : List Change). length xs) added, length-append changes more),
+      start,
+      on_point,
       λ is. ap has_unreaching before_is ∙ settled is,
-      λ is. rw (before_is, newest_are) (full (rw (length-reverse older) at is)),
+      λ is. rw before_is (full (rw (length-reverse older) at is)),
       rw (before_is, rest_is) past.kept,
     );
     started = rw turned (omega (arith, length-reverse older, (next-is begins follows past.started).0), (next-is begins follows past.started).1, rw same past.started);
-    on_grid = rw added (All-append (IsChangeOn h.side) changes more on on_more);
+    on_grid = on;
+    fresh = rw turned (
+      λ is. subst (λ (p : PastColourings). IsLastStone p o.point) (sym (next_held past.started)) (fresh is),
+      subst (λ (hs : List Held). AreFresh (reverse older) hs) (sym (ap (λ (p : PastColourings). p.older) (next_held past.started))) past.fresh,
+    );
+    few = few;
   }
     where
       next-is : (b : Bool) → next ≡ cond b (length older + 1) stretch → AreStarted stretch (reverse older) → (next ≤ length older + 1) × (next < suc (length (reverse older)) → next ≡ o.stretch_start)
       next-is true e started = (omega (arith, e), λ some. absurd (omega (arith, e, some, length-reverse older)))
       next-is false e started = (omega (arith, e, started-le stretch (reverse older) started, length-reverse older), λ some. e ∙ sym same)
 
-  held-push : AreStarted stretch (reverse older) → past_held h next (reverse (older ++ o ∷ [])) all ≡ with_next (past_held g stretch (reverse older) changes) h begins
-  held-push started = rw (turned, begins_is begins follows, before_is, rest_is, same) refl
-    where
-      begins_is : (b : Bool) → next ≡ cond b (length older + 1) stretch → (next == suc (length (reverse older))) ≡ b
-      begins_is true e = eq-eqb next (suc (length (reverse older))) (omega (arith, e, length-reverse older))
-      begins_is false e = ne_eqb next (suc (length (reverse older))) (λ at. omega (arith, at, e, started-le stretch (reverse older) started))
+-- there is room for all rows of a board
+pub room_for_all : {was now : List Change} {side : ℕ} → now ≡ was → length now + 52 ≤ MOST → side ≤ 52 → length was + side ≤ MOST
+room_for_all same few low = omega (arith, ap (λ (cs : List Change). length cs) same, few, low)
 
 -- the next colouring, with the rows kept that lead back from it
 pub grown : (g h : Grid) (stretch next : ℕ) (older older' : List Older) (o : Older) (changes all : List Change) (full begins : Bool) (past : PastColourings)
     → past_held g stretch (reverse older) changes ≡ past → IsPast g stretch older changes → length g.cells ≡ g.side * g.side → h.side ≡ g.side → length h.cells ≡ h.side * h.side
-    → KeepRows g h full g.side changes all → older' ≡ older ++ o ∷ [] → next ≡ cond begins (length older + 1) stretch → o.stretch_start ≡ stretch → o.start ≡ length changes → (IsTrue o.settled → has_unreaching g ≡ false) → full ≡ is_full (length older)
+    → KeepRows g h full g.side changes all → older' ≡ older ++ o ∷ [] → next ≡ cond begins (length older + 1) stretch → o.stretch_start ≡ stretch → o.start ≡ length changes → o.alone ≡ false
+    → (IsTrue (is_settled o.known) → has_unreaching g ≡ false) → (IsTrue (is_fresh o.known) → IsLastStone (with_next past h begins) o.point) → full ≡ is_full (length older) → length changes + g.side ≤ MOST
     → IsPast h next older' all × (past_held h next (reverse older') all ≡ with_next past h begins)
-grown g h n next older older' o changes all full begins past view is cells side cells_h kept more follows same start settled is_full_so =
-    let back = leads_back cells kept side cells_h in
-    rw more (
-      past-push g h n next older o changes kept.more all begins follows same start kept.added back is settled (λ yes. makes_one cells kept (is_full_so ∙ yes))
-          (subst (λ m. AreOn m changes) (sym side) is.on_grid) (subst (λ m. AreOn m kept.more) (sym side) (kept_on cells kept)),
-      held-push g h n next older o changes kept.more all begins follows same start kept.added back is.started ∙ ap (λ (p : PastColourings). with_next p h begins) view,
+grown g h stretch next older older' o changes all full begins past view is cells side cells_h kept grows follows same start not_alone settled fresh is_full_so room =
+    let newest_are : drop o.start all ≡ kept.more = ap (λ xs. drop o.start xs) kept.added ∙ drop_at changes kept.more o.start (sym start) in
+    let rest_is : changes_before o all ≡ changes = ap (λ xs. take o.start xs) kept.added ∙ take_at changes kept.more o.start (sym start) in
+    let before_is : before h o all ≡ g = rw (not_alone, newest_are) (leads_back cells kept side cells_h) in
+    let count : length all ≡ length changes + length kept.more = ap (λ (xs : List Change). length xs) kept.added ∙ length-append changes kept.more in
+    let on : AreOn h.side all = rw (kept.added, side) (All-append (IsChangeOn g.side) changes kept.more is.on_grid (kept_on cells kept)) in
+    rw grows (
+      past-push g h stretch next older o changes all begins follows same rest_is before_is is (omega (arith, count, start)) (λ alone. absurd (false≢true (sym not_alone ∙ alone))) settled
+          (λ yes. rw newest_are (makes_one cells kept (is_full_so ∙ yes))) on (omega (arith, count, kept.few, room)) (λ known. subst (λ (p : PastColourings). IsLastStone (with_next p h begins) o.point) (sym view) (fresh known)),
+      held-push g h stretch next older o changes all begins follows same rest_is before_is is.started ∙ ap (λ (p : PastColourings). with_next p h begins) view,
     )
 
--- going back by one colouring
+-- the next colouring, which a stone makes that changes nothing else
+pub grown_alone : (g h : Grid) (stretch : ℕ) (older older' : List Older) (o : Older) (changes : List Change) (past : PastColourings)
+    → past_held g stretch (reverse older) changes ≡ past → IsPast g stretch older changes → h.side ≡ g.side → IsOn g.side o.point → with_cell h o.point Empty ≡ g
+    → older' ≡ older ++ o ∷ [] → o.stretch_start ≡ stretch → o.start ≡ length changes → o.alone ≡ true
+    → (IsTrue (is_settled o.known) → has_unreaching g ≡ false) → (IsTrue (is_fresh o.known) → IsLastStone (with_next past h false) o.point) → is_full (length older) ≡ false
+    → IsPast h stretch older' changes × (past_held h stretch (reverse older') changes ≡ with_next past h false)
+grown_alone g h stretch older older' o changes past view is side on_point back grows same start alone settled fresh not_full =
+    let rest_is : changes_before o changes ≡ changes = take_all o.start changes (omega (arith, start)) in
+    let before_is : before h o changes ≡ g = rw alone back in
+    rw grows (
+      past-push g h stretch stretch older o changes changes false refl same rest_is before_is is (omega (arith, start)) (λ _. rw side on_point) settled
+          (λ full. absurd (false≢true (sym not_full ∙ full))) (rw side is.on_grid) is.few (λ known. subst (λ (p : PastColourings). IsLastStone (with_next p h false) o.point) (sym view) (fresh known)),
+      held-push g h stretch stretch older o changes changes false refl same rest_is before_is is.started ∙ ap (λ (p : PastColourings). with_next p h false) view,
+    )
+
+-- Going back by one colouring.
+
 turned-take : (older : List Older) (i : ℕ) (d : Older) → i < length older → reverse (take (i + 1) older) ≡ get_or older i d ∷ reverse (take i older)
 turned-take older i d h = ap reverse (take_more older i d h) ∙ reverse-append (take i older) (get_or older i d ∷ [])
 
--- that is the colouring of a number, and what is kept of the ones before it
-pub record IsThere (held : List Held) (older : List Older) (changes : List Change) (number end : ℕ) (grid : Grid) : Type 0 where
-  pub there : first_grid (drop (length older - number) held) ≡ Some grid
-  pub earlier : drop (length older - number + 1) held ≡ held_before grid (reverse (take number older)) (take end changes)
-  pub kept : AreKept grid (reverse (take number older)) (take end changes)
+-- that is the colouring of a number, with the start of its stretch, and what is kept of the ones before it
+pub record IsThere (held : List Held) (older : List Older) (changes : List Change) (number end start : ℕ) (grid : Grid) : Type 0 where
+  pub past : IsPast grid start (take number older) (take end changes)
+  pub whole : drop (length older - number) held ≡ all_held grid start (reverse (take number older)) (take end changes)
   pub within : end ≤ length changes
 
-module _ (held : List Held) (older : List Older) (changes : List Change) (n end : ℕ) (board : Grid) (d : Older) (is_one : n < length older) (at : IsThere held older changes (n + 1) end board) where
+module _ (held : List Held) (older : List Older) (changes : List Change) (n end start : ℕ) (board : Grid) (d : Older) (is_one : n < length older) (at : IsThere held older changes (n + 1) end start board) where
   abbrev one : Older
   one = get_or older n d
 
@@ -120,131 +148,219 @@ module _ (held : List Held) (older : List Older) (changes : List Change) (n end 
   same_newest = sym (between_is changes one.start end)
 
   parts : AreKept board (get_or older n d ∷ reverse (take n older)) (take end changes)
-  parts = subst (λ (os : List Older). AreKept board os (take end changes)) (turned-take older n d is_one) at.kept
+  parts = subst (λ (os : List Older). AreKept board os (take end changes)) (turned-take older n d is_one) at.past.kept
+
+  -- the start of the stretch of the colouring before, if this one doesn't begin a stretch
+  pub start-back : AreStarted start (get_or older n d ∷ reverse (take n older))
+  start-back = subst (λ (os : List Older). AreStarted start os) (turned-take older n d is_one) at.past.started
 
   pub start-within : one.start ≤ end
   start-within = omega (arith, parts.0, length-take end changes)
 
+  pub point-on : IsTrue one.alone → IsOn board.side one.point
+  point-on = parts.1
+
+  pub changes-on : AreOn board.side newest_changes
+  changes-on = subst (λ (cs : List Change). AreOn board.side cs) same_newest (All-drop (IsChangeOn board.side) one.start (take end changes) at.past.on_grid)
+
   same_rest : changes_before one (take end changes) ≡ take one.start changes
   same_rest = take-take one.start end changes start-within
 
-  -- the changes lead to the colouring before it, those of a full step from any colouring
-  pub full-back : IsTrue (is_full n) → MakeOne (after_changes board newest_changes) newest_changes
+  -- the changes of a full step lead to the colouring before it from any colouring
+  pub full-back : IsTrue (is_full n) → MakeOne (step_back board one newest_changes) newest_changes
   full-back is =
       let count : length (reverse (take n older)) ≡ n = length-reverse (take n older) ∙ length-take n older ∙ omega arith in
-      subst (λ (cs : List Change). MakeOne (after_changes board cs) cs) same_newest (parts.2 (rw count is))
+      subst (λ (cs : List Change). MakeOne (step_back board one cs) cs) same_newest (parts.3 (rw count is))
 
-  pub there-back : IsThere held older changes n one.start (after_changes board newest_changes)
-  there-back = record {
-    there = ap first_grid whole;
-    earlier = sym (drop-drop 1 (length older - n) held) ∙ ap (λ (hs : List Held). drop 1 hs) whole;
-    kept = subst (λ (b : Grid). AreKept b (reverse (take n older)) (take one.start changes)) (ap (after_changes board) same_newest)
-        (subst (λ (cs : List Change). AreKept (before board one (take end changes)) (reverse (take n older)) cs) same_rest parts.3);
-    within = omega (arith, start-within, at.within);
-  }
-    where
-      whole : drop (length older - n) held ≡ record { colouring = after_changes board newest_changes; begins = one.stretch_start == length (reverse (take n older)) } ∷ held_before (after_changes board newest_changes) (reverse (take n older)) (take one.start changes)
-      whole =
-          let count : length older - n ≡ length older - (n + 1) + 1 = omega arith in
-          ap (λ k. drop k held) count ∙ at.earlier
-          ∙ ap (λ os. held_before board os (take end changes)) (turned-take older n d is_one)
-          ∙ ap (λ (b : Grid). record { colouring = b; begins = one.stretch_start == length (reverse (take n older)) } ∷ held_before b (reverse (take n older)) (changes_before one (take end changes))) (ap (after_changes board) same_newest)
-          ∙ ap (λ cs. record { colouring = after_changes board newest_changes; begins = one.stretch_start == length (reverse (take n older)) } ∷ held_before (after_changes board newest_changes) (reverse (take n older)) cs) same_rest
+  -- the colourings, of which the newest is split off
+  pub whole-back : drop (length older - (n + 1)) held ≡ record { colouring = board; begins = start == suc (length (reverse (take n older))) } ∷ all_held (step_back board one newest_changes) one.stretch_start (reverse (take n older)) (take one.start changes)
+  whole-back =
+      at.whole
+      ∙ ap (λ (os : List Older). all_held board start os (take end changes)) (turned-take older n d is_one)
+      ∙ ap (λ (cs : List Change). record { colouring = board; begins = start == suc (length (reverse (take n older))) } ∷ all_held (step_back board one cs) one.stretch_start (reverse (take n older)) (changes_before one (take end changes))) same_newest
+      ∙ ap (λ (cs : List Change). record { colouring = board; begins = start == suc (length (reverse (take n older))) } ∷ all_held (step_back board one newest_changes) one.stretch_start (reverse (take n older)) cs) same_rest
+
+  pub there-back : IsThere held older changes n one.start one.stretch_start (step_back board one newest_changes)
+  there-back =
+      let count : length older - n ≡ 1 + (length older - (n + 1)) = omega (arith, is_one) in
+      record {
+        past = subst (λ (cs : List Change). IsPast (step_back board one newest_changes) one.stretch_start (take n older) cs) same_rest
+            (subst (λ (cs : List Change). IsPast (step_back board one cs) one.stretch_start (take n older) (changes_before one (take end changes))) same_newest
+            (past-pop board start (take (n + 1) older) (take n older) one (take end changes) (take_more older n d is_one) at.past));
+        whole = ap (λ k. drop k held) (count ∙ omega arith) ∙ sym (drop-drop 1 (length older - (n + 1)) held) ∙ ap (λ (hs : List Held). drop 1 hs) whole-back;
+        within = omega (arith, start-within, at.within);
+      }
 
 -- the newest one is there
-pub there-newest : (g : Grid) (start : ℕ) (older : List Older) (changes : List Change) (number end : ℕ) → number ≡ length older → end ≡ length changes → AreKept g (reverse older) changes → IsThere (all_held g start (reverse older) changes) older changes number end g
-there-newest g start older changes number end is is_end kept =
+pub there-newest : (g : Grid) (start : ℕ) (older : List Older) (changes : List Change) (held : List Held) (number end : ℕ) → all_held g start (reverse older) changes ≡ held → number ≡ length older → end ≡ length changes → IsPast g start older changes → IsThere held older changes number end start g
+there-newest g start older changes held number end same is is_end past =
     let none : length older - number ≡ 0 = omega arith in
     let whole : take number older ≡ older = take_all number older (omega arith) in
     let all_changes : take end changes ≡ changes = take_all end changes (omega arith) in
     record {
-      there = rw none refl;
-      earlier = rw (none, whole, all_changes) refl;
-      kept = rw (whole, all_changes) kept;
+      past = rw (whole, all_changes) past;
+      whole = rw (none, whole, all_changes) (sym same);
       within = omega arith;
     }
 
+-- that some colouring of the grid's side is there
+abbrev pub IsSomeThere : Grid → List Held → List Older → List Change → ℕ → ℕ → Type 0
+IsSomeThere newest held older changes number end =
+    (start : ℕ) × (g : Grid) × (g.side ≡ newest.side) × IsThere held older changes number end start g
+
 -- and so each older one is: so many numbers below the newest
-pub there-all : (held : List Held) (older : List Older) (changes : List Change) (newest : Grid) → IsThere held older changes (length older) (length changes) newest → (less number : ℕ) (d : Older) → number + suc less ≡ length older → (g : Grid) × (g.side ≡ newest.side) × IsThere held older changes number (get_or older number d).start g
-there-all held older changes newest at zero number d is =
+there-all : (held : List Held) (older : List Older) (changes : List Change) (start : ℕ) (newest : Grid) → IsThere held older changes (length older) (length changes) start newest → (less number : ℕ) (d : Older) → number + suc less ≡ length older → IsSomeThere newest held older changes number (get_or older number d).start
+there-all held older changes start newest at zero number d is =
     let below : number < length older = omega arith in
     let next : length older ≡ number + 1 = omega arith in
-    let from = subst (λ n. IsThere held older changes n (length changes) newest) next at in
-    (_, after-side newest (slice_range changes (get_or older number d).start (length changes)), there-back held older changes number (length changes) newest d below from)
-there-all held older changes newest at (suc less) number d is =
+    let from = subst (λ n. IsThere held older changes n (length changes) start newest) next at in
+    (_, _, step-side newest (get_or older number d) (slice_range changes (get_or older number d).start (length changes)), there-back held older changes number (length changes) start newest d below from)
+there-all held older changes start newest at (suc less) number d is =
     let below : number < length older = omega arith in
-    let upper = there-all held older changes newest at less (number + 1) d (omega arith) in
-    (_, after-side upper.0 (slice_range changes (get_or older number d).start (get_or older (number + 1) d).start) ∙ upper.1, there-back held older changes number (get_or older (number + 1) d).start upper.0 d below upper.2)
+    let upper = there-all held older changes start newest at less (number + 1) d (omega arith) in
+    (_, _, step-side upper.1 (get_or older number d) (slice_range changes (get_or older number d).start (get_or older (number + 1) d).start) ∙ upper.2, there-back held older changes number (get_or older (number + 1) d).start upper.0 upper.1 d below upper.3)
 
 -- so from the number at which a walk back begins, the colouring of that number is there
-pub there-from : (newest : Grid) (start : ℕ) (older : List Older) (changes : List Change) (held : List Held) → all_held newest start (reverse older) changes ≡ held → AreKept newest (reverse older) changes → (number end count : ℕ) → number ≤ length older → count ≡ length changes → IsEndOf older count number end
-    → (g : Grid) × (g.side ≡ newest.side) × IsThere held older changes number end g × (number ≡ length older → g ≡ newest)
-there-from newest start older changes held same kept number end count le is_count ends =
-    let one : Older = record { start = 0; stretch_start = 0; settled = false } in
-    elim (cases_lt number (length older)) [
-      | inr ge ↦ (let is : number ≡ length older = omega arith in
-          (newest, refl, subst (λ (hs : List Held). IsThere hs older changes number end newest) same (there-newest newest start older changes number end is (ends.0 is ∙ is_count) kept), λ _. refl))
-      | inl lt ↦ (let at = subst (λ (hs : List Held). IsThere hs older changes (length older) (length changes) newest) same (there-newest newest start older changes (length older) (length changes) refl refl kept) in
-          let up = there-all held older changes newest at (length older - number - 1) number one (omega arith) in
-          (up.0, up.1, subst (λ e. IsThere held older changes number e up.0) (sym (ends.1 one lt)) up.2, λ is. absurd (omega (arith, lt, is))))
-    ]
+pub there-from : (newest : Grid) (start : ℕ) (older : List Older) (changes : List Change) (held : List Held) → all_held newest start (reverse older) changes ≡ held → IsPast newest start older changes → (number end count : ℕ) (d : Older) → number < length older → count ≡ length changes → IsEndOf older count number end
+    → IsSomeThere newest held older changes number end
+there-from newest start older changes held same past number end count d lt is_count ends =
+    let at = there-newest newest start older changes held (length older) (length changes) same refl refl past in
+    let up = there-all held older changes start newest at (length older - number - 1) number d (omega arith) in
+    subst (λ e. IsSomeThere newest held older changes number e) (sym (ends.1 d lt)) up
 
--- a part of a list as two parts
-parts_of : (changes : List Change) (first middle end : ℕ) → first ≤ middle → middle ≤ end → slice_range changes first middle ++ slice_range changes middle end ≡ slice_range changes first end
-parts_of changes first middle end low high =
-    let all = take end changes in
-    let next : first + (middle - first) ≡ middle = omega (arith, low) in
-    ap (λ xs. xs ++ slice_range changes middle end)
-    (between_is changes first middle ∙ ap (λ xs. drop first xs) (sym (take-take middle end changes high)) ∙ sym (between_is all first middle))
-    ∙ ap (λ xs. take (middle - first) (drop first all) ++ xs) (between_is changes middle end ∙ ap (λ k. drop k all) (sym next) ∙ sym (drop-drop (middle - first) first all))
-    ∙ take-append-drop (middle - first) (drop first all)
-    ∙ sym (between_is changes first end)
-
--- All changes from a number's own on lead back to its colouring, if those of the last step alone lead back to the one before it.
-module _ (held : List Held) (older : List Older) (changes : List Change) (end : ℕ) (board : Grid) (d : Older) where
-  abbrev start : ℕ → ℕ
-  start number = (get_or older number d).start
-
-  abbrev made : ℕ → Grid
-  made number = after_changes board (slice_range changes (start number) end)
-
-  pub there-down : (top : ℕ) → top < length older → start top ≤ end → IsThere held older changes top (start top) (made top) → (less number : ℕ) → number + less ≡ top → (start number ≤ end) × IsThere held older changes number (start number) (made number)
-  there-down top low le at zero number is =
-      let same : top ≡ number = omega arith in
-      (subst (λ n. start n ≤ end) same le, subst (λ n. IsThere held older changes n (start n) (made n)) same at)
-  there-down top low le at (suc less) number is =
-      let upper = there-down top low le at less (number + 1) (omega arith) in
-      let below : number < length older = omega arith in
-      let first = start-within held older changes number (start (number + 1)) (made (number + 1)) d below upper.1 in
-      let whole =
-      sym (after-append board (slice_range changes (start number) (start (number + 1))) (slice_range changes (start (number + 1)) end))
-      ∙ ap (after_changes board) (parts_of changes (start number) (start (number + 1)) end first upper.0) in
-      (omega (arith, first, upper.0), subst (λ (g : Grid). IsThere held older changes number (start number) g) whole (there-back held older changes number (start (number + 1)) (made (number + 1)) d below upper.1))
-
--- so a walk back leads to the colouring of a number, from the newest, or after a full step from any
-pub record IsWalk (held : List Held) (older : List Older) (changes : List Change) (number start end : ℕ) (made : Grid) : Type 0 where
-  pub low : start ≤ end
+-- One step back, from a number to the one before it: `one` is what is kept of that.
+pub record IsStep (held : List Held) (older : List Older) (changes : List Change) (number end : ℕ) (board : Grid) (one : Older) : Type 0 where
+  pub low : one.start ≤ end
   pub high : end ≤ length changes
-  pub there : IsThere held older changes number start made
+  pub point : IsTrue one.alone → IsOn board.side one.point
+  pub on : AreOn board.side (slice_range changes one.start end)
+  pub side : (step_back board one (slice_range changes one.start end)).side ≡ board.side
+  pub there : IsThere held older changes (number - 1) one.start one.stretch_start (step_back board one (slice_range changes one.start end))
 
-pub walk : (newest board : Grid) (start : ℕ) (older : List Older) (changes : List Change) (held : List Held) → all_held newest start (reverse older) changes ≡ held → AreKept newest (reverse older) changes → board ≡ newest → length board.cells ≡ board.side * board.side
-    → (number from end count : ℕ) (d : Older) → number < from → from ≤ length older → (from < length older → (number < from) × IsTrue (is_full (from - 1))) → count ≡ length changes → IsEndOf older count from end
-    → IsWalk held older changes number (get_or older number d).start end (after_changes board (slice_range changes (get_or older number d).start end))
-walk newest board start older changes held same kept is cells number from end count d low high full is_count ends =
-    let at = there-from newest start older changes held same kept from end count high is_count ends in
+module _ (held : List Held) (older : List Older) (changes : List Change) (number end start : ℕ) (board : Grid) (one : Older) (some : 0 < number) (high : number ≤ length older) (is_one : one ≡ get_or older (number - 1) one) (at : IsThere held older changes number end start board) where
+  n : ℕ
+  n = number - 1
+
+  pub step-from : IsStep held older changes number end board one
+  unfolding n
+  step-from =
+      let next : number ≡ n + 1 = omega (arith, some) in
+      let below : n < length older = omega (arith, some, high) in
+      let here = subst (λ m. IsThere held older changes m end start board) next at in
+      subst (λ (o : Older). IsStep held older changes number end board o) (sym is_one)
+      (record {
+        low = start-within held older changes n end start board one below here;
+        high = at.within;
+        point = point-on held older changes n end start board one below here;
+        on = changes-on held older changes n end start board one below here;
+        side = step-side board (get_or older n one) (slice_range changes (get_or older n one).start end);
+        there = there-back held older changes n end start board one below here;
+      })
+
+-- One step back within a stretch. The stretch of the number has its colouring, and those of the stretch of the number before it.
+pub record IsLook (held : List Held) (older : List Older) (number start : ℕ) (board : Grid) (one : Older) : Type 0 where
+  pub same_start : start ≡ one.stretch_start
+  pub stretch : stretch_of (drop (length older - number) held) ≡ board ∷ stretch_of (drop (length older - (number - 1)) held)
+  pub point : IsTrue (is_fresh one.known) → IsOn board.side one.point
+  pub new : IsTrue (is_fresh one.known) → (grid : Grid) → Contains (stretch_of (drop (length older - (number - 1)) held)) grid → cell_at grid one.point ≡ Empty
+
+module _ (held : List Held) (older : List Older) (changes : List Change) (number end start : ℕ) (board : Grid) (one : Older) (some : 0 < number) (high : number ≤ length older) (is_one : one ≡ get_or older (number - 1) one) (at : IsThere held older changes number end start board) (later : start ≢ number) where
+  pub look-from : IsLook held older number start board one
+  look-from =
+      let n = number - 1 in
+      let o = get_or older n one in
+      let next : number ≡ n + 1 = omega (arith, some) in
+      let below : n < length older = omega (arith, some, high) in
+      let here = subst (λ m. IsThere held older changes m end start board) next at in
+      let count : suc (length (reverse (take n older))) ≡ number = ap suc (length-reverse (take n older) ∙ length-take n older) ∙ omega (arith, below, next) in
+      let started = start-back held older changes n end start board one below here in
+      let begins : (start == suc (length (reverse (take n older)))) ≡ false = ne_eqb start (suc (length (reverse (take n older)))) (λ e. later (e ∙ count)) in
+      let rest = (there-back held older changes n end start board one below here).whole in
+      let split : drop (length older - number) held ≡ record { colouring = board; begins = false } ∷ drop (length older - n) held =
+      ap (λ m. drop (length older - m) held) next
+      ∙ whole-back held older changes n end start board one below here
+      ∙ ap (λ b. record { colouring = board; begins = b } ∷ all_held (step_back board o (slice_range changes o.start end)) o.stretch_start (reverse (take n older)) (take o.start changes)) begins
+      ∙ ap (λ (hs : List Held). record { colouring = board; begins = false } ∷ hs) (sym rest) in
+      let fresh = subst (λ (os : List Older). AreFresh os (all_held board start (reverse (take (n + 1) older)) (take end changes))) (turned-take older n one below) here.past.fresh in
+      let last = subst (λ (hs : List Held). AreFresh (o ∷ reverse (take n older)) hs) (sym here.whole ∙ sym (ap (λ m. drop (length older - m) held) next) ∙ split) fresh in
+      subst (λ (x : Older). IsLook held older number start board x) (sym is_one)
+      (record {
+        same_start = started.1 (omega (arith, started.0, count, later));
+        stretch = ap stretch_of split;
+        point = λ is. (last.0 is).on;
+        new = λ is. (last.0 is).new;
+      })
+
+-- what a colouring that isn't the first one tells
+pub contains-others : (x : Grid) (xs : List Grid) (made : Grid) → x ≢ made → Contains (x ∷ xs) made ↔ Contains xs made
+contains-others x xs made other = (others, λ has. (suc has.0, omega (arith, has.1), has.2))
+  where
+    others : Contains (x ∷ xs) made → Contains xs made
+    others (zero, h, e) = absurd (other e)
+    others (suc j, h, e) = (j, omega (arith, h), e)
+
+-- the changes of a full step lead back to the colouring before it, from any board
+pub record IsFullStep (held : List Held) (older : List Older) (changes : List Change) (from end : ℕ) (board : Grid) (one : Older) : Type 0 where
+  pub low : one.start ≤ end
+  pub high : end ≤ length changes
+  pub on : AreOn board.side (slice_range changes one.start end)
+  pub there : IsThere held older changes (from - 1) one.start one.stretch_start (after_changes board (slice_range changes one.start end))
+
+pub there-full : (newest board : Grid) (start : ℕ) (older : List Older) (changes : List Change) (held : List Held) → all_held newest start (reverse older) changes ≡ held → IsPast newest start older changes → board ≡ newest → length board.cells ≡ board.side * board.side
+    → (from end count : ℕ) (one : Older) → 0 < from → from < length older → IsTrue (is_full (from - 1)) → count ≡ length changes → IsEndOf older count from end → one ≡ get_or older (from - 1) one
+    → IsFullStep held older changes from end board one
+there-full newest board start older changes held same past is cells from end count d some low full is_count ends is_one =
+    let at = there-from newest start older changes held same past from end count d low is_count ends in
     let top = from - 1 in
-    let next : from ≡ top + 1 = omega arith in
-    let below : top < length older = omega arith in
-    let here : IsThere held older changes (top + 1) end at.0 = subst (λ n. IsThere held older changes n end at.0) next at.2 in
-    let taken = slice_range changes (get_or older top d).start end in
-    let made : after_changes at.0 taken ≡ after_changes board taken = elim (cases_lt from (length older)) [
-      | inl lt ↦ sym (full-back held older changes top end at.0 d below here (full lt).1 board (ap (λ (g : Grid). g.side) is ∙ sym at.1 ∙ sym (after-side at.0 taken)) cells)
-      | inr ge ↦ ap (λ (g : Grid). after_changes g taken) (at.3 (omega (arith, ge, high)) ∙ sym is)
-    ] in
-    let walked = there-down held older changes end board d top below (start-within held older changes top end at.0 d below here)
-    (subst (λ (g : Grid). IsThere held older changes top (get_or older top d).start g) made (there-back held older changes top end at.0 d below here))
-    (top - number) number (omega arith) in
-    record { low = walked.0; high = at.2.within; there = walked.1 }
+    let one = get_or older top d in
+    let next : from ≡ top + 1 = omega (arith, some) in
+    let below : top < length older = omega (arith, low) in
+    let here : IsThere held older changes (top + 1) end at.0 at.1 = subst (λ n. IsThere held older changes n end at.0 at.1) next at.3 in
+    let steps = slice_range changes one.start end in
+    let side : board.side ≡ at.1.side = ap (λ (g : Grid). g.side) is ∙ sym at.2 in
+    let made : step_back at.1 one steps ≡ after_changes board steps =
+    sym (full-back held older changes top end at.0 at.1 d below here full board (side ∙ sym (step-side at.1 one steps)) cells) in
+    subst (λ (o : Older). IsFullStep held older changes from end board o) (sym is_one)
+    (record {
+      low = start-within held older changes top end at.0 at.1 d below here;
+      high = at.3.within;
+      on = subst (λ n. AreOn n steps) (sym side) (changes-on held older changes top end at.0 at.1 d below here);
+      there = subst (λ (g : Grid). IsThere held older changes top one.start one.stretch_start g) made (there-back held older changes top end at.0 at.1 d below here);
+    })
+
+-- a colouring that is there has its number
+pub there-number : (held : List Held) (older : List Older) (changes : List Change) (number end start : ℕ) (grid : Grid) → length held ≡ length older + 1 → IsThere held older changes number end start grid → IsNumber held number grid
+there-number held older changes number end start grid all at =
+    let count : length held - 1 - number ≡ length older - number = omega (arith, all) in
+    ap (λ k. first_grid (drop k held)) count ∙ ap first_grid at.whole
+
+-- The print of a number is written before those of the later ones.
+pub written-next : (held : List Held) (older : List Older) (changes : List Change) (n end start : ℕ) (board : Grid) (prints : List ℕ) (print : ℕ) → IsThere held older changes n end start board → print ≡ print_of board → n < length prints
+    → prints_of held ≡ reverse (drop (n + 1) prints) ++ prints_of (drop (length older - n) held)
+    → prints_of held ≡ reverse (drop n (slice_set prints n print)) ++ prints_of (drop (length older - n + 1) held)
+written-next held older changes n end start board prints print at is low written =
+    let k = length older - n in
+    let one : Held = record { colouring = board; begins = start == length (reverse (take n older)) } in
+    let rest : drop (k + 1) held ≡ held_before board (reverse (take n older)) (take end changes) = sym (drop-drop 1 k held) ∙ ap (λ (hs : List Held). drop 1 hs) at.whole in
+    let head : drop k held ≡ one ∷ drop (k + 1) held = at.whole ∙ ap (λ (hs : List Held). one ∷ hs) (sym rest) in
+    let later = drop (n + 1) prints in
+    written
+    ∙ ap (λ (hs : List Held). reverse later ++ prints_of hs) head
+    ∙ ap (λ p. reverse later ++ p ∷ prints_of (drop (k + 1) held)) (sym is)
+    ∙ sym (append_assoc (reverse later) (print ∷ []) (prints_of (drop (k + 1) held)))
+    ∙ ap (λ (ps : List ℕ). ps ++ prints_of (drop (k + 1) held)) (sym (reverse-append (print ∷ []) later))
+    ∙ ap (λ (ps : List ℕ). reverse ps ++ prints_of (drop (k + 1) held)) (sym (drop-set prints n print low))
+
+-- all are written
+pub written-all : (held : List Held) (older : List Older) (prints : List ℕ) (at : ℕ) → length held ≡ length older + 1 → at ≡ 0 → prints_of held ≡ reverse (drop at prints) ++ prints_of (drop (length older - at + 1) held) → reverse prints ≡ prints_of held
+written-all held older prints at all none written =
+    let past : drop (length older - at + 1) held ≡ [] = drop_all (length older - at + 1) held (omega (arith, all, none)) in
+    sym (written ∙ ap (λ (hs : List Held). reverse (drop at prints) ++ prints_of hs) past ∙ append-nil (reverse (drop at prints)) ∙ ap (λ n. reverse (drop n prints)) none)
+
+-- the number of colourings
+pub count-all : (g : Grid) (start : ℕ) (older : List Older) (changes : List Change) (past : PastColourings) → past_held g start (reverse older) changes ≡ past → length (all_of past) ≡ length older + 1
+count-all g start older changes past same =
+    sym (ap (λ (p : PastColourings). length (all_of p)) same) ∙ omega (arith, length-held g (reverse older) changes, length-reverse older)
 
 -- Starts of stretches.
 
@@ -268,10 +384,10 @@ start_back-get start [] j d h = absurd (omega (arith, h))
 start_back-get start (o ∷ os) zero d h = refl
 start_back-get start (o ∷ os) (suc j) d h = start_back-get o.stretch_start os j d (omega (arith, h))
 
-start-back : (g : Grid) (start : ℕ) (os : List Older) (changes : List Change) (j : ℕ) → AreStarted start os → j ≤ length os → start_of (drop j (all_held g start os changes)) ≡ start_back start os j
-start-back g start os changes zero h le = start-newest g start os changes h
-start-back g start [] changes (suc j) h le = absurd (omega (arith, le))
-start-back g start (o ∷ os) changes (suc j) h le = start-back (before g o changes) o.stretch_start os (changes_before o changes) j h.2 (omega (arith, le))
+start-so_many : (g : Grid) (start : ℕ) (os : List Older) (changes : List Change) (j : ℕ) → AreStarted start os → j ≤ length os → start_of (drop j (all_held g start os changes)) ≡ start_back start os j
+start-so_many g start os changes zero h le = start-newest g start os changes h
+start-so_many g start [] changes (suc j) h le = absurd (omega (arith, le))
+start-so_many g start (o ∷ os) changes (suc j) h le = start-so_many (before g o changes) o.stretch_start os (changes_before o changes) j h.2 (omega (arith, le))
 
 -- the start of the stretch of a number
 module _ (g : Grid) (start : ℕ) (older : List Older) (changes : List Change) (held : List Held) (same : all_held g start (reverse older) changes ≡ held) (started : AreStarted start (reverse older)) (number : ℕ) where
@@ -279,7 +395,7 @@ module _ (g : Grid) (start : ℕ) (older : List Older) (changes : List Change) (
   start-at j at =
       let all : length held ≡ length older + 1 = sym (ap (λ (hs : List Held). length hs) same) ∙ omega (arith, length-held g (reverse older) changes, length-reverse older) in
       let back : length held - 1 - number ≡ j = omega (arith, all, at) in
-      ap (λ k. start_of (drop k held)) back ∙ ap (λ (hs : List Held). start_of (drop j hs)) (sym same) ∙ start-back g start (reverse older) changes j started (omega (arith, length-reverse older, at))
+      ap (λ k. start_of (drop k held)) back ∙ ap (λ (hs : List Held). start_of (drop j hs)) (sym same) ∙ start-so_many g start (reverse older) changes j started (omega (arith, length-reverse older, at))
 
   pub start-of_newest : number ≡ length older → start_of (since number held) ≡ start
   start-of_newest is = start-at 0 (omega (arith, is))

@@ -8,7 +8,7 @@ use Rattle.go_board.specs.declared.stones.Colour.TheVariants.{Black}
 use Rattle.go_board.specs.Grid.{Grid, empty_grid}
 use Rattle.go_board.specs.Past.{Held, PastColourings, newest_grid, only, with_next, AllHaveSide, HaveSide}
 use Rattle.go_board.specs.State.{begun, starting}
-use Rattle.go_board.specs.inner.Earlier.{past_before, past_of_older, states_before, turns_before, grown, turn_count, states_of, IsRefereeKept}
+use Rattle.go_board.specs.inner.Earlier.{grew, turned, player_of, past_before, past_of_older, states_before, turns_before, grown, turn_count, states_of, IsRefereeKept}
 
 length-states_before : (past : PastColourings) (turns : ℕ) (es : List Earlier) → length (states_before past turns es) ≡ length es
 length-states_before past turns [] = refl
@@ -20,7 +20,7 @@ length-earlier past turns es = length-states_before past turns (reverse es) ∙ 
 -- no more calls were turns than there were calls
 pub turns_at_most : (es : List Earlier) → turn_count es ≤ length es
 turns_at_most [] = omega arith
-turns_at_most (e ∷ es) = by e.turned (turns_at_most es)
+turns_at_most (e ∷ es) = by (turned e.call) (turns_at_most es)
   where
     by : (b : Bool) → turn_count es ≤ length es → from_bool b + turn_count es ≤ suc (length es)
     by true h = omega (arith, h)
@@ -40,14 +40,14 @@ before_sided side n past false sides few = (sides.0, sides, omega (arith, few))
 
 -- what a referee keeps once its newest call is taken back
 pub IsRefereeKept-back : (past now : PastColourings) (player : Option Colour) (passes turns : ℕ) (earlier less : List Earlier) (kept : Earlier) → earlier ≡ less ++ kept ∷ [] → now ≡ past_before past kept → IsRefereeKept past player passes turns (reverse earlier)
-    → IsRefereeKept now kept.player kept.passes (turns_before turns kept) (reverse less)
+    → IsRefereeKept now (player_of kept.mover) kept.passes (turns_before turns kept) (reverse less)
 IsRefereeKept-back past now player passes turns earlier less kept parts is whole =
-    let turned : reverse earlier ≡ kept ∷ reverse less = ap reverse parts ∙ reverse-append less (kept ∷ []) in
-    let all : IsRefereeKept past player passes turns (kept ∷ reverse less) = subst (λ (es : List Earlier). IsRefereeKept past player passes turns es) turned whole in
+    let newest : reverse earlier ≡ kept ∷ reverse less = ap reverse parts ∙ reverse-append less (kept ∷ []) in
+    let all : IsRefereeKept past player passes turns (kept ∷ reverse less) = subst (λ (es : List Earlier). IsRefereeKept past player passes turns es) newest whole in
     let side : ℕ = (newest_grid past).side in
-    let one : IsOneSided side (grown (reverse less)) (past_before past kept) = before_sided side (grown (reverse less)) past kept.grew all.one_side all.enough in
-    let counted : turn_count (reverse less) ≡ turns - from_bool kept.turned = omega (arith, all.counted) in
-    subst (λ (p : PastColourings). IsRefereeKept p kept.player kept.passes (turns_before turns kept) (reverse less)) (sym is)
+    let one : IsOneSided side (grown (reverse less)) (past_before past kept) = before_sided side (grown (reverse less)) past (grew kept.call) all.one_side all.enough in
+    let counted : turn_count (reverse less) ≡ turns - from_bool (turned kept.call) = omega (arith, all.counted) in
+    subst (λ (p : PastColourings). IsRefereeKept p (player_of kept.mover) kept.passes (turns_before turns kept) (reverse less)) (sym is)
     (record {
       one_side = subst (λ n. HaveSide n (past_before past kept)) (sym one.0) one.1;
       enough = one.2;
@@ -58,32 +58,23 @@ IsRefereeKept-back past now player passes turns earlier less kept parts is whole
       from_start = all.from_start ∙ ap starting (sym one.0);
     })
 
--- what is kept of a state is what the referee had of it
-saved_as : (saved : Earlier) (player : Option Colour) (passes : ℕ) (grew turned : Bool) → saved.player ≡ player → saved.passes ≡ passes → saved.grew ≡ grew → saved.turned ≡ turned
-    → saved ≡ record { player = player; passes = passes; grew = grew; turned = turned }
-saved_as saved player passes grew turned e f g h =
-    ap (λ p. record { player = p; passes = saved.passes; grew = saved.grew; turned = saved.turned }) e
-    ∙ ap (λ n. record { player = player; passes = n; grew = saved.grew; turned = saved.turned }) f
-    ∙ ap (λ b. record { player = player; passes = passes; grew = b; turned = saved.turned }) g
-    ∙ ap (λ b. record { player = player; passes = passes; grew = grew; turned = b }) h
-
 -- once the past grew by a colouring, and what was had of the state before is kept
-module _ (past : PastColourings) (player : Option Colour) (passes turns : ℕ) (earlier : List Earlier) (saved : Earlier) (is_turn : Bool) (same_player : saved.player ≡ player) (same_passes : saved.passes ≡ passes) (grew : saved.grew ≡ true) (same_turn : saved.turned ≡ is_turn) (turns' : ℕ) (more : turns' ≡ from_bool is_turn + turns) where
+module _ (past : PastColourings) (player : Option Colour) (passes turns : ℕ) (earlier : List Earlier) (saved : Earlier) (is_turn : Bool) (same_player : player_of saved.mover ≡ player) (same_passes : saved.passes ≡ passes) (grown_by : grew saved.call ≡ true) (same_turn : turned saved.call ≡ is_turn) (turns' : ℕ) (more : turns' ≡ from_bool is_turn + turns) where
   less : turns' - from_bool is_turn ≡ turns
   less = omega (arith, more)
 
   -- what a referee keeps then
   pub IsRefereeKept-grown : IsRefereeKept past player passes turns (reverse earlier) → (now : PastColourings) (made : Grid) (begins : Bool) (next : Option Colour) (earlier' : List Earlier) → now ≡ with_next past made begins → made.side ≡ (newest_grid past).side → earlier' ≡ earlier ++ saved ∷ [] → IsRefereeKept now next 0 turns' (reverse earlier')
   IsRefereeKept-grown kept now made begins next earlier' is side longer =
-      rw (is, longer, reverse-append earlier (saved ∷ []), saved_as saved player passes true is_turn same_player same_passes grew same_turn)
+      rw (is, longer, reverse-append earlier (saved ∷ []))
       (record {
         one_side = (refl, subst (λ n. HaveSide n past) (sym side) kept.one_side);
-        enough = omega (arith, kept.enough);
+        enough = rw grown_by (omega (arith, kept.enough));
         few_passes = omega arith;
         few_turns = few is_turn more;
-        counted = sym (more ∙ ap (λ n. from_bool is_turn + n) (sym kept.counted));
-        bounded = (kept.few_passes, kept.bounded);
-        from_start = rw less (kept.from_start ∙ ap starting (sym side));
+        counted = rw same_turn (sym (more ∙ ap (λ n. from_bool is_turn + n) (sym kept.counted)));
+        bounded = (rw same_passes kept.few_passes, kept.bounded);
+        from_start = rw (grown_by, same_turn, same_player, same_passes, less) (kept.from_start ∙ ap starting (sym side));
       })
     where
       few : (b : Bool) → turns' ≡ from_bool b + turns → turns' ≤ suc (length (reverse earlier))

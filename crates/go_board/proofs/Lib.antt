@@ -25,6 +25,7 @@ pub mod EmptiedLemmas
 pub mod ChangesLemmas
 pub mod ColouringsLemmas
 pub mod FilterLemmas
+pub mod NumberLemmas
 pub mod TableLemmas
 pub mod KeyLemmas
 pub mod StoneRowsLemmas

@@ -11,7 +11,8 @@ use Rattle.go_board.specs.Grid.{Grid, cell_at}
 use Rattle.go_board.specs.Clearing.{play}
 use Rattle.go_board.specs.Past.{Held, PastColourings, all_of, newest_grid, with_next, stretch_of, present_stretch, AllHaveSide, HaveSide, IsPlayed}
 use Rattle.go_board.specs.Reason.{WasEmptied}
-use Rattle.go_board.specs.inner.Emptied.{HasEmptied, HasAllEmptied, IsLastStone}
+use Rattle.go_board.specs.inner.Changes.{IsLastStone}
+use Rattle.go_board.specs.inner.Emptied.{HasEmptied, HasAllEmptied}
 use Rattle.go_board.specs.inner.Groups.{IsMove}
 use Rattle.board_points.specs.Rows.{is_set, IsAmong}
 use Rattle.board_points.proofs.PointLemmas.{same_or_not}

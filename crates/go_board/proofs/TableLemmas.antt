@@ -1,129 +1,29 @@
 -- The table by which colourings are looked up.
-use Rattle.std.proofs.Common.{◌≡◌, ◌⊎◌, ℕ, zero, suc, ◌+◌, ◌-◌, ◌*◌, ◌<◌, ◌≤◌, ◌^◌, bit_xor, Bool, true, false, if◌then◌else◌, List, [], ◌∷◌, ◌++◌, Option, None, Some, IfSome, IsSome, length, length-append, get_or, drop, reverse, Contains, inl, inr, refl, sym, ap, subst, ◌∙◌, arith}
+use Rattle.std.proofs.Common.{◌≡◌, ℕ, ◌+◌, ◌*◌, ◌<◌, ◌≤◌, ◌^◌, bit_xor, Bool, false, if◌then◌else◌, List, [], ◌∷◌, ◌++◌, Option, None, Some, IfSome, IsSome, length, length-append, get_or, reverse, Contains, inl, inr, refl, sym, ap, subst, ◌∙◌, arith}
 use Rattle.std.specs.Int.{bit_at}
-use Rattle.std.proofs.lemmas.Bool.{cases_lt, cases_Bool, eq-eqb, ne_eqb, false≢true}
+use Rattle.std.proofs.lemmas.Bool.{eq-eqb, ne_eqb, false≢true}
 use Rattle.std.proofs.lemmas.List.{reverse-append}
-use Rattle.std.proofs.lemmas.Option.{same_Some}
 use Rattle.go_board.specs.declared.quick.print_past.key.TheConstants.{WIDTH}
 use Rattle.go_board.specs.declared.quick.print_past.table.Gap.{Gap}
 use Rattle.go_board.specs.declared.quick.print_past.table.Table.{Table}
 use Rattle.go_board.specs.Grid.{Grid}
-use Rattle.go_board.specs.Past.{Held, stretch_of, AllHaveSide}
-use Rattle.go_board.specs.inner.Changes.{first_grid, IsNumber, HasNumber}
+use Rattle.go_board.specs.Past.{Held, stretch_of}
+use Rattle.go_board.specs.inner.Changes.{IsNumber}
 use Rattle.go_board.specs.inner.Key.{key_bits, start_of, since, keys_of}
 use Rattle.go_board.specs.inner.Print.{print_of, prints_of}
 use Rattle.board_points.specs.Rows.{has_bit}
-use Rattle.go_board.specs.inner.Table.{IsGap, IsTable}
+use Rattle.go_board.specs.inner.Table.{HasRoomForNext, IsAsleepTable, IsAwakeTable, IsGap, IsPrintOfNext, IsTable}
 use Rattle.key_trie.specs.declared.trie.Trie.{Trie}
 use Rattle.key_trie.specs.Key.{Agree}
 use Rattle.key_trie.specs.Trie.{nodes_of, item_count, room_of, IsTrie, IsNearest, IsParting}
-use Rattle.go_board.proofs.FilterLemmas.{filter_more}
+use Rattle.go_board.proofs.FilterLemmas.{filter_any, filter_more}
+use Rattle.go_board.proofs.NumberLemmas.{since-newest, since-older, at-newest, at-older, cases-number, start-since, start-before}
+pub use Rattle.go_board.proofs.NumberLemmas.{number_there, side-number, has_number, has_colouring}
 use Rattle.go_board.proofs.KeyLemmas.{print_bit, front_same, front_agrees, whole_same}
 use Rattle.go_board.proofs.PrintLemmas.{print_small}
 use Rattle.go_board.proofs.PrintPastLemmas.{same_length, print-number}
 use Rattle.key_trie.proofs.KeyLemmas.{same_bit, other_bits}
 use Rattle.key_trie.proofs.TrieLemmas.{agree_self, agree_less, parts_as, trie_same, opening_same}
-
--- The newest colouring is at its number, and so are the others.
-
-since-newest : (x : Held) (xs : List Held) → since (length xs) (x ∷ xs) ≡ x ∷ xs
-since-newest x xs = let none : suc (length xs) - 1 - length xs ≡ 0 = omega arith in ap (λ n. drop n (x ∷ xs)) none
-
-since-older : (number : ℕ) (x : Held) (xs : List Held) → number < length xs → since number (x ∷ xs) ≡ since number xs
-since-older number x xs low = let next : suc (length xs) - 1 - number ≡ suc (length xs - 1 - number) = omega (arith, low) in ap (λ n. drop n (x ∷ xs)) next
-
-at-newest : (x : Held) (xs : List Held) → IsNumber (x ∷ xs) (length xs) x.colouring
-at-newest x xs = ap first_grid (since-newest x xs)
-
-at-older : {number : ℕ} {g : Grid} (x : Held) (xs : List Held) → number < length xs → IsNumber xs number g → IsNumber (x ∷ xs) number g
-at-older {number} x xs low at = ap first_grid (since-older number x xs low) ∙ at
-
--- a number is the newest one, or one of the others
-cases-number : (x : Held) (xs : List Held) (number : ℕ) (g : Grid) → number < suc (length xs) → IsNumber (x ∷ xs) number g
-    → ((number ≡ length xs) × (x.colouring ≡ g)) ⊎ ((number < length xs) × IsNumber xs number g)
-cases-number x xs number g low at = elim (cases_lt number (length xs)) [
-  | inr newest ↦
-      let e : number ≡ length xs = omega (arith, low, newest) in
-      inl (e, same_Some x.colouring g (sym (at-newest x xs) ∙ sym (ap (λ n. first_grid (since n (x ∷ xs))) e) ∙ at))
-  | inl older ↦ inr (older, sym (ap first_grid (since-older number x xs older)) ∙ at)
-]
-
--- each number has a colouring
-pub number_there : (held : List Held) (number : ℕ) → number < length held → (g : Grid) × IsNumber held number g
-number_there [] number low = absurd (omega (arith, low))
-number_there (x ∷ xs) number low = elim (cases_lt number (length xs)) [
-  | inr newest ↦ let e : number ≡ length xs = omega (arith, low, newest) in (x.colouring, ap (λ n. first_grid (since n (x ∷ xs))) e ∙ at-newest x xs)
-  | inl older ↦ let there = number_there xs number older in (there.0, at-older x xs older there.1)
-]
-
--- each colouring has the side
-pub side-number : (side : ℕ) (held : List Held) → AllHaveSide side held → (number : ℕ) (g : Grid) → number < length held → IsNumber held number g → g.side ≡ side
-side-number side [] all number g low at = absurd (omega (arith, low))
-side-number side (x ∷ xs) all number g low at = elim (cases-number x xs number g low at) [
-  | inl newest ↦ ap (λ (y : Grid). y.side) (sym newest.1) ∙ all.0
-  | inr older ↦ side-number side xs all.1 number g older.0 older.1
-]
-
--- Starts of stretches.
-
-start-le : (held : List Held) → start_of held ≤ length held
-start-le [] = omega arith
-start-le (x ∷ xs) = elim (cases_Bool x.begins) [
-  | inl first ↦ rw first (omega arith)
-  | inr later ↦ rw later (omega (arith, start-le xs))
-]
-
-start-low : (x : Held) (xs : List Held) → start_of (x ∷ xs) ≤ length xs
-start-low x xs = elim (cases_Bool x.begins) [
-  | inl first ↦ rw first (omega arith)
-  | inr later ↦ rw later (start-le xs)
-]
-
--- a number of the present stretch has its start
-start-since : (held : List Held) (number : ℕ) → start_of held ≤ number → number < length held → start_of (since number held) ≡ start_of held
-start-since [] number low high = absurd (omega (arith, high))
-start-since (x ∷ xs) number low high = elim (cases_lt number (length xs)) [
-  | inr newest ↦ let at : number ≡ length xs = omega (arith, high, newest) in ap (λ n. start_of (since n (x ∷ xs))) at ∙ ap start_of (since-newest x xs)
-  | inl older ↦ ap start_of (since-older number x xs older) ∙ elim (cases_Bool x.begins) [
-    | inl first ↦ absurd (omega (arith, older, subst (λ (t : Bool). (if t then length xs else start_of xs) ≤ number) first low))
-    | inr later ↦ start-since xs number (subst (λ (t : Bool). (if t then length xs else start_of xs) ≤ number) later low) older ∙ ap (λ (t : Bool). if t then length xs else start_of xs) (sym later)
-  ]
-]
-
--- the start of a number is no more than it
-start-before : (held : List Held) (number : ℕ) → number < length held → start_of (since number held) ≤ number
-start-before [] number high = absurd (omega (arith, high))
-start-before (x ∷ xs) number high = elim (cases_lt number (length xs)) [
-  | inr newest ↦
-      let at : number ≡ length xs = omega (arith, high, newest) in
-      subst (λ n. start_of (since n (x ∷ xs)) ≤ n) (sym at) (subst (λ (hs : List Held). start_of hs ≤ length xs) (sym (since-newest x xs)) (start-low x xs))
-  | inl older ↦ subst (λ (hs : List Held). start_of hs ≤ number) (sym (since-older number x xs older)) (start-before xs number older)
-]
-
--- a colouring of the present stretch has a number from the start on, and the other way round
-pub has_number : (held : List Held) (g : Grid) → Contains (stretch_of held) g → HasNumber held (λ number. start_of held ≤ number) g
-has_number [] g (j, h, e) = absurd (omega (arith, h))
-has_number (x ∷ xs) g (zero, h, e) = (length xs, omega arith, start-low x xs, at-newest x xs ∙ ap (λ (y : Grid). Some y) e)
-has_number (x ∷ xs) g (suc j, h, e) = later x.begins (λ low at. has_number xs g (j, low, at)) h e
-  where
-    later : (b : Bool) → (j < length (stretch_of xs) → get_or (stretch_of xs) j g ≡ g → HasNumber xs (λ number. start_of xs ≤ number) g)
-        → suc j < length (x.colouring ∷ (if b then [] else stretch_of xs)) → get_or (if b then [] else stretch_of xs) j g ≡ g → HasNumber (x ∷ xs) (λ number. (if b then length xs else start_of xs) ≤ number) g
-    later true before h e = absurd (omega (arith, h))
-    later false before h e =
-        let rest = before (omega (arith, h)) e in
-        (rest.0, omega (arith, rest.1), rest.2, at-older x xs rest.1 rest.3)
-
-pub has_colouring : (held : List Held) (number : ℕ) (g : Grid) → start_of held ≤ number → number < length held → IsNumber held number g → Contains (stretch_of held) g
-has_colouring [] number g from low at = absurd (omega (arith, low))
-has_colouring (x ∷ xs) number g from low at = elim (cases-number x xs number g low at) [
-  | inl newest ↦ (zero, omega arith, newest.1)
-  | inr older ↦ elim (cases_Bool x.begins) [
-    | inl first ↦ absurd (omega (arith, older.0, subst (λ (t : Bool). (if t then length xs else start_of xs) ≤ number) first from))
-    | inr later ↦
-        let rest = has_colouring xs number g (subst (λ (t : Bool). (if t then length xs else start_of xs) ≤ number) later from) older.0 older.1 in
-        subst (λ (t : Bool). Contains (x.colouring ∷ (if t then [] else stretch_of xs)) g) (sym later) (suc rest.0, omega (arith, rest.1), rest.2)
-  ]
-]
 
 -- Keys of numbers.
 
@@ -161,7 +61,7 @@ pub linked_after : (newest : Held) (older : List Held) (trie : Trie) → item_co
 linked_after newest older trie few is = trie_same WIDTH (item_count trie) (keys_of (newest ∷ older)) (keys_of older) (nodes_of trie) (λ i h. keys-older newest older i (omega (arith, h, few))) is
 
 -- What a table of these colourings tells.
-module _ (held : List Held) (table : Table) (is : IsTable held table) where
+module _ (held : List Held) (table : Table) (is : IsAwakeTable held table) where
   pub tabled : length table.prints.items ≡ length held
   tabled = same_length held table.prints.items is.printed
 
@@ -219,8 +119,8 @@ module _ (held : List Held) (table : Table) (is : IsTable held table) where
       (λ e. other_bits print other place differ (sym (key_print place low) ∙ e ∙ near_print place low))
 
 -- the same prints, and a trie of as many colourings or of more
-pub tabled_with : (held : List Held) (table after : Table) → IsTable held table → after.prints.items ≡ table.prints.items → after.filter ≡ table.filter
-    → length table.prints.items ≤ room_of after.trie → room_of after.trie < 2 ^ 32 → item_count after.trie ≤ length table.prints.items → IsTrie WIDTH (keys_of held) after.trie → IsTable held after
+pub tabled_with : (held : List Held) (table after : Table) → IsAwakeTable held table → after.prints.items ≡ table.prints.items → after.filter ≡ table.filter
+    → length table.prints.items ≤ room_of after.trie → room_of after.trie < 2 ^ 32 → item_count after.trie ≤ length table.prints.items → IsTrie WIDTH (keys_of held) after.trie → IsAwakeTable held after
 tabled_with held table after is prints filter room most few trie = record {
   printed = rw prints is.printed;
   few = rw prints few;
@@ -231,8 +131,8 @@ tabled_with held table after is prints filter room most few trie = record {
 }
 
 -- one colouring more
-pub tabled_more : (held : List Held) (table after : Table) (next : Held) (print : ℕ) → IsTable held table → print ≡ print_of next.colouring → after.prints.items ≡ table.prints.items ++ print ∷ [] → after.filter ≡ table.filter
-    → length table.prints.items < room_of after.trie → room_of after.trie < 2 ^ 32 → item_count after.trie ≤ length table.prints.items + 1 → IsTrie WIDTH (keys_of (next ∷ held)) after.trie → IsTable (next ∷ held) after
+pub tabled_more : (held : List Held) (table after : Table) (next : Held) (print : ℕ) → IsAwakeTable held table → print ≡ print_of next.colouring → after.prints.items ≡ table.prints.items ++ print ∷ [] → after.filter ≡ table.filter
+    → length table.prints.items < room_of after.trie → room_of after.trie < 2 ^ 32 → item_count after.trie ≤ length table.prints.items + 1 → IsTrie WIDTH (keys_of (next ∷ held)) after.trie → IsAwakeTable (next ∷ held) after
 tabled_more held table after next print is printed pushed filter room most few trie =
     let count : length after.prints.items ≡ length table.prints.items + 1 = ap (λ (xs : List ℕ). length xs) pushed ∙ length-append table.prints.items (print ∷ []) in
     record {
@@ -244,6 +144,27 @@ tabled_more held table after next print is printed pushed filter room most few t
       most = most;
       filtered = rw (pushed, filter) (filter_more table.prints.items print table.filter is.filtered);
     }
+
+-- the same while the table sleeps
+pub asleep_more : (held : List Held) (table : Table) (next : Held) → IsAsleepTable held table → HasRoomForNext held table → IsAsleepTable (next ∷ held) table
+asleep_more held table next is room = record {
+  no_prints = is.no_prints;
+  no_items = is.no_items;
+  room = omega (arith, room.trie);
+  prints_room = omega (arith, room.prints);
+  most = is.most;
+  filtered = is.filtered;
+}
+
+pub asleep_less : (table : Table) (newest : Held) (older : List Held) → IsAsleepTable (newest ∷ older) table → IsAsleepTable older table
+asleep_less table newest older is = record {
+  no_prints = is.no_prints;
+  no_items = is.no_items;
+  room = omega (arith, is.room);
+  prints_room = omega (arith, is.prints_room);
+  most = is.most;
+  filtered = is.filtered;
+}
 
 pub printed_back : (prints left : List ℕ) (last : ℕ) (newest : Held) (older : List Held) → prints ≡ left ++ last ∷ [] → reverse prints ≡ prints_of (newest ∷ older) → reverse left ≡ prints_of older
 printed_back prints left last newest older parts printed =
@@ -269,3 +190,49 @@ gap_found held trie print (Some one) is g some same = gap_lacks held trie print 
 pub gap_same : (held : List Held) (one other : Trie) (print : ℕ) (gap : Option Gap) → nodes_of other ≡ nodes_of one → IfSome gap (IsGap held one print) → IfSome gap (IsGap held other print)
 gap_same held one other print None same is = is
 gap_same held one other print (Some gap) same is = record { all = rw same is.all; low = is.low; opens = λ next printed. opening_same same (is.opens next printed) }
+
+-- A call that changes the room alone leaves a table of the same colourings.
+module _ (held : List Held) (old new : Table) (asleep : IsAsleepTable held old → IsAsleepTable held new) (awake : IsAwakeTable held old → IsAwakeTable held new) where
+  pub table_same : IsTable held old → IsTable held new
+  table_same (inl is) = inl (asleep is)
+  table_same (inr is) = inr (awake is)
+
+  pub print_same : (next : Held) (print : Option ℕ) → IsPrintOfNext held old next print → IsPrintOfNext held new next print
+  print_same next None is = record { awake = tt; asleep = asleep is.asleep }
+  print_same next (Some number) is = record { awake = (awake is.awake.0, is.awake.1); asleep = tt }
+
+pub gaps_same : (held : List Held) (one other : Trie) (print : Option ℕ) (gap : Option Gap) → nodes_of other ≡ nodes_of one → IfSome print (λ number. IfSome gap (IsGap held one number)) → IfSome print (λ number. IfSome gap (IsGap held other number))
+gaps_same held one other None gap same is = tt
+gaps_same held one other (Some number) gap same is = gap_same held one other number gap same is
+
+pub no_gap : (held : List Held) (trie : Trie) (print : Option ℕ) → IfSome print (λ number. IfSome None (IsGap held trie number))
+no_gap held trie None = tt
+no_gap held trie (Some number) = tt
+
+-- so many colourings that a number of 32 bits counts them
+pub few_all : (held : List Held) (table : Table) → IsTable held table → length held < 2 ^ 32
+few_all held table (inl is) = omega (arith, is.room, is.most)
+few_all held table (inr is) = omega (arith, is.room, is.most, tabled held table is)
+
+-- a table without prints sleeps
+pub sleeps : (held : List Held) (table : Table) → IsTable held table → length table.prints.items ≡ 0 → 0 < length held → IsAsleepTable held table
+sleeps held table (inl is) none some = is
+sleeps held table (inr is) none some = absurd (omega (arith, none, some, tabled held table is))
+
+-- a table that got its prints
+pub awoken : (held : List Held) (old new : Table) → IsAsleepTable held old → reverse new.prints.items ≡ prints_of held → new.trie ≡ old.trie → new.filter ≡ old.filter → IsAwakeTable held new
+awoken held old new is printed trie filter =
+    let none : item_count new.trie ≡ 0 = ap item_count trie ∙ ap length is.no_items in
+    record {
+      printed = printed;
+      few = omega (arith, none);
+      linked = rw trie (rw is.no_items refl);
+      room = omega (arith, ap room_of trie, is.room, same_length held new.prints.items printed);
+      most = omega (arith, ap room_of trie, is.most);
+      filtered = rw filter (filter_any new.prints.items old.filter is.filtered);
+    }
+
+-- a table with prints is awake
+pub with_prints : (held : List Held) (table : Table) → IsTable held table → 0 < length table.prints.items → IsAwakeTable held table
+with_prints held table (inl is) some = absurd (omega (arith, some, ap (λ (xs : List ℕ). length xs) is.no_prints))
+with_prints held table (inr is) some = is

@@ -1,19 +1,20 @@
 -- A move on a grid where every stone reaches empty: taking off the groups without a liberty beside the stone, or else its own where that
 -- has none, is the whole move. What is taken off, as rows.
-use Rattle.std.proofs.Common.{◌≡◌, ◌⊎◌, inl, inr, ◌*◌, ◌≤◌, ◌||◌, true, false, ℕ, List, [], length, refl, sym, subst, ◌∙◌, arith, ◌≢◌, Bool, ◌∷◌, IsTrue, rules}
+use Rattle.std.proofs.Common.{◌≡◌, ◌⊎◌, inl, inr, ◌*◌, ◌≤◌, ◌||◌, true, false, ℕ, List, [], length, take, Contains, ◌↔◌, refl, sym, ap, subst, ◌∙◌, arith, ◌≢◌, Bool, ◌∷◌, IsTrue, rules}
 use Rattle.std.proofs.lemmas.Grind.{common_steps}
-use Rattle.std.proofs.lemmas.Bool.{cases_Bool, or_cases, or_left, or_right, false≢true}
-use Rattle.std.proofs.lemmas.List.{length-set, get_or_past}
+use Rattle.std.proofs.lemmas.Bool.{cases_Bool, or_cases, or_parts, or_left, or_right, false≢true}
+use Rattle.std.proofs.lemmas.List.{length-set, get_or_past, take_all}
 use Rattle.go_board.specs.declared.stones.Cell.{Cell}
 use Rattle.go_board.specs.declared.stones.Cell.TheVariants.{Empty}
 use Rattle.go_board.specs.declared.stones.Colour.{Colour}
 use Rattle.board_points.specs.declared.points.Point.{Point}
-use Rattle.go_board.specs.Colour.{stone_of, opponent}
+use Rattle.go_board.specs.Colour.{stone_of, same_cell, opponent}
 use Rattle.board_points.specs.Point.{IsOn, index_of, AreAdjacent}
 use Rattle.go_board.specs.Grid.{Grid, cell_at, with_cell}
 use Rattle.go_board.specs.Clearing.{play, has_unreaching, clear}
-use Rattle.board_points.specs.Rows.{is_set, IsAmong}
-use Rattle.go_board.specs.inner.Groups.{AreShutGroups, IsTakenOrReaches, IsWithout, AllLive, TakesOff, IsWithoutLiberty, AllReach, ReachBeside, AreTakenOrReachBeside}
+use Rattle.board_points.specs.Rows.{is_set, IsAmong, AreRowsOf}
+use Rattle.board_points.specs.Linked.{AddsIfShut}
+use Rattle.go_board.specs.inner.Groups.{AddsGroup, AddsShut, AreShutGroups, IsTakenOrReaches, IsWithout, AllLive, TakesOff, IsWithoutLiberty, AllReach, ReachBeside, AreTakenOrReachBeside, IsAsked}
 use Rattle.go_board.specs.declared.stones.Colour.TheVariants.{Black, White}
 use Rattle.go_board.specs.Reaching.{Leads, Reaches}
 use Rattle.board_points.proofs.PointLemmas.{same_or_not, AreAdjacent-sym}
@@ -23,6 +24,7 @@ use Rattle.board_points.proofs.WordLemmas.{has_bit-zero}
 use Rattle.go_board.proofs.ReachingLemmas.{Leads-on, Leads-next, path_by_step}
 use Rattle.go_board.proofs.RuleLemmas.{side-clear, length-clear, cell_at-clear, emptied, kept, others_kept}
 use Rattle.go_board.proofs.GroupLemmas.{coloured_or_not, stone_of≢Empty}
+use Rattle.go_board.proofs.LibertyLemmas.{Reaches-liberty, IsWithoutLiberty-shut}
 use Rattle.go_board.proofs.SettledLemmas.{reaches_or_not, clear-AllReach, AllReach-settled}
 
 opponent_differs : (k : Colour) → stone_of k ≢ stone_of (opponent k)
@@ -223,3 +225,57 @@ pub takes_nothing-alone : (g : Grid) (p : Point) (k : Colour) (rows : List ℕ) 
 takes_nothing-alone g p k rows all none takes =
     let h = with_cell g p (stone_of k) in
     same_without h (play g k p) h rows (length-set g.cells (index_of g.side p) (stone_of k) ∙ all) takes.played (without-none h rows none)
+
+-- a point beside another is among the first of its neighbours, if these are all of them
+pub beside_taken : (p q : Point) (neighbours : List Point) (count side : ℕ) → ((other : Point) → IsOn 52 other → (Contains neighbours other ↔ AreAdjacent p other)) → length neighbours ≤ count → side ≤ 52 → IsOn side q → AreAdjacent p q → Contains (take count neighbours) q
+beside_taken p q neighbours count side are all few on next = subst (λ l. Contains l q) (sym (take_all count neighbours all)) ((are q (omega (arith, few, on), omega (arith, few, on))).1 next)
+
+-- the group of a stone was added to rows if it has no liberty, by the rows of both colours
+pub AddsGroup-rows : (g : Grid) (k : Colour) (own others old new : List ℕ) (p : Point) (added : Bool) → length own ≡ g.side → AreRowsOf g.side (λ q. same_cell (cell_at g q) (stone_of k)) own
+    → AreRowsOf g.side (λ q. same_cell (cell_at g q) (stone_of (opponent k))) others → IsAsked g k p old → AddsIfShut own others p old new added → AddsGroup g k p old new added
+AddsGroup-rows g k own others old new p added all is_own is_other asked adds =
+    elim (cases_Bool added) [
+      | inr lives ↦
+          let w = adds.lives lives in
+          record {
+            adds = record {
+              shut = subst (AreShutGroups g k) (sym w.0) asked.shut;
+              kept = λ q is. ap (λ rows. is_set rows q) w.0 ∙ is;
+              none = λ _. w.0;
+              some = λ holds. absurd (false≢true (sym lives ∙ holds));
+            };
+            here = λ stone. inr (Reaches-liberty g k own others p all is_own is_other asked.on_board stone w.1.0 w.1.1);
+          }
+      | inl some ↦
+          let w = adds.shut some in
+          let there = w.3 p ∙ or_right _ _ w.1.start in
+          let group : AreShutGroups g k w.0 = record {
+            all = w.1.all ∙ all;
+            on_grid = λ q is. is_own.off q (w.1.within q is);
+            shut = IsWithoutLiberty-shut g k own others p all is_own is_other _ w.1;
+          } in
+          record {
+            adds = record {
+              shut = AreShutGroups-both g k old w.0 new asked.shut group w.2 w.3;
+              kept = λ q is. w.3 q ∙ or_left _ _ is;
+              none = λ fails. absurd (false≢true (sym fails ∙ some));
+              some = λ _. (p, there);
+            };
+            here = λ stone. inl there;
+          }
+    ]
+
+-- Groups are added by a search if it finds some or if those before it did.
+pub adds_either : (g : Grid) (k : Colour) (p : Point) (old mid new : List ℕ) (before now some : Bool) → AddsShut g k old mid before → AddsGroup g k p mid new now → some ≡ (before || now) → AddsShut g k old new some
+adds_either g k p old mid new before now some earlier group is = record {
+  shut = group.adds.shut;
+  kept = λ q there. group.adds.kept q (earlier.kept q there);
+  none = λ fails.
+      let neither = or_parts before now (sym is ∙ fails) in
+      group.adds.none neither.1 ∙ earlier.none neither.0;
+  some = λ holds.
+      elim (or_cases before now (sym is ∙ holds)) [
+        | inl some ↦ (let at = earlier.some some in (at.0, group.adds.kept at.0 at.1))
+        | inr some ↦ group.adds.some some
+      ];
+}

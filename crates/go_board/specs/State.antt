@@ -95,3 +95,7 @@ HaveBegun states = oldest_of states.present states.earlier ≡ starting states.p
 -- the states, followed by a new present one; undo leads back from these to `states`
 abbrev pub followed_by : States → State → States
 followed_by states state = record { present = state; earlier = states.present ∷ states.earlier }
+
+-- the board was the same before the newest call
+abbrev pub HadSameBoard : States → Type 0
+HadSameBoard states = (before : State) (earlier : List State) → states.earlier ≡ before ∷ earlier → before.colouring ≡ states.present.colouring

@@ -35,7 +35,7 @@
 //! | `reason`, `fault` | why a turn, or a node, is illegal; the errors |
 //! | `referee` | the referee and undo; below it `plays`, `setup` and `turn` |
 //! | `laws` | what follows from the definitions |
-//! | `quick` | shortcuts; `quick/print_past` keeps colourings so that they are found by a number |
+//! | `quick` | shortcuts; `quick/print_past` looks colourings up among the newest ones, or else by a number |
 //!
 //! | Rule (docs/RULES.md) | Function, and its module |
 //! |---|---|
@@ -45,13 +45,13 @@
 //! | the area score; an empty point that reaches both colours or neither counts for nobody | `Board::score` (`board`), by `area_of` (`board/regions`), and `count_apart` of `board_points` (`rows`); shortcut below side 32: `Board::score_in_halves` (`quick/both_areas`), by `count_halves` of `board_points` (`quick/halves`) |
 //! | taking a turn; the reasons `over`, `turn` and `occupied`, in this order | `Referee::turn`, `Referee::reason_before_repeat` (`referee/turn`) |
 //! | `repeat` (positional superko; suicide of one stone is a case of it) | `Past::play` (`past`); shortcuts: `PrintPast::play_asked`, if `may_repeat` says that it may, and `play_on_copy` after a setup that leaves a stone without a liberty (`quick/print_past`) |
-//! | the colourings that `repeat` looks at: those since the last setup of stones | `ListPast::holds`, `stretch_has` (`past/list_past`); what a run uses: `Table::near` and `Table::find` (`quick/print_past/table`), which look from `Colourings::stretch_start` (`quick/print_past/colourings`) on. If `Table::gap` finds that no print is the same, nothing is looked up |
+//! | the colourings that `repeat` looks at: those since the last setup of stones | `ListPast::holds`, `stretch_has` (`past/list_past`); what a run uses: `Colourings::look_back` (`quick/print_past/colourings`), which goes over the newest ones, and if these don't tell, `Table::near` and `Table::find` (`quick/print_past/table`). All look from `Colourings::stretch_start` on. If `Table::gap` finds that no print is the same, nothing is looked up |
 //! | a pass; two passes end the game | `Referee::take_pass` (`referee/turn`); `Referee::over` (`referee`) |
 //! | how a game begins | `Referee::new`, `Referee::reset` (`referee`) |
 //! | what PL does with stones and without; passes after a setup of stones | `Referee::setup`; `Referee::begin_anew`; `Referee::set_player` (`referee/setup`) |
 //! | the colouring that a setup makes; the list of colourings begins anew | `Board::colour_areas` (`board/areas`); `Past::set_up` (`past`), and in a run `PrintPast::set_up` (`quick/print_past`) |
 //! | a node that changes nothing | `Referee::stay` (`referee`) |
-//! | undo | `Referee::undo` (`referee`) |
+//! | undo; whether the newest call left the board as it was | `Referee::undo`; `Referee::newest_left_board` (`referee`) |
 //!
 //! A point *reaches* a colour if a path of adjacent points of the point's own colour leads
 //! from it to a point of that colour. A stone that reaches empty has a liberty.

@@ -1,12 +1,11 @@
 //! The referee: the Tromp-Taylor rules over a past, with undo. Each accepted call keeps the player and the passes from before the
-//! call, and whether the call was a turn (`Earlier`). `undo` restores these. If the call added a colouring to the past, `undo`
-//! removes it.
+//! call, and which call it was (`Earlier`). `undo` restores these. If the call added a colouring to the past, `undo` removes it.
 
-ghost use Rattle.std.specs.Prelude.{reverse, ◌≡◌, ◌<◌, ◌≤◌, ◌∷◌, length, IfOk, OnOk, OnErr};
+ghost use Rattle.std.specs.Prelude.{reverse, ◌≡◌, ◌<◌, ◌≤◌, ◌∷◌, length, IsTrue, IfOk, OnOk, OnErr};
 ghost use Rattle.go_board.specs.declared.stones.Colour.TheVariants.{Black, White};
-ghost use Rattle.go_board.specs.State.{States, HaveBegun, begun, followed_by, is_over};
+ghost use Rattle.go_board.specs.State.{States, HadSameBoard, HaveBegun, begun, followed_by, is_over};
 ghost use Rattle.go_board.specs.Score.{score_of};
-ghost use Rattle.go_board.specs.inner.Earlier.{states_of, IsRefereeKept};
+ghost use Rattle.go_board.specs.inner.Earlier.{grew, turned, player_of, states_of, IsRefereeKept};
 
 mod plays;
 mod setup;
@@ -36,17 +35,78 @@ pub struct Referee<P: Past> {
     earlier: Vec<Earlier>,
 }
 
-/// What is kept of the state before an accepted call, besides the past.
+/// What is kept of the state before an accepted call, besides the past, in 3 bytes.
 #[derive(Clone, Copy)]
 struct Earlier {
-    /// Whether the call added a colouring to the past.
-    grew: bool,
-    /// Whether the call was a turn.
-    turned: bool,
-    /// Who had to move; None if either player could.
-    player: Option<Colour>,
+    call: Call,
+    mover: Mover,
     /// How many passes in a row were made last, at most 2.
     passes: u8,
+}
+
+/// An accepted call, by what it changes besides the player and the passes.
+#[derive(Clone, Copy)]
+enum Call {
+    /// A stay, or a setup of the player alone.
+    Stay,
+    Pass,
+    Stone,
+    /// A setup of stones.
+    Setup,
+}
+
+impl Call {
+    /// Whether the call added a colouring to the past.
+    fn grew(self) -> bool
+        ensures { result ≡ grew self }
+    {
+        match self {
+            Call::Stay | Call::Pass => false,
+            Call::Stone | Call::Setup => true,
+        }
+    }
+
+    /// Whether the call was a turn.
+    fn turned(self) -> bool
+        ensures { result ≡ turned self }
+    {
+        match self {
+            Call::Stay | Call::Setup => false,
+            Call::Pass | Call::Stone => true,
+        }
+    }
+}
+
+/// Who must move. An `Option<Colour>` would take 2 bytes.
+#[derive(Clone, Copy)]
+enum Mover {
+    Either,
+    Black,
+    White,
+}
+
+impl Mover {
+    /// The player who must move, as a mover; `Either` for None.
+    fn of(player: Option<Colour>) -> Mover
+        ensures { player_of result ≡ player }
+    {
+        match player {
+            None => Mover::Either,
+            Some(Colour::Black) => Mover::Black,
+            Some(Colour::White) => Mover::White,
+        }
+    }
+
+    /// The player who must move; None if either may.
+    fn player(self) -> Option<Colour>
+        ensures { result ≡ player_of self }
+    {
+        match self {
+            Mover::Either => None,
+            Mover::Black => Some(Colour::Black),
+            Mover::White => Some(Colour::White),
+        }
+    }
 }
 
 impl<P: Past> Model for Referee<P> {
@@ -104,7 +164,7 @@ impl<P: Past> Referee<P> {
         ensures ok { OnOk result (self.new ≡ followed_by self.old self.old.present) }
         ensures err { OnErr result (self.new ≡ self.old) }
     {
-        let present = self.present_kept(false, false);
+        let present = self.present_kept(Call::Stay);
         self.earlier.push(present)?;
         Ok(())
     }
@@ -117,12 +177,23 @@ impl<P: Past> Referee<P> {
         ensures side { self.new.present.colouring.side ≡ self.old.present.colouring.side }
     {
         let earlier = self.earlier.pop().unwrap();
-        self.player = earlier.player;
+        self.player = earlier.mover.player();
         self.passes = earlier.passes;
-        self.turns -= u64::from(earlier.turned);
-        if earlier.grew {
+        self.turns -= u64::from(earlier.call.turned());
+        if earlier.call.grew() {
             self.past.pop();
         }
+    }
+
+    /// Whether the newest accepted call left the board as it was: a stay, a pass, or a setup of the player alone. False says nothing.
+    /// There must be such a call, so `depth` must be at least 1.
+    #[inline(always)]
+    pub fn newest_left_board(&self) -> bool
+        requires { 0 < length self.now.earlier }
+        ensures { IsTrue result → HadSameBoard self.now }
+    {
+        let newest = self.earlier.last().unwrap();
+        !newest.call.grew()
     }
 
     /// The present board.
@@ -157,19 +228,16 @@ impl<P: Past> Referee<P> {
         self.past.newest().score()
     }
 
-    /// What is kept of the present state besides the past. `grew` says whether the call adds a colouring, and `turned` whether it
-    /// is a turn.
-    fn present_kept(&self, grew: bool, turned: bool) -> Earlier
-        ensures player { result.player ≡ self.now.present.player }
+    /// What is kept of the present state before a call, besides the past.
+    fn present_kept(&self, call: Call) -> Earlier
+        ensures call { result.call ≡ call }
+        ensures player { player_of result.mover ≡ self.now.present.player }
         ensures passes { result.passes ≡ self.now.present.passes }
-        ensures grew { result.grew ≡ grew }
-        ensures turned { result.turned ≡ turned }
     {
         Earlier {
-            grew,
-            player: self.player,
+            call,
+            mover: Mover::of(self.player),
             passes: self.passes,
-            turned,
         }
     }
 }

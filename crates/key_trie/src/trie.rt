@@ -1,6 +1,6 @@
 //! The trie: walks down it, and one item more or less.
 
-ghost use Rattle.std.specs.Prelude.{◌≡◌, ℕ, ◌+◌, ◌<◌, ◌≤◌, ◌^◌, Bool, length, IfOk, OnOk, OnErr};
+ghost use Rattle.std.specs.Prelude.{◌≡◌, ℕ, ◌+◌, ◌-◌, ◌*◌, ◌<◌, ◌≤◌, ◌^◌, min, Bool, length, IfOk, MatchOption, OnOk, OnErr};
 ghost use Rattle.std.specs.Vec.{vec_capacity};
 ghost use Rattle.key_trie.specs.Key.{Agree};
 ghost use Rattle.key_trie.specs.Trie.{nodes_of, item_count, room_of, kid_of, IsIn, kid_at, HasRoom, IsTrie, IsWayTo, IsNearest, IsParting, IsOpening, with_named, without_newest};
@@ -63,11 +63,9 @@ impl Trie {
         ensures err { OnErr result (room_of self.new ≡ room_of self.old) }
         ensures most { room_of self.new < 2 ^ 32 }
     {
-        let room = self.nodes.capacity();
-        if room >= MOST {
+        let Some(wanted) = more_room(self.nodes.capacity()) else {
             return Err(AllocError);
-        }
-        let wanted = MOST.min(2 * room + FIRST_ROOM);
+        };
         self.nodes.reserve_exact(wanted - self.nodes.len())?;
         Ok(())
     }
@@ -253,4 +251,16 @@ fn name(nodes: &mut Vec<Node>, slot: Slot, kid: u32)
     } else {
         node.off = kid;
     }
+}
+
+/// How many items there is to be room for next; None if there is room for the most already.
+#[inline(always)]
+fn more_room(room: usize) -> Option<usize>
+    requires { room < 2 ^ 32 }
+    ensures { MatchOption result (room + 1 ≡ 2 ^ 32) (λ wanted. (room < wanted) × (wanted ≡ min (2 ^ 32 - 1) (2 * room + 256))) }
+{
+    if room >= MOST {
+        return None;
+    }
+    Some(MOST.min(2 * room + FIRST_ROOM))
 }

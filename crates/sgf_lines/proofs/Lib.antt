@@ -24,6 +24,7 @@ pub mod PlayCounts
 pub mod Running
 pub mod LineCounts
 pub mod Keeping
+pub mod KeptScores
 pub mod GoingOn
 pub mod RunRecords
 pub mod JudgedLines

@@ -7,6 +7,7 @@
 //! 42 percent more instructions.
 
 pub(crate) mod contents;
+pub(crate) mod game;
 pub(crate) mod judge;
 pub(crate) mod judged;
 pub(crate) mod one_line;

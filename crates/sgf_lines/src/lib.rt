@@ -40,6 +40,7 @@
 //! | `options`, `fault` | what a run is asked for; how it may fail |
 //! | `verdict`, `judging` | the verdict of a line; judging lines, in the modules below |
 //! | `judging/one_line`, `judging/judge` | `judge` and `judge_at`: one line, by its leaf or its place; `Judge`, which goes along a line's nodes, and back |
+//! | `judging/game` | a game that is judged: its referee, and the score of its present board |
 //! | `judging/judged` | judging a line from the first node that it does not share with the line before it |
 //! | `judging/root`, `judging/contents`, `judging/step` | the board of a root's game; what a node holds; playing a node |
 //! | `judging/quick` | a shortcut: playing a node that is recognized at a glance |
@@ -63,7 +64,7 @@
 //! | which values are passes; the last value of PL, which counts | `is_pass` (`node_values`); `last_player`, `with_player` (`judging/contents`); what PL does then: `Referee::setup` of `go_board` |
 //! | the other reasons | `Referee::reason_before_repeat` of `go_board` (`referee/turn`); for `repeat` `Past::play` of `go_board` (`past`) |
 //! | TURN, PLACE and REASON of the first illegal node | `Judge::take` (`judging/judge`) |
-//! | the verdict of a line; `over` or `open` | `Judge::verdict`; `score` (`judging/judge`) |
+//! | the verdict of a line; `over` or `open` | `Judge::verdict` (`judging/judge`); `Game::verdict` (`judging/game`), which keeps the score of a board while no node changes it |
 //! | PLACE, GAME and NODES of a row | `SequenceCursor::place`, `SequenceCursor::game`, `SequenceCursor::len` of `tree_lines` (`sequence_cursor`) |
 //! | a row; the row of counts | `TextRow::lay_out`; `TextRow::lay_out_counts` (`form/text_row`); the counts: `measure` of `sgf_tree` (`reader`) |
 //! | that a script stops before an illegal node | `judge_line` (`judging/judged`) |

@@ -1,7 +1,8 @@
 //! Counting the games, nodes and lines of a text in memory.
 
-ghost use Rattle.std.specs.Prelude.{ℕ, List};
-ghost use Rattle.sgf_lines_c.specs.CountAnswer.{IsCount, Says};
+ghost use Rattle.std.specs.Prelude.{◌≡◌, ℕ, List};
+ghost use Rattle.sgf_lines_c.specs.CountAnswer.{IsCount, Says, fault_told};
+ghost use Rattle.sgf_lines_c.specs.inner.Refusal.{at_of, status_of};
 ghost use Rattle.sgf_lines_c.specs.inner.Running.{IsUncounted};
 
 use crate::answer::CountAnswer;
@@ -46,7 +47,9 @@ fn count_text(alloc: Global, text: &[u8]) -> (Status, CountAnswer)
 
 /// What a failed count reports. The source is a text in memory, so no read fails.
 fn refused(fault: &RunFault) -> (Status, CountAnswer)
-    ensures { (text : List ℕ) → IsUncounted text fault.now → Says text result.1 result.0 }
+    ensures status { result.0 ≡ status_of fault.now }
+    ensures told { result.1 ≡ fault_told (at_of fault.now) }
+    ensures says { (text : List ℕ) → IsUncounted text fault.now → Says text result.1 result.0 }
 {
     (refusal::status(fault), CountAnswer::at(refusal::at(fault)))
 }

@@ -4,6 +4,7 @@ ghost use Rattle.std.specs.Prelude.{◌≡◌, ℕ, List, length};
 ghost use Rattle.sgf_lines.specs.declared.options.Options.{Options};
 ghost use Rattle.sgf_lines_c.specs.SplitAnswer.{IsSplit, Says, told};
 ghost use Rattle.sgf_lines_c.specs.inner.Running.{IsRefusal, Puts};
+ghost use Rattle.sgf_lines_c.specs.inner.Refusal.{at_of, lines_of, status_of};
 
 use crate::answer::Answer;
 use crate::asked::Asked;
@@ -75,7 +76,9 @@ fn put(records: &[u8], lines: u64, room: &mut [u8]) -> (Status, Answer)
 /// What a failed run reports. The run reads a text in memory, which never
 /// fails, and writes to a vector, which fails only if memory is refused.
 fn refused(fault: &RunFault) -> (Status, Answer)
-    ensures { (options : Options) → (text room : List ℕ)
+    ensures status { result.0 ≡ status_of fault.now }
+    ensures told { result.1 ≡ told (lines_of fault.now) 0 (at_of fault.now) }
+    ensures says { (options : Options) → (text room : List ℕ)
         → IsRefusal options text fault.now → Says options text room room result.1 result.0 }
 {
     let told = Answer {

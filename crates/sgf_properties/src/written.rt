@@ -2,7 +2,7 @@
 
 #![tactic(auto, using(crate::proofs::GoingOn::goes_on_on))]
 
-ghost use Rattle.std.specs.Prelude.{◌≡◌, ◌++◌, OnOk};
+ghost use Rattle.std.specs.Prelude.{◌≡◌, ◌++◌, OnOk, OnErr};
 ghost use Rattle.sgf_properties.specs.Written.{value_text, property_text, GoesOn};
 
 use crate::fault::MemoryFault;
@@ -11,8 +11,21 @@ use crate::property::PropRef;
 /// Appends a property as the sgf form writes it: its name in capitals, and its raw values between brackets, as they are in the text.
 /// Nothing stands between these parts (this project's choice).
 ///
-/// `MemoryFault` comes only if memory was refused. Then some of the parts may be appended, and the bytes before them are unchanged.
+/// `MemoryFault` comes only if memory was refused; then `out` is unchanged.
 pub fn push_property(property: &PropRef<'_>, out: &mut Vec<u8>) -> Result<(), MemoryFault>
+    ensures appended { OnOk result (out.new.items ≡ out.old.items ++ property_text property.now) }
+    ensures unchanged { OnErr result (out.new.items ≡ out.old.items) }
+{
+    let before = out.len();
+    let pushed = push_parts(property, out);
+    if pushed.is_err() {
+        out.truncate(before);
+    }
+    pushed
+}
+
+/// The same, but a refusal of memory may leave some of the parts appended.
+fn push_parts(property: &PropRef<'_>, out: &mut Vec<u8>) -> Result<(), MemoryFault>
     ensures appended { OnOk result (out.new.items ≡ out.old.items ++ property_text property.now) }
     ensures goes_on { GoesOn out.old.items out.new.items }
 {

@@ -1,7 +1,7 @@
 //! The nodes of a collection by their numbers: besides its sequences, the place of each node in 4 bytes, and for each sequence the last
 //! node below it.
 
-ghost use Rattle.std.specs.Prelude.{ℕ, List, IfOk};
+ghost use Rattle.std.specs.Prelude.{◌≡◌, ◌+◌, ◌/◌, min, ℕ, List, IfOk};
 ghost use Rattle.sgf_tree.specs.inner.OwnNodes.{nothing};
 ghost use Rattle.sgf_tree.specs.Tree.{no_games};
 ghost use Rattle.sgf_tree.specs.inner.GamesRead.{whole};
@@ -35,10 +35,9 @@ impl Numbered {
     pub(crate) fn with_room(alloc: Global, bytes: usize) -> Result<Numbered, MemoryFault>
         ensures { IfOk result (λ nodes. (text : List ℕ) → HoldsNodes text nodes (whole no_games) nothing) }
     {
-        let room = ROOM_FOR_NODES.min(bytes / NODE_BYTES + 1);
         Ok(Numbered {
             sequences: Sequences::with_room(alloc, bytes)?,
-            places: Vec::with_capacity(alloc, room)?,
+            places: Vec::with_capacity(alloc, first_room(bytes))?,
             last_nodes: Vec::new(alloc),
         })
     }
@@ -67,4 +66,11 @@ impl Keeper for Numbered {
         }
         self.sequences.game_ends(depth);
     }
+}
+
+/// How many nodes of a text of so many bytes there is room for at first.
+fn first_room(bytes: usize) -> usize
+    ensures { result ≡ min 128 (bytes / 6 + 1) }
+{
+    ROOM_FOR_NODES.min(bytes / NODE_BYTES + 1)
 }

@@ -1,6 +1,6 @@
 //! The sequences of a collection in file order, in 20 bytes each. A sequence has the nodes between a `(` and the next parenthesis.
 
-ghost use Rattle.std.specs.Prelude.{◌≡◌, ◌≤◌, ◌+◌, ◌++◌, ◌∷◌, [], ℕ, List, None, length, IfOk, OnOk};
+ghost use Rattle.std.specs.Prelude.{◌≡◌, ◌≤◌, ◌↔◌, ◌+◌, ◌/◌, min, ◌++◌, ◌∷◌, [], ℕ, List, None, length, IfOk, IsTrue, OnOk};
 ghost use Rattle.sgf_tree.specs.inner.OwnNodes.{nothing};
 ghost use Rattle.sgf_tree.specs.inner.GamesRead.{whole};
 ghost use Rattle.sgf_tree.specs.inner.Outlining.{outer_by, game_by, is_written_by, start_by, is_last_by, HoldsSequences};
@@ -118,9 +118,8 @@ impl Sequences {
     pub(crate) fn with_room(alloc: Global, bytes: usize) -> Result<Sequences, MemoryFault>
         ensures { IfOk result (λ sequences. (text : List ℕ) → HoldsSequences text sequences (whole no_games) nothing) }
     {
-        let room = ROOM_FOR_SEQUENCES.min(bytes / SEQUENCE_BYTES + 1);
         Ok(Sequences {
-            table: Vec::with_capacity(alloc, room)?,
+            table: Vec::with_capacity(alloc, first_room(bytes))?,
             stretches: Vec::new(alloc),
             begun: 0,
             nodes: 0,
@@ -129,7 +128,7 @@ impl Sequences {
         })
     }
 
-    /// Keeps one more stretch, with the mark of the last one of a sequence or none. There are never more than bytes: a stretch has at least one.
+    /// Keeps one more stretch, with the mark of the last one of a sequence or none.
     fn push_stretch(&mut self, stretch: Stretch, mark: u32) -> Result<(), MemoryFault>
         requires low { stretch.end ≤ MAX_LENGTH }
         requires rises { stretch.start ≤ stretch.end }
@@ -139,7 +138,7 @@ impl Sequences {
         ensures pushed { OnOk result (self.new.stretches.items
             ≡ self.old.stretches.items ++ record { start_and_mark = stretch.start + mark; end = stretch.end } ∷ []) }
     {
-        if self.stretches.len() >= MAX_LENGTH {
+        if are_most(self.stretches.len()) {
             return Err(MemoryFault);
         }
         self.stretches.push(KeptStretch {
@@ -193,4 +192,19 @@ impl Keeper for Sequences {
         }
         self.games += u32::from(depth == 0);
     }
+}
+
+/// How many sequences of a text of so many bytes there is room for at first.
+fn first_room(bytes: usize) -> usize
+    ensures { result ≡ min 16 (bytes / 8 + 1) }
+{
+    ROOM_FOR_SEQUENCES.min(bytes / SEQUENCE_BYTES + 1)
+}
+
+/// Whether so many stretches are the most that are kept. No text has more: a stretch has at least one byte.
+#[inline(always)]
+fn are_most(stretches: usize) -> bool
+    ensures { IsTrue result ↔ MAX_LENGTH ≤ stretches }
+{
+    stretches >= MAX_LENGTH
 }

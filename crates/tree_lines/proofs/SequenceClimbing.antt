@@ -1,13 +1,14 @@
 -- The loops that climb from a sequence to the root of its game.
 use Rattle.std.proofs.lemmas.Grind.{common_steps, drop-set_at}
-use Rattle.std.proofs.Common.{◌≡◌, ℕ, ◌+◌, ◌-◌, ◌<◌, ◌≤◌, List, [], ◌∷◌, ◌++◌, length, set, drop, Option, Some, None, refl, ap, ◌∙◌, arith, append_assoc, length-append, length-set}
+use Rattle.std.proofs.Common.{◌≡◌, ℕ, ◌+◌, ◌-◌, ◌<◌, ◌≤◌, List, [], ◌∷◌, ◌++◌, length, set, drop, Option, Some, None, refl, ap, subst, ◌∙◌, arith, append-nil, append_assoc, length-append, length-set}
+use Rattle.std.proofs.Math.Seq.{drop-length}
 use Rattle.sgf_tree.specs.Tree.{Games, node_count}
 use Rattle.sgf_tree.specs.FileOrder.{sequence_starts, sequence_numbers}
-use Rattle.tree_lines.specs.inner.Parts.{first_of, sequence_length, part_numbers, IsAbove, ArePartsTo, top, step, MeasuresTo}
-use Rattle.tree_lines.specs.declared.sequence_cursor.Part.{Part}
+use Rattle.tree_lines.specs.inner.Parts.{Part, first_of, sequence_length, parts_of, part_numbers, IsAbove, ArePartsTo, top, step, IsWayTo, MeasuresTo}
+use Rattle.tree_lines.specs.declared.sequence_cursor.Front.{Front}
 use Rattle.tree_lines.proofs.SequenceStarts.{first_no_less, length_is, first_within}
 use Rattle.tree_lines.proofs.SequenceParts.{numbers_more, sequence_long}
-use Rattle.tree_lines.proofs.SequenceWays.{part_after, front_of, parts_few}
+use Rattle.tree_lines.proofs.SequenceWays.{part_after, front_of, as_measured}
 
 -- one more than a sequence's number, and 0 above a root's
 abbrev pub height : Option ℕ → ℕ
@@ -70,30 +71,72 @@ module _ (c : Games) where
   pub measured : (last sequences nodes : ℕ) (current : Option ℕ) → IsMeasured last current sequences nodes → current ≡ None → MeasuresTo c last (record { sequences = sequences; nodes = nodes })
   measured last sequences nodes current h e = let n = h.count [] (rw e top) in (n.0, n.1, omega (arith, n.2), omega (arith, n.3))
 
-  -- the parts that the loop has passed are written
-  pub record IsFilled (last : ℕ) (current : Option ℕ) (room end : ℕ) (path : List Part) : Type 0 where
+  -- the numbers of the sequences that the loop has passed are written
+  pub record IsFilled (last : ℕ) (current : Option ℕ) (room : ℕ) (path : List ℕ) : Type 0 where
     pub there : IsThere current
     pub front : List Part
     pub way : ArePartsTo c current front
     pub room_is : room ≡ length front
     pub within : room ≤ length path
-    pub end_is : end ≡ length (part_numbers c front)
-    pub filled : ArePartsTo c (Some last) (front ++ drop room path)
+    pub filled : ArePartsTo c (Some last) (front ++ parts_of c (length (part_numbers c front)) (drop room path))
 
   -- what the loop can count on at a sequence
-  pub record IsRoomFor (room end k : ℕ) : Type 0 where
+  pub record IsRoomFor (room k : ℕ) : Type 0 where
     pub there : k < length (sequence_starts c)
     pub some_room : 0 < room
-    pub long : sequence_length c k ≤ end
-    pub short : end ≤ node_count c
 
   some_above : {k : ℕ} {parts : List Part} → ArePartsTo c (Some k) parts → (above : Option ℕ) × IsAbove c k above
   some_above (step {above = above} lt is up e) = (above, is)
 
-  pub room_for : (last k room end : ℕ) (path : List Part) (current : Option ℕ) → IsFilled last current room end path → current ≡ Some k → IsRoomFor room end k
-  room_for last k room end path current h e = grind (arith, common_steps, front_of, some_above, length-append, part_after, nodes_more, parts_few, first_within)
+  pub room_for : (last k room : ℕ) (path : List ℕ) (current : Option ℕ) → IsFilled last current room path → current ≡ Some k → IsRoomFor room k
+  room_for last k room path current h e =
+      let way = rw e at h.way in
+      let f = front_of c way (some_above way).1 in
+      record { there = h.there k e; some_room = omega (arith, h.room_is, ap length f.2, length-append f.0 (part_after c f.0 k ∷ [])) }
 
-  pub fills : (last k room end : ℕ) (path : List Part) (current above : Option ℕ) → IsFilled last current room end path → current ≡ Some k → IsAbove c k above
-      → IsFilled last above (room - 1) (end - sequence_length c k) (set path (room - 1) (record { sequence = k; end = end }))
-  fills last k room end path current above h e is =
-      grind (arith, common_steps, front_of, nodes_more, part_after, length-append, drop-set_at, append_assoc, above_there, length-set)
+  pub fill_begins : (last : ℕ) (line : Front) (path : List ℕ) → last < length (sequence_starts c) → MeasuresTo c last line → line.sequences ≡ length path
+      → IsFilled last (Some last) line.sequences path
+  fill_begins last line path lt m room =
+      let none : drop line.sequences path ≡ [] = ap (λ n. drop n path) room ∙ drop-length path in
+      record {
+        there = λ k e. let same : last ≡ k = cc in rw same at lt;
+        front = m.0;
+        way = m.1;
+        room_is = m.2;
+        within = omega (arith, room);
+        filled = rw (none, append-nil m.0) m.1;
+      }
+
+  pub fills : (last k room : ℕ) (path : List ℕ) (current above : Option ℕ) → IsFilled last current room path → current ≡ Some k → IsAbove c k above
+      → IsFilled last above (room - 1) (set path (room - 1) k)
+  fills last k room path current above h e is =
+      let lt = h.there k e in
+      let f = front_of c (rw e at h.way) is in
+      let front = f.0 in
+      let one : room ≡ length front + 1 = omega (arith, h.room_is, ap length f.2, length-append front (part_after c front k ∷ [])) in
+      let back : room - 1 ≡ length front = omega (arith, one) in
+      let rest = drop room path in
+      let written : drop (room - 1) (set path (room - 1) k) ≡ k ∷ rest = grind (arith, common_steps, drop-set_at) in
+      let nodes : length (part_numbers c h.front) ≡ length (part_numbers c front) + sequence_length c k = ap (λ ps. length (part_numbers c ps)) f.2 ∙ nodes_more front k in
+      let same : h.front ++ parts_of c (length (part_numbers c h.front)) rest ≡ front ++ parts_of c (length (part_numbers c front)) (k ∷ rest) =
+      ap (λ n. h.front ++ parts_of c n rest) nodes
+      ∙ ap (λ ps. ps ++ parts_of c (length (part_numbers c front) + sequence_length c k) rest) f.2
+      ∙ append_assoc front (part_after c front k ∷ []) (parts_of c (length (part_numbers c front) + sequence_length c k) rest) in
+      record {
+        there = above_there k above lt is;
+        front = front;
+        way = f.1;
+        room_is = back;
+        within = omega (arith, h.within, length-set path (room - 1) k);
+        filled = rw written (subst (ArePartsTo c (Some last)) same h.filled);
+      }
+
+  pub filled : (last : ℕ) (line : Front) (room : ℕ) (path : List ℕ) (current : Option ℕ) → MeasuresTo c last line → IsFilled last current room path → current ≡ None → IsWayTo c last path line.nodes
+  filled last line room path current m h e =
+      let none = nothing_above (rw e at h.way) in
+      let zero_room : room ≡ 0 = omega (arith, h.room_is, ap length none) in
+      let way : ArePartsTo c (Some last) (parts_of c 0 path) = rw (none, zero_room) at h.filled in
+      (way, as_measured c last line (parts_of c 0 path) m way)
+    where
+      nothing_above : {parts : List Part} → ArePartsTo c None parts → parts ≡ []
+      nothing_above top = refl

@@ -7,7 +7,7 @@ use Rattle.std.proofs.lemmas.List.{length-map, take-map, length-take-le}
 use Rattle.std.proofs.lemmas.Option.{slice_get-get_or}
 use Rattle.std.proofs.lemmas.List.FromFn.{get_or-range_with_len, length-range_with_len}
 use Rattle.std.proofs.Math.ListN.{get_or-append}
-use Rattle.std.proofs.Math.Seq.{take-append_seam, take-length}
+use Rattle.std.proofs.Math.Seq.{take-append_seam}
 use Rattle.sgf_tree.specs.Tree.{Node, Games, node_count}
 use Rattle.sgf_tree.specs.FileOrder.{parent_at, place_at, node_at, nodes_at, game_of, IsLeaf, sequence_starts, sequence_start, sequence_end, sequence_numbers}
 use Rattle.tree_lines.specs.Lines.{lines, place_of, Line, HasNoLineAt}
@@ -15,26 +15,28 @@ use Rattle.tree_lines.specs.Cursor.{CursorState, advanced, IsAfterPlace}
 use Rattle.tree_lines.specs.inner.PathTo.{HasNoLeaf, IsNextLeaf, IsCutBack}
 use Rattle.tree_lines.specs.Following.{lines_before, Continues, path_before, nodes_before, line_before, line_in, nodes_of}
 use Rattle.tree_lines.specs.inner.Standing.{IsAfterLeaf}
-use Rattle.tree_lines.specs.Sequences.{SequencesState, SharesFront, RiseTo, sequences_of, nodes_in, parts_from}
-use Rattle.tree_lines.specs.inner.Parts.{first_of, part_numbers, part_ends, AreParts, IsAfterSequences, IsNextEnd, IsFrontUpTo, GoesDown, IsAbove, ArePartsTo}
+use Rattle.tree_lines.specs.Sequences.{SequencesState, SharesFront, RiseTo, sequences_of, parts_from}
+use Rattle.tree_lines.specs.inner.Parts.{Part, first_of, parts_of, part_numbers, part_ends, AreParts, IsAfterSequences, IsCursorKept, IsWayTo, IsNextEnd, IsFrontUpTo, GoesDown, IsAbove, ArePartsTo}
 use Rattle.tree_lines.specs.declared.sequence_cursor.Front.{Front}
-use Rattle.tree_lines.specs.declared.sequence_cursor.Part.{Part}
 use Rattle.tree_lines.proofs.Named.{line_at}
 use Rattle.tree_lines.proofs.LineNodes.{as_many_nodes, nodes_after, node_is, some_before, line_is}
 use Rattle.tree_lines.proofs.CursorStates.{before, starts, IsShown, shows_line, advances, none_is_left}
 use Rattle.tree_lines.proofs.Seeking.{stands_after, sought, no_line}
 use Rattle.tree_lines.proofs.Descending.{path_is, short, kept_within, stands_next, continues_made, shares}
 use Rattle.tree_lines.proofs.SequenceStarts.{first_no_less, never_empty, start_is, first_within, first_is_zero, leaf_last}
-use Rattle.tree_lines.proofs.SequenceParts.{end_of, parent_of, rise_to, part_nodes, part_range}
+use Rattle.tree_lines.proofs.SequenceParts.{end_of, parent_of, rise_to, part_nodes, part_range, part_at, one_back, length-parts_of}
 use Rattle.tree_lines.proofs.SequenceWays.{parts_path, parts_are}
-use Rattle.tree_lines.proofs.SequenceCuts.{split_numbers, nodes_are, cut_back, front_within}
+use Rattle.tree_lines.proofs.SequenceCuts.{split_numbers, nodes_are, cut_back, front_within, goes_down}
 
 -- what a cursor that goes on from the sequence `next` shows
 abbrev pub seen : Games → ℕ → List Part → SequencesState
 seen c next parts = record { at = before c (first_of c next); ends = part_ends parts }
 
-pub stands_first : (c : Games) → IsAfterSequences c 0 []
+stands_first : (c : Games) → IsAfterSequences c 0 []
 stands_first c = grind (arith, common_steps, first_within, first_is_zero)
+
+pub kept_first : (c : Games) → IsCursorKept c 0 [] 0
+kept_first c = record { after = stands_first c; count = refl }
 
 pub seen_first : (c : Games) → seen c 0 [] ≡ record { at = record { games = c; index = 0 }; ends = [] }
 seen_first c = ap (λ (at : CursorState). record { at = at; ends = [] }) (ap (before c) (first_is_zero c) ∙ starts c)
@@ -55,7 +57,10 @@ pub some_ends : (ends : List ℕ) (count : ℕ) → RiseTo 0 ends count → 0 < 
 some_ends [] count rise some = absurd (omega (arith, rise))
 some_ends (end ∷ ends) count rise some = omega arith
 
-module _ (c : Games) (next : ℕ) (parts : List Part) (h : IsAfterSequences c next parts) (state : SequencesState) (is : seen c next parts ≡ state) where
+module _ (c : Games) (next : ℕ) (path : List ℕ) (h : IsAfterSequences c next (parts_of c 0 path)) (state : SequencesState) (is : seen c next (parts_of c 0 path) ≡ state) where
+  abbrev parts : List Part
+  parts = parts_of c 0 path
+
   at_is : before c (first_of c next) ≡ state.at
   at_is = ap (λ (s : SequencesState). s.at) is
 
@@ -67,17 +72,17 @@ module _ (c : Games) (next : ℕ) (parts : List Part) (h : IsAfterSequences c ne
 
   -- ---- The line before the cursor.
 
-  pub as_many_parts : length state.ends ≡ length parts
-  as_many_parts = ap length (sym ends_are) ∙ length-map parts (λ (part : Part). part.end)
+  parts_long : length state.ends ≡ length parts
+  parts_long = ap length (sym ends_are) ∙ length-map parts (λ (part : Part). part.end)
 
-  nodes_long : length (nodes_before state.at) ≡ length (part_numbers c parts)
+  pub as_many_parts : length state.ends ≡ length path
+  as_many_parts = parts_long ∙ length-parts_of c 0 path
+
+  pub nodes_long : length (nodes_before state.at) ≡ length (part_numbers c parts)
   nodes_long = as_many_nodes c (first_of c next) state.at at_is (part_numbers c parts) h.stands
 
   pub divided : RiseTo 0 state.ends (length (nodes_before state.at))
   divided = grind (arith, common_steps, nodes_long, ends_are, rise_to)
-
-  pub all_nodes : nodes_in (part_ends parts) (length parts) ≡ length (nodes_before state.at)
-  all_nodes = nodes_are c parts h.are (length parts) (omega arith) ∙ ap (λ (ps : List Part). length (part_numbers c ps)) (take-length parts) ∙ sym nodes_long
 
   pub few_nodes : length (nodes_before state.at) ≤ node_count state.at.games
   few_nodes = omega (arith, nodes_long, short c (first_of c next) (part_numbers c parts) h.stands, first_within c next, ap node_count games_are)
@@ -88,19 +93,27 @@ module _ (c : Games) (next : ℕ) (parts : List Part) (h : IsAfterSequences c ne
       let shown = shows_line c (first_of c next) state.at at_is (part_numbers c parts) h.stands lt in
       some_ends state.ends (length (nodes_before state.at)) divided (omega (arith, nodes_long, shown.some_node))
 
-  pub part_there : (i : ℕ) (part : Part) → i < length state.ends → part ≡ get_or parts i part → slice_get parts i ≡ Some part
-  part_there i part lt e = slice_get-get_or parts i part (omega (arith, as_many_parts)) ∙ ap Some (sym e)
+  pub part_there : (i k : ℕ) → i < length state.ends → k ≡ get_or path i k → slice_get path i ≡ Some k
+  part_there i k lt e = slice_get-get_or path i k (omega (arith, as_many_parts)) ∙ ap Some (sym e)
+
+  pub part_within_all : (i k : ℕ) → slice_get path i ≡ Some k → k < length (sequence_starts c)
+  part_within_all i k e = (one_back c path i k h.are e).0
 
   -- the nodes of a part, and their numbers
-  pub sequence_nodes : (i : ℕ) (part : Part) → slice_get parts i ≡ Some part
-      → Some (nodes_at state.at.games (sequence_numbers state.at.games part.sequence)) ≡ slice_get (sequences_of state.ends (nodes_before state.at)) i
-  sequence_nodes i part e =
+  pub sequence_nodes : (i k : ℕ) → slice_get path i ≡ Some k
+      → Some (nodes_at state.at.games (sequence_numbers state.at.games k)) ≡ slice_get (sequences_of state.ends (nodes_before state.at)) i
+  sequence_nodes i k e =
       let nodes : nodes_at c (part_numbers c parts) ≡ nodes_before state.at = nodes_after c (first_of c next) state.at at_is (part_numbers c parts) h.stands 0 in
-      ap (λ (games : Games). Some (nodes_at games (sequence_numbers games part.sequence))) (sym games_are) ∙ rw (← ends_are, ← nodes) (sym (part_nodes c 0 parts i part h.are e))
+      let p = part_at c 0 path i k e in
+      let there = rw p.2 at (sym (part_nodes c 0 parts i p.0 h.are p.1)) in
+      ap (λ (games : Games). Some (nodes_at games (sequence_numbers games k))) (sym games_are) ∙ rw (← ends_are, ← nodes) there
 
-  pub part_path : (i : ℕ) (part : Part) → slice_get parts i ≡ Some part
-      → Some (sequence_numbers state.at.games part.sequence) ≡ slice_get (parts_from 0 state.ends (path_before state.at)) i
-  part_path i part e = cc (at_is, path_is c (first_of c next) (part_numbers c parts) h.stands, games_are, ends_are, part_range c 0 parts i part h.are e)
+  pub part_path : (i k : ℕ) → slice_get path i ≡ Some k
+      → Some (sequence_numbers state.at.games k) ≡ slice_get (parts_from 0 state.ends (path_before state.at)) i
+  part_path i k e =
+      let p = part_at c 0 path i k e in
+      let there = rw p.2 at (part_range c 0 parts i p.0 h.are p.1) in
+      cc (at_is, path_is c (first_of c next) (part_numbers c parts) h.stands, games_are, ends_are, there)
 
   module _ (some : 0 < length state.ends) where
     some_nodes : 0 < length (nodes_before state.at)
@@ -112,20 +125,20 @@ module _ (c : Games) (next : ℕ) (parts : List Part) (h : IsAfterSequences c ne
     shown : IsShown c (first_of c next) (part_numbers c parts)
     shown = shows_line c (first_of c next) state.at at_is (part_numbers c parts) h.stands line_there
 
-    root : (part : Part) → slice_get parts 0 ≡ Some part → get_or (part_numbers c parts) 0 0 ≡ sequence_start c part.sequence
-    root part e = first_number c parts 0 part h.are e
+    root : (k : ℕ) → slice_get path 0 ≡ Some k → get_or (part_numbers c parts) 0 0 ≡ sequence_start c k
+    root k e = let p = part_at c 0 path 0 k e in rw p.2 at (first_number c parts 0 p.0 h.are p.1)
 
-    pub root_is : (part : Part) (n : Node) → slice_get parts 0 ≡ Some part → node_at c (sequence_start c part.sequence) ≡ Some n → slice_get (nodes_before state.at) 0 ≡ Some n
-    root_is part n there e = node_is c (first_of c next) state.at at_is (part_numbers c parts) h.stands 0 0 n some_nodes (ap (node_at c) (root part there) ∙ e)
+    pub root_is : (k : ℕ) (n : Node) → slice_get path 0 ≡ Some k → node_at c (sequence_start c k) ≡ Some n → slice_get (nodes_before state.at) 0 ≡ Some n
+    root_is k n there e = node_is c (first_of c next) state.at at_is (part_numbers c parts) h.stands 0 0 n some_nodes (ap (node_at c) (root k there) ∙ e)
 
     -- the line before the cursor
     line_found : line_before state.at ≡ slice_get (lines c) (lines_before c (first_of c next) - 1)
     line_found = line_is state.at line_there ∙ rw (← at_is) refl
 
-    pub game_is : (part : Part) → slice_get parts 0 ≡ Some part
-        → option_map (λ (line : Line). line.game_number) (line_before state.at) ≡ Some (game_of c (sequence_start c part.sequence))
-    game_is part there =
-        grind (arith, common_steps, line_at c (lines_before c (first_of c next) - 1) (record { game_number = game_of c (get_or (part_numbers c parts) 0 0); numbers = part_numbers c parts }) (shown.path_is 0), line_found, root part there)
+    pub game_is : (k : ℕ) → slice_get path 0 ≡ Some k
+        → option_map (λ (line : Line). line.game_number) (line_before state.at) ≡ Some (game_of c (sequence_start c k))
+    game_is k there =
+        grind (arith, common_steps, line_at c (lines_before c (first_of c next) - 1) (record { game_number = game_of c (get_or (part_numbers c parts) 0 0); numbers = part_numbers c parts }) (shown.path_is 0), line_found, root k there)
 
     -- a sequence stands before the next one
     pub one_before : 1 ≤ next
@@ -204,6 +217,18 @@ module _ (c : Games) (next : ℕ) (parts : List Part) (h : IsAfterSequences c ne
     pub next_rises : sequence_start c next ≤ sequence_end c leaf
     next_rises = omega (arith, start_is c next next_there, next_leaf.from_there, never_empty c leaf n.within)
 
+    pub moved : before c (first_of c (leaf + 1)) ≡ advanced state.at
+    moved = ap (before c) (sym after_leaf) ∙ advances c (first_of c next) state.at at_is leaf_node next_leaf
+
+    -- the front is one of the path
+    pub front_kept : front.sequences ≤ length path
+    front_kept = omega (arith, (front_within c parts h.are outer front cut).0, length-parts_of c 0 path)
+
+    -- there are no more of its nodes than of all
+    pub next_few : (first end : ℕ) → first ≡ sequence_start c next → end ≡ sequence_end c leaf → front.nodes + (end - first) ≤ node_count c
+    next_few first end first_is end_is =
+        omega (arith, first_is, end_is, front_before, start_is c next next_there, next_rises, never_empty c leaf n.within, after_leaf, first_within c (leaf + 1))
+
     module _ (new : List Part) (down : GoesDown c parts front.sequences next (leaf + 1) new) where
       numbers_made : part_numbers c new ≡ take front.nodes (part_numbers c parts) ++ range_with_len (first_of c next) (leaf_node + 1 - first_of c next)
       numbers_made =
@@ -212,11 +237,13 @@ module _ (c : Games) (next : ℕ) (parts : List Part) (h : IsAfterSequences c ne
       stands_there : IsAfterLeaf c (leaf_node + 1) (part_numbers c new)
       stands_there = stands_next c (first_of c next) (part_numbers c parts) h.stands leaf_node parent front.nodes next_leaf parent_there node_cut (part_numbers c new) numbers_made
 
-      pub stands_further : IsAfterSequences c (leaf + 1) new
+      stands_further : IsAfterSequences c (leaf + 1) new
       stands_further = grind (arith, common_steps, after_leaf, stands_there)
 
-      pub moved : before c (first_of c (leaf + 1)) ≡ advanced state.at
-      moved = ap (before c) (sym after_leaf) ∙ advances c (first_of c next) state.at at_is leaf_node next_leaf
+      nodes_made : (first end : ℕ) → first ≡ sequence_start c next → end ≡ sequence_end c leaf → front.nodes + (end - first) ≡ length (part_numbers c new)
+      nodes_made first end first_is end_is =
+          next_long first end first_is end_is
+          ∙ as_many_nodes c (leaf_node + 1) (advanced state.at) (advances c (first_of c next) state.at at_is leaf_node next_leaf) (part_numbers c new) stands_there
 
       continued : Continues (path_before state.at) front.nodes (path_before (before c (leaf_node + 1)))
       continued =
@@ -224,7 +251,20 @@ module _ (c : Games) (next : ℕ) (parts : List Part) (h : IsAfterSequences c ne
           (continues_made c (first_of c next) (part_numbers c parts) h.stands leaf_node parent front.nodes next_leaf parent_there node_cut (part_numbers c new) numbers_made) stands_there
 
       pub shares_front : SharesFront state (seen c (leaf + 1) new) front
-      shares_front = grind (arith, common_steps, front_within, before, after_leaf, continued, as_many_parts, take-map, ends_are, length-map)
+      shares_front = grind (arith, common_steps, front_within, before, after_leaf, continued, parts_long, take-map, ends_are, length-map)
+
+    -- the path that is made
+    module _ (made : List ℕ) (made_is : made ≡ take front.sequences path ++ range_with_len next (leaf + 1 - next)) where
+      pub goes_on : GoesDown c parts front.sequences next (leaf + 1) (parts_of c 0 made)
+      goes_on =
+          let end : next + (leaf + 1 - next) ≡ leaf + 1 = omega (arith, n.from_there) in
+          rw made_is (rw end at (goes_down c path front.sequences next (leaf + 1 - next) h.are front_kept (omega (arith, end, n.within))))
+
+      pub kept_further : (first end : ℕ) → first ≡ sequence_start c next → end ≡ sequence_end c leaf → IsCursorKept c (leaf + 1) made (front.nodes + (end - first))
+      kept_further first end first_is end_is = record {
+        after = stands_further (parts_of c 0 made) goes_on;
+        count = nodes_made (parts_of c 0 made) goes_on first end first_is end_is;
+      }
 
   -- ---- The line that ends in a leaf.
 
@@ -248,7 +288,11 @@ module _ (c : Games) (next : ℕ) (parts : List Part) (h : IsAfterSequences c ne
     lt : sequence < length (sequence_starts c)
     lt = rw (← games_are) at there
 
-    pub stands_sought : IsAfterSequences c (sequence + 1) new
+    stands_sought : IsAfterSequences c (sequence + 1) new
     stands_sought =
         let some = never_empty c sequence lt in
         grind (arith, common_steps, lt, stands_after c (sequence_end c sequence - 1) (part_numbers c new) (omega (arith, first_within c (sequence + 1))) (rw (← games_are) at is_leaf) (parts_path c way), first_within c (sequence + 1), games_are, parts_path c way, parts_are c way)
+
+  pub kept_sought : (sequence nodes : ℕ) (new : List ℕ) → sequence < length (sequence_starts state.at.games) → IsLeaf state.at.games (sequence_end state.at.games sequence - 1)
+      → IsWayTo c sequence new nodes → IsCursorKept c (sequence + 1) new nodes
+  kept_sought sequence nodes new there is_leaf way = record { after = stands_sought sequence (parts_of c 0 new) there is_leaf way.0; count = way.1 }

@@ -1,6 +1,6 @@
 -- From the parts of a line to those of the next line.
 use Rattle.std.proofs.lemmas.Grind.{common_steps, flat_map-append}
-use Rattle.std.proofs.Common.{◌≡◌, ◌≢◌, ℕ, zero, suc, ◌+◌, ◌-◌, ◌<◌, ◌≤◌, List, [], ◌∷◌, ◌++◌, length, take, drop, slice_get, Option, Some, refl, sym, ap, ◌∙◌, arith, append_assoc, append-nil, length-append}
+use Rattle.std.proofs.Common.{◌≡◌, ◌≢◌, ℕ, zero, suc, ◌+◌, ◌-◌, ◌<◌, ◌≤◌, List, [], ◌∷◌, ◌++◌, length, take, drop, slice_get, Option, Some, refl, sym, ap, subst, ◌∙◌, arith, append_assoc, append-nil, length-append}
 use Rattle.std.specs.List.{range_with_len}
 use Rattle.std.proofs.lemmas.List.{take-append-drop, take-append-le, length-take-le}
 use Rattle.std.proofs.lemmas.List.FromFn.{get_or-range_with_len, length-range_with_len}
@@ -9,13 +9,13 @@ use Rattle.sgf_tree.specs.Tree.{Games}
 use Rattle.sgf_tree.specs.FileOrder.{sequence_starts, sequence_start, sequence_end, sequence_numbers}
 use Rattle.sgf_tree.proofs.Lists.{slice_get-left, slice_get-right}
 use Rattle.tree_lines.specs.inner.PathTo.{IsCutBack}
-use Rattle.tree_lines.specs.inner.Parts.{first_of, sequence_length, part_numbers, part_ends, AreParts, IsUpTo, IsFrontUpTo, GoesDown}
+use Rattle.tree_lines.specs.inner.Parts.{Part, first_of, sequence_length, parts_of, part_numbers, part_ends, AreParts, IsUpTo, IsFrontUpTo, GoesDown}
 use Rattle.tree_lines.specs.Sequences.{nodes_in}
 use Rattle.tree_lines.specs.declared.sequence_cursor.Front.{Front}
-use Rattle.tree_lines.specs.declared.sequence_cursor.Part.{Part}
 use Rattle.tree_lines.proofs.Lists.{Each, each_append, each_get, element, front_more, range_append}
 use Rattle.tree_lines.proofs.SequenceStarts.{first_no_less, never_empty, same_sequence, last_in, start_is, length_is}
-use Rattle.tree_lines.proofs.SequenceParts.{end_of, numbers_more, parts_more, part_within, parts_front, front_end, sequence_long}
+use Rattle.tree_lines.proofs.SequenceParts.{end_of, numbers_more, parts_more, part_within, parts_front, front_end, sequence_long, length-parts_of, take-parts_of, parts_of-append}
+use Rattle.tree_lines.proofs.SequenceWays.{part_after}
 
 get_dropped : {A : Type 0} (k : ℕ) (xs : List A) (j : ℕ) → slice_get (drop k xs) j ≡ slice_get xs (k + j)
 get_dropped zero xs j = let same : 0 + j ≡ j = omega arith in rw same refl
@@ -108,20 +108,36 @@ module _ (c : Games) where
   pub descent_begins : (old : List Part) (kept first : ℕ) → AreParts c 0 old → kept ≤ length old → GoesDown c old kept first first (take kept old)
   descent_begins old kept first are le = grind (arith, common_steps, length-take-le, append-nil, parts_front)
 
-  pub descends : (old new : List Part) (kept first end skipped nodes : ℕ) (part : Part) → GoesDown c old kept first end new → AreParts c 0 old → kept ≤ length old
-      → first ≤ end → end < length (sequence_starts c) → nodes ≡ nodes_in (part_ends old) kept → nodes ≤ first_of c first → skipped ≡ first_of c first - nodes
-      → part.sequence ≡ end → part.end + skipped ≡ sequence_end c end → GoesDown c old kept first (end + 1) (new ++ part ∷ [])
-  descends old new kept first end skipped nodes part h are le from lt count before skip is ends =
+  descends : (old new : List Part) (kept first end : ℕ) → GoesDown c old kept first end new → AreParts c 0 old → kept ≤ length old
+      → first ≤ end → end < length (sequence_starts c) → GoesDown c old kept first (end + 1) (new ++ part_after c new end ∷ [])
+  descends old new kept first end h are le from lt =
       let f = first_of c first in
       let e = first_of c end in
       let up = first_no_less c first end from (omega arith) in
       let there = start_is c end lt in
       let some = never_empty c end lt in
-      let front = part_numbers c (take kept old) in
-      let front_long : nodes ≡ length front = count ∙ nodes_are old are kept le in
-      let long : length (part_numbers c new) ≡ length front + (e - f) = ap length h.numbers ∙ length-append front (range_with_len f (e - f)) ∙ ap (λ n. length front + n) (length-range_with_len f (e - f)) in
-      let own : sequence_numbers c part.sequence ≡ range_with_len e (sequence_length c end) = ap (sequence_numbers c) is ∙ ap (λ n. range_with_len n (sequence_length c end)) there in
+      let own : sequence_numbers c end ≡ range_with_len e (sequence_length c end) = ap (λ n. range_with_len n (sequence_length c end)) there in
       let reach : f + (e - f) ≡ e = omega arith in
       let sum : (e - f) + sequence_length c end ≡ first_of c (end + 1) - f = omega (arith, length_is c end lt) in
       let joined : range_with_len f (e - f) ++ range_with_len e (sequence_length c end) ≡ range_with_len f (first_of c (end + 1) - f) = rw (reach, sum) at (range_append f (e - f) (sequence_length c end)) in
       grind (arith, common_steps, take-append-le, length-append, numbers_more, append_assoc, parts_more)
+
+  -- a front of the path, and the sequences down to a leaf
+  pub goes_down : (path : List ℕ) (kept first count : ℕ) → AreParts c 0 (parts_of c 0 path) → kept ≤ length path → first + count ≤ length (sequence_starts c)
+      → GoesDown c (parts_of c 0 path) kept first (first + count) (parts_of c 0 (take kept path ++ range_with_len first count))
+  goes_down path kept first zero are le within =
+      let same : first + 0 ≡ first = omega arith in
+      rw (same, append-nil (take kept path), take-parts_of c kept 0 path) (descent_begins (parts_of c 0 path) kept first are (omega (arith, length-parts_of c 0 path)))
+  goes_down path kept first (suc n) are le within =
+      let old = parts_of c 0 path in
+      let so_far = take kept path ++ range_with_len first n in
+      let down = descends old (parts_of c 0 so_far) kept first (first + n) (goes_down path kept first n are le (omega arith)) are (omega (arith, length-parts_of c 0 path)) (omega arith) (omega arith) in
+      let one : n + 1 ≡ suc n = omega arith in
+      let end : first + n + 1 ≡ first + suc n = omega arith in
+      let longer : take kept path ++ range_with_len first (suc n) ≡ so_far ++ (first + n) ∷ [] =
+      ap (λ ns. take kept path ++ ns) (ap (range_with_len first) (sym one) ∙ sym (range_append first n 1)) ∙ sym (append_assoc (take kept path) (range_with_len first n) ((first + n) ∷ [])) in
+      let start : 0 + length (part_numbers c (parts_of c 0 so_far)) ≡ length (part_numbers c (parts_of c 0 so_far)) = omega arith in
+      let made : parts_of c 0 (take kept path ++ range_with_len first (suc n)) ≡ parts_of c 0 so_far ++ part_after c (parts_of c 0 so_far) (first + n) ∷ [] =
+      ap (parts_of c 0) longer ∙ parts_of-append c 0 so_far ((first + n) ∷ []) ∙ ap (λ m. parts_of c 0 so_far ++ parts_of c m ((first + n) ∷ [])) start in
+      subst (GoesDown c old kept first (first + suc n)) (sym made)
+      (subst (λ m. GoesDown c old kept first m (parts_of c 0 so_far ++ part_after c (parts_of c 0 so_far) (first + n) ∷ [])) end down)

@@ -7,9 +7,9 @@ use Rattle.std.proofs.Math.Seq.{take-append_seam, drop-append_seam}
 use Rattle.sgf_tree.specs.Tree.{Node, Games, node_count}
 use Rattle.sgf_tree.specs.FileOrder.{OrderedNode, parent_at, node_at, nodes_at, sequence_starts, sequence_start, sequence_end, sequence_numbers}
 use Rattle.tree_lines.specs.inner.PathTo.{IsPathTo}
-use Rattle.tree_lines.specs.inner.Parts.{sequence_length, part_numbers, part_ends, AreParts, IsAbove}
+use Rattle.tree_lines.specs.inner.Parts.{Part, sequence_length, parts_of, part_numbers, part_ends, AreParts, IsAbove}
 use Rattle.tree_lines.specs.Sequences.{RiseTo, parts_from}
-use Rattle.tree_lines.specs.declared.sequence_cursor.Part.{Part}
+use Rattle.tree_lines.proofs.Lists.{front_more}
 use Rattle.tree_lines.proofs.Visits.{way_along}
 use Rattle.tree_lines.proofs.SequenceStarts.{ordered_there, never_empty, length_is, start_is, first_within}
 use Rattle.sgf_tree.proofs.Outlined.{sequence-further}
@@ -46,6 +46,37 @@ module _ (c : Games) where
   pub rise_to : (start : ℕ) (parts : List Part) → AreParts c start parts → RiseTo start (part_ends parts) (start + length (part_numbers c parts))
   rise_to start [] are = omega arith
   rise_to start (p ∷ ps) are = grind (arith, common_steps, length-append, sequence_long, never_empty, (rise_to p.end ps are.2))
+
+  -- ---- Parts by the numbers of their sequences.
+
+  pub length-parts_of : (start : ℕ) (path : List ℕ) → length (parts_of c start path) ≡ length path
+  length-parts_of start [] = refl
+  length-parts_of start (k ∷ ks) = ap suc (length-parts_of (start + sequence_length c k) ks)
+
+  -- a part with that number
+  abbrev pub IsPartAt : List Part → ℕ → ℕ → Type 0
+  IsPartAt parts i k = (part : Part) × (slice_get parts i ≡ Some part) × (part.sequence ≡ k)
+
+  pub part_at : (start : ℕ) (path : List ℕ) (i k : ℕ) → slice_get path i ≡ Some k → IsPartAt (parts_of c start path) i k
+  part_at start [] i k e = absurd cc
+  part_at start (j ∷ js) zero k e = let same : j ≡ k = cc in (record { sequence = j; end = start + sequence_length c j }, refl, same)
+  part_at start (j ∷ js) (suc i) k e = part_at (start + sequence_length c j) js i k e
+
+  pub take-parts_of : (n start : ℕ) (path : List ℕ) → parts_of c start (take n path) ≡ take n (parts_of c start path)
+  take-parts_of zero start path = refl
+  take-parts_of (suc n) start [] = refl
+  take-parts_of (suc n) start (k ∷ ks) =
+      ap (λ ps. record { sequence = k; end = start + sequence_length c k } ∷ ps) (take-parts_of n (start + sequence_length c k) ks)
+
+  pub parts_of-append : (start : ℕ) (xs ys : List ℕ)
+      → parts_of c start (xs ++ ys) ≡ parts_of c start xs ++ parts_of c (start + length (part_numbers c (parts_of c start xs))) ys
+  parts_of-append start [] ys = let same : start + 0 ≡ start = omega arith in rw same refl
+  parts_of-append start (k ∷ ks) ys =
+      let rest = parts_of c (start + sequence_length c k) ks in
+      let reach : start + sequence_length c k + length (part_numbers c rest) ≡ start + length (sequence_numbers c k ++ part_numbers c rest) =
+      omega (arith, length-append (sequence_numbers c k) (part_numbers c rest), sequence_long k) in
+      ap (λ ps. record { sequence = k; end = start + sequence_length c k } ∷ ps)
+      (parts_of-append (start + sequence_length c k) ks ys ∙ ap (λ n. rest ++ parts_of c n ys) reach)
 
   -- ---- The nodes of parts.
 
@@ -107,3 +138,20 @@ module _ (c : Games) where
 
   pub numbers_more : (front : List Part) (part : Part) → part_numbers c (front ++ part ∷ []) ≡ part_numbers c front ++ sequence_numbers c part.sequence
   numbers_more front part = grind (arith, common_steps, flat_map-append, append-nil)
+
+  -- the nodes of a front that is longer by a part
+  pub longer_front : (parts : List Part) (i : ℕ) (part : Part) → slice_get parts i ≡ Some part
+      → length (part_numbers c (take (i + 1) parts)) ≡ length (part_numbers c (take i parts)) + sequence_length c part.sequence
+  longer_front parts i part e =
+      ap (λ ps. length (part_numbers c ps)) (front_more parts i part e) ∙ ap length (numbers_more (take i parts) part)
+      ∙ length-append (part_numbers c (take i parts)) (sequence_numbers c part.sequence)
+      ∙ ap (λ n. length (part_numbers c (take i parts)) + n) (sequence_long part.sequence)
+
+  -- one sequence less of a front
+  pub one_back : (path : List ℕ) (i k : ℕ) → AreParts c 0 (parts_of c 0 path) → slice_get path i ≡ Some k → (k < length (sequence_starts c))
+      × (length (part_numbers c (take (i + 1) (parts_of c 0 path))) ≡ length (part_numbers c (take i (parts_of c 0 path))) + sequence_length c k)
+  one_back path i k are e =
+      let p = part_at 0 path i k e in (
+        rw p.2 at (part_within 0 (parts_of c 0 path) i p.0 are p.1),
+        rw p.2 at (longer_front (parts_of c 0 path) i p.0 p.1),
+      )

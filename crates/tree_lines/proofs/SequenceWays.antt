@@ -1,13 +1,12 @@
 -- The way to a sequence by the sequences above it.
 use Rattle.std.proofs.lemmas.Grind.{common_steps}
-use Rattle.std.proofs.Common.{◌≡◌, ℕ, ◌+◌, ◌-◌, ◌<◌, ◌≤◌, List, [], ◌∷◌, ◌++◌, length, Option, Some, None, refl, sym, subst, arith}
+use Rattle.std.proofs.Common.{◌≡◌, ℕ, ◌+◌, ◌-◌, ◌<◌, List, [], ◌∷◌, ◌++◌, length, Option, Some, None, refl, sym, ap, subst, ◌∙◌, arith}
 use Rattle.sgf_tree.specs.Tree.{Games}
 use Rattle.sgf_tree.specs.FileOrder.{sequence_starts, sequence_end}
 use Rattle.tree_lines.specs.inner.PathTo.{IsPathTo}
-use Rattle.tree_lines.specs.inner.Parts.{sequence_length, part_numbers, AreParts, IsAbove, ArePartsTo, top, step}
-use Rattle.tree_lines.specs.declared.sequence_cursor.Part.{Part}
-use Rattle.tree_lines.proofs.Visits.{way_rises, rises_parts}
-use Rattle.tree_lines.proofs.SequenceStarts.{never_empty, same_sequence, last_in}
+use Rattle.tree_lines.specs.inner.Parts.{Part, sequence_length, part_numbers, AreParts, IsAbove, ArePartsTo, top, step, MeasuresTo}
+use Rattle.tree_lines.specs.declared.sequence_cursor.Front.{Front}
+use Rattle.tree_lines.proofs.SequenceStarts.{same_sequence, last_in}
 use Rattle.tree_lines.proofs.SequenceParts.{end_of, parent_of, way_down, numbers_more, parts_more}
 
 module _ (c : Games) where
@@ -42,6 +41,12 @@ module _ (c : Games) where
   parts_are top = tt
   parts_are (step {sequence = k} {front = front} lt is up e) = subst (AreParts c 0) (sym e) (parts_more c 0 front (part_after front k) (parts_are up) lt (omega arith))
 
-  -- they have no more nodes than stand up to there
-  pub parts_few : {k : ℕ} {parts : List Part} → ArePartsTo c (Some k) parts → k < length starts → length (part_numbers c parts) ≤ sequence_end c k
-  parts_few {k = k} {parts = parts} way lt = grind (arith, common_steps, never_empty, rises_parts, way_rises, parts_path)
+  -- there is but one way to a sequence
+  same_parts : {at : Option ℕ} {parts others : List Part} → ArePartsTo c at parts → ArePartsTo c at others → parts ≡ others
+  same_parts top top = refl
+  same_parts (step {sequence = k} {front = front} lt is up e) other =
+      let there = front_of other is in
+      e ∙ ap (λ ps. ps ++ part_after ps k ∷ []) (same_parts up there.1) ∙ sym there.2
+
+  pub as_measured : (k : ℕ) (line : Front) (parts : List Part) → MeasuresTo c k line → ArePartsTo c (Some k) parts → line.nodes ≡ length (part_numbers c parts)
+  as_measured k line parts m way = m.3 ∙ ap (λ ps. length (part_numbers c ps)) (same_parts m.1 way)

@@ -3,7 +3,7 @@
 //! A sequence has the nodes between a `(` and the next parenthesis. A line is whole sequences, one after the other, and two lines
 //! part only between sequences. So a cursor goes over a game without variations in one step, however many nodes it has.
 
-ghost use Rattle.std.specs.Prelude.{◌≡◌, ◌+◌, ◌-◌, ◌<◌, ◌≤◌, ◌++◌, None, Some, [], length, slice_get, vec_len, option_map, IfOk, IfErr, IfSome, IfNone, OnOk, OnErr, MatchOption};
+ghost use Rattle.std.specs.Prelude.{◌≡◌, ◌+◌, ◌-◌, ◌<◌, ◌≤◌, ◌++◌, None, Some, [], length, take, slice_get, vec_len, option_map, IfOk, IfErr, IfSome, IfNone, OnOk, OnErr, MatchOption};
 ghost use Rattle.std.specs.List.{flat_map, range_with_len};
 ghost use Rattle.sgf_tree.specs.Tree.{node_count};
 ghost use Rattle.sgf_tree.specs.declared.fault.TheConstants.{MAX_LENGTH};
@@ -12,8 +12,8 @@ ghost use Rattle.sgf_tree.specs.Written.{node_text};
 ghost use Rattle.tree_lines.specs.Lines.{lines, place_of};
 ghost use Rattle.tree_lines.specs.Cursor.{advanced, IsAfterPlace, IsSeekFault};
 ghost use Rattle.tree_lines.specs.Following.{line_before, nodes_before, path_before, lines_before};
-ghost use Rattle.tree_lines.specs.Sequences.{RiseTo, SharesFront, sequences_of, parts_from, nodes_in};
-ghost use Rattle.tree_lines.specs.inner.Parts.{first_of, part_ends, sequence_length, AreParts, IsEndSearch, IsFrontUpTo, GoesDown, ArePartsTo, MeasuresTo, IsEndAt, IsFirstFrom};
+ghost use Rattle.tree_lines.specs.Sequences.{RiseTo, SharesFront, sequences_of, parts_from};
+ghost use Rattle.tree_lines.specs.inner.Parts.{part_numbers, parts_of, sequence_length, AreParts, IsEndSearch, IsFrontUpTo, IsWayTo, MeasuresTo, IsEndAt, IsFirstFrom};
 
 use crate::seek::SeekFault;
 use sgf_tree::{MemoryFault, NodeRef, Outline, SequenceNodes};
@@ -36,15 +36,6 @@ pub const NO_FRONT: Front = Front {
     nodes: 0,
 };
 
-/// A sequence of a line.
-#[derive(Clone, Copy)]
-struct Part {
-    /// The number of the sequence in the collection.
-    sequence: u32,
-    /// How many nodes the line has up to the end of the sequence.
-    end: u32,
-}
-
 /// A cursor over the lines of a collection, in file order, by their sequences. Contracts see it as the collection, the index of its
 /// next line, from 0, and how many nodes the line before it has up to the end of each of its sequences.
 #[derive(Drop)]
@@ -54,14 +45,17 @@ pub struct SequenceCursor<'c, 'a> {
     /// The sequence at which the search for the next leaf begins.
     next: usize,
 
-    /// The sequences from the root to the last leaf before the sequence `next`; none before the first line.
-    path: Vec<Part>,
+    /// The numbers of the sequences from the root to the last leaf before the sequence `next`; none before the first line.
+    path: Vec<u32>,
+
+    /// How many nodes these sequences have.
+    nodes: usize,
 }
 
 impl<'c, 'a> Model for SequenceCursor<'c, 'a> {
     ghost use Rattle.tree_lines.specs.Following.{lines_before};
     ghost use Rattle.tree_lines.specs.Sequences.{SequencesState};
-    ghost use Rattle.tree_lines.specs.inner.Parts.{sequences_state_code, first_of, part_ends, IsAfterSequences};
+    ghost use Rattle.tree_lines.specs.inner.Parts.{sequences_state_code, first_of, part_ends, parts_of, IsCursorKept};
 
     ghost Value = { SequencesState };
 
@@ -69,10 +63,10 @@ impl<'c, 'a> Model for SequenceCursor<'c, 'a> {
 
     ghost view = { λ s. record {
       at = record { games = s.outline.now; index = lines_before s.outline.now (first_of s.outline.now s.next) };
-      ends = part_ends s.path.items;
+      ends = part_ends (parts_of s.outline.now 0 s.path.items);
     } };
 
-    ghost invariant = { λ s. IsAfterSequences s.outline.now s.next s.path.items };
+    ghost invariant = { λ s. IsCursorKept s.outline.now s.next s.path.items s.nodes };
 }
 
 impl<'c, 'a> SequenceCursor<'c, 'a> {
@@ -84,6 +78,7 @@ impl<'c, 'a> SequenceCursor<'c, 'a> {
             outline,
             next: 0,
             path: Vec::new(alloc),
+            nodes: 0,
         }
     }
 
@@ -126,7 +121,7 @@ impl<'c, 'a> SequenceCursor<'c, 'a> {
     {
         // There are no more nodes than bytes.
         let _nodes = self.outline.nodes();
-        write_parts(self.outline, sequence, &mut self.path)?;
+        self.nodes = write_parts(self.outline, sequence, &mut self.path)?;
         self.next = sequence + 1;
         Ok(())
     }
@@ -145,8 +140,11 @@ impl<'c, 'a> SequenceCursor<'c, 'a> {
             return Ok(None);
         };
         let outer = self.outline.sequence_outer(self.next);
-        let front = front_up_to(&self.path, outer);
-        go_down(self.outline, &mut self.path, front, self.next, leaf)?;
+        let front = front_up_to(self.outline, &self.path, self.nodes, outer);
+        go_down(&mut self.path, front.sequences, self.next, leaf)?;
+        let first = self.outline.sequence_start(self.next);
+        let end = self.outline.sequence_end(leaf);
+        self.nodes = front.nodes + (end - first);
         self.next = leaf + 1;
         Ok(Some(front))
     }
@@ -160,7 +158,7 @@ impl<'c, 'a> SequenceCursor<'c, 'a> {
         };
         let first = self.outline.sequence_start(self.next);
         let outer = self.outline.sequence_outer(self.next);
-        let front = front_up_to(&self.path, outer);
+        let front = front_up_to(self.outline, &self.path, self.nodes, outer);
         front.nodes + (self.outline.sequence_end(leaf) - first)
     }
 
@@ -186,7 +184,9 @@ impl<'c, 'a> SequenceCursor<'c, 'a> {
         ensures short { result ≤ node_count self.now.at.games }
         ensures small { result < usize.MAX }
     {
-        nodes_in(&self.path, self.path.len())
+        // There are no more nodes than bytes.
+        let _nodes = self.outline.nodes();
+        self.nodes
     }
 
     /// The number that a sequence of the line before the cursor has in the collection. Both count from 0; the root's sequence is the first of
@@ -197,7 +197,7 @@ impl<'c, 'a> SequenceCursor<'c, 'a> {
         ensures nodes { Some (nodes_at self.now.at.games (sequence_numbers self.now.at.games result)) ≡ slice_get (sequences_of self.now.ends (nodes_before self.now.at)) index }
         ensures path { Some (sequence_numbers self.now.at.games result) ≡ slice_get (parts_from 0 self.now.ends (path_before self.now.at)) index }
     {
-        self.path[index].sequence as usize
+        self.path[index] as usize
     }
 
     /// The number of the first node of a sequence of the line before the cursor, and the number after that of its last node. Nodes are
@@ -241,7 +241,7 @@ impl<'c, 'a> SequenceCursor<'c, 'a> {
         requires { 0 < length self.now.ends }
         ensures { slice_get (nodes_before self.now.at) 0 ≡ Some result }
     {
-        self.outline.first_node(self.path[0].sequence as usize)
+        self.outline.first_node(self.path[0] as usize)
     }
 
     /// The number of the game of the line before the cursor, from 1. There must be such a line.
@@ -250,7 +250,7 @@ impl<'c, 'a> SequenceCursor<'c, 'a> {
         requires { 0 < length self.now.ends }
         ensures { option_map (λ line. line.game_number) (line_before self.now.at) ≡ Some result }
     {
-        self.outline.game_of(self.path[0].sequence as usize)
+        self.outline.game_of(self.path[0] as usize)
     }
 
     /// The place of the line before the cursor: the offset in bytes, from 0, of the `;` of its last node. There must be such a line.
@@ -271,19 +271,6 @@ fn sequence_length(outline: &Outline<'_>, sequence: usize) -> usize
     outline.sequence_end(sequence) - outline.sequence_start(sequence)
 }
 
-/// How many nodes the first `kept` parts of a line have.
-fn nodes_in(path: &[Part], kept: usize) -> usize
-    requires { kept ≤ length path.now }
-    ensures count { result ≡ nodes_in (part_ends path.now) kept }
-    ensures small { result < usize.MAX }
-{
-    if kept == 0 {
-        0
-    } else {
-        path[kept - 1].end as usize
-    }
-}
-
 /// The first sequence from the sequence `from` on with which a line ends; None if there is none.
 fn next_end(outline: &Outline<'_>, from: usize) -> Option<usize>
     ensures first { IsEndSearch outline.now from result }
@@ -300,66 +287,43 @@ fn next_end(outline: &Outline<'_>, from: usize) -> Option<usize>
     None
 }
 
-/// The first parts of a path, up to and including the one that is the sequence `outer`; none if there is no such sequence. The search begins at
-/// the path's end.
-fn front_up_to(path: &[Part], outer: Option<usize>) -> Front
-    ensures { IsFrontUpTo path.now outer result }
+/// The first sequences of a line, up to and including the sequence `outer`; none if there is no such sequence. The line has `nodes` nodes. The
+/// search begins at the line's end.
+fn front_up_to(outline: &Outline<'_>, path: &[u32], nodes: usize, outer: Option<usize>) -> Front
+    requires parts { AreParts outline.now 0 (parts_of outline.now 0 path.now) }
+    requires count { nodes ≡ length (part_numbers outline.now (parts_of outline.now 0 path.now)) }
+    ensures { IsFrontUpTo (parts_of outline.now 0 path.now) outer result }
 {
     let Some(outer) = outer else {
         return NO_FRONT;
     };
     let mut kept = path.len();
-    while kept > 0 && path[kept - 1].sequence as usize != outer {
+    let mut nodes = nodes;
+    while kept > 0 && path[kept - 1] as usize != outer {
         kept -= 1;
+        nodes -= sequence_length(outline, path[kept] as usize);
     }
     Front {
         sequences: kept,
-        nodes: nodes_in(path, kept),
+        nodes,
     }
 }
 
-/// A sequence as a part of a line. `skipped` nodes before the sequence's end aren't on the line.
-#[tactic(auto, using(crate::proofs::SequenceStarts::fewer))]
-fn part_of(outline: &Outline<'_>, sequence: usize, skipped: usize) -> Part
-    requires within { sequence < length (sequence_starts outline.now) }
-    requires skipped { skipped ≤ sequence_start outline.now sequence }
-    requires few { node_count outline.now ≤ MAX_LENGTH }
-    ensures sequence { result.sequence ≡ sequence }
-    ensures end { result.end + skipped ≡ sequence_end outline.now sequence }
-{
-    let end = outline.sequence_end(sequence) - skipped;
-    Part {
-        sequence: sequence as u32,
-        end: end as u32,
-    }
-}
-
-/// Cuts a path back to a front of it, and appends the sequences from `first` to `leaf`. After a refusal of memory the path is unchanged.
-#[tactic(auto, using(crate::proofs::SequenceStarts::fewer))]
-fn go_down(
-    outline: &Outline<'_>,
-    path: &mut Vec<Part>,
-    front: Front,
-    first: usize,
-    leaf: usize,
-) -> Result<(), MemoryFault>
-    requires kept { front.sequences ≤ vec_len path.old }
-    requires count { front.nodes ≡ nodes_in (part_ends path.old.items) front.sequences }
-    requires before { front.nodes ≤ first_of outline.now first }
+/// Cuts a path back to its first `kept` sequences, and appends the sequences from `first` to `leaf`. After a refusal of memory the path is
+/// unchanged.
+fn go_down(path: &mut Vec<u32>, kept: usize, first: usize, leaf: usize) -> Result<(), MemoryFault>
+    requires kept { kept ≤ vec_len path.old }
     requires down { first ≤ leaf }
-    requires within { leaf < length (sequence_starts outline.now) }
-    requires few { node_count outline.now ≤ MAX_LENGTH }
-    requires parts { AreParts outline.now 0 path.old.items }
-    ensures ok { OnOk result (GoesDown outline.now path.old.items front.sequences first (leaf + 1) path.new.items) }
+    requires few { leaf < MAX_LENGTH }
+    ensures ok { OnOk result (path.new.items ≡ take kept path.old.items ++ range_with_len first (leaf + 1 - first)) }
     ensures unchanged { OnErr result (path.new.items ≡ path.old.items) }
 {
     let end = leaf + 1;
-    let room = (front.sequences + (end - first)).saturating_sub(path.len());
+    let room = (kept + (end - first)).saturating_sub(path.len());
     path.reserve(room)?;
-    path.truncate(front.sequences);
-    let skipped = outline.sequence_start(first) - front.nodes;
+    path.truncate(kept);
     for sequence in first..end {
-        path.push(part_of(outline, sequence, skipped)).unwrap();
+        path.push(sequence as u32).unwrap();
     }
     Ok(())
 }
@@ -400,27 +364,22 @@ fn first_from(outline: &Outline<'_>, place: u64) -> usize
     low
 }
 
-/// Replaces a path by the one from the root to the end of a sequence. After a refusal of memory `path` is unchanged.
+/// Replaces a path by the one from the root to the end of a sequence, and returns how many nodes it has. After a refusal of memory `path` is
+/// unchanged.
 fn write_parts(
     outline: &Outline<'_>,
     sequence: usize,
-    path: &mut Vec<Part>,
-) -> Result<(), MemoryFault>
+    path: &mut Vec<u32>,
+) -> Result<usize, MemoryFault>
     requires within { sequence < length (sequence_starts outline.now) }
     requires few { node_count outline.now ≤ MAX_LENGTH }
-    ensures ok { OnOk result (ArePartsTo outline.now (Some sequence) path.new.items) }
+    ensures ok { IfOk result (IsWayTo outline.now sequence path.new.items) }
     ensures unchanged { OnErr result (path.new.items ≡ path.old.items) }
 {
     let line = measure(outline, sequence);
-    path.resize(
-        line.sequences,
-        Part {
-            sequence: 0,
-            end: 0,
-        },
-    )?;
-    fill_path(outline, sequence, line.nodes, path);
-    Ok(())
+    path.resize(line.sequences, 0)?;
+    fill_path(outline, sequence, line, path);
+    Ok(line.nodes)
 }
 
 /// How many sequences and nodes stand from the root to the end of a sequence.
@@ -441,24 +400,21 @@ fn measure(outline: &Outline<'_>, last: usize) -> Front
     Front { sequences, nodes }
 }
 
-/// Writes the parts from the root to the end of a sequence, which have that many nodes. `path` must have room for exactly these parts.
+/// Writes the numbers of the sequences from the root to the end of a sequence. The line to there has the measure `line`, and `path` must have
+/// room for exactly these numbers.
 #[tactic(auto, using(crate::proofs::SequenceStarts::fewer, crate::proofs::SequenceClimbing::fills))]
-fn fill_path(outline: &Outline<'_>, last: usize, nodes: usize, path: &mut [Part])
+fn fill_path(outline: &Outline<'_>, last: usize, line: Front, path: &mut [u32])
     requires within { last < length (sequence_starts outline.now) }
     requires few { node_count outline.now ≤ MAX_LENGTH }
-    requires room { MeasuresTo outline.now last (record { sequences = length path.old; nodes = nodes }) }
-    ensures { ArePartsTo outline.now (Some last) path.new }
+    requires measured { MeasuresTo outline.now last line }
+    requires room { line.sequences ≡ length path.old }
+    ensures { IsWayTo outline.now last path.new line.nodes }
 {
-    let mut room = path.len();
-    let mut end = nodes;
+    let mut room = line.sequences;
     let mut sequence = Some(last);
     while let Some(number) = sequence {
         room -= 1;
-        path[room] = Part {
-            sequence: number as u32,
-            end: end as u32,
-        };
-        end -= sequence_length(outline, number);
+        path[room] = number as u32;
         sequence = outline.sequence_outer(number);
     }
 }

@@ -1,7 +1,7 @@
 //! The group of a stone, and whether it has a liberty. Most groups show one in the stone's row, or straight above or below it. Only if none does,
 //! the whole group is filled.
 
-ghost use Rattle.std.specs.Prelude.{◌≡◌, ◌<◌, ◌≤◌, IsTrue, IsFalse, length};
+ghost use Rattle.std.specs.Prelude.{◌≡◌, ◌<◌, ◌≤◌, IsTrue, IsFalse, IfNone, IfSome, length};
 ghost use Rattle.board_points.specs.declared.points.Point.{Point};
 ghost use Rattle.board_points.specs.Rows.{is_set, AreOfOneBoard, HasNoPoint, Grows, IsWithin};
 ghost use Rattle.board_points.specs.Linked.{AddsAlive, AddsIfShut, IsLinked, HasLiberty, IsLiberty, IsShutIn, IsStone};
@@ -23,10 +23,9 @@ pub fn add_if_shut(own: &[u64], others: &[u64], from: Point, shut: &mut [u64]) -
     ensures { AddsIfShut own.now others.now from shut.old shut.new result }
 {
     // most groups live by a stone in the same row, and this needs no rows to be cleared
-    let joined = joined_in_row(own, from);
-    if joined & columns_with_liberty(own, others, usize::from(from.row)) != 0 {
+    let Some(joined) = row_in_doubt(own, others, from) else {
         return false;
-    }
+    };
     add_if_shut_beyond(own, others, from, joined, shut)
 }
 
@@ -47,11 +46,9 @@ pub fn add_to_either(
     ensures shut { AddsIfShut own.now others.now from shut.old shut.new result }
     ensures alive { AddsAlive own.now others.now alive.old alive.new }
 {
-    let joined = joined_in_row(own, from);
-    let row = usize::from(from.row);
-    if joined & columns_with_liberty(own, others, row) != 0 {
+    let Some(joined) = row_in_doubt(own, others, from) else {
         return false;
-    }
+    };
     let mut words = no_rows();
     let group = &mut words[..own.len()];
     if has_liberty(own, others, from, joined, group) {
@@ -67,8 +64,22 @@ pub fn lives_in_row(own: &[u64], others: &[u64], from: Point) -> bool
     requires stone { IsStone own.now others.now from }
     ensures { IsTrue result → (stone : Point) × IsLiberty own.now others.now from stone }
 {
+    row_in_doubt(own, others, from).is_none()
+}
+
+/// The stones in the row of the stone on `from` that are linked to it within the row, if none of them has a liberty.
+#[inline(always)]
+fn row_in_doubt(own: &[u64], others: &[u64], from: Point) -> Option<u64>
+    requires stone { IsStone own.now others.now from }
+    ensures lives { IfNone result ((stone : Point) × IsLiberty own.now others.now from stone) }
+    ensures doubt { IfSome result (IsShutRow own.now others.now from) }
+{
     let joined = joined_in_row(own, from);
-    joined & columns_with_liberty(own, others, usize::from(from.row)) != 0
+    let row = usize::from(from.row);
+    if joined & columns_with_liberty(own, others, row) != 0 {
+        return None;
+    }
+    Some(joined)
 }
 
 /// The same as `add_if_shut`, for a group that may have a liberty only in other rows. `joined` has its stones in the row of `from`.

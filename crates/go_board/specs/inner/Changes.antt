@@ -1,13 +1,18 @@
--- Past colourings. The newest is kept whole; of each older one the rows are kept that lead back to it. A change is one such row.
-use Rattle.std.specs.Prelude.{◌≡◌, ◌⊎◌, ◌==◌, ℕ, suc, ◌-◌, ◌*◌, ◌%◌, ◌<◌, ◌≤◌, Bool, List, [], ◌∷◌, ◌++◌, IsTrue, IsFalse, All, false, Option, Some, None, length, take, drop, reverse, slice_index_or}
-use Rattle.go_board.specs.declared.stones.Cell.TheVariants.{Black, White}
+-- Past colourings. The newest is kept whole. Of each older one, only what leads back to it is kept: the point of a stone that was put, or
+-- rows. A change is one such row.
+use Rattle.std.specs.Prelude.{◌≡◌, ◌≢◌, ◌⊎◌, ◌==◌, ℕ, suc, ◌-◌, ◌*◌, ◌%◌, ◌<◌, ◌≤◌, Bool, if◌then◌else◌, List, [], ◌∷◌, ◌++◌, IsTrue, IsFalse, All, Contains, true, false, Option, Some, None, length, take, drop, reverse, slice_index_or}
+use Rattle.go_board.specs.declared.stones.Cell.TheVariants.{Black, White, Empty}
+use Rattle.board_points.specs.declared.points.Point.{Point}
+use Rattle.board_points.specs.Point.{IsOn}
 use Rattle.go_board.specs.declared.quick.print_past.changes.Change.{Change}
+use Rattle.go_board.specs.declared.quick.print_past.changes.Known.{Known}
+use Rattle.go_board.specs.declared.quick.print_past.changes.Known.TheVariants.{Nothing, Settled, Fresh}
 use Rattle.go_board.specs.declared.quick.print_past.changes.Older.{Older}
-use Rattle.go_board.specs.declared.quick.print_past.changes.TheConstants.{FULL}
+use Rattle.go_board.specs.declared.quick.print_past.changes.TheConstants.{FULL, MOST}
 use Rattle.go_board.specs.Colour.{same_cell}
-use Rattle.go_board.specs.Grid.{Grid, cell_at}
+use Rattle.go_board.specs.Grid.{Grid, cell_at, with_cell}
 use Rattle.go_board.specs.Clearing.{has_unreaching}
-use Rattle.go_board.specs.Past.{Held}
+use Rattle.go_board.specs.Past.{Held, PastColourings, newest_grid, stretch_of}
 use Rattle.go_board.specs.inner.Regions.{with_row}
 use Rattle.board_points.specs.Rows.{has_bit}
 
@@ -69,11 +74,12 @@ IsSameRow old new row =
     (col : ℕ) → col < old.side → cell_at old (record { col = col; row = row }) ≡ cell_at new (record { col = col; row = row })
 
 -- The changes `after` are those before and some rows of a grid. Of its first `count` rows these are all that another grid has otherwise,
--- and if `all`, all.
+-- and if `all`, all. There are no more than `count`.
 pub record KeepRows (old new : Grid) (all : Bool) (count : ℕ) (before after : List Change) : Type 0 where
   pub more : List Change
   pub added : after ≡ before ++ more
   pub are : All (IsRowOf old) more
+  pub few : length more ≤ count
   pub each : (row : ℕ) → row < count → HasRow row more ⊎ (IsFalse all × IsSameRow old new row)
 
 -- the step after this many others keeps all rows of the colouring before it
@@ -85,9 +91,14 @@ abbrev pub MakeOne : Grid → List Change → Type 0
 MakeOne made changes =
     (grid : Grid) → grid.side ≡ made.side → length grid.cells ≡ grid.side * grid.side → after_changes grid changes ≡ made
 
--- the colouring before a grid: the changes from `start` on lead back to it
+-- the colouring before a grid: the stone of the step is taken off, or the changes of the step lead back
+abbrev pub step_back : Grid → Older → List Change → Grid
+step_back grid kept changes =
+    if kept.alone then with_cell grid kept.point Empty else after_changes grid changes
+
+-- the same; the step's changes are those from `start` on
 abbrev pub before : Grid → Older → List Change → Grid
-before grid kept changes = after_changes grid (drop kept.start changes)
+before grid kept changes = step_back grid kept (drop kept.start changes)
 
 -- the changes that lead further back
 abbrev pub changes_before : Older → List Change → List Change
@@ -100,13 +111,38 @@ held_before grid (kept ∷ others) changes =
     record { colouring = before grid kept changes; begins = kept.stretch_start == length others }
     ∷ held_before (before grid kept changes) others (changes_before kept changes)
 
--- Each `start` is at most the number of changes. The changes of a full step make the colouring before it from any grid. A
--- colouring that is marked settled is settled.
+-- what `Known` tells
+abbrev pub is_settled : Known → Bool
+is_settled Nothing = false
+is_settled Settled = true
+is_settled Fresh = true
+
+abbrev pub is_fresh : Known → Bool
+is_fresh Nothing = false
+is_fresh Settled = false
+is_fresh Fresh = true
+
+-- the newest colouring has a stone on that point, and no older one of the present stretch has
+pub record IsLastStone (past : PastColourings) (point : Point) : Type 0 where
+  pub on : IsOn (newest_grid past).side point
+  pub there : cell_at (newest_grid past) point ≢ Empty
+  pub new : (grid : Grid) → Contains (if past.newest.begins then [] else stretch_of past.older) grid → cell_at grid point ≡ Empty
+
+-- each step that is marked fresh put a stone where no older colouring of the stretch has one; both lists are newest first
+abbrev pub AreFresh : List Older → List Held → Type 0
+AreFresh [] held = Unit {0}
+AreFresh (kept ∷ others) [] = Unit {0}
+AreFresh (kept ∷ others) (later ∷ older) =
+    (IsTrue (is_fresh kept.known) → IsLastStone (record { newest = later; older = older }) kept.point) × AreFresh others older
+
+-- Each `start` is at most the number of changes, and the point of a lone stone is on the grid. The changes of a full step make the
+-- colouring before it from any grid. A colouring that is marked settled is settled.
 abbrev pub AreKept : Grid → List Older → List Change → Type 0
 AreKept grid [] changes = Unit {0}
 AreKept grid (kept ∷ others) changes =
     (kept.start ≤ length changes)
-    × (IsTrue kept.settled → has_unreaching (before grid kept changes) ≡ false)
+    × (IsTrue kept.alone → IsOn grid.side kept.point)
+    × (IsTrue (is_settled kept.known) → has_unreaching (before grid kept changes) ≡ false)
     × (IsTrue (is_full (length others)) → MakeOne (before grid kept changes) (drop kept.start changes))
     × AreKept (before grid kept changes) others (changes_before kept changes)
 
@@ -122,8 +158,15 @@ IsEndOf older changes number end =
     (number ≡ length older → end ≡ changes)
     × ((kept : Older) → number < length older → end ≡ (slice_index_or older number kept).start)
 
+-- all colourings, newest first
+abbrev pub all_held : Grid → ℕ → List Older → List Change → List Held
+all_held newest start older changes =
+    record { colouring = newest; begins = start == length older } ∷ held_before newest older changes
+
 -- what is kept of a past; the older colourings stand oldest first
 pub record IsPast (newest : Grid) (stretch_start : ℕ) (older : List Older) (changes : List Change) : Type 0 where
   pub kept : AreKept newest (reverse older) changes
   pub started : AreStarted stretch_start (reverse older)
   pub on_grid : AreOn newest.side changes
+  pub fresh : AreFresh (reverse older) (all_held newest stretch_start (reverse older) changes)
+  pub few : length changes ≤ MOST

@@ -1,14 +1,38 @@
 -- A referee's states, made from a past and from what else the referee keeps of each earlier state.
-use Rattle.std.specs.Prelude.{◌≡◌, ℕ, ◌+◌, ◌-◌, ◌≤◌, false, Option, List, [], ◌∷◌, if◌then◌else◌, length, reverse}
+use Rattle.std.specs.Prelude.{◌≡◌, ℕ, ◌+◌, ◌-◌, ◌≤◌, Bool, true, false, Option, Some, None, List, [], ◌∷◌, if◌then◌else◌, length, reverse}
 use Rattle.std.specs.Int.{from_bool}
 use Rattle.go_board.specs.declared.stones.Colour.{Colour}
 use Rattle.go_board.specs.declared.referee.plays.Play.{Play}
+use Rattle.go_board.specs.declared.stones.Colour.TheVariants.{Black, White}
+use Rattle.go_board.specs.declared.referee.Call.{Call}
+use Rattle.go_board.specs.declared.referee.Call.TheVariants.{Stay, Pass, Stone, Setup}
+use Rattle.go_board.specs.declared.referee.Mover.{Mover}
 use Rattle.go_board.specs.declared.referee.Earlier.{Earlier}
 use Rattle.go_board.specs.Colour.{opponent}
 use Rattle.go_board.specs.Grid.{Grid}
 use Rattle.go_board.specs.Past.{Held, PastColourings, newest_grid, present_stretch, HaveSide}
 use Rattle.go_board.specs.State.{State, States, starting, oldest_of, is_over}
 use Rattle.go_board.specs.Reason.{must_move, is_occupied}
+
+-- whether a call added a colouring to the past
+abbrev pub grew : Call → Bool
+grew Stay = false
+grew Pass = false
+grew Stone = true
+grew Setup = true
+
+-- whether a call was a turn
+abbrev pub turned : Call → Bool
+turned Stay = false
+turned Pass = true
+turned Stone = true
+turned Setup = false
+
+-- the player who must move; None if either may
+abbrev pub player_of : Mover → Option Colour
+player_of Mover.Either = None
+player_of Mover.Black = Some Black
+player_of Mover.White = Some White
 
 -- the state with that past
 abbrev pub state_of : PastColourings → Option Colour → ℕ → ℕ → State
@@ -28,17 +52,17 @@ past_of_older past (first ∷ others) = record { newest = first; older = others 
 
 -- the past before the call at which `kept` was kept
 abbrev pub past_before : PastColourings → Earlier → PastColourings
-past_before past kept = if kept.grew then past_of_older past past.older else past
+past_before past kept = if grew kept.call then past_of_older past past.older else past
 
 -- how many turns were made before the call at which `kept` was kept
 abbrev pub turns_before : ℕ → Earlier → ℕ
-turns_before turns kept = turns - from_bool kept.turned
+turns_before turns kept = turns - from_bool (turned kept.call)
 
 -- the earlier states, newest first
 abbrev pub states_before : PastColourings → ℕ → List Earlier → List State
 states_before past turns [] = []
 states_before past turns (kept ∷ others) =
-    state_of (past_before past kept) kept.player kept.passes (turns_before turns kept)
+    state_of (past_before past kept) (player_of kept.mover) kept.passes (turns_before turns kept)
     ∷ states_before (past_before past kept) (turns_before turns kept) others
 
 -- the present state and the earlier states; the list of what is kept of the earlier states is oldest first
@@ -59,12 +83,12 @@ with_setup state grid player =
 -- how many of the calls made the past grow
 abbrev pub grown : List Earlier → ℕ
 grown [] = 0
-grown (kept ∷ others) = (if kept.grew then 1 else 0) + grown others
+grown (kept ∷ others) = (if grew kept.call then 1 else 0) + grown others
 
 -- how many of the calls were turns
 abbrev pub turn_count : List Earlier → ℕ
 turn_count [] = 0
-turn_count (kept ∷ others) = from_bool kept.turned + turn_count others
+turn_count (kept ∷ others) = from_bool (turned kept.call) + turn_count others
 
 -- each earlier state has at most two passes
 abbrev pub AreBounded : List Earlier → Type 0

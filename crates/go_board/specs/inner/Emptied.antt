@@ -1,10 +1,10 @@
 -- Points that were emptied in a game. A stone that stays can bring a colouring back only on such a point.
-use Rattle.std.specs.Prelude.{◌+◌, ◌<◌, ◌≤◌, All, length, reverse, slice_set, ◌≡◌, ◌≢◌, ℕ, Bool, if◌then◌else◌, IsFalse, IsTrue, IfSome, Option, Contains, List, [], ◌∷◌}
+use Rattle.std.specs.Prelude.{◌+◌, ◌<◌, ◌≤◌, All, length, reverse, slice_set, ◌≡◌, ◌≢◌, ℕ, Bool, IsFalse, IsTrue, List, [], ◌∷◌}
 use Rattle.go_board.specs.declared.stones.Cell.TheVariants.{Empty}
 use Rattle.board_points.specs.declared.points.Point.{Point}
 use Rattle.board_points.specs.Point.{IsOn}
 use Rattle.go_board.specs.Grid.{Grid, cell_at}
-use Rattle.go_board.specs.Past.{Held, PastColourings, all_of, newest_grid, stretch_of}
+use Rattle.go_board.specs.Past.{Held, PastColourings, all_of}
 use Rattle.go_board.specs.declared.quick.print_past.emptied.Emptied.{Emptied}
 use Rattle.go_board.specs.declared.quick.print_past.emptied.OldRow.{OldRow}
 use Rattle.go_board.specs.declared.quick.print_past.table.Table.{Table}
@@ -52,15 +52,7 @@ pub record IsLogged (held : List Held) (count : ℕ) (emptied : Emptied) : Type 
 abbrev pub IsEmptied : List Held → Emptied → Type 0
 IsEmptied held emptied = IsLogged held (length held) emptied
 
--- the newest colouring has a stone on that point, and no older one of the present stretch has
-pub record IsLastStone (past : PastColourings) (point : Point) : Type 0 where
-  pub on : IsOn (newest_grid past).side point
-  pub there : cell_at (newest_grid past) point ≢ Empty
-  pub new : (grid : Grid) → Contains (if past.newest.begins then [] else stretch_of past.older) grid → cell_at grid point ≡ Empty
-
--- what a past keeps besides its colourings: the table by which they are looked up, a set of rows that has each emptied point, and perhaps
--- the point of a stone that no older colouring of the stretch has
-pub record IsPrintPast (colourings : PastColourings) (table : Table) (emptied : Emptied) (last_stone : Option Point) : Type 0 where
+-- what a past keeps besides its colourings: the table by which they are looked up, and a set of rows that has each emptied point
+pub record IsPrintPast (colourings : PastColourings) (table : Table) (emptied : Emptied) : Type 0 where
   pub tabled : IsTable (all_of colourings) table
   pub emptied_in : IsEmptied (all_of colourings) emptied
-  pub last : IfSome last_stone (IsLastStone colourings)

@@ -1,5 +1,5 @@
 -- The table by which past colourings are looked up: their prints, and a trie of the keys of the oldest ones.
-use Rattle.std.specs.Prelude.{◌≡◌, ℕ, ◌+◌, ◌<◌, ◌≤◌, ◌^◌, List, ◌∷◌, length, reverse}
+use Rattle.std.specs.Prelude.{◌≡◌, ◌⊎◌, ℕ, ◌+◌, ◌<◌, ◌≤◌, ◌^◌, List, [], ◌∷◌, Option, IfSome, IfNone, length, reverse}
 use Rattle.std.specs.Vec.{vec_capacity}
 use Rattle.go_board.specs.declared.quick.print_past.table.Gap.{Gap}
 use Rattle.go_board.specs.declared.quick.print_past.key.TheConstants.{WIDTH}
@@ -9,10 +9,11 @@ use Rattle.go_board.specs.inner.Filter.{IsFilter}
 use Rattle.go_board.specs.inner.Key.{keys_of}
 use Rattle.go_board.specs.inner.Print.{print_of, prints_of}
 use Rattle.key_trie.specs.declared.trie.Trie.{Trie}
-use Rattle.key_trie.specs.Trie.{item_count, room_of, IsTrie, IsOpening}
+use Rattle.key_trie.specs.Trie.{nodes_of, item_count, room_of, IsTrie, IsOpening}
 
--- The table of these colourings, newest first. The trie has as many of the oldest ones as it has items, and there is room for all.
-pub record IsTable (held : List Held) (table : Table) : Type 0 where
+-- The table of these colourings, newest first, if it is awake: it has their prints. The trie has as many of the oldest ones as it has
+-- items, and there is room for all.
+pub record IsAwakeTable (held : List Held) (table : Table) : Type 0 where
   pub printed : reverse table.prints.items ≡ prints_of held
   pub few : item_count table.trie ≤ length table.prints.items
   pub linked : IsTrie WIDTH (keys_of held) table.trie
@@ -20,19 +21,37 @@ pub record IsTable (held : List Held) (table : Table) : Type 0 where
   pub most : room_of table.trie < 2 ^ 32
   pub filtered : IsFilter table.prints.items table.filter
 
--- the table has room for one more colouring
-pub record HasRoomForNext (table : Table) : Type 0 where
-  pub prints : length table.prints.items < vec_capacity table.prints
-  pub trie : length table.prints.items < room_of table.trie
+-- the table of these colourings, if it sleeps: it has no prints and no items, but room for all
+pub record IsAsleepTable (held : List Held) (table : Table) : Type 0 where
+  pub no_prints : table.prints.items ≡ []
+  pub no_items : nodes_of table.trie ≡ []
+  pub room : length held ≤ room_of table.trie
+  pub prints_room : length held ≤ vec_capacity table.prints
+  pub most : room_of table.trie < 2 ^ 32
+  pub filtered : IsFilter [] table.filter
+
+-- the table of these colourings
+abbrev pub IsTable : List Held → Table → Type 0
+IsTable held table = IsAsleepTable held table ⊎ IsAwakeTable held table
+
+-- the table has room for one more colouring than these
+pub record HasRoomForNext (held : List Held) (table : Table) : Type 0 where
+  pub prints : length held < vec_capacity table.prints
+  pub trie : length held < room_of table.trie
+
+-- the print of the next colouring if the table is awake, and none if it sleeps
+pub record IsPrintOfNext (held : List Held) (table : Table) (next : Held) (print : Option ℕ) : Type 0 where
+  pub awake : IfSome print (λ number. IsAwakeTable held table × (number ≡ print_of next.colouring))
+  pub asleep : IfNone print (IsAsleepTable held table)
 
 -- the trie doesn't have all of these colourings yet
 pub record HasUnlinked (held : List Held) (now : Table) : Type 0 where
-  pub table : IsTable held now
+  pub table : IsAwakeTable held now
   pub more : item_count now.trie < length now.prints.items
 
 -- the oldest colouring that wasn't in the trie is put into it, and the prints stay
 pub record LinksNext (held : List Held) (old new : Table) : Type 0 where
-  pub table : IsTable held new
+  pub table : IsAwakeTable held new
   pub next : item_count new.trie ≡ item_count old.trie + 1
   pub prints : new.prints.items ≡ old.prints.items
 

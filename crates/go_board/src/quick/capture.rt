@@ -48,17 +48,24 @@ impl Board {
     {
         self.has_all_cells();
         let beside = point.neighbours();
+        let mut doubted = None;
         for at in beside {
             // most of these points have no such stone, or one that lives by a stone in its row
             if self.may_be_shut(colour, at) {
-                return self.find_shut_among(colour, point, shut);
+                if doubted.is_some() {
+                    return self.find_shut_among(colour, point, shut);
+                }
+                doubted = Some(at);
             }
         }
-        false
+        match doubted {
+            Some(at) => self.find_shut(colour, at, shut),
+            None => false,
+        }
     }
 
-    /// The same as `find_shut_beside`, for stones one of which may be shut. No group is searched twice: stones that a search has found aren't
-    /// asked about again, whether their group is shut or not.
+    /// The same as `find_shut_beside`, for stones several of which may be shut. No group is filled twice: stones that a search has found
+    /// aren't asked about again, whether their group is shut or not.
     #[inline(never)]
     fn find_shut_among(&self, colour: Colour, point: Point, shut: &mut [u64]) -> bool
         requires on_board { IsOn self.now.side point }
@@ -81,7 +88,8 @@ impl Board {
 
     /// Whether a point has a stone of a colour, and no stone in its row shows that it lives.
     fn may_be_shut(&self, colour: Colour, point: Point) -> bool
-        ensures { IsFalse result → IsOn self.now.side point → ReachesIfStone self.now colour point }
+        ensures stone { IsTrue result → IsOn self.now.side point × (cell_at self.now point ≡ stone_of colour) }
+        ensures lives { IsFalse result → IsOn self.now.side point → ReachesIfStone self.now colour point }
     {
         self.has_all_cells();
         if !self.has_stone(colour, point) {

@@ -1,13 +1,13 @@
-//! The past that looks colourings up by their prints, and only for a stone that may repeat one (positional superko). `ListPast` is the
-//! plain one.
+//! The past that looks colourings up only for a stone that may repeat one (positional superko): among the newest ones, or else by their
+//! prints. `ListPast` is the plain one.
 //!
 //! | Module | What it has |
 //! |---|---|
-//! | `colourings`, `changes` | past colourings as rows that lead back |
+//! | `colourings`, `changes` | past colourings as what leads back to them, a point or rows; the look back over the newest ones |
 //! | `emptied` | the points that were emptied, where a colouring can come back |
 //! | `print`, `powers`, `bytes` | the print of a colouring, a number in base 31; the numbers that it is made from |
-//! | `table` | how a past colouring is looked up, and what that costs |
-//! | `filter` | a filter of prints, which answers most look-ups |
+//! | `table` | how a past colouring is looked up if the newest ones don't tell, and what that costs |
+//! | `filter` | a filter of prints, which answers most look-ups by print |
 //! | `key` | a colouring as a key, which is a string of bits; the crate `key_trie` has the trie of keys |
 
 mod bytes;
@@ -28,11 +28,12 @@ ghost use Rattle.board_points.specs.Point.{IsOn};
 ghost use Rattle.go_board.specs.Grid.{Grid, cell_at};
 ghost use Rattle.go_board.specs.Clearing.{play};
 ghost use Rattle.go_board.specs.Past.{all_of, newest_grid, with_next, present_stretch, HaveSide, PastColourings, IsPlayed};
-ghost use Rattle.go_board.specs.inner.Emptied.{IsEmptied, IsPrintPast, IsLastStone};
+ghost use Rattle.go_board.specs.inner.Changes.{IsLastStone};
+ghost use Rattle.go_board.specs.inner.Emptied.{IsEmptied, IsPrintPast};
 ghost use Rattle.go_board.specs.inner.Groups.{IsMove, IsEmptyOnSettled, TakesOff};
 ghost use Rattle.go_board.specs.inner.Print.{print_of, IsPrintedMove};
 ghost use Rattle.board_points.specs.Rows.{is_set};
-ghost use Rattle.go_board.specs.inner.Table.{IsGap, IsTable};
+ghost use Rattle.go_board.specs.inner.Table.{IsAwakeTable, IsGap, IsPrintOfNext, IsTable};
 ghost use Rattle.key_trie.specs.Trie.{item_count};
 
 use crate::board::Board;
@@ -49,11 +50,13 @@ use board_points::{MAX_ROWS, Point};
 use std::alloc::Global;
 use std::marker::Model;
 
-/// A past that keeps the newest colouring whole. Of each older one it keeps the rows that lead back to
-/// it. A colouring is looked up only in the present stretch, and first by its print: a 64-bit number made
-/// from what stands on all its points. If two prints are equal, all points are compared.
+/// A past that keeps the newest colouring whole. Of each older one it keeps what leads back to it. A colouring is looked up only in the
+/// present stretch, and only if a stone may repeat one. At first it is looked for among the newest colourings. Once these haven't told in a
+/// game, it is looked up by its print, a 64-bit number made from what stands on all its points. If two prints are equal, all points are
+/// compared.
 ///
-/// A colouring that only adds one stone to the one before it takes 48 bytes, and a node of the trie 16 more.
+/// A colouring that only adds one stone to the one before it takes 12 bytes. Room for its print and for a node of the trie, 24 bytes, is
+/// kept beside.
 #[derive(Drop)]
 pub struct PrintPast {
     colourings: Colourings,
@@ -61,9 +64,6 @@ pub struct PrintPast {
     table: Table,
     /// The points that were emptied. A stone that stays can bring a colouring back only on one of these.
     emptied: Emptied,
-    /// A point on which the newest colouring has a stone, and no older one of the present stretch has; None if none is known. While
-    /// that stone stays, a stone that stays can't bring a colouring back.
-    last_stone: Option<Point>,
 }
 
 impl Model for PrintPast {
@@ -71,7 +71,7 @@ impl Model for PrintPast {
 
     ghost view = { λ p. p.colourings };
 
-    ghost invariant = { λ p. IsPrintPast p.colourings p.table p.emptied p.last_stone };
+    ghost invariant = { λ p. IsPrintPast p.colourings p.table p.emptied };
 }
 
 impl Past for PrintPast {
@@ -80,9 +80,8 @@ impl Past for PrintPast {
     fn new(alloc: Global, board: &Board) -> Result<PrintPast, MemoryFault> {
         Ok(PrintPast {
             colourings: Colourings::new(alloc, board)?,
-            table: Table::new(alloc, print_of(board))?,
+            table: Table::new(alloc)?,
             emptied: Emptied::new(alloc),
-            last_stone: None,
         })
     }
 
@@ -95,12 +94,12 @@ impl Past for PrintPast {
     }
 
     fn push(&mut self, board: &Board) -> Result<(), MemoryFault> {
-        self.add(board, print_of(board), false)
+        self.add(board, None, false)
     }
 
     fn restart(&mut self, board: &Board) -> Result<(), MemoryFault> {
         self.link_stretch();
-        self.add(board, print_of(board), true)
+        self.add(board, None, true)
     }
 
     /// Finds captures and suicide near the stone (`find_taken`), unless a glance shows that there are none. A repetition (positional
@@ -128,45 +127,49 @@ impl Past for PrintPast {
     fn pop(&mut self) {
         self.table.pop();
         self.colourings.pop();
-        self.emptied.go_back(self.table.next_number());
-        self.last_stone = None;
+        self.emptied.go_back(self.colourings.len() as u32);
     }
 
     fn reset(&mut self, _alloc: Global, board: &Board) -> Result<(), MemoryFault> {
         self.colourings.reset(board);
-        self.table.reset(print_of(board));
+        self.table.reset();
         self.emptied.clear();
-        self.last_stone = None;
         Ok(())
     }
 }
 
 impl PrintPast {
-    /// Puts the colourings of the present stretch into the trie, if there are several. After a setup this would cost more: to work out
-    /// a colouring, one goes back over later ones, and a setup may have changed all rows.
+    /// Wakes the table and puts the colourings of the present stretch into the trie, if there are several. After a setup this would cost
+    /// more: to work out a colouring, one goes back over later ones, and a setup may have changed all rows.
     fn link_stretch(&mut self)
         ensures { self.new ≡ self.old }
     {
-        if self.colourings.stretch_start() + 1 < self.table.next_number() as usize {
+        if self.colourings.stretch_start() + 1 < self.colourings.len() {
+            self.table.wake(&self.colourings);
             self.table.link(&self.colourings);
         }
     }
 
-    /// Adds a colouring, which begins a stretch or continues the present one; `print` is its print.
-    fn add(&mut self, board: &Board, print: u64, begins: bool) -> Result<(), MemoryFault>
+    /// Adds a colouring, which begins a stretch or continues the present one. `print` is its print, if that is known.
+    fn add(&mut self, board: &Board, print: Option<u64>, begins: bool) -> Result<(), MemoryFault>
         requires side { HaveSide board.now.side self.old }
-        requires print { print ≡ print_of board.now }
+        requires print { IfSome print (λ number. number ≡ print_of board.now) }
         ensures ok { OnOk result (self.new ≡ with_next self.old board.now begins) }
         ensures err { OnErr result (self.new ≡ self.old) }
     {
+        let print = if self.table.is_awake() {
+            Some(print_if_unknown(print, board))
+        } else {
+            None
+        };
+        let number = self.colourings.len();
         let mut stones = no_rows();
         add_stones(self.colourings.newest(), &mut stones);
         self.emptied.reserve(stones.len())?;
-        self.table.reserve()?;
+        self.table.reserve(number)?;
         self.colourings.add(board, begins)?;
-        self.emptied.add(&stones, self.table.next_number());
+        self.emptied.add(&stones, number as u32);
         self.table.push(print, None);
-        self.last_stone = None;
         Ok(())
     }
 
@@ -196,24 +199,10 @@ impl PrintPast {
         requires stone { IsMove (newest_grid self.old) colour point taken.now }
         ensures { IsPlayed colour point self.old self.new result }
     {
-        let newest = self.colourings.newest();
-        newest.has_all_cells();
-        let print = print_after_taking(self.table.newest(), newest, colour, point, taken);
         if self.may_repeat(point, taken) {
-            return self.play_asked(colour, point, taken, print);
+            return self.play_asked(colour, point, taken);
         }
-        add_stone(
-            &mut self.colourings,
-            &mut self.table,
-            &mut self.emptied,
-            colour,
-            point,
-            taken,
-            print,
-            None,
-        )?;
-        self.last_stone = Some(point);
-        Ok(true)
+        self.play_new(colour, point, taken, true)
     }
 
     /// Whether a stone may bring a colouring of the present stretch back: it is put on a point that was emptied, or is suicide.
@@ -231,22 +220,94 @@ impl PrintPast {
         has_point(&self.emptied.rows, point) | has_point(taken, point)
     }
 
-    /// The same as `play_taking`, for a stone that may bring a colouring back; `print` is the print of what it makes. Decides by positional
-    /// superko whether the stone may be played. If a look-up is needed to tell, it puts the colouring into the trie at once.
+    /// The same as `play_taking`, for a stone that may bring a colouring back. Decides by positional superko whether the stone may be played.
     #[inline(never)]
     fn play_asked(
         &mut self,
         colour: Colour,
         point: Point,
         taken: &[u64],
-        print: u64,
     ) -> Result<bool, MemoryFault>
         requires one_side { HaveSide (newest_grid self.old).side self.old }
-        requires stone { IsPrintedMove (newest_grid self.old) colour point taken.now print }
+        requires stone { IsMove (newest_grid self.old) colour point taken.now }
         ensures { IsPlayed colour point self.old self.new result }
     {
+        match self.look(colour, point, taken) {
+            Some(true) => Ok(false),
+            Some(false) => self.play_new(colour, point, taken, false),
+            None => self.play_by_print(colour, point, taken),
+        }
+    }
+
+    /// Whether the present stretch has the colouring that a stone makes, if the newest colourings tell; None if they don't. A table that is
+    /// awake tells sooner than a look back.
+    fn look(&self, colour: Colour, point: Point, taken: &[u64]) -> Option<bool>
+        requires stone { IsMove (newest_grid self.now) colour point taken.now }
+        ensures { IfSome result (λ has. IsTrue has ↔ Contains (present_stretch self.now) (play (newest_grid self.now) colour point)) }
+    {
+        self.colourings.newest().has_all_cells();
+        if let Some(stone) = self.colourings.fresh_stone() {
+            let gone = has_point(taken, point) | has_point(taken, stone);
+            if !gone {
+                return Some(false);
+            }
+        }
+        if self.table.is_awake() {
+            return None;
+        }
+        let mut made = self.newest().copy();
+        made.put(colour, point, taken);
+        self.colourings.look_back(&made)
+    }
+
+    /// Plays a stone that brings no colouring back; `taken` is what the stone takes off. `fresh` says that no colouring of the present stretch
+    /// has a stone on that point.
+    #[inline(always)]
+    fn play_new(
+        &mut self,
+        colour: Colour,
+        point: Point,
+        taken: &[u64],
+        fresh: bool,
+    ) -> Result<bool, MemoryFault>
+        requires stone { IsMove (newest_grid self.old) colour point taken.now }
+        requires never { ¬ Contains (present_stretch self.old) (play (newest_grid self.old) colour point) }
+        requires fresh { IsTrue fresh → IsLastStone (with_next self.old (play (newest_grid self.old) colour point) false) point }
+        ensures { IsPlayed colour point self.old self.new result }
+    {
+        let print = print_if_awake(&self.table, &self.colourings, colour, point, taken);
+        add_stone(
+            &mut self.colourings,
+            &mut self.table,
+            &mut self.emptied,
+            colour,
+            point,
+            taken,
+            fresh,
+            print,
+            None,
+        )?;
+        Ok(true)
+    }
+
+    /// The same as `play_asked`, by the table. Wakes it first. If a look-up is needed to tell, this puts the colouring into the trie at once.
+    #[inline(never)]
+    fn play_by_print(
+        &mut self,
+        colour: Colour,
+        point: Point,
+        taken: &[u64],
+    ) -> Result<bool, MemoryFault>
+        requires one_side { HaveSide (newest_grid self.old).side self.old }
+        requires stone { IsMove (newest_grid self.old) colour point taken.now }
+        ensures { IsPlayed colour point self.old self.new result }
+    {
+        self.table.wake(&self.colourings);
+        let newest = self.colourings.newest();
+        newest.has_all_cells();
+        let print = print_after_taking(self.table.newest(), newest, colour, point, taken);
         let mut gap = None;
-        if !self.is_new(colour, point, taken, print) {
+        if self.table.may_have(print) {
             if self.has_near(colour, point, taken, print) {
                 return Ok(false);
             }
@@ -270,27 +331,11 @@ impl PrintPast {
             colour,
             point,
             taken,
-            print,
+            false,
+            Some(print),
             gap,
         )?;
-        self.last_stone = None;
         Ok(true)
-    }
-
-    /// Whether it is known without the trie that a stone brings no colouring back. `print` is the print of what it makes.
-    fn is_new(&mut self, colour: Colour, point: Point, taken: &[u64], print: u64) -> bool
-        requires stone { IsPrintedMove (newest_grid self.old) colour point taken.now print }
-        ensures new { IsTrue result → ¬ Contains (present_stretch self.old) (play (newest_grid self.old) colour point) }
-        ensures unchanged { self.new ≡ self.old }
-    {
-        self.colourings.newest().has_all_cells();
-        if let Some(stone) = self.last_stone {
-            let gone = has_point(taken, point) | has_point(taken, stone);
-            if !gone {
-                return true;
-            }
-        }
-        !self.table.may_have(print)
     }
 
     /// Whether the colouring that a stone makes is one of the newest two, and in the present stretch: the newest, after suicide of one stone,
@@ -320,17 +365,52 @@ impl PrintPast {
         made.place(colour, point);
         made.restore(true);
         let print = print_of(&made);
+        self.table.wake(&self.colourings);
         self.table.link(&self.colourings);
         if self.table.find(&self.colourings, &made, print) {
             return Ok(false);
         }
-        self.add(&made, print, false)?;
+        self.add(&made, Some(print), false)?;
         Ok(true)
     }
 }
 
-/// Adds the colouring that a stone makes; `taken` is what the stone takes off, and `print` is the colouring's print. Puts it into the trie if
-/// its gap there is known. After a refusal nothing is changed.
+/// The print of a board, which is worked out if it isn't known.
+fn print_if_unknown(known: Option<u64>, board: &Board) -> u64
+    requires { IfSome known (λ number. number ≡ print_of board.now) }
+    ensures { result ≡ print_of board.now }
+{
+    match known {
+        Some(print) => print,
+        None => print_of(board),
+    }
+}
+
+/// The print of the colouring that a stone makes; None if the table sleeps. `taken` is what the stone takes off.
+#[inline(always)]
+fn print_if_awake(
+    table: &Table,
+    colourings: &Colourings,
+    colour: Colour,
+    point: Point,
+    taken: &[u64],
+) -> Option<u64>
+    requires table { IsTable (all_of colourings.now) table.now }
+    requires stone { IsMove (newest_grid colourings.now) colour point taken.now }
+    ensures { IsPrintOfNext (all_of colourings.now) table.now
+        (with_next colourings.now (play (newest_grid colourings.now) colour point) false).newest result }
+{
+    if !table.is_awake() {
+        return None;
+    }
+    let newest = colourings.newest();
+    newest.has_all_cells();
+    Some(print_after_taking(table.newest(), newest, colour, point, taken))
+}
+
+/// Adds the colouring that a stone makes; `taken` is what the stone takes off. `fresh` says that no colouring of the present stretch has a
+/// stone on that point. `print` is the colouring's print, or None if the table sleeps. Puts the colouring into the trie if its gap there
+/// is known. After a refusal nothing is changed.
 // No method: between its steps the invariant of the past doesn't hold.
 #[inline(always)]
 fn add_stone(
@@ -340,23 +420,28 @@ fn add_stone(
     colour: Colour,
     point: Point,
     taken: &[u64],
-    print: u64,
+    fresh: bool,
+    print: Option<u64>,
     gap: Option<Gap>,
 ) -> Result<(), MemoryFault>
     requires table { IsTable (all_of colourings.old) table.old }
     requires emptied { IsEmptied (all_of colourings.old) emptied.old }
-    requires stone { IsPrintedMove (newest_grid colourings.old) colour point taken.now print }
-    requires gap { IfSome gap (IsGap (all_of colourings.old) table.old.trie print) }
+    requires stone { IsMove (newest_grid colourings.old) colour point taken.now }
+    requires fresh { IsTrue fresh → IsLastStone (with_next colourings.old (play (newest_grid colourings.old) colour point) false) point }
+    requires print { IsPrintOfNext (all_of colourings.old) table.old
+        (with_next colourings.old (play (newest_grid colourings.old) colour point) false).newest print }
+    requires gap { IfSome print (λ number. IfSome gap (IsGap (all_of colourings.old) table.old.trie number)) }
     ensures ok { OnOk result (colourings.new ≡ with_next colourings.old (play (newest_grid colourings.old) colour point) false) }
     ensures err { OnErr result (colourings.new ≡ colourings.old) }
     ensures table { IsTable (all_of colourings.new) table.new }
     ensures emptied { IsEmptied (all_of colourings.new) emptied.new }
 {
     colourings.newest().has_all_cells();
+    let number = colourings.len();
     emptied.reserve(taken.len())?;
-    table.reserve()?;
-    colourings.add_stone(colour, point, taken)?;
-    emptied.add(taken, table.next_number());
+    table.reserve(number)?;
+    colourings.add_stone(colour, point, taken, fresh)?;
+    emptied.add(taken, number as u32);
     table.push(print, gap);
     Ok(())
 }
@@ -373,7 +458,7 @@ fn has_made(
     taken: &[u64],
     print: u64,
 ) -> bool
-    requires table { IsTable (all_of colourings.now) table.now }
+    requires table { IsAwakeTable (all_of colourings.now) table.now }
     requires all { item_count table.now.trie ≡ length table.now.prints.items }
     requires lacks { (grid : Grid) → IsSome gap → print ≡ print_of grid → ¬ Contains (present_stretch colourings.now) grid }
     requires one_side { HaveSide (newest_grid colourings.now).side colourings.now }

@@ -7,7 +7,7 @@ ghost use Rattle.go_board.specs.inner.Earlier.{with_setup};
 
 use crate::fault::MemoryFault;
 use crate::past::Past;
-use crate::referee::{Referee, SetupOp};
+use crate::referee::{Call, Referee, SetupOp};
 use crate::stones::Colour;
 
 impl<P: Past> Referee<P> {
@@ -38,7 +38,7 @@ impl<P: Past> Referee<P> {
             ≡ followed_by self.old (record self.old.present { player = player })) }
         ensures err { OnErr result (self.new ≡ self.old) }
     {
-        let present = self.present_kept(false, false);
+        let present = self.present_kept(Call::Stay);
         self.earlier.push(present)?;
         self.player = player;
         Ok(())
@@ -51,7 +51,7 @@ impl<P: Past> Referee<P> {
             (with_setup self.old.present (fold with_area self.old.present.colouring ops.now) player)) }
         ensures err { OnErr result (self.new ≡ self.old) }
     {
-        let present = self.present_kept(true, false);
+        let present = self.present_kept(Call::Setup);
         self.earlier.reserve(1)?;
         self.past.set_up(ops)?;
         self.earlier.push(present).unwrap();

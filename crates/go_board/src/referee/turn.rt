@@ -13,7 +13,7 @@ ghost use Rattle.go_board.specs.inner.Earlier.{MayOnlyRepeat};
 use crate::fault::{MemoryFault, TurnFault};
 use crate::past::Past;
 use crate::reason::Reason;
-use crate::referee::{Play, Referee};
+use crate::referee::{Call, Play, Referee};
 use crate::stones::{Cell, Colour};
 use board_points::Point;
 
@@ -71,7 +71,7 @@ impl<P: Past> Referee<P> {
         ensures ok { OnOk result (self.new ≡ followed_by self.old (turned self.old.present colour Pass)) }
         ensures err { OnErr result (self.new ≡ self.old) }
     {
-        let present = self.present_kept(false, true);
+        let present = self.present_kept(Call::Pass);
         self.earlier.push(present)?;
         self.player = Some(colour.opponent());
         self.passes += 1;
@@ -91,7 +91,7 @@ impl<P: Past> Referee<P> {
             ≡ (if taken then followed_by self.old (turned self.old.present colour (Stone point)) else self.old)) }
         ensures err { OnErr result (self.new ≡ self.old) }
     {
-        let present = self.present_kept(true, true);
+        let present = self.present_kept(Call::Stone);
         if !self.past.play(colour, point)? {
             return Ok(false);
         }

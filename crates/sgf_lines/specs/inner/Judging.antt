@@ -6,6 +6,8 @@ use Rattle.go_board.specs.declared.fault.TurnFault.{TurnFault}
 use Rattle.go_board.specs.declared.fault.TurnFault.TheVariants.{Illegal as IllegalTurn, Memory}
 use Rattle.go_board.specs.declared.referee.plays.SetupOp.{SetupOp}
 use Rattle.go_board.specs.Grid.{Grid}
+use Rattle.go_board.specs.Score.{score_of}
+use Rattle.go_board.specs.declared.stones.Colour.TheVariants.{Black, White}
 use Rattle.go_board.specs.State.{State, States, begun, followed_by, IsPlayOn}
 use Rattle.sgf_lines.specs.NodeContents.{Move, Stones, moves, stones, first_value}
 use Rattle.sgf_lines.specs.NodeValues.{move_value}
@@ -28,6 +30,11 @@ back_from present (earlier ∷ others) depth =
 
 abbrev pub back_to : States → ℕ → States
 back_to states depth = back_from states.present states.earlier depth
+
+-- the scores of Black and of White, if they are there, are those of the state's board
+abbrev pub IsScoreOf : State → Option (ℕ × ℕ) → Type 0
+IsScoreOf state None = Unit {0}
+IsScoreOf state (Some score) = (score.0 ≡ score_of state.colouring Black) × (score.1 ≡ score_of state.colouring White)
 
 -- Either the game isn't judged, and the verdict is `told`. Or a referee has these states, one more
 -- than the nodes that were allowed; if a node wasn't allowed, `ended` is the verdict.

@@ -1,6 +1,6 @@
 //! A text in pieces. It is kept because the next line shares some of the pieces.
 
-ghost use Rattle.std.specs.Prelude.{◌≡◌, ◌<◌, ◌≤◌, ◌++◌, length, slice_get, IfSome, OnOk, OnErr};
+ghost use Rattle.std.specs.Prelude.{◌≡◌, ◌<◌, ◌≤◌, ◌++◌, [], length, slice_get, IfSome, OnOk, OnErr};
 ghost use Rattle.std.specs.List.{concat, flat_map};
 ghost use Rattle.sgf_lines.specs.Record.{node_text};
 ghost use Rattle.sgf_lines.specs.inner.Scripting.{IsPlayable, step_script};
@@ -100,7 +100,8 @@ impl Pieces {
     ) -> Result<(), MemoryFault>
         requires letters { board.now.side ≤ MAX_VERTEX_SIDE }
         requires playable { IsPlayable board.now.side step.effect }
-        ensures { OnOk result (self.new ≡ pushed self.old (step_script board.now step.entry)) }
+        ensures pushed { OnOk result (self.new ≡ pushed self.old (step_script board.now step.entry)) }
+        ensures refused { OnErr result (self.new.pieces ≡ []) }
     {
         match push_step(step, board, &mut self.text) {
             Ok(()) => Ok(()),

@@ -4,26 +4,24 @@ ghost use Rattle.std.specs.Prelude.{◌≡◌, ◌+◌, ◌<◌, IsTrue, OnOk, O
 ghost use Rattle.sgf_tree.specs.Tree.{Node};
 ghost use Rattle.sgf_lines.specs.inner.Gathered.{ComesAs};
 ghost use Rattle.go_board.specs.State.{begun};
-ghost use Rattle.sgf_lines.specs.inner.Judging.{back_to};
-ghost use Rattle.sgf_lines.specs.Verdict.{score_in};
 ghost use Rattle.sgf_lines.specs.JudgedGames.{game_kind, board};
 
-use crate::judging::quick::take_step;
+use crate::judging::game::Game;
 use crate::judging::root::board_size;
 use crate::judging::step::{TakenStep, place_of};
 use crate::line_nodes::LineNodes;
 use crate::verdict::Verdict;
-use go_board::{Board, Past, PrintPast, Referee, SetupOp, Size, TurnFault};
+use go_board::{Board, SetupOp, Size, TurnFault};
 use sgf_tree::{MemoryFault, NextNode, NodeRef};
 use std::alloc::Global;
 use std::marker::Model;
 
-/// Judges a line node after node, with one referee. It is seen as the
+/// Judges a line node after node, with one game. It is seen as the
 /// judgement on the line, and the number of nodes that were played.
 #[derive(Drop)]
 pub(crate) struct Judge {
     /// None if the game isn't judged. Each node that is legal adds one state.
-    referee: Option<Referee<PrintPast>>,
+    game: Option<Game>,
 
     /// A buffer for what a node sets up.
     operations: Vec<SetupOp>,
@@ -39,7 +37,7 @@ impl Model for Judge {
 
     ghost Value = { Judging };
 
-    ghost view = { λ j. record { judgement = judgement_of j.ended j.referee; plays = j.plays } };
+    ghost view = { λ j. record { judgement = judgement_of j.ended j.game; plays = j.plays } };
 }
 
 impl Judge {
@@ -51,7 +49,7 @@ impl Judge {
         ensures { result ≡ record { judgement = unjudged NotGo; plays = 0 } }
     {
         Judge {
-            referee: None,
+            game: None,
             operations: Vec::new(alloc),
             ended: None,
             plays: 0,
@@ -67,33 +65,28 @@ impl Judge {
         match board_size(root) {
             Ok(size) => self.begin_on(size),
             Err(verdict) => {
-                self.referee = None;
+                self.game = None;
                 self.ended = Some(verdict);
                 Ok(())
             }
         }
     }
 
-    /// Begins a game on a board of that size. If there is a referee already, it begins the game in place.
+    /// Begins a game on a board of that size. If there is a game already, it begins anew in place.
     fn begin_on(&mut self, size: Size) -> Result<(), MemoryFault>
         ensures begun { OnOk result (self.new.judgement ≡ begun_game (board size)) }
         ensures plays { self.new.plays ≡ self.old.plays }
         ensures unchanged { OnErr result (self.new ≡ self.old) }
     {
-        match &mut self.referee {
-            Some(referee) => {
-                // No `From` can be implemented here between the faults of two other crates.
-                let Ok(()) = referee.reset(size) else {
-                    return Err(MemoryFault);
-                };
-            }
-            None => put_referee(*self.operations.allocator(), size, &mut self.referee)?,
+        match &mut self.game {
+            Some(game) => game.begin(size)?,
+            None => put_game(*self.operations.allocator(), size, &mut self.game)?,
         }
         self.ended = None;
         Ok(())
     }
 
-    /// Takes one more node, and returns its step. `next` and `nodes` are as for `take_step`. None if the step isn't taken: the game isn't
+    /// Takes one more node, and returns its step. `next` and `nodes` are as for `Game::take`. None if the step isn't taken: the game isn't
     /// judged, the node is illegal, or the line ended before it. After a refusal of memory nothing is changed.
     #[inline(always)]
     pub(crate) fn take<'a>(
@@ -110,20 +103,20 @@ impl Judge {
         ensures unchanged { OnErr result (self.new ≡ self.old) }
         ensures left { nodes.new.nodes ≡ nodes.old.nodes }
     {
-        let Some(referee) = &mut self.referee else {
+        let Some(game) = &mut self.game else {
             return Ok(None);
         };
         if let Some(_) = self.ended {
             return Ok(None);
         }
-        match take_step(referee, next, nodes, &mut self.operations) {
+        match game.take(next, nodes, &mut self.operations) {
             Ok(step) => {
                 self.plays += 1;
                 Ok(Some(step))
             }
             Err(TurnFault::Illegal(reason)) => {
                 self.plays += 1;
-                let turn = referee.turns() + 1;
+                let turn = game.turns() + 1;
                 let place = place_of(&next) as u64;
                 self.ended = Some(Verdict::Illegal {
                     turn,
@@ -141,29 +134,31 @@ impl Judge {
     pub(crate) fn is_settled(&self) -> bool
         ensures { IsTrue result → IsSettled self.now.judgement }
     {
-        self.referee.is_none() || self.ended.is_some()
+        self.game.is_none() || self.ended.is_some()
     }
 
     /// Goes back to the first `count` nodes.
+    #[inline(always)]
     pub(crate) fn cut_back(&mut self, count: usize)
         ensures judged { self.new.judgement ≡ back count self.old.judgement }
         ensures plays { self.new.plays ≡ self.old.plays }
     {
-        if let Some(referee) = &mut self.referee {
-            if count <= referee.depth() {
+        if let Some(game) = &mut self.game {
+            if count <= game.depth() {
                 self.ended = None;
-                undo_to(referee, count);
+                game.go_back(count);
             }
         }
     }
 
     /// The verdict of the line. `NotGo` before the first game.
-    pub(crate) fn verdict(&self) -> Verdict
-        ensures { result ≡ verdict_in self.now.judgement }
+    pub(crate) fn verdict(&mut self) -> Verdict
+        ensures told { result ≡ verdict_in self.old.judgement }
+        ensures unchanged { self.new ≡ self.old }
     {
-        match (self.ended, &self.referee) {
+        match (self.ended, &mut self.game) {
             (Some(verdict), _) => verdict,
-            (None, Some(referee)) => score(referee),
+            (None, Some(game)) => game.verdict(),
             (None, None) => Verdict::NotGo,
         }
     }
@@ -172,8 +167,8 @@ impl Judge {
     pub(crate) fn board(&self) -> Option<&Board>
         ensures { option_copied result ≡ board_in self.now.judgement }
     {
-        match &self.referee {
-            Some(referee) => Some(referee.board()),
+        match &self.game {
+            Some(game) => Some(game.board()),
             None => None,
         }
     }
@@ -194,43 +189,13 @@ impl Judge {
     }
 }
 
-/// Puts a referee of a game on a board of that size into `slot`. After a refusal of memory `slot` is unchanged.
+/// Puts a game on a board of that size into `slot`. After a refusal of memory `slot` is unchanged.
 // Not inlined: whole boards stand on its stack, and each call of `begin_on` would set room for them to zeros.
 #[inline(never)]
-fn put_referee(
-    alloc: Global,
-    size: Size,
-    slot: &mut Option<Referee<PrintPast>>,
-) -> Result<(), MemoryFault>
+fn put_game(alloc: Global, size: Size, slot: &mut Option<Game>) -> Result<(), MemoryFault>
     ensures ok { OnOk result (slot.new ≡ Some (begun size)) }
     ensures err { OnErr result (slot.new ≡ slot.old) }
 {
-    match Referee::new(alloc, size) {
-        Ok(referee) => {
-            *slot = Some(referee);
-            Ok(())
-        }
-        Err(_) => Err(MemoryFault),
-    }
-}
-
-/// Takes back states until at most `depth` are left before the present one.
-pub(crate) fn undo_to(referee: &mut Referee<PrintPast>, depth: usize)
-    ensures { referee.new ≡ back_to referee.old depth }
-{
-    'undo: while depth < referee.depth() {
-        referee.undo();
-    }
-}
-
-/// The area scores of the present board, and whether the game is over.
-pub(crate) fn score<P: Past>(referee: &Referee<P>) -> Verdict
-    ensures { result ≡ score_in referee.now.present }
-{
-    let (black, white) = referee.score();
-    Verdict::Score {
-        black,
-        white,
-        over: referee.over(),
-    }
+    *slot = Some(Game::new(alloc, size)?);
+    Ok(())
 }

@@ -9,7 +9,6 @@ use Rattle.tree_lines.specs.Sequences.{SequencesState, nodes_in}
 use Rattle.tree_lines.specs.inner.PathTo.{HasNoLeaf}
 use Rattle.tree_lines.specs.inner.Standing.{IsAfterLeaf}
 use Rattle.tree_lines.specs.declared.sequence_cursor.Front.{Front}
-use Rattle.tree_lines.specs.declared.sequence_cursor.Part.{Part}
 
 -- the state is stored as its parts
 abbrev pub sequences_state_code : Coded SequencesState
@@ -24,6 +23,17 @@ first_of games sequence = get_or (sequence_starts games) sequence (node_count ga
 -- how many nodes a sequence has
 abbrev pub sequence_length : Games → ℕ → ℕ
 sequence_length games sequence = sequence_end games sequence - sequence_start games sequence
+
+-- a sequence of a line, and how many nodes the line has up to its end
+pub record Part : Type 0 where
+  pub sequence : ℕ
+  pub end : ℕ
+
+-- the sequences with these numbers, one after the other, as parts of a line; `start` nodes stand before them
+abbrev pub parts_of : Games → ℕ → List ℕ → List Part
+parts_of games start [] = []
+parts_of games start (sequence ∷ others) =
+    record { sequence = sequence; end = start + sequence_length games sequence } ∷ parts_of games (start + sequence_length games sequence) others
 
 -- the numbers of the nodes of parts of a line, one part after the other
 abbrev pub part_numbers : Games → List Part → List ℕ
@@ -43,6 +53,11 @@ pub record IsAfterSequences (games : Games) (next : ℕ) (parts : List Part) : T
   pub within : next ≤ length (sequence_starts games)
   pub stands : IsAfterLeaf games (first_of games next) (part_numbers games parts)
   pub are : AreParts games 0 parts
+
+-- What a cursor keeps of that: the numbers of the sequences of the line, and how many nodes they have.
+pub record IsCursorKept (games : Games) (next : ℕ) (path : List ℕ) (nodes : ℕ) : Type 0 where
+  pub after : IsAfterSequences games next (parts_of games 0 path)
+  pub count : nodes ≡ length (part_numbers games (parts_of games 0 path))
 
 -- the first sequence from `from` on that ends in a leaf
 pub record IsNextEnd (games : Games) (from sequence : ℕ) : Type 0 where
@@ -85,6 +100,11 @@ pub data ArePartsTo (games : Games) : Option ℕ → List Part → Type 0 where
   step : {sequence : ℕ} {above : Option ℕ} {front parts : List Part} → sequence < length (sequence_starts games) → IsAbove games sequence above → ArePartsTo games above front
       → parts ≡ front ++ record { sequence = sequence; end = length (part_numbers games front) + sequence_length games sequence } ∷ []
       → ArePartsTo games (Some sequence) parts
+
+-- the numbers of the sequences from the root to the end of a sequence, and how many nodes they have
+abbrev pub IsWayTo : Games → ℕ → List ℕ → ℕ → Type 0
+IsWayTo games sequence path nodes =
+    ArePartsTo games (Some sequence) (parts_of games 0 path) × (nodes ≡ length (part_numbers games (parts_of games 0 path)))
 
 -- how many sequences and nodes the line to the end of a sequence has
 abbrev pub MeasuresTo : Games → ℕ → Front → Type 0

@@ -1,21 +1,25 @@
-//! The rows that lead back from a colouring to the one before it.
+//! What leads back from a colouring to the one before it: the point of a stone that was put, or rows.
 
-ghost use Rattle.std.specs.Prelude.{◌≡◌, ◌≢◌, ◌+◌, ◌<◌, ◌≤◌, IsFalse, length, slice_index};
+ghost use Rattle.std.specs.Prelude.{◌≡◌, ◌≢◌, ◌+◌, ◌<◌, ◌≤◌, IsTrue, IsFalse, length, slice_index};
 ghost use Rattle.std.specs.Vec.{vec_capacity};
 ghost use Rattle.go_board.specs.declared.stones.Colour.{Colour};
 ghost use Rattle.go_board.specs.Clearing.{play};
-ghost use Rattle.go_board.specs.inner.Changes.{after_changes, AddsRow, AreOn, KeepRows, is_full};
+ghost use Rattle.board_points.specs.Point.{IsOn};
+ghost use Rattle.go_board.specs.inner.Changes.{after_changes, step_back, AddsRow, AreOn, KeepRows, is_full, is_fresh, is_settled};
 ghost use Rattle.go_board.specs.inner.Groups.{IsMove};
 
 use crate::board::Board;
 use crate::quick::print_past::print::columns_in;
-use crate::stones::Colour;
+use crate::stones::{Cell, Colour};
 use board_points::columns::{all_columns, has_column, without_column};
 use board_points::{MAX_ROWS, Point};
 
 /// One step in this many keeps all rows of the colouring before it. So an older colouring
 /// can be worked out from the next such step, or else from the newest colouring.
 pub(crate) const FULL: usize = 128;
+
+/// The most older colourings that are kept, and the most changes, so that a count of them fits into 32 bits.
+pub(crate) const MOST: usize = 0xffff_ffff;
 
 /// The stones of a row before a step: a bit for each column.
 #[derive(Clone, Copy)]
@@ -25,15 +29,72 @@ pub(crate) struct Change {
     pub white: u64,
 }
 
-/// What is kept of an older colouring besides its changes.
+/// What is kept of an older colouring, and of the step from it to the colouring after it, besides the step's changes.
 #[derive(Clone, Copy)]
 pub(crate) struct Older {
-    /// The index of the first of the changes that lead back to it from the colouring after it.
-    pub start: usize,
+    /// The index of the first of the step's changes.
+    pub start: u32,
     /// The number of the first colouring of its stretch.
     pub stretch_start: u32,
-    /// Whether every stone of it is known to have a liberty.
-    pub settled: bool,
+    /// The point of the stone that was played; any point if the step played none.
+    pub point: Point,
+    /// Whether that point is all that is kept: the step put the stone, changed nothing else, and isn't one that keeps all rows.
+    pub alone: bool,
+    /// What is known of the older colouring.
+    pub known: Known,
+}
+
+/// What is known of an older colouring.
+#[derive(Clone, Copy, PartialEq, Eq)]
+pub(crate) enum Known {
+    Nothing,
+    /// Every stone of it has a liberty.
+    Settled,
+    /// The same; and neither it nor an older colouring of its stretch has a stone on the point of its step, which put one there.
+    Fresh,
+}
+
+impl Known {
+    /// What is to be kept as known. `settled` says whether every stone has a liberty.
+    pub(crate) fn new(settled: bool, fresh: bool) -> Known
+        ensures settled { IsTrue (is_settled result) → IsTrue settled }
+        ensures fresh { IsTrue (is_fresh result) → IsTrue fresh }
+    {
+        if !settled {
+            Known::Nothing
+        } else if fresh {
+            Known::Fresh
+        } else {
+            Known::Settled
+        }
+    }
+
+    /// Whether every stone is known to have a liberty.
+    pub(crate) fn is_settled(self) -> bool
+        ensures { result ≡ is_settled self }
+    {
+        self != Known::Nothing
+    }
+
+    /// Whether the step put a stone where no older colouring of the stretch has one.
+    pub(crate) fn is_fresh(self) -> bool
+        ensures { result ≡ is_fresh self }
+    {
+        self == Known::Fresh
+    }
+}
+
+/// Takes a board back by one step. `changes` are the step's changes.
+pub(crate) fn step_back(board: &mut Board, kept: Older, changes: &[Change])
+    requires point { IsTrue kept.alone → IsOn board.old.side kept.point }
+    requires changes { AreOn board.old.side changes.now }
+    ensures { board.new ≡ step_back board.old kept changes.now }
+{
+    if kept.alone {
+        board.set(kept.point, Cell::Empty);
+    } else {
+        take_back(board, changes);
+    }
 }
 
 /// Takes a board back by changes, the last one first.
@@ -86,34 +147,14 @@ pub(crate) fn keep_rows(old: &Board, new: &Board, all: bool, changes: &mut Vec<C
     }
 }
 
-/// Places a stone, and adds the rows that it changes as they were before; all rows if `all` is true. `taken` is what the stone takes off.
-#[inline(always)]
-pub(crate) fn put_kept(
-    board: &mut Board,
-    colour: Colour,
+/// Adds the rows of a board that a stone changes; all rows if `all` is true. There must be room for all.
+pub(crate) fn keep_played(
+    board: &Board,
     point: Point,
     taken: &[u64],
     all: bool,
     changes: &mut Vec<Change>,
 )
-    requires stone { IsMove board.old colour point taken.now }
-    requires room { length changes.old.items + MAX_ROWS ≤ vec_capacity changes.old }
-    ensures board { board.new ≡ play board.old colour point }
-    ensures kept { KeepRows board.old board.new all board.old.side changes.old.items changes.new.items }
-{
-    board.has_all_cells();
-    // most stones change their own row alone
-    if taken.is_empty() && !all {
-        keep_row(board, point.row, changes);
-        board.put(colour, point, taken);
-        return;
-    }
-    keep_played(board, point, taken, all, changes);
-    board.put(colour, point, taken);
-}
-
-/// Adds the rows of a board that a stone changes; all rows if `all` is true. There must be room for all.
-fn keep_played(board: &Board, point: Point, taken: &[u64], all: bool, changes: &mut Vec<Change>)
     requires room { length changes.old.items + board.now.side ≤ vec_capacity changes.old }
     ensures { (colour : Colour) → IsMove board.now colour point taken.now
         → KeepRows board.now (play board.now colour point) all board.now.side changes.old.items changes.new.items }

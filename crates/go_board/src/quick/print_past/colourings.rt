@@ -1,19 +1,22 @@
-//! Past colourings. The newest is kept whole. An older one is kept as the rows that lead back to it.
+//! Past colourings. The newest is kept whole. Of an older one, only what leads back to it from the colouring after it is kept: mostly the
+//! point of a stone.
 
-ghost use Rattle.std.specs.Prelude.{◌≡◌, ◌+◌, ◌-◌, ◌*◌, ◌<◌, ◌≤◌, ◌↔◌, ◌∷◌, [], false, IsTrue, IfOk, MatchOption, OnOk, OnErr, length, replicate, ◌==◌, reverse};
+ghost use Rattle.std.specs.Prelude.{◌≡◌, ◌+◌, ◌-◌, ◌*◌, ◌^◌, ◌<◌, ◌≤◌, ◌↔◌, ◌∷◌, [], false, IsTrue, IfOk, IfSome, Contains, MatchOption, OnOk, OnErr, length, replicate, ◌==◌, reverse};
 ghost use Rattle.std.specs.Vec.{vec_capacity};
 ghost use Rattle.go_board.specs.Clearing.{play};
-ghost use Rattle.go_board.specs.Past.{all_of, newest_grid, only, with_next, PastColourings};
-ghost use Rattle.go_board.specs.inner.Changes.{is_full, IsEndOf, IsNumber, held_before, IsPast};
+ghost use Rattle.go_board.specs.Past.{all_of, newest_grid, only, present_stretch, with_next, PastColourings};
+ghost use Rattle.go_board.specs.inner.Changes.{is_full, IsEndOf, IsLastStone, IsNumber, held_before, IsPast};
+ghost use Rattle.go_board.specs.inner.Print.{prints_of};
 ghost use Rattle.go_board.specs.inner.Groups.{IsEmptyOnSettled, IsMove};
 ghost use Rattle.go_board.specs.inner.Key.{start_of, since};
 
 use crate::board::Board;
 use crate::fault::MemoryFault;
 use crate::quick::print_past::changes::{
-    Change, FULL, Older, is_full, keep_rows, put_kept, take_back,
+    Change, FULL, Known, MOST, Older, is_full, keep_played, keep_rows, step_back, take_back,
 };
-use crate::stones::Colour;
+use crate::quick::print_past::print::print_of;
+use crate::stones::{Cell, Colour};
 use board_points::{MAX_ROWS, Point};
 use std::alloc::Global;
 use std::marker::Model;
@@ -21,8 +24,11 @@ use std::marker::Model;
 /// The number of older colourings that a new past has room for.
 const FIRST_OLDER: usize = 256;
 
-/// The most older colourings that are kept, so that a count of them fits into 32 bits.
-const MOST: usize = 0xffff_ffff;
+/// The most colourings that a look back goes over. With 32 it decides nearly all that games ask.
+const LOOK_BACK: usize = 32;
+
+/// The most rows that a look back compares and takes back in all, so that no board makes it long: those of 32 boards of side 19.
+const ROWS_IN_ALL: usize = 608;
 
 /// The colourings of a past, numbered from 0 in the order in which they were added.
 #[derive(Drop)]
@@ -65,6 +71,29 @@ impl Colourings {
         ensures { result.now ≡ newest_grid self.now }
     {
         &self.newest
+    }
+
+    /// The number of colourings. The next colouring gets this number.
+    pub(crate) fn len(&self) -> usize
+        ensures { result ≡ length (all_of self.now) }
+    {
+        self.older.len() + 1
+    }
+
+    /// The point of a stone of the newest colouring that no older one of the present stretch has there; None if none is known. While that
+    /// stone stays, a stone that stays can't bring a colouring back.
+    pub(crate) fn fresh_stone(&self) -> Option<Point>
+        ensures { IfSome result (IsLastStone self.now) }
+    {
+        if self.older.is_empty() {
+            return None;
+        }
+        let kept = self.older[self.older.len() - 1];
+        if kept.known.is_fresh() {
+            Some(kept.point)
+        } else {
+            None
+        }
     }
 
     /// The number of the first colouring of the present stretch, which the last setup of stones began, or the game. Only the colourings from it on
@@ -113,10 +142,72 @@ impl Colourings {
         ensures { IsNumber (all_of self.now) number board.new }
     {
         board.has_all_cells();
-        let (from, end) = next_full(&self.older, self.changes.len(), number);
-        if number < from {
-            let start = self.older[number].start;
+        let (mut at, mut end) = next_full(&self.older, self.changes.len(), number);
+        if at < self.older.len() {
+            // the changes of a full step lead back from any board
+            at -= 1;
+            let start = self.older[at].start as usize;
             take_back(board, &self.changes[start..end]);
+            end = start;
+        }
+        'each: while number < at {
+            at -= 1;
+            let kept = self.older[at];
+            step_back(board, kept, &self.changes[kept.start as usize..end]);
+            end = kept.start as usize;
+        }
+    }
+
+    /// Compares a board with the newest colourings of the present stretch, the newest first. Returns whether the stretch has it; None if these
+    /// don't tell. If the board has a fresh stone, no colouring before that stone equals it. At most `LOOK_BACK` colourings are gone over, and
+    /// fewer if the board is large or if a step kept many rows (`ROWS_IN_ALL`).
+    pub(crate) fn look_back(&self, made: &Board) -> Option<bool>
+        requires { made.now.side ≡ (newest_grid self.now).side }
+        ensures { IfSome result (λ has. IsTrue has ↔ Contains (present_stretch self.now) made.now) }
+    {
+        let mut past = self.newest.copy();
+        let mut at = self.older.len();
+        let mut end = self.changes.len();
+        let side = usize::from(past.size().side());
+        let mut rows = ROWS_IN_ALL;
+        'each: for _ in 0..LOOK_BACK {
+            if past.same(made) {
+                return Some(true);
+            }
+            if at == self.stretch_start {
+                return Some(false);
+            }
+            at -= 1;
+            let kept = self.older[at];
+            if kept.known.is_fresh() && made.at(kept.point) != Cell::Empty {
+                return Some(false);
+            }
+            step_back(&mut past, kept, &self.changes[kept.start as usize..end]);
+            let cost = side + (end - kept.start as usize);
+            if rows < cost {
+                return None;
+            }
+            rows -= cost;
+            end = kept.start as usize;
+        }
+        None
+    }
+
+    /// Writes the prints of all colourings, oldest first. This works each colouring out once, from the one after it.
+    pub(crate) fn write_prints(&self, prints: &mut [u64])
+        requires { length prints.old ≡ length (all_of self.now) }
+        ensures { reverse prints.new ≡ prints_of (all_of self.now) }
+    {
+        let mut past = self.newest.copy();
+        let mut at = self.older.len();
+        let mut end = self.changes.len();
+        prints[at] = print_of(&past);
+        'each: while at > 0 {
+            at -= 1;
+            let kept = self.older[at];
+            step_back(&mut past, kept, &self.changes[kept.start as usize..end]);
+            end = kept.start as usize;
+            prints[at] = print_of(&past);
         }
     }
 
@@ -128,11 +219,13 @@ impl Colourings {
     {
         self.newest.has_all_cells();
         board.has_all_cells();
-        make_room(&mut self.older, &mut self.changes)?;
+        make_room(&mut self.older, &mut self.changes, true)?;
         let kept = Older {
-            start: self.changes.len(),
+            start: self.changes.len() as u32,
             stretch_start: self.stretch_start as u32,
-            settled: self.newest.is_settled(),
+            point: Point { col: 0, row: 0 },
+            alone: false,
+            known: Known::new(self.newest.is_settled(), false),
         };
         let all = is_full(self.older.len());
         keep_rows(&self.newest, board, all, &mut self.changes);
@@ -169,35 +262,36 @@ impl Colourings {
         }
     }
 
-    /// Adds the colouring that a stone makes; `taken` is what the stone takes off. The colouring continues the present stretch.
-    /// After a refusal nothing is changed.
+    /// Adds the colouring that a stone makes; `taken` is what the stone takes off. `fresh` says that no colouring of the present stretch has a
+    /// stone on that point. The colouring continues the present stretch. After a refusal nothing is changed.
     #[inline(always)]
     pub(crate) fn add_stone(
         &mut self,
         colour: Colour,
         point: Point,
         taken: &[u64],
+        fresh: bool,
     ) -> Result<(), MemoryFault>
         requires stone { IsMove (newest_grid self.old) colour point taken.now }
+        requires fresh { IsTrue fresh → IsLastStone (with_next self.old (play (newest_grid self.old) colour point) false) point }
         ensures ok { OnOk result (self.new ≡ with_next self.old (play (newest_grid self.old) colour point) false) }
         ensures err { OnErr result (self.new ≡ self.old) }
     {
         self.newest.has_all_cells();
-        make_room(&mut self.older, &mut self.changes)?;
+        let all = is_full(self.older.len());
+        let alone = taken.is_empty() && !all;
+        make_room(&mut self.older, &mut self.changes, !alone)?;
         let kept = Older {
-            start: self.changes.len(),
+            start: self.changes.len() as u32,
             stretch_start: self.stretch_start as u32,
-            settled: self.newest.is_settled(),
-        };
-        let full = is_full(self.older.len());
-        put_kept(
-            &mut self.newest,
-            colour,
             point,
-            taken,
-            full,
-            &mut self.changes,
-        );
+            alone,
+            known: Known::new(self.newest.is_settled(), fresh),
+        };
+        if !alone {
+            keep_played(&self.newest, point, taken, all, &mut self.changes);
+        }
+        self.newest.put(colour, point, taken);
         self.older.push_reserved(kept);
         Ok(())
     }
@@ -208,9 +302,10 @@ impl Colourings {
         ensures { self.old.older ≡ self.new.newest ∷ self.new.older }
     {
         let kept = self.older.pop().unwrap();
-        take_back(&mut self.newest, &self.changes[kept.start..]);
-        self.newest.restore(kept.settled);
-        self.changes.truncate(kept.start);
+        let start = kept.start as usize;
+        step_back(&mut self.newest, kept, &self.changes[start..]);
+        self.newest.restore(kept.known.is_settled());
+        self.changes.truncate(start);
         self.stretch_start = kept.stretch_start as usize;
     }
 
@@ -225,21 +320,49 @@ impl Colourings {
     }
 }
 
-/// Makes room for one more older colouring, and for all rows of it. There are at most `MOST`.
+/// Makes room for one more older colouring, and if `rows` is true, for all rows of it. There are at most `MOST` of both.
 #[inline(always)]
-fn make_room(older: &mut Vec<Older>, changes: &mut Vec<Change>) -> Result<(), MemoryFault>
+fn make_room(
+    older: &mut Vec<Older>,
+    changes: &mut Vec<Change>,
+    rows: bool,
+) -> Result<(), MemoryFault>
     ensures items { older.new.items ≡ older.old.items }
     ensures ok { OnOk result (length older.new.items < vec_capacity older.new) }
     ensures few { OnOk result (length older.new.items < MOST) }
     ensures changes { changes.new.items ≡ changes.old.items }
-    ensures rows { OnOk result (length changes.new.items + MAX_ROWS ≤ vec_capacity changes.new) }
+    ensures rows { OnOk result (IsTrue rows → length changes.new.items + MAX_ROWS ≤ vec_capacity changes.new) }
+    ensures few_rows { OnOk result (IsTrue rows → length changes.new.items + MAX_ROWS ≤ MOST) }
 {
-    if older.len() >= MOST {
+    if are_most(older.len()) {
         return Err(MemoryFault);
     }
     older.reserve(1)?;
+    if rows {
+        make_room_for_rows(changes)?;
+    }
+    Ok(())
+}
+
+/// Makes room for all rows of a colouring. There are at most `MOST` changes.
+fn make_room_for_rows(changes: &mut Vec<Change>) -> Result<(), MemoryFault>
+    ensures changes { changes.new.items ≡ changes.old.items }
+    ensures rows { OnOk result (length changes.new.items + MAX_ROWS ≤ vec_capacity changes.new) }
+    ensures few { OnOk result (length changes.new.items + MAX_ROWS ≤ MOST) }
+{
+    if are_most(changes.len() + MAX_ROWS) {
+        return Err(MemoryFault);
+    }
     changes.reserve(MAX_ROWS)?;
     Ok(())
+}
+
+/// Whether so many older colourings, or changes, are the most that are kept.
+#[inline(always)]
+fn are_most(count: usize) -> bool
+    ensures { IsTrue result ↔ 2 ^ 32 - 1 ≤ count }
+{
+    count >= MOST
 }
 
 /// The colouring from which to work out the one with this number. It is the next one whose step kept all rows of the colouring
@@ -256,7 +379,7 @@ fn next_full(older: &[Older], changes: usize, number: usize) -> (usize, usize)
     }
     let from = (number / FULL + 1) * FULL;
     if from < older.len() {
-        (from, older[from].start)
+        (from, older[from].start as usize)
     } else {
         (from, changes)
     }

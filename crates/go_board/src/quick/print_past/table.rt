@@ -10,14 +10,18 @@
 //!
 //! This is so once `link` has put all colourings into the trie. `gap` calls it first: the past asks `gap` for a stone that `may_have`
 //! doesn't answer (see `filter`). `has` asks no trie: it compares one by one.
+//!
+//! In most games the newest colourings answer all that is asked (`Colourings::look_back`). So the table sleeps at first: it has no prints,
+//! and a stone costs no more here than the test that there is room. `wake` works the prints out, once a game, one for each colouring; from
+//! then on the table has those of all colourings.
 
 ghost use Rattle.std.specs.Prelude.{◌≡◌, ◌↔◌, ◌+◌, ◌<◌, ◌≤◌, [], ◌∷◌, List, length, slice_index, IsTrue, IsFalse, IfSome, IfOk, OnOk, Contains};
 ghost use Rattle.go_board.specs.Grid.{Grid};
 ghost use Rattle.go_board.specs.Past.{Held, all_of, present_stretch, stretch_of, HaveSide};
 ghost use Rattle.go_board.specs.inner.Changes.{IsNumber};
 ghost use Rattle.go_board.specs.inner.Key.{bits_of, keys_of};
-ghost use Rattle.go_board.specs.inner.Print.{print_of, prints_of};
-ghost use Rattle.go_board.specs.inner.Table.{HasRoomForNext, HasUnlinked, IsGap, IsTable, LinksNext};
+ghost use Rattle.go_board.specs.inner.Print.{print_of};
+ghost use Rattle.go_board.specs.inner.Table.{HasRoomForNext, HasUnlinked, IsAsleepTable, IsAwakeTable, IsGap, IsPrintOfNext, IsTable, LinksNext};
 ghost use Rattle.key_trie.specs.Key.{Agree};
 ghost use Rattle.key_trie.specs.Trie.{item_count, nodes_of};
 
@@ -42,6 +46,7 @@ const NEAR: usize = 2;
 /// takes no memory.
 #[derive(Drop)]
 pub(crate) struct Table {
+    /// The prints of all colourings; none while the table sleeps.
     prints: Vec<u64>,
     /// The trie of the oldest colourings. The newest ones may not be in it yet.
     trie: Trie,
@@ -58,59 +63,79 @@ pub(crate) struct Gap {
 }
 
 impl Table {
-    /// The table of one colouring with this print.
-    pub(crate) fn new(alloc: Global, print: u64) -> Result<Table, MemoryFault>
-        ensures { IfOk result (λ table. (held : List Held) → prints_of held ≡ print ∷ [] → IsTable held table) }
+    /// The table of one colouring. It sleeps.
+    pub(crate) fn new(alloc: Global) -> Result<Table, MemoryFault>
+        ensures { IfOk result (λ table. (first : Held) → IsTable (first ∷ []) table) }
     {
-        let mut prints = Vec::with_capacity(alloc, FIRST_ROOM)?;
-        prints.push(print)?;
         Ok(Table {
-            prints,
+            prints: Vec::with_capacity(alloc, FIRST_ROOM)?,
             trie: Trie::new(alloc)?,
             filter: Filter::new(),
         })
     }
 
-    /// The number that the next colouring gets.
-    pub(crate) fn next_number(&self) -> u32
-        requires { (held : List Held) × IsTable held self.now }
-        ensures { (held : List Held) → IsTable held self.now → result ≡ length held }
+    /// Whether the table has the prints of all colourings. If not, it has none.
+    pub(crate) fn is_awake(&self) -> bool
+        ensures awake { (newest : Held) (older : List Held) → IsTable (newest ∷ older) self.now → IsTrue result
+            → IsAwakeTable (newest ∷ older) self.now }
+        ensures asleep { (held : List Held) → IsTable held self.now → IsFalse result → IsAsleepTable held self.now }
     {
-        self.prints.len() as u32
+        !self.prints.is_empty()
     }
 
-    /// The newest print.
+    /// The newest print. The table must be awake.
     pub(crate) fn newest(&self) -> u64
         requires { 0 < length self.now.prints.items }
-        ensures { (newest : Held) (older : List Held) → IsTable (newest ∷ older) self.now → result ≡ print_of newest.colouring }
+        ensures { (newest : Held) (older : List Held) → IsAwakeTable (newest ∷ older) self.now → result ≡ print_of newest.colouring }
     {
         self.prints[self.prints.len() - 1]
     }
 
-    /// Makes room for one more colouring.
-    #[inline(always)]
-    pub(crate) fn reserve(&mut self) -> Result<(), MemoryFault>
-        requires { (held : List Held) × IsTable held self.old }
-        ensures table { (held : List Held) → IsTable held self.old → IsTable held self.new }
-        ensures trie { nodes_of self.new.trie ≡ nodes_of self.old.trie }
-        ensures ok { OnOk result (HasRoomForNext self.new) }
+    /// Works out the prints of all colourings, if the table sleeps. This takes no memory, since there is room for them.
+    pub(crate) fn wake(&mut self, colourings: &Colourings)
+        requires { IsTable (all_of colourings.now) self.old }
+        ensures { IsAwakeTable (all_of colourings.now) self.new }
     {
-        if self.prints.len() >= self.trie.room() {
+        if !self.prints.is_empty() {
+            return;
+        }
+        'each: for _ in 0..colourings.len() {
+            self.prints.push_reserved(0);
+        }
+        colourings.write_prints(&mut self.prints);
+    }
+
+    /// Makes room for one more colouring than these; `count` is how many there are.
+    #[inline(always)]
+    pub(crate) fn reserve(&mut self, count: usize) -> Result<(), MemoryFault>
+        requires { (held : List Held) × IsTable held self.old × (count ≡ length held) }
+        ensures asleep { (held : List Held) → IsAsleepTable held self.old → IsAsleepTable held self.new }
+        ensures awake { (held : List Held) → IsAwakeTable held self.old → IsAwakeTable held self.new }
+        ensures trie { nodes_of self.new.trie ≡ nodes_of self.old.trie }
+        ensures ok { (held : List Held) → count ≡ length held → OnOk result (HasRoomForNext held self.new) }
+    {
+        if count >= self.trie.room() {
             self.trie.make_room()?;
         }
-        self.prints.reserve(1)?;
+        if count >= self.prints.capacity() {
+            self.prints.reserve(count + 1 - self.prints.len())?;
+        }
         Ok(())
     }
 
-    /// Adds a colouring with this print, and puts it into the trie if its gap there is known. There must be room for it.
+    /// Adds a colouring. `print` is its print, or None if the table sleeps. Puts it into the trie if its gap there is known. There must
+    /// be room for it.
     #[inline(always)]
-    pub(crate) fn push(&mut self, print: u64, gap: Option<Gap>)
-        requires table { (held : List Held) × (next : Held) × IsTable held self.old × IfSome gap (IsGap held self.old.trie print)
-            × (print ≡ print_of next.colouring) }
-        requires room { HasRoomForNext self.old }
-        ensures { (held : List Held) (next : Held) → IsTable held self.old → IfSome gap (IsGap held self.old.trie print)
-            → print ≡ print_of next.colouring → IsTable (next ∷ held) self.new }
+    pub(crate) fn push(&mut self, print: Option<u64>, gap: Option<Gap>)
+        requires table { (held : List Held) × (next : Held) × IsPrintOfNext held self.old next print
+            × IfSome print (λ number. IfSome gap (IsGap held self.old.trie number)) × HasRoomForNext held self.old }
+        ensures { (held : List Held) (next : Held) → IsPrintOfNext held self.old next print
+            → IfSome print (λ number. IfSome gap (IsGap held self.old.trie number)) → HasRoomForNext held self.old
+            → IsTable (next ∷ held) self.new }
     {
+        let Some(print) = print else {
+            return;
+        };
         self.prints.push_reserved(print);
         let Some(gap) = gap else {
             return;
@@ -124,6 +149,9 @@ impl Table {
         requires { (newest : Held) × (older : List Held) × IsTable (newest ∷ older) self.old }
         ensures { (newest : Held) (older : List Held) → IsTable (newest ∷ older) self.old → IsTable older self.new }
     {
+        if self.prints.is_empty() {
+            return;
+        }
         if self.trie.len() == self.prints.len() {
             self.trie.take_back();
         }
@@ -131,15 +159,13 @@ impl Table {
         self.filter.go_back(self.prints.len());
     }
 
-    /// Replaces all colourings by one with this print.
-    pub(crate) fn reset(&mut self, print: u64)
-        requires some { 0 < length self.old.prints.items }
-        requires table { (held : List Held) × IsTable held self.old }
-        ensures { (held : List Held) → prints_of held ≡ print ∷ [] → IsTable held self.new }
+    /// Replaces all colourings by one. The table sleeps then.
+    pub(crate) fn reset(&mut self)
+        requires { (held : List Held) × IsTable held self.old × (0 < length held) }
+        ensures { (first : Held) → IsTable (first ∷ []) self.new }
     {
         self.trie.clear();
-        self.prints.truncate(1);
-        self.prints[0] = print;
+        self.prints.clear();
         self.filter.go_back(0);
     }
 
@@ -158,9 +184,9 @@ impl Table {
 
     /// Whether a colouring may have this print. This doesn't ask the trie.
     pub(crate) fn may_have(&mut self, print: u64) -> bool
-        requires { (held : List Held) × IsTable held self.old }
-        ensures table { (held : List Held) → IsTable held self.old → IsTable held self.new }
-        ensures lacks { (held : List Held) (grid : Grid) → IsTable held self.old → IsFalse result → print ≡ print_of grid
+        requires { (held : List Held) × IsAwakeTable held self.old }
+        ensures table { (held : List Held) → IsAwakeTable held self.old → IsAwakeTable held self.new }
+        ensures lacks { (held : List Held) (grid : Grid) → IsAwakeTable held self.old → IsFalse result → print ≡ print_of grid
             → ¬ Contains (stretch_of held) grid }
     {
         self.filter.may_have(&self.prints, print)
@@ -168,8 +194,8 @@ impl Table {
 
     /// Where a colouring with this print comes in, if none has this print; None otherwise. Puts all colourings into the trie first.
     pub(crate) fn gap(&mut self, colourings: &Colourings, print: u64) -> Option<Gap>
-        requires { IsTable (all_of colourings.now) self.old }
-        ensures table { IsTable (all_of colourings.now) self.new }
+        requires { IsAwakeTable (all_of colourings.now) self.old }
+        ensures table { IsAwakeTable (all_of colourings.now) self.new }
         ensures all { item_count self.new.trie ≡ length self.new.prints.items }
         ensures gap { IfSome result (IsGap (all_of colourings.now) self.new.trie print) }
     {
@@ -187,7 +213,7 @@ impl Table {
         })
     }
 
-    /// Whether the present stretch has this colouring; `print` is its print. All that have the print are compared one by one: this
+    /// Whether the present stretch has this colouring; `print` is its print. All that may have the print are compared one by one: this
     /// is the plain way.
     pub(crate) fn has(&self, colourings: &Colourings, board: &Board, print: u64) -> bool
         requires table { IsTable (all_of colourings.now) self.now }
@@ -195,18 +221,26 @@ impl Table {
         ensures { IsTrue result ↔ Contains (present_stretch colourings.now) board.now }
     {
         let start = colourings.stretch_start();
-        'each: for number in (start..self.prints.len()).rev() {
-            if self.prints[number] == print && colourings.is_at(number, board) {
+        'each: for number in (start..colourings.len()).rev() {
+            if self.may_be(number, print) && colourings.is_at(number, board) {
                 return true;
             }
         }
         false
     }
 
+    /// Whether the colouring with this number may have this print. While the table sleeps, each may.
+    fn may_be(&self, number: usize, print: u64) -> bool
+        ensures { (held : List Held) (grid : Grid) → IsTable held self.now → IsNumber held number grid → number < length held
+            → print ≡ print_of grid → IsTrue result }
+    {
+        number >= self.prints.len() || self.prints[number] == print
+    }
+
     /// The same by the trie, which must have all colourings. A run asks this last, if nothing before decides positional superko. If no
     /// colouring has the print, none is worked out.
     pub(crate) fn find(&self, colourings: &Colourings, board: &Board, print: u64) -> bool
-        requires table { IsTable (all_of colourings.now) self.now }
+        requires table { IsAwakeTable (all_of colourings.now) self.now }
         requires all { item_count self.now.trie ≡ length self.now.prints.items }
         requires side { HaveSide board.now.side colourings.now }
         requires print { print ≡ print_of board.now }
@@ -231,7 +265,7 @@ impl Table {
         number: usize,
         board: &'a Board,
     ) -> ColouringKey<'a>
-        requires table { IsTable (all_of colourings.now) self.now }
+        requires table { IsAwakeTable (all_of colourings.now) self.now }
         requires number { number < length (all_of colourings.now) }
         ensures front { Agree (bits_of result) (keys_of (all_of colourings.now) number) FRONT }
         ensures whole { IsNumber (all_of colourings.now) number board.now → bits_of result ≡ keys_of (all_of colourings.now) number }
@@ -242,8 +276,8 @@ impl Table {
     /// Puts all colourings into the trie.
     #[inline(never)]
     pub(crate) fn link(&mut self, colourings: &Colourings)
-        requires { IsTable (all_of colourings.now) self.old }
-        ensures table { IsTable (all_of colourings.now) self.new }
+        requires { IsAwakeTable (all_of colourings.now) self.old }
+        ensures table { IsAwakeTable (all_of colourings.now) self.new }
         ensures all { item_count self.new.trie ≡ length self.new.prints.items }
     {
         'each: while self.trie.len() < self.prints.len() {

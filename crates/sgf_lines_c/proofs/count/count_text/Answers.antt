@@ -10,4 +10,4 @@ returns-in-Ok c = search rules
 
 pub returns-in-Err : goal.returns-in-Err
 returns-in-Err c =
-    c.refused.ensures c.args.text.now (count_refused c.args.text.now _ _ c.in-Err.fault (ap (λ (s : SourceState). s.to_come) c.new-source.ensures) c.in-Err.ensures.counts)
+    c.refused.ensures.says c.args.text.now (count_refused c.args.text.now _ _ c.in-Err.fault (ap (λ (s : SourceState). s.to_come) c.new-source.ensures) c.in-Err.ensures.counts)

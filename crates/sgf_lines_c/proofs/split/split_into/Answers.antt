@@ -14,5 +14,5 @@ returns-in-Ok c =
 
 pub returns-in-Err : goal.returns-in-Err
 returns-in-Err c =
-    c.refused.ensures c.args.options.now c.args.text.now c.args.room.now
+    c.refused.ensures.says c.args.options.now c.args.text.now c.args.room.now
     (run_refused c.args.options.now c.args.text.now _ _ _ _ c.in-Err.fault (ap (λ (s : SourceState). s.to_come) c.new-source.ensures) c.in-Err.ensures.runs)

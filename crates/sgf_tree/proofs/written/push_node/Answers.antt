@@ -19,7 +19,7 @@ loop-property-preserved c =
           ap (λ s. s ++ flat_map property_text c.next.new.self) c.in_ok-push_property.ensures.appended
           ∙ append_assoc front (property_text c.in-Some.property) (flat_map property_text c.next.new.self)
           ∙ ap (λ ps. front ++ flat_map property_text ps) (sym c.in-Some.ensures.steps) ∙ c.loop-property.invariant.appended;
-      goes_on = goes_on_on _ _ _ c.loop-property.invariant.goes_on c.in_ok-push_property.ensures.goes_on;
+      goes_on = goes_on_on _ _ _ c.loop-property.invariant.goes_on (property_text c.in-Some.property, c.in_ok-push_property.ensures.appended);
     }
 
 pub returns-clause-appended : goal.returns-clause-appended

@@ -1,12 +1,13 @@
--- The parts from the end of the path that were passed are other sequences.
-use Rattle.std.proofs.Common.{◌≡◌, ◌≢◌, ◌≤◌, ℕ, length, slice_get, Some}
-use Rattle.tree_lines.specs.declared.sequence_cursor.Part.{Part}
+-- The sequences from the end of the path that were passed are others, and their nodes aren't counted.
+use Rattle.std.proofs.Common.{◌≡◌, ◌≢◌, ◌≤◌, ℕ, length, slice_get, take, Some}
+use Rattle.tree_lines.specs.inner.Parts.{Part, parts_of, part_numbers}
 use Rattle.tree_lines.proofs.sequence_cursor.front_up_to.Given as goal
 
 abbrev pub invariant-loop-kept : goal.invariant-loop-kept
 invariant-loop-kept l = record {
   within : l.kept ≤ length l.path;
-  others : (i : ℕ) (part : Part) → l.kept ≤ i → slice_get l.path i ≡ Some part → part.sequence ≢ l.outer;
+  count : l.nodes ≡ length (part_numbers l.outline (take l.kept (parts_of l.outline 0 l.path)));
+  others : (i : ℕ) (part : Part) → l.kept ≤ i → slice_get (parts_of l.outline 0 l.path) i ≡ Some part → part.sequence ≢ l.outer;
 }
 
 abbrev pub decreases-loop-kept : goal.decreases-loop-kept

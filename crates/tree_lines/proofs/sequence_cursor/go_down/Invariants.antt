@@ -1,10 +1,10 @@
 -- The sequences so far are appended, and there is room for the others.
-use Rattle.std.proofs.Common.{◌+◌, ◌-◌, ◌≤◌, vec_capacity}
-use Rattle.tree_lines.specs.inner.Parts.{GoesDown}
+use Rattle.std.proofs.Common.{◌≡◌, ◌+◌, ◌-◌, ◌≤◌, ◌++◌, take, vec_capacity}
+use Rattle.std.specs.List.{range_with_len}
 use Rattle.tree_lines.proofs.sequence_cursor.go_down.Given as goal
 
 abbrev pub invariant-loop-sequence : goal.invariant-loop-sequence
 invariant-loop-sequence l = record {
-  down : GoesDown l.outline l.fn.path.items l.fn.front.sequences l.first l.sequence l.path.items;
-  room : l.fn.front.sequences + (l.end - l.first) ≤ vec_capacity l.path;
+  appended : l.path.items ≡ take l.kept l.fn.path.items ++ range_with_len l.first (l.sequence - l.first);
+  room : l.kept + (l.end - l.first) ≤ vec_capacity l.path;
 }

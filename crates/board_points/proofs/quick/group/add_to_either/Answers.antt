@@ -1,39 +1,7 @@
-use Rattle.std.proofs.Common.{◌^◌, ◌<◌, inl, inr, refl, sym, ◌∙◌, length, subst, rules}
+use Rattle.std.proofs.Common.{inl, inr, refl, sym, ◌∙◌, length, rules}
 use Rattle.std.proofs.lemmas.Bool.{or_cases, false≢true}
-use Rattle.board_points.specs.Linked.{HasLiberty}
-use Rattle.board_points.proofs.LinkedLemmas.{common_column, none_in_front, none_lives, IsLiberty-linked}
+use Rattle.board_points.proofs.LinkedLemmas.{none_in_front, IsLiberty-linked}
 use Rattle.board_points.proofs.quick.group.add_to_either.Goals as goal
-
-pub returns-then-joined-columns_with_liberty-ne0-clause-shut : goal.returns-then-joined-columns_with_liberty-ne0-clause-shut
-returns-then-joined-columns_with_liberty-ne0-clause-shut c =
-    let joined = c.joined_in_row-joined in
-    let low : joined.result < 2 ^ 64 = search rules in
-    let both = common_column joined.result c.columns_with_liberty.result low c.if-joined-columns_with_liberty-ne0.true in
-    record {
-      lives = λ _. (
-        refl,
-        (
-          record { col = both.0; row = c.args.from.row },
-          record {
-            own_stone = joined.ensures.within both.0 both.1;
-            linked = joined.ensures.linked both.0 both.1;
-            liberty = subst (λ r. HasLiberty c.args.own.now c.args.others.now (record { col = both.0; row = r })) c.from-row.ensures (c.columns_with_liberty.ensures.from both.0 both.2);
-          },
-        ),
-      );
-      shut = λ no. absurd (false≢true no);
-    }
-
-pub has_liberty-requires-clause-row : goal.has_liberty-requires-clause-row
-has_liberty-requires-clause-row c =
-    let joined = c.joined_in_row-joined in
-    let low : joined.result < 2 ^ 64 = search rules in
-    record {
-      stone = c.requires.stone;
-      linked = joined.ensures;
-      shut = λ col. none_lives c.args.own.now c.args.others.now c.from-row.result joined.result c.columns_with_liberty.result low c.columns_with_liberty.ensures.to
-          c.if-joined-columns_with_liberty-ne0.false (record { col = col; row = c.args.from.row }) (sym c.from-row.ensures);
-    }
 
 pub has_liberty-requires-clause-none : goal.has_liberty-requires-clause-none
 has_liberty-requires-clause-none c = record {

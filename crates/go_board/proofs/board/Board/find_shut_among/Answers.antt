@@ -1,9 +1,7 @@
 use Rattle.std.proofs.Common.{◌∙◌, inl, inr, sym, ap, subst, refl, arith, rules}
-use Rattle.std.specs.List.{Contains}
-use Rattle.std.proofs.lemmas.List.{take_all}
 use Rattle.board_points.specs.Point.{IsOn}
 use Rattle.go_board.specs.inner.Groups.{IsTakenOrReaches}
-use Rattle.std.proofs.lemmas.Bool.{or_cases, or_parts, false≢true}
+use Rattle.std.proofs.lemmas.Bool.{false≢true}
 use Rattle.board_points.specs.declared.points.Point.{Point}
 use Rattle.go_board.specs.Grid.{cell_at}
 use Rattle.go_board.specs.Reaching.{Reaches}
@@ -11,7 +9,7 @@ use Rattle.go_board.specs.declared.stones.Cell.TheVariants.{Empty}
 use Rattle.board_points.specs.Rows.{is_set}
 use Rattle.board_points.proofs.LinkedLemmas.{none_in_front}
 use Rattle.board_points.proofs.PointLemmas.{Contains-take_more}
-use Rattle.go_board.proofs.TakenLemmas.{taken_still}
+use Rattle.go_board.proofs.TakenLemmas.{adds_either, taken_still, beside_taken}
 use Rattle.go_board.proofs.board.Board.find_shut_among.Goals as goal
 use Rattle.go_board.proofs.board.Board.find_shut_among.Goals.{then-is_unknown, else-is_unknown}
 
@@ -42,18 +40,7 @@ loop-at-preserved c =
           rw (w.shut-is, w.alive-is)
           (record {
             alive = w.find_either-some.ensures.alive;
-            adds = record {
-              shut = now.adds.shut;
-              kept = λ q is. now.adds.kept q (before.adds.kept q is);
-              none = λ fails.
-                  let neither = or_parts _ _ (sym w.some-is ∙ fails) in
-                  now.adds.none neither.1 ∙ before.adds.none neither.0;
-              some = λ holds.
-                  elim (or_cases _ _ (sym w.some-is ∙ holds)) [
-                    | inl some ↦ (let p = before.adds.some some in (p.0, now.adds.kept p.0 p.1))
-                    | inr some ↦ now.adds.some some
-                  ];
-            };
+            adds = search (rules, adds_either, before.adds, now, w.some-is);
             beside = λ q among on.
                 elim ((turn q).0 among) [
                   | inl earlier ↦ taken_still g k _ _ q now.adds.kept (before.beside q earlier on)
@@ -84,8 +71,5 @@ loop-at-preserved c =
 
 pub returns-clause-beside : goal.returns-clause-beside
 returns-clause-beside c = λ q on next.
-    let few = c.has_all_cells.ensures.few in
     c.loop-at.invariant.beside q
-    (subst (λ l. Contains l q) (sym (take_all c.loop-at.at-index c.neighbours-beside.result (omega arith)))
-    ((c.neighbours-beside.ensures q (omega (arith, few, on), omega (arith, few, on))).1 next))
-    on
+    (beside_taken c.args.point q c.neighbours-beside.result c.loop-at.at-index c.args.self.now.side c.neighbours-beside.ensures (omega (arith, c.loop-at-test.false)) c.has_all_cells.ensures.few on next) on

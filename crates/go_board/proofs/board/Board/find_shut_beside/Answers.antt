@@ -1,46 +1,63 @@
-use Rattle.std.proofs.Common.{false, inl, inr, sym, subst, refl, arith}
-use Rattle.std.specs.List.{Contains}
+use Rattle.std.proofs.Common.{inl, inr, sym, ◌∙◌, ap, subst, arith, Some, is_some, ◌≡◌}
 use Rattle.std.proofs.lemmas.Bool.{false≢true}
-use Rattle.std.proofs.lemmas.List.{take_all}
 use Rattle.board_points.specs.Point.{IsOn}
 use Rattle.board_points.specs.declared.points.Point.{Point}
-use Rattle.go_board.specs.inner.Groups.{AddsShut, AreShutGroups, ReachesIfStone}
+use Rattle.go_board.specs.inner.Groups.{IsTakenOrReaches, ReachesIfStone}
 use Rattle.board_points.proofs.PointLemmas.{Contains-take_more}
+use Rattle.go_board.proofs.TakenLemmas.{beside_taken}
 use Rattle.go_board.proofs.board.Board.find_shut_beside.Goals as goal
+use Rattle.go_board.proofs.board.Board.find_shut_beside.Goals.{then-may_be_shut+else-is_some, else-may_be_shut}
 
 pub loop-at-preserved : goal.loop-at-preserved
-loop-at-preserved c = record {
-  same = c.loop-at.invariant.same;
-  beside = λ q among on.
-      let turn = λ (p : Point). Contains-take_more c.neighbours-beside.result c.loop-at.at-index p (omega arith) in
-      elim ((turn q).0 among) [
-        | inl earlier ↦ c.loop-at.invariant.beside q earlier on
-        | inr is ↦
-            subst (λ p. IsOn c.args.self.now.side p → ReachesIfStone c.args.self.now c.args.colour p) (sym is) (c.may_be_shut.ensures c.if-may_be_shut.false) on
-      ];
-}
+loop-at-preserved c =
+    let g = c.args.self.now in
+    let k = c.args.colour in
+    let before = c.loop-at.invariant in
+    let turn = λ (q : Point). Contains-take_more c.neighbours-beside.result c.loop-at.at-index q (omega arith) in
+    elim c.if-may_be_shut.branch [
+      | then-may_be_shut+else-is_some w ↦
+          rw (w.doubted-is)
+          (record {
+            same = before.same;
+            stone = c.may_be_shut.ensures.stone w.if-may_be_shut.true;
+            beside = λ q among on.
+                elim ((turn q).0 among) [
+                  | inl earlier ↦
+                      elim (before.beside q earlier on) [
+                        | inl some ↦ absurd (false≢true (sym w.if-is_some.false ∙ w.is_some.ensures ∙ ap is_some some))
+                        | inr reaches ↦ inr reaches
+                      ]
+                  | inr is ↦ inl (ap Some (sym is))
+                ];
+          })
+      | else-may_be_shut w ↦
+          rw (w.doubted-is)
+          (record {
+            same = before.same;
+            stone = before.stone;
+            beside = λ q among on.
+                elim ((turn q).0 among) [
+                  | inl earlier ↦ before.beside q earlier on
+                  | inr is ↦
+                      inr (subst (λ p. IsOn g.side p → ReachesIfStone g k p) (sym is) (c.may_be_shut.ensures.lives w.if-may_be_shut.false) on)
+                ];
+          })
+    ]
 
-pub find_shut_among-requires-clause-shut : goal.find_shut_among-requires-clause-shut
-find_shut_among-requires-clause-shut c = subst (AreShutGroups c.args.self.now c.args.colour) (sym c.loop-at.invariant.same) c.requires.shut
-
-pub returns-then-may_be_shut-clause-adds : goal.returns-then-may_be_shut-clause-adds
-returns-then-may_be_shut-clause-adds c =
-    subst (λ rows. AddsShut c.args.self.now c.args.colour rows c.find_shut_among.new.shut c.find_shut_among.result) c.loop-at.invariant.same c.find_shut_among.ensures.adds
-
-pub returns-clause-adds : goal.returns-clause-adds
-returns-clause-adds c =
-    subst (λ rows. AddsShut c.args.self.now c.args.colour c.args.shut.now rows false) (sym c.loop-at.invariant.same)
-    (record {
-      shut = c.requires.shut;
-      kept = λ _ is. is;
-      none = λ _. refl;
-      some = λ no. absurd (false≢true no);
-    })
-
-pub returns-clause-beside : goal.returns-clause-beside
-returns-clause-beside c = λ q on next stone.
+pub returns-in-Some-clause-beside : goal.returns-in-Some-clause-beside
+returns-in-Some-clause-beside c = λ q on next stone.
     let few = c.has_all_cells.ensures.few in
-    inr (c.loop-at.invariant.beside q
-    (subst (λ l. Contains l q) (sym (take_all c.loop-at.at-index c.neighbours-beside.result (omega arith)))
-    ((c.neighbours-beside.ensures q (omega (arith, few, on), omega (arith, few, on))).1 next))
-    on stone)
+    let seen = beside_taken c.args.point q c.neighbours-beside.result c.loop-at.at-index c.args.self.now.side c.neighbours-beside.ensures (omega (arith, c.loop-at-test.false)) few on next in
+    elim (c.loop-at.invariant.beside q seen on) [
+      | inl some ↦ (let is : c.in-Some.at ≡ q = cc in subst (IsTakenOrReaches c.args.self.now c.args.colour c.find_shut.new.shut) is c.find_shut.ensures.here stone)
+      | inr reaches ↦ inr (reaches stone)
+    ]
+
+pub returns-in-None-clause-beside : goal.returns-in-None-clause-beside
+returns-in-None-clause-beside c = λ q on next stone.
+    let few = c.has_all_cells.ensures.few in
+    let seen = beside_taken c.args.point q c.neighbours-beside.result c.loop-at.at-index c.args.self.now.side c.neighbours-beside.ensures (omega (arith, c.loop-at-test.false)) few on next in
+    elim (c.loop-at.invariant.beside q seen on) [
+      | inl some ↦ absurd cc
+      | inr reaches ↦ inr (reaches stone)
+    ]

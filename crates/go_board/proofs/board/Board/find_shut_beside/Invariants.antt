@@ -1,10 +1,13 @@
-use Rattle.std.proofs.Common.{◌≡◌, Contains, take}
+use Rattle.std.proofs.Common.{◌≡◌, ◌⊎◌, Contains, take, Some, IfSome}
 use Rattle.board_points.specs.Point.{IsOn}
+use Rattle.go_board.specs.Colour.{stone_of}
+use Rattle.go_board.specs.Grid.{cell_at}
 use Rattle.go_board.specs.inner.Groups.{ReachesIfStone}
 use Rattle.go_board.proofs.board.Board.find_shut_beside.Given as goal
 
 abbrev pub invariant-loop-at : goal.invariant-loop-at
 invariant-loop-at l = record {
   same : l.shut ≡ l.fn.shut;
-  beside : (q : _) → Contains (take l.at-index l.at-items) q → IsOn l.self.side q → ReachesIfStone l.self l.colour q;
+  stone : IfSome l.doubted (λ at. IsOn l.self.side at × (cell_at l.self at ≡ stone_of l.colour));
+  beside : (q : _) → Contains (take l.at-index l.at-items) q → IsOn l.self.side q → (l.doubted ≡ Some q) ⊎ ReachesIfStone l.self l.colour q;
 }

@@ -15,8 +15,8 @@ lives_in_row-requires c =
       };
     }
 
-pub returns : goal.returns
-returns c = λ lives on stone.
+pub returns-clause-lives : goal.returns-clause-lives
+returns-clause-lives c = λ lives on stone.
     let g = c.args.self.now in
     let k = c.args.colour in
     let own = c.rows_of in

@@ -49,7 +49,7 @@ invariant_of-self c =
     let new = c.next.new.self in
     let plays = plays at.In-Ok-true in
     let came = came at.In-Ok-true in
-    rw came.0 (follows_on old.before old.cursor.at old.keeper.judge old.keeper.path.items c.self.inside.streak c.self.invariant plays.0 plays.1 new.cursor.at came.1 (rise at.After-nodes-nodes) new.keeper.judge
+    rw (c.verdict.ensures.unchanged, came.0) (follows_on old.before old.cursor.at old.keeper.judge old.keeper.path.items c.self.inside.streak c.self.invariant plays.0 plays.1 new.cursor.at came.1 (rise at.After-nodes-nodes) new.keeper.judge
     new.keeper.path.items (stands at.In-Ok-true) plays.2)
 
 pub returns-in-Ok-true-clause-verdict : goal.returns-in-Ok-true-clause-verdict
@@ -58,5 +58,5 @@ returns-in-Ok-true-clause-verdict c =
     let old = c.self.inside.lines in
     let new = c.next.new.self in
     let plays = plays at.In-Ok-true in
-    let told = verdict_is (nodes_before new.cursor.at) new.keeper.judge.judgement c.verdict.result c.verdict.ensures (stands at.In-Ok-true).1.0 in
+    let told = verdict_is (nodes_before new.cursor.at) new.keeper.judge.judgement c.verdict.result c.verdict.ensures.told (stands at.In-Ok-true).1.0 in
     given old.before old.cursor.at old.keeper.judge old.keeper.path.items c.self.inside.streak c.self.invariant plays.0 plays.1 new.cursor.at (came at.In-Ok-true).1 c.args.self.now c.self.view_is c.verdict.result told

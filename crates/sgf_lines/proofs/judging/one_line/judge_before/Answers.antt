@@ -10,4 +10,4 @@ returns c =
     let at = c.args.cursor.now.at in
     let some : 0 < length c.args.cursor.now.ends = omega (arith, c.sequences-sequences.ensures.some c.requires, c.sequences-sequences.ensures.count) in
     told_of (line_before at) c.verdict.result (some_end c.args.cursor.now.ends _ c.sequences-sequences.ensures.divided some)
-    (verdict_is (nodes_before at) c.judge_line.new.judge.judgement c.verdict.result c.verdict.ensures c.in_ok-judge_line.ensures.judged)
+    (verdict_is (nodes_before at) c.judge_line.new.judge.judgement c.verdict.result c.verdict.ensures.told c.in_ok-judge_line.ensures.judged)

@@ -1,34 +1,68 @@
 -- The cursor stands after the next leaf.
 use Rattle.std.proofs.lemmas.Grind.{common_steps}
 use Rattle.std.proofs.Common.{arith}
-use Rattle.tree_lines.proofs.SequenceCursors.{no_more, front_before, stands_further, moved, shares_front}
+use Rattle.tree_lines.specs.inner.Parts.{parts_of}
+use Rattle.tree_lines.proofs.SequenceStarts.{fewer}
+use Rattle.tree_lines.proofs.SequenceCursors.{no_more, front_kept, next_rises, next_few, goes_on, kept_further, moved, shares_front}
 use Rattle.tree_lines.proofs.sequence_cursor.SequenceCursor.advance.Goals as goal
 
 pub returns-in_default-clause-none_left : goal.returns-in_default-clause-none_left
-returns-in_default-clause-none_left c = no_more c.self.inside.outline.now c.self.inside.next c.self.inside.path.items c.self.invariant c.args.self.now c.self.view_is c.in_default.ensures.first
+returns-in_default-clause-none_left c = no_more c.self.inside.outline.now c.self.inside.next c.self.inside.path.items c.self.invariant.after c.args.self.now c.self.view_is c.in_default.ensures.first
 
-pub go_down-requires-clause-before : goal.go_down-requires-clause-before
-go_down-requires-clause-before c =
-    front_before c.self.inside.outline.now c.self.inside.next c.self.inside.path.items c.self.invariant c.args.self.now c.self.view_is c.in-Some.leaf c.sequence_outer-outer.result c.front_up_to-front.result c.in-Some.ensures.first c.sequence_outer-outer.ensures
-    (rw c.deref.ensures.value at c.front_up_to-front.ensures)
+pub go_down-requires-clause-kept : goal.go_down-requires-clause-kept
+go_down-requires-clause-kept c =
+    omega (
+      arith,
+      c.self.inside.path.ok.0,
+      front_kept c.self.inside.outline.now c.self.inside.next c.self.inside.path.items c.self.invariant.after c.args.self.now c.self.view_is c.in-Some.leaf c.sequence_outer-outer.result c.front_up_to-front.result c.in-Some.ensures.first c.sequence_outer-outer.ensures
+          (rw c.deref.ensures.value at c.front_up_to-front.ensures),
+    )
+
+pub go_down-requires-clause-down : goal.go_down-requires-clause-down
+go_down-requires-clause-down c = c.in-Some.ensures.first.from_there
+
+pub go_down-requires-clause-few : goal.go_down-requires-clause-few
+go_down-requires-clause-few c = omega (arith, fewer c.self.inside.outline.now, c.in-Some.ensures.few, c.in-Some.ensures.first.within)
+
+pub overflow_sub-self : goal.overflow_sub-self
+overflow_sub-self c =
+    omega (
+      arith,
+      c.sequence_start-first.ensures,
+      c.sequence_end-end.ensures.end,
+      next_rises c.self.inside.outline.now c.self.inside.next c.self.inside.path.items c.self.invariant.after c.args.self.now c.self.view_is c.in-Some.leaf c.sequence_outer-outer.result c.front_up_to-front.result c.in-Some.ensures.first c.sequence_outer-outer.ensures
+          (rw c.deref.ensures.value at c.front_up_to-front.ensures),
+    )
+
+pub overflow_add-self : goal.overflow_add-self
+overflow_add-self c =
+    omega (
+      arith,
+      c.in-Some.ensures.few,
+      next_few c.self.inside.outline.now c.self.inside.next c.self.inside.path.items c.self.invariant.after c.args.self.now c.self.view_is c.in-Some.leaf c.sequence_outer-outer.result c.front_up_to-front.result c.in-Some.ensures.first c.sequence_outer-outer.ensures
+          (rw c.deref.ensures.value at c.front_up_to-front.ensures)
+          c.sequence_start-first.result c.sequence_end-end.result c.sequence_start-first.ensures c.sequence_end-end.ensures.end,
+    )
 
 pub invariant_of-self : goal.invariant_of-self
 invariant_of-self c = grind (arith, common_steps)
 
 pub invariant_of-self-2 : goal.invariant_of-self-2
 invariant_of-self-2 c =
-    stands_further c.self.inside.outline.now c.self.inside.next c.self.inside.path.items c.self.invariant c.args.self.now c.self.view_is c.in-Some.leaf c.sequence_outer-outer.result c.front_up_to-front.result c.in-Some.ensures.first c.sequence_outer-outer.ensures
+    kept_further c.self.inside.outline.now c.self.inside.next c.self.inside.path.items c.self.invariant.after c.args.self.now c.self.view_is c.in-Some.leaf c.sequence_outer-outer.result c.front_up_to-front.result c.in-Some.ensures.first c.sequence_outer-outer.ensures
     (rw c.deref.ensures.value at c.front_up_to-front.ensures)
-    c.go_down.new.path.items c.in_ok-go_down.ensures.ok
+    c.go_down.new.path.items c.in_ok-go_down.ensures.ok c.sequence_start-first.result c.sequence_end-end.result c.sequence_start-first.ensures c.sequence_end-end.ensures.end
 
 pub returns-clause-moved : goal.returns-clause-moved
 returns-clause-moved c =
-    moved c.self.inside.outline.now c.self.inside.next c.self.inside.path.items c.self.invariant c.args.self.now c.self.view_is c.in-Some.leaf c.sequence_outer-outer.result c.front_up_to-front.result c.in-Some.ensures.first c.sequence_outer-outer.ensures
+    moved c.self.inside.outline.now c.self.inside.next c.self.inside.path.items c.self.invariant.after c.args.self.now c.self.view_is c.in-Some.leaf c.sequence_outer-outer.result c.front_up_to-front.result c.in-Some.ensures.first c.sequence_outer-outer.ensures
     (rw c.deref.ensures.value at c.front_up_to-front.ensures)
-    c.go_down.new.path.items c.in_ok-go_down.ensures.ok
 
 pub returns-clause-shared : goal.returns-clause-shared
 returns-clause-shared c =
-    shares_front c.self.inside.outline.now c.self.inside.next c.self.inside.path.items c.self.invariant c.args.self.now c.self.view_is c.in-Some.leaf c.sequence_outer-outer.result c.front_up_to-front.result c.in-Some.ensures.first c.sequence_outer-outer.ensures
+    shares_front c.self.inside.outline.now c.self.inside.next c.self.inside.path.items c.self.invariant.after c.args.self.now c.self.view_is c.in-Some.leaf c.sequence_outer-outer.result c.front_up_to-front.result c.in-Some.ensures.first c.sequence_outer-outer.ensures
     (rw c.deref.ensures.value at c.front_up_to-front.ensures)
-    c.go_down.new.path.items c.in_ok-go_down.ensures.ok
+    (parts_of c.self.inside.outline.now 0 c.go_down.new.path.items)
+    (goes_on c.self.inside.outline.now c.self.inside.next c.self.inside.path.items c.self.invariant.after c.args.self.now c.self.view_is c.in-Some.leaf c.sequence_outer-outer.result c.front_up_to-front.result c.in-Some.ensures.first c.sequence_outer-outer.ensures
+    (rw c.deref.ensures.value at c.front_up_to-front.ensures)
+    c.go_down.new.path.items c.in_ok-go_down.ensures.ok)

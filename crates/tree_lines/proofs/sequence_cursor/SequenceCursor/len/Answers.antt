@@ -1,17 +1,23 @@
--- The last part ends after all nodes.
-use Rattle.std.proofs.lemmas.Grind.{common_steps}
-use Rattle.std.proofs.Common.{◌≡◌, length, arith}
+-- The line has as many nodes as are kept.
+use Rattle.std.proofs.Common.{◌≡◌, length, sym, ap, ◌∙◌, arith}
+use Rattle.sgf_tree.specs.Tree.{node_count}
 use Rattle.tree_lines.specs.Following.{nodes_before}
-use Rattle.tree_lines.proofs.SequenceCursors.{all_nodes, few_nodes}
+use Rattle.tree_lines.proofs.SequenceCursors.{nodes_long, few_nodes, games_are}
 use Rattle.tree_lines.proofs.sequence_cursor.SequenceCursor.len.Goals as goal
-use Rattle.tree_lines.proofs.sequence_cursor.SequenceCursor.len.Goals.{After-nodes_in}
+use Rattle.tree_lines.proofs.sequence_cursor.SequenceCursor.len.Goals.{After-nodes-nodes}
 
-nodes_are : (c : After-nodes_in) → c.nodes_in.result ≡ length (nodes_before c.args.self.now.at)
-nodes_are c = grind (arith, common_steps, all_nodes)
+nodes_are : (c : After-nodes-nodes) → c.self.inside.nodes ≡ length (nodes_before c.args.self.now.at)
+nodes_are c =
+    c.self.invariant.count
+    ∙ sym (nodes_long c.self.inside.outline.now c.self.inside.next c.self.inside.path.items c.self.invariant.after c.args.self.now c.self.view_is)
 
 pub returns-clause-nodes : goal.returns-clause-nodes
-returns-clause-nodes c = nodes_are c
+returns-clause-nodes c = nodes_are (goal.at.returns-clause-nodes c).After-nodes-nodes
 
 pub returns-clause-short : goal.returns-clause-short
 returns-clause-short c =
-    omega (arith, nodes_are c, few_nodes c.self.inside.outline.now c.self.inside.next c.self.inside.path.items c.self.invariant c.args.self.now c.self.view_is)
+    omega (arith, nodes_are (goal.at.returns-clause-short c).After-nodes-nodes, few_nodes c.self.inside.outline.now c.self.inside.next c.self.inside.path.items c.self.invariant.after c.args.self.now c.self.view_is)
+
+pub returns-clause-small : goal.returns-clause-small
+returns-clause-small c =
+    omega (arith, nodes_are (goal.at.returns-clause-small c).After-nodes-nodes, c.nodes-nodes.ensures.few, few_nodes c.self.inside.outline.now c.self.inside.next c.self.inside.path.items c.self.invariant.after c.args.self.now c.self.view_is, ap node_count (games_are c.self.inside.outline.now c.self.inside.next c.self.inside.path.items c.self.invariant.after c.args.self.now c.self.view_is))

@@ -2,7 +2,7 @@
 use Rattle.std.proofs.lemmas.Grind.{common_steps}
 use Rattle.std.proofs.Common.{arith}
 use Rattle.tree_lines.proofs.SequenceStarts.{fewer}
-use Rattle.tree_lines.proofs.SequenceCursors.{games_are, stands_sought}
+use Rattle.tree_lines.proofs.SequenceCursors.{games_are, kept_sought}
 use Rattle.tree_lines.proofs.sequence_cursor.SequenceCursor.seek_end.Goals as goal
 
 pub overflow_add-self : goal.overflow_add-self
@@ -10,4 +10,4 @@ overflow_add-self c = grind (arith, common_steps, fewer, games_are)
 
 pub invariant_of-self-2 : goal.invariant_of-self-2
 invariant_of-self-2 c =
-    stands_sought c.self.inside.outline.now c.self.inside.next c.self.inside.path.items c.self.invariant c.args.self.now c.self.view_is c.args.sequence c.write_parts.new.path.items c.requires.within c.requires.is_leaf c.in_ok-write_parts.ensures.ok
+    kept_sought c.self.inside.outline.now c.self.inside.next c.self.inside.path.items c.self.invariant.after c.args.self.now c.self.view_is c.args.sequence c.in_ok-self-inside.field-0 c.write_parts.new.path.items c.requires.within c.requires.is_leaf c.in_ok-self-inside.ensures.ok

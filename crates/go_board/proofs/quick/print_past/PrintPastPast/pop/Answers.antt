@@ -12,6 +12,5 @@ invariant_of-self c =
     let table = c.pop.ensures newest left (subst (λ (held : List Held). IsTable (newest ∷ held) was.table) c.pop-2.ensures c.self.invariant.tabled) in
     record {
       tabled = table;
-      emptied_in = c.go_back.ensures newest left (subst (λ (held : List Held). IsEmptied (newest ∷ held) was.emptied) c.pop-2.ensures c.self.invariant.emptied_in) (c.next_number.ensures left table);
-      last = tt;
+      emptied_in = c.go_back.ensures newest left (subst (λ (held : List Held). IsEmptied (newest ∷ held) was.emptied) c.pop-2.ensures c.self.invariant.emptied_in) c.len.ensures;
     }

@@ -36,18 +36,18 @@ returns c =
     elim c.if-is_taken.branch [
       | then-is_taken w ↦
           let there : is_set taken p ≡ true = sym is ∙ w.if-is_taken.true in
-          print_left g g left taken refl side
+          search (print_left g g left taken refl side
           (λ q on gone. (played.emptied q on gone, refl))
           (λ q on none.
           let other : q ≢ p = λ e. false≢true (sym none ∙ ap (is_set taken) e ∙ there) in
           sym (played.kept q on (λ gone. false≢true (sym none ∙ gone)) ∙ cell_at-with_cell_elsewhere g p q (stone_of k) c.requires.stone.on_board on other))
-          all all_left c.if-is_taken.put c.print_within.result (w.put-is ∙ c.requires.print) c.print_within.ensures
+          all all_left c.if-is_taken.put c.print_within.result (w.put-is ∙ c.requires.print) c.print_within.ensures)
       | else-is_taken w ↦
           let not_there : is_set taken p ≡ false = sym is ∙ w.if-is_taken.false in
-          print_left g made left taken refl side
+          search (print_left g made left taken refl side
           (λ q on gone.
           let other : q ≢ p = λ e. false≢true (sym not_there ∙ ap (is_set taken) (sym e) ∙ gone) in
           (played.emptied q on gone, cell_at-with_cell_elsewhere g p q (stone_of k) c.requires.stone.on_board on other))
           (λ q on none. sym (played.kept q on (λ gone. false≢true (sym none ∙ gone))))
-          all_made all_left c.if-is_taken.put c.print_within.result (w.put-is ∙ w.print_after_stone-put.ensures) c.print_within.ensures
+          all_made all_left c.if-is_taken.put c.print_within.result (w.put-is ∙ w.print_after_stone-put.ensures) c.print_within.ensures)
     ]

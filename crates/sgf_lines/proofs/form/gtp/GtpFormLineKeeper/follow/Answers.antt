@@ -20,7 +20,7 @@ returns-clause-holds c =
     let own = some_line cursor.at (some_end cursor.ends (length (nodes_before cursor.at)) c.requires.divided (omega (arith, c.requires.front.more))) in
     let judged = c.in_ok-judge_line.ensures.judged in
     let said = c.in_ok-end.ensures ∙ ap script_ended c.in_ok-judge_line.ensures.told in (
-      judged,
+      rw c.verdict.ensures.unchanged judged,
       said,
-      made_script cursor.at own.0 own.1 c.verdict.result c.judge_line.new.judge.judgement c.verdict.ensures judged (built_text c.lay_out_comment.new.self) c.end.new.self said (c.lay_out_comment.ensures own.0 own.1),
+      made_script cursor.at own.0 own.1 c.verdict.result c.judge_line.new.judge.judgement c.verdict.ensures.told judged (built_text c.lay_out_comment.new.self) c.end.new.self said (c.lay_out_comment.ensures own.0 own.1),
     )

@@ -15,6 +15,6 @@ returns-clause-holds c =
     let cursor = c.args.cursor.now in
     let some : 0 < length (nodes_before cursor.at) = some_end cursor.ends (length (nodes_before cursor.at)) c.requires.divided (omega (arith, c.requires.front.more)) in
     let own = some_line cursor.at some in (
-      c.in_ok-judge_line.ensures.judged,
-      made_row cursor.at own.0 own.1 c.verdict.result c.judge_line.new.judge.judgement c.verdict.ensures c.in_ok-judge_line.ensures.judged (built_text c.lay_out.new.self) (c.lay_out.ensures.text own.0 own.1),
+      rw c.verdict.ensures.unchanged c.in_ok-judge_line.ensures.judged,
+      made_row cursor.at own.0 own.1 c.verdict.result c.judge_line.new.judge.judgement c.verdict.ensures.told c.in_ok-judge_line.ensures.judged (built_text c.lay_out.new.self) (c.lay_out.ensures.text own.0 own.1),
     )

@@ -11,34 +11,34 @@ pub returns-in-Ok-clause-step : goal.returns-in-Ok-clause-step
 returns-in-Ok-clause-step c node is =
     let none : c.self.inside.ended ≡ None = first_of (search rules, grind (arith, common_steps)) in
     let s = c.self.inside in
-    let r = c.in-Some.referee in
-    let new = c.take_step.new.referee.present in (
+    let r = c.in-Some.game in
+    let new = c.take.new.self.present in (
       new,
-      leads_to s.ended s.referee r s.plays c.args.self.now c.self.view_is c.in-Some.is node new none (c.in-Ok.ensures.stepped node is).0,
-      subst (λ side. IsStepOf side node c.in-Ok.step) (side_stood s.ended s.referee r s.plays c.args.self.now c.self.view_is c.in-Some.is) (c.in-Ok.ensures.told node is),
+      leads_to s.ended s.game r s.plays c.args.self.now c.self.view_is c.in-Some.is node new none (c.in-Ok.ensures.stepped node is).0,
+      subst (λ side. IsStepOf side node c.in-Ok.step) (side_stood s.ended s.game r s.plays c.args.self.now c.self.view_is c.in-Some.is) (c.in-Ok.ensures.told node is),
     )
 
 pub returns-in-Err-Illegal-clause-judged : goal.returns-in-Err-Illegal-clause-judged
 returns-in-Err-Illegal-clause-judged c node is =
     let s = c.self.inside in
-    let refusal : (step c.in-Some.referee.present node ≡ Err c.in-Err-Illegal.reason) × (c.take_step.new.referee ≡ c.in-Some.referee) = rw c.in-Err-Illegal.field-0-is at (c.in-Err-Illegal.ensures.stepped node is) in
-    refused s.ended s.referee c.in-Some.referee s.plays c.args.self.now c.self.view_is c.in-Some.is node c.in-Err-Illegal.reason c.turns-turn.result c.place_of-place.result c.take_step.new.referee
+    let refusal : (step c.in-Some.game.present node ≡ Err c.in-Err-Illegal.reason) × (c.take.new.self ≡ c.in-Some.game) = rw c.in-Err-Illegal.field-0-is at (c.in-Err-Illegal.ensures.stepped node is) in
+    refused s.ended s.game c.in-Some.game s.plays c.args.self.now c.self.view_is c.in-Some.is node c.in-Err-Illegal.reason c.turns-turn.result c.place_of-place.result c.take.new.self
     c.in_default-ended.is refusal.0 refusal.1 c.turns-turn.ensures.value (c.place_of-place.ensures node c.args.nodes.now.properties is)
 
 pub returns-in-Err-Illegal-clause-step : goal.returns-in-Err-Illegal-clause-step
 returns-in-Err-Illegal-clause-step c node is =
     let s = c.self.inside in
-    let refusal : (step c.in-Some.referee.present node ≡ Err c.in-Err-Illegal.reason) × (c.take_step.new.referee ≡ c.in-Some.referee) = rw c.in-Err-Illegal.field-0-is at (c.in-Err-Illegal.ensures.stepped node is) in
-    leads_nowhere s.ended s.referee c.in-Some.referee s.plays c.args.self.now c.self.view_is c.in-Some.is node c.in-Err-Illegal.reason c.in_default-ended.is refusal.0
+    let refusal : (step c.in-Some.game.present node ≡ Err c.in-Err-Illegal.reason) × (c.take.new.self ≡ c.in-Some.game) = rw c.in-Err-Illegal.field-0-is at (c.in-Err-Illegal.ensures.stepped node is) in
+    leads_nowhere s.ended s.game c.in-Some.game s.plays c.args.self.now c.self.view_is c.in-Some.is node c.in-Err-Illegal.reason c.in_default-ended.is refusal.0
 
 pub returns-in-Err-Memory-clause-unchanged : goal.returns-in-Err-Memory-clause-unchanged
 returns-in-Err-Memory-clause-unchanged c =
     let s = c.self.inside in
     let some = coming c.args.nodes.now.properties c.args.next in
-    let same : c.take_step.new.referee ≡ c.in-Some.referee = rw c.in-Err-Memory.field-0-is at (c.in-Err-Memory.ensures.stepped some.0 some.1) in
-    untaken s.ended s.referee c.in-Some.referee s.plays c.args.self.now c.self.view_is c.in-Some.is c.take_step.new.referee same
+    let same : c.take.new.self ≡ c.in-Some.game = rw c.in-Err-Memory.field-0-is at (c.in-Err-Memory.ensures.stepped some.0 some.1) in
+    untaken s.ended s.game c.in-Some.game s.plays c.args.self.now c.self.view_is c.in-Some.is c.take.new.self same
 
 pub returns-in-Some-ended-clause-plays : goal.returns-in-Some-ended-clause-plays
 returns-in-Some-ended-clause-plays c =
     let s = c.self.inside in
-    none_more s.ended s.referee c.in-Some.referee s.plays c.args.self.now c.self.view_is c.in-Some.is c.in-Some-ended.field-0 c.in-Some-ended.is
+    none_more s.ended s.game c.in-Some.game s.plays c.args.self.now c.self.view_is c.in-Some.is c.in-Some-ended.field-0 c.in-Some-ended.is

@@ -19,7 +19,7 @@ overflow_add-self-2 c =
 pub returns : goal.returns
 returns c = record {
   kept = λ text k next counts is_open closes.
-      tally-closed c.args.self.now c.args.depth c.from.result c.from-2.result k next closes counts is_open
+      search (tally-closed c.args.self.now c.args.depth c.from.result c.from-2.result k next closes counts is_open
       (cast-to (eqb c.args.depth 0) c.from.result (λ e. rw e at c.from.ensures) (λ e. rw e at c.from.ensures))
-      (cast-to c.args.self.now.is_bare c.from-2.result (λ e. rw e at c.from-2.ensures) (λ e. rw e at c.from-2.ensures));
+      (cast-to c.args.self.now.is_bare c.from-2.result (λ e. rw e at c.from-2.ensures) (λ e. rw e at c.from-2.ensures)));
 }

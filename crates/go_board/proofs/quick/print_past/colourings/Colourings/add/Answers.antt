@@ -1,15 +1,16 @@
-use Rattle.std.proofs.Common.{◌≡◌, ◌+◌, cond, ◌++◌, [], ◌∷◌, length, reverse, refl, ap, sym, ◌∙◌, arith, rules}
+use Rattle.std.proofs.Common.{◌≡◌, ◌+◌, cond, false, ◌++◌, [], ◌∷◌, length, reverse, refl, ap, sym, ◌∙◌, arith, rules}
+use Rattle.std.proofs.lemmas.Bool.{false≢true}
 use Rattle.std.proofs.Math.Facts.{Fits-of_lt}
 use Rattle.go_board.specs.declared.quick.print_past.changes.Older.{Older}
 use Rattle.go_board.specs.Grid.{Grid}
 use Rattle.go_board.specs.Past.{PastColourings, newest_grid, with_next}
 use Rattle.go_board.specs.inner.Changes.{is_full, IsPast, KeepRows}
-use Rattle.go_board.proofs.ColouringsLemmas.{started-below, past_held, grown}
+use Rattle.go_board.proofs.ColouringsLemmas.{started-below, past_held, room_for_all, grown}
 use Rattle.go_board.proofs.quick.print_past.colourings.Colourings.add.Goals as goal
 use Rattle.go_board.proofs.quick.print_past.colourings.Colourings.add.Goals.{After-copy-self-inside, then-begins, else-begins}
 
-pub overflow_cast-kept : goal.overflow_cast-kept
-overflow_cast-kept c =
+pub overflow_cast-kept-2 : goal.overflow_cast-kept-2
+overflow_cast-kept-2 c =
     Fits-of_lt (omega (arith, started-below c.self.inside.older.items _ c.self.inside.stretch_start 4294967295 c.in_ok-make_room.ensures.items c.in_ok-make_room.ensures.few c.self.invariant.started))
 
 -- what is kept, and what it tells
@@ -18,7 +19,7 @@ next : (c : After-copy-self-inside) → IsPast c.copy-self-inside.result c.if-be
 next c =
     let was = c.self.inside in
     let board : Grid = c.args.board.now in
-    let kept : Older = record { start = c.len.result; stretch_start = was.stretch_start; settled = c.is_settled.result } in
+    let kept : Older = record { start = c.len.result; stretch_start = was.stretch_start; point = record { col = 0; row = 0 }; alone = false; known = c.new.result } in
     let side : board.side ≡ was.newest.side = sym c.requires ∙ sym (ap (λ (past : PastColourings). (newest_grid past).side) c.self.view_is) in
     let count : c.len-2.result ≡ length was.older.items = search rules in
     let start : c.len.result ≡ length was.changes.items = search rules in
@@ -30,7 +31,8 @@ next c =
     ] in
     rw c.copy-self-inside.ensures
     (grown was.newest board was.stretch_start c.if-begins.stretch_start was.older.items c.push_reserved.new.self.items kept was.changes.items c.keep_rows.new.changes.items c.is_full-all.result c.args.begins c.args.self.now
-    c.self.view_is c.self.invariant c.has_all_cells.ensures.all side c.has_all_cells-2.ensures.all rows older follows refl start c.is_settled.ensures (c.is_full-all.ensures ∙ ap is_full count))
+    c.self.view_is c.self.invariant c.has_all_cells.ensures.all side c.has_all_cells-2.ensures.all rows older follows refl start refl
+    (λ is. c.is_settled.ensures (c.new.ensures.settled is)) (λ is. absurd (false≢true (c.new.ensures.fresh is))) (c.is_full-all.ensures ∙ ap is_full count) (room_for_all c.in_ok-make_room.ensures.changes (c.in_ok-make_room.ensures.few_rows refl) c.has_all_cells.ensures.few))
 
 pub invariant_of-self-2 : goal.invariant_of-self-2
 invariant_of-self-2 c = (next (goal.at.invariant_of-self-2 c).After-copy-self-inside).0

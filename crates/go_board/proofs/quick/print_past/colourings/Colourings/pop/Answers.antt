@@ -20,40 +20,46 @@ invariant_of-self c =
     let o = c.unwrap-kept.result in
     let parts : p.older.items ≡ c.pop.new.self.items ++ o ∷ [] = search rules in
     let less = past-pop p.newest p.stretch_start p.older.items c.pop.new.self.items o p.changes.items parts c.self.invariant in
-    let board = rw (c.deref.ensures.value, take_rest p.changes.items o.start) at c.take_back.ensures in
+    let board = rw (c.deref.ensures.value, take_rest p.changes.items o.start) at c.step_back.ensures in
     rw (c.restore.ensures, board, c.truncate.ensures.items) less
 
 -- the rest is only there for speed
-pub offset_bounds-deref-kept : goal.offset_bounds-deref-kept
-offset_bounds-deref-kept c =
+pub offset_bounds-deref-start : goal.offset_bounds-deref-start
+offset_bounds-deref-start c =
     let p = c.self.inside in
     let parts : p.older.items ≡ c.pop.new.self.items ++ c.unwrap-kept.result ∷ [] = search rules in
     let low : c.unwrap-kept.result.start ≤ length c.deref.result.now = rw c.deref.ensures.value (kept-first p.newest p.older.items c.pop.new.self.items c.unwrap-kept.result p.changes.items parts c.self.invariant.kept).0 in
     search rules
 
-pub slice_bounds-take_back-count : goal.slice_bounds-take_back-count
-slice_bounds-take_back-count c =
+pub slice_bounds-step_back-count : goal.slice_bounds-step_back-count
+slice_bounds-step_back-count c =
     let p = c.self.inside in
     let parts : p.older.items ≡ c.pop.new.self.items ++ c.unwrap-kept.result ∷ [] = search rules in
     rw c.deref.ensures.value (kept-first p.newest p.older.items c.pop.new.self.items c.unwrap-kept.result p.changes.items parts c.self.invariant.kept).0
 
-pub slice_bounds-take_back-start : goal.slice_bounds-take_back-start
-slice_bounds-take_back-start c =
+pub slice_bounds-step_back-start : goal.slice_bounds-step_back-start
+slice_bounds-step_back-start c =
     let p = c.self.inside in
     let parts : p.older.items ≡ c.pop.new.self.items ++ c.unwrap-kept.result ∷ [] = search rules in
     let low : c.unwrap-kept.result.start ≤ length c.deref.result.now = rw c.deref.ensures.value (kept-first p.newest p.older.items c.pop.new.self.items c.unwrap-kept.result p.changes.items parts c.self.invariant.kept).0 in
     search rules
 
-pub restore-requires : goal.restore-requires
-restore-requires c =
+pub step_back-requires-clause-point : goal.step_back-requires-clause-point
+step_back-requires-clause-point c =
     let p = c.self.inside in
     let parts : p.older.items ≡ c.pop.new.self.items ++ c.unwrap-kept.result ∷ [] = search rules in
-    let board = rw (c.deref.ensures.value, take_rest p.changes.items c.unwrap-kept.result.start) at c.take_back.ensures in
-    rw board (kept-first p.newest p.older.items c.pop.new.self.items c.unwrap-kept.result p.changes.items parts c.self.invariant.kept).1
+    (kept-first p.newest p.older.items c.pop.new.self.items c.unwrap-kept.result p.changes.items parts c.self.invariant.kept).1
+
+pub restore-requires : goal.restore-requires
+restore-requires c = λ is.
+    let p = c.self.inside in
+    let parts : p.older.items ≡ c.pop.new.self.items ++ c.unwrap-kept.result ∷ [] = search rules in
+    let board = rw (c.deref.ensures.value, take_rest p.changes.items c.unwrap-kept.result.start) at c.step_back.ensures in
+    rw board ((kept-first p.newest p.older.items c.pop.new.self.items c.unwrap-kept.result p.changes.items parts c.self.invariant.kept).2 (sym c.is_settled.ensures ∙ is))
 
 pub returns : goal.returns
 returns c =
     let p = c.self.inside in
     let parts : p.older.items ≡ c.pop.new.self.items ++ c.unwrap-kept.result ∷ [] = search rules in
-    let board = rw (c.deref.ensures.value, take_rest p.changes.items c.unwrap-kept.result.start) at c.take_back.ensures in
+    let board = rw (c.deref.ensures.value, take_rest p.changes.items c.unwrap-kept.result.start) at c.step_back.ensures in
     rw (sym c.self.view_is) (simp (turned p.older.items c.pop.new.self.items c.unwrap-kept.result parts, c.restore.ensures, board, c.truncate.ensures.items) refl)

@@ -6,6 +6,6 @@ use Rattle.go_board.proofs.quick.print_past.table.Table.has.Given as goal
 
 abbrev pub invariant-each : goal.invariant-each
 invariant-each l = record {
-  within : l.number ≤ length l.self.prints.items;
-  none : (y : ℕ) → l.number ≤ y → y < length l.self.prints.items → IsNumber (all_of l.colourings) y l.board → ⊥;
+  within : l.number ≤ length (all_of l.colourings);
+  none : (y : ℕ) → l.number ≤ y → y < length (all_of l.colourings) → IsNumber (all_of l.colourings) y l.board → ⊥;
 }

@@ -1,4 +1,4 @@
-use Rattle.std.proofs.Common.{◌≡◌, ◌≤◌, ◌+◌, ◌-◌, ◌++◌, ◌∷◌, [], List, ℕ, Option, Some, length, length-append, reverse, get_or, ap, sym, subst, ◌∙◌, arith, rules}
+use Rattle.std.proofs.Common.{◌≡◌, ◌<◌, ◌≤◌, inl, inr, ◌+◌, ◌-◌, ◌++◌, ◌∷◌, [], List, ℕ, Option, Some, length, length-append, reverse, get_or, ap, sym, subst, ◌∙◌, arith, rules}
 use Rattle.std.specs.Option.{option_to_list}
 use Rattle.go_board.specs.declared.quick.print_past.table.Table.{Table}
 use Rattle.go_board.specs.declared.quick.print_past.key.TheConstants.{WIDTH}
@@ -6,14 +6,28 @@ use Rattle.key_trie.specs.declared.trie.Trie.{Trie}
 use Rattle.go_board.specs.inner.Key.{keys_of}
 use Rattle.go_board.specs.inner.Filter.{IsFilter}
 use Rattle.go_board.specs.inner.Print.{prints_of}
-use Rattle.go_board.specs.inner.Table.{IsTable}
+use Rattle.go_board.specs.inner.Table.{IsAwakeTable}
 use Rattle.key_trie.specs.Trie.{item_count, room_of, IsTrie}
-use Rattle.go_board.proofs.TableLemmas.{tabled, printed_back, linked_after}
+use Rattle.go_board.proofs.TableLemmas.{asleep_less, tabled, printed_back, linked_after}
 use Rattle.go_board.proofs.quick.print_past.table.Table.pop.Goals as goal
 use Rattle.go_board.proofs.quick.print_past.table.Table.pop.Goals.{then-len, else-len}
 
+-- the table sleeps
+pub returns-then-is_empty : goal.returns-then-is_empty
+returns-then-is_empty c = λ newest older is.
+    let none : length c.args.self.now.prints.items ≡ 0 = search rules in
+    elim is [
+      | inl asleep ↦ inl (asleep_less c.args.self.now newest older asleep)
+      | inr awake ↦ absurd (omega (arith, none, tabled (newest ∷ older) c.args.self.now awake))
+    ]
+
 pub returns : goal.returns
-returns c = λ newest older is.
+returns c = λ newest older any.
+    let some : 0 < length c.args.self.now.prints.items = search rules in
+    let is : IsAwakeTable (newest ∷ older) c.args.self.now = elim any [
+      | inl asleep ↦ absurd (omega (arith, some, ap (λ (xs : List ℕ). length xs) asleep.no_prints))
+      | inr awake ↦ awake
+    ] in
     let t = c.args.self.now in
     let after = c.if-len.self in
     let left = c.pop.new.self.items in
@@ -30,7 +44,7 @@ returns c = λ newest older is.
     )
     in
     let table_of : (after.prints.items ≡ t.prints.items) → (after.filter ≡ t.filter) → (room_of after.trie ≡ room_of t.trie) → (item_count after.trie ≤ length older) → IsTrie WIDTH (keys_of (newest ∷ older)) after.trie
-    → IsTable older (record { prints = c.pop.new.self; trie = after.trie; filter = c.go_back.new.self }) = λ same filter room few linked.
+    → IsAwakeTable older (record { prints = c.pop.new.self; trie = after.trie; filter = c.go_back.new.self }) = λ same filter room few linked.
     let print = popped same filter in
     record {
       printed = print.0;
@@ -41,7 +55,7 @@ returns c = λ newest older is.
       filtered = print.2;
     }
     in
-    elim c.if-len.branch [
+    inr (elim c.if-len.branch [
       | then-len w ↦
           let trie : after.trie ≡ w.take_back.new.self = ap (λ (x : Table). x.trie) w.self-is in
           table_of (ap (λ (x : Table). x.prints.items) w.self-is) (ap (λ (x : Table). x.filter) w.self-is) (ap room_of trie ∙ w.take_back.ensures.room)
@@ -52,4 +66,4 @@ returns c = λ newest older is.
           table_of (ap (λ (x : Table). x.prints.items) w.self-is) (ap (λ (x : Table). x.filter) w.self-is) (ap room_of trie)
           (omega (arith, ap item_count trie, w.if-len.false, c.len.ensures, c.len-2.ensures, t.prints.ok.0, all, is.few))
           (subst (λ (x : Trie). IsTrie WIDTH (keys_of (newest ∷ older)) x) (sym trie) is.linked)
-    ]
+    ])
