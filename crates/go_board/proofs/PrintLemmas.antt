@@ -7,7 +7,7 @@ use Rattle.std.proofs.Math.Bool.{and-true, and-false}
 use Rattle.std.proofs.lemmas.Bool.{cases_Bool, cases_eq}
 use Rattle.std.proofs.lemmas.Nat.{mod_below, mul-mod, mul-mod_second, pow_pos, shr_split}
 use Rattle.std.proofs.lemmas.Nat.Bits.{bit_at-zero, bit_at_cat_high, bit_at_cat_low}
-use Rattle.std.proofs.lemmas.List.{take_all, get_or-set_same, get_or-set_other, length-set}
+use Rattle.std.proofs.lemmas.List.{take_all, get_or-set_same, get_or-set_other, length-set, set-get_or, set-set}
 use Rattle.std.proofs.lemmas.List.Sums.{fold_more}
 use Rattle.go_board.specs.declared.stones.Cell.{Cell}
 use Rattle.go_board.specs.declared.stones.Cell.TheVariants.{Black, White, Empty}
@@ -18,6 +18,7 @@ use Rattle.go_board.specs.Grid.{Grid, cell_at, with_cell}
 use Rattle.go_board.specs.inner.Print.{code, print_of, in_base, row_number, word_number, row_within, number_within}
 use Rattle.board_points.specs.Rows.{has_bit, is_set}
 use Rattle.board_points.proofs.PointLemmas.{index_below}
+use Rattle.go_board.proofs.GridLemmas.{cell_at-with_cell}
 use Rattle.go_board.proofs.StoneRowsLemmas.{bit_same}
 use Rattle.board_points.proofs.WordLemmas.{bit_at-there, bit_at-gone, bit_at-mod, has_bit-and, has_bit-zero}
 
@@ -146,6 +147,17 @@ stone_added g p stone on empty all print added is adds =
     ∙ ap (λ n. n % 2 ^ 64) (sym grown)
     ∙ ap (λ n. in_base 31 n (digits made) % 2 ^ 64) (sym (length-set g.cells at stone ∙ all))
     ∙ sym (whole_number (2 ^ 64) made)
+
+-- a point that is emptied takes the code of its cell times that power away
+pub cell_removed : (g : Grid) (p : Point) → IsOn g.side p → length g.cells ≡ g.side * g.side → (print removed : ℕ) → print ≡ print_of g → removed < 2 ^ 64 → removed % 2 ^ 64 ≡ (code (cell_at g p) * 31 ^ (g.side * g.side - 1 - index_of g.side p)) % 2 ^ 64 → (print + (2 ^ 64 - removed)) % 2 ^ 64 ≡ print_of (with_cell g p Empty)
+cell_removed g p on all print removed is small removes =
+    let at = index_of g.side p in
+    let left = with_cell g p Empty in
+    let back : with_cell left p (cell_at g p) ≡ g =
+    ap (λ (cells : List Cell). record g { cells = cells }) (set-set g.cells at Empty (cell_at g p) ∙ set-get_or g.cells at Empty) in
+    let after : (print_of left + removed) % 2 ^ 64 ≡ print_of g =
+    stone_added left p (cell_at g p) on (cell_at-with_cell g p Empty on all) (length-set g.cells at Empty ∙ all) (print_of left) removed refl removes ∙ ap print_of back in
+    omega (arith, after, is, print_small left, small)
 
 -- The numbers of words.
 

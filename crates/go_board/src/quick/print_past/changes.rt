@@ -7,9 +7,10 @@ ghost use Rattle.go_board.specs.Clearing.{play};
 ghost use Rattle.board_points.specs.Point.{IsOn};
 ghost use Rattle.go_board.specs.inner.Changes.{after_changes, step_back, AddsRow, AreOn, KeepRows, is_full, is_fresh, is_settled};
 ghost use Rattle.go_board.specs.inner.Groups.{IsMove};
+ghost use Rattle.go_board.specs.inner.Print.{print_of};
 
 use crate::board::Board;
-use crate::quick::print_past::print::columns_in;
+use crate::quick::print_past::print::{columns_in, print_of, print_without};
 use crate::stones::{Cell, Colour};
 use board_points::columns::{all_columns, has_column, without_column};
 use board_points::{MAX_ROWS, Point};
@@ -95,6 +96,28 @@ pub(crate) fn step_back(board: &mut Board, kept: Older, changes: &[Change])
     } else {
         take_back(board, changes);
     }
+}
+
+/// The same as `step_back`. `print` is the board's print. Returns the print after the step back.
+pub(crate) fn step_back_with_print(
+    board: &mut Board,
+    print: u64,
+    kept: Older,
+    changes: &[Change],
+) -> u64
+    requires print { print ≡ print_of board.old }
+    requires point { IsTrue kept.alone → IsOn board.old.side kept.point }
+    requires changes { AreOn board.old.side changes.now }
+    ensures board { board.new ≡ step_back board.old kept changes.now }
+    ensures print { result ≡ print_of board.new }
+{
+    if !kept.alone {
+        take_back(board, changes);
+        return print_of(board);
+    }
+    let before = print_without(print, board, kept.point);
+    board.set(kept.point, Cell::Empty);
+    before
 }
 
 /// Takes a board back by changes, the last one first.

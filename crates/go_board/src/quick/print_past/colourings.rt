@@ -13,7 +13,8 @@ ghost use Rattle.go_board.specs.inner.Key.{start_of, since};
 use crate::board::Board;
 use crate::fault::MemoryFault;
 use crate::quick::print_past::changes::{
-    Change, FULL, Known, MOST, Older, is_full, keep_played, keep_rows, step_back, take_back,
+    Change, FULL, Known, MOST, Older, is_full, keep_played, keep_rows, step_back,
+    step_back_with_print, take_back,
 };
 use crate::quick::print_past::print::print_of;
 use crate::stones::{Cell, Colour};
@@ -201,13 +202,15 @@ impl Colourings {
         let mut past = self.newest.copy();
         let mut at = self.older.len();
         let mut end = self.changes.len();
-        prints[at] = print_of(&past);
+        let mut print = print_of(&past);
+        prints[at] = print;
         'each: while at > 0 {
             at -= 1;
             let kept = self.older[at];
-            step_back(&mut past, kept, &self.changes[kept.start as usize..end]);
+            let changes = &self.changes[kept.start as usize..end];
+            print = step_back_with_print(&mut past, print, kept, changes);
             end = kept.start as usize;
-            prints[at] = print_of(&past);
+            prints[at] = print;
         }
     }
 

@@ -20,7 +20,7 @@ ghost use Rattle.board_points.specs.Rows.{has_bit, is_set};
 use crate::board::Board;
 use crate::quick::print_past::bytes::byte_number;
 use crate::quick::print_past::powers::{power, small_power};
-use crate::stones::Colour;
+use crate::stones::{Cell, Colour};
 use board_points::columns::{has_column, without_column};
 use board_points::{MAX_SIDE, Point};
 
@@ -57,7 +57,23 @@ fn print_after_stone(print: u64, board: &Board, colour: Colour, point: Point) ->
     })
 }
 
-/// The same; `taken` is what the stone takes off. Only stones that change are looked at.
+/// The print after a point is emptied, from the print before. What stands on it, if anything, is looked at.
+pub(crate) fn print_without(print: u64, board: &Board, point: Point) -> u64
+    requires on_board { IsOn board.now.side point }
+    requires print { print ≡ print_of board.now }
+    ensures { result ≡ print_of (with_cell board.now point Empty) }
+{
+    board.has_all_cells();
+    let weight = power(points_after(board.size().side(), point));
+    print.wrapping_sub(match board.at(point) {
+        Cell::Empty => 0,
+        Cell::Black => weight,
+        Cell::White => weight.wrapping_mul(2),
+    })
+}
+
+/// The print after a stone is put on an empty point, from the print before; `taken` is what the stone takes off. Only stones that change
+/// are looked at.
 #[inline(always)]
 pub(crate) fn print_after_taking(
     print: u64,

@@ -1,7 +1,7 @@
--- The colouring of the number at which the walk is. The prints from that number on are written.
+-- The colouring of the number at which the walk is, and its print. The prints from that number on are written.
 use Rattle.std.proofs.Common.{◌≡◌, ℕ, ◌+◌, ◌-◌, ◌≤◌, ◌++◌, length, drop, reverse}
 use Rattle.go_board.specs.Past.{all_of}
-use Rattle.go_board.specs.inner.Print.{prints_of}
+use Rattle.go_board.specs.inner.Print.{print_of, prints_of}
 use Rattle.go_board.proofs.ColouringsLemmas.{IsThere}
 use Rattle.go_board.proofs.quick.print_past.colourings.Colourings.write_prints.Given as goal
 
@@ -11,6 +11,7 @@ invariant-each l = record {
   high : l.at ≤ length l.self-inside.older.items;
   all : length l.prints ≡ length (all_of l.self);
   written : prints_of (all_of l.self) ≡ reverse (drop l.at l.prints) ++ prints_of (drop (length l.self-inside.older.items - l.at + 1) (all_of l.self));
+  print : l.print ≡ print_of l.past;
 }
 
 abbrev pub decreases-each : goal.decreases-each
