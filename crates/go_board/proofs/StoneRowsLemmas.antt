@@ -2,10 +2,10 @@
 use Rattle.std.proofs.Common.{◌≡◌, ◌≢◌, ◌↔◌, inl, inr, ℕ, ◌*◌, ◌<◌, ◌≤◌, ◌^◌, ◌==◌, ◌&&◌, Bool, true, false, not, cond, List, length, get_or, set, take, replicate, bit_and, bit_or, w64, refl, sym, ap, ◌∙◌, arith, subst, rules}
 use Rattle.std.proofs.lemmas.Grind.{common_steps}
 use Rattle.std.specs.Int.{bit_at, bit_not}
-use Rattle.std.proofs.lemmas.Bool.{false≢true}
+use Rattle.std.proofs.lemmas.Bool.{cases_Bool, cases_eq, false≢true}
 use Rattle.std.proofs.lemmas.Bool.Decides.{Decides-eqb}
 use Rattle.std.proofs.lemmas.Nat.Bits.{same_from_bits}
-use Rattle.std.proofs.lemmas.List.{ext_get_or, get_or-take, length-set, length-take-le, length-replicate}
+use Rattle.std.proofs.lemmas.List.{ext_get_or, get_or-take, length-set, length-take-le, length-replicate, set-get_or}
 use Rattle.go_board.specs.declared.stones.Cell.{Cell}
 use Rattle.go_board.specs.declared.stones.Cell.TheVariants.{Black, White, Empty}
 use Rattle.board_points.specs.declared.points.Point.{Point}
@@ -164,6 +164,58 @@ columns_set word columns c = grind (arith, common_steps, has_bit-or)
 
 pub columns_cleared : (word columns c : ℕ) → word < 2 ^ 64 → columns < 2 ^ 64 → has_bit (bit_and word (bit_not w64 columns)) c ≡ cond (has_bit columns c) false (has_bit word c)
 columns_cleared word columns c low low_columns = grind (arith, common_steps, has_bit-less)
+
+-- a stone that is added on an empty point
+none_there : (black white : Bool) → cond black Black (cond white White Empty) ≡ Empty → (black ≡ false) × (white ≡ false)
+none_there black white is = grind (arith, common_steps)
+
+module _ (side : ℕ) (black white : List ℕ) (p : Point) (columns : ℕ) (are : AreStones side black white) (on : IsOn side p) (empty : cell_at (grid_with side black white) p ≡ Empty) (all : length (grid_with side black white).cells ≡ side * side) (there : has_bit columns p.col ≡ true) (elsewhere : (k : ℕ) → k ≢ p.col → has_bit columns k ≡ false) where
+  unset : (is_set black p ≡ false) × (is_set white p ≡ false)
+  unset = none_there (is_set black p) (is_set white p) (sym (cell_at-grid_of side (stone_in black white) p on) ∙ empty)
+
+  one_column : (col : ℕ) → has_bit columns col ≡ true → col ≡ p.col
+  one_column col is = elim (cases_eq col p.col) [ inl same ↦ same | inr other ↦ absurd (false≢true (sym (elsewhere col other) ∙ is)) ]
+
+  -- the word of the other colour
+  kept : (word : ℕ) → has_bit word p.col ≡ false → (col : ℕ) → has_bit word col ≡ cond (has_bit columns col) false (has_bit word col)
+  kept word none col =
+      elim (cases_Bool (has_bit columns col)) [
+        | inl is ↦ rw is (ap (has_bit word) (one_column col is) ∙ none)
+        | inr not_one ↦ rw not_one refl
+      ]
+
+  within : (col : ℕ) → has_bit columns col ≡ true → col < side
+  within col is = rw (one_column col is) on.0
+
+  abbrev black_row : ℕ
+  black_row = get_or black p.row 0
+
+  abbrev white_row : ℕ
+  white_row = get_or white p.row 0
+
+  pub black_added : AreStones side (set black p.row (bit_or black_row columns)) white × (grid_with side (set black p.row (bit_or black_row columns)) white ≡ with_cell (grid_with side black white) p Black)
+  black_added =
+      let same = set-get_or white p.row 0 in
+      let b = columns_set black_row columns in
+      let w = kept white_row unset.1 in (
+        subst (λ l. AreStones side (set black p.row (bit_or black_row columns)) l) same
+            (AreStones-coloured side black white p.row columns Black (bit_or black_row columns) white_row are on.1 within b w),
+        ap (λ l. grid_with side (set black p.row (bit_or black_row columns)) l) (sym same)
+            ∙ grid-coloured side black white p.row columns Black (bit_or black_row columns) white_row are on.1 within b w
+            ∙ one_coloured (grid_with side black white) p p.row columns Black on all refl there elsewhere,
+      )
+
+  pub white_added : AreStones side black (set white p.row (bit_or white_row columns)) × (grid_with side black (set white p.row (bit_or white_row columns)) ≡ with_cell (grid_with side black white) p White)
+  white_added =
+      let same = set-get_or black p.row 0 in
+      let b = kept black_row unset.0 in
+      let w = columns_set white_row columns in (
+        subst (λ l. AreStones side l (set white p.row (bit_or white_row columns))) same
+            (AreStones-coloured side black white p.row columns White black_row (bit_or white_row columns) are on.1 within b w),
+        ap (λ l. grid_with side l (set white p.row (bit_or white_row columns))) (sym same)
+            ∙ grid-coloured side black white p.row columns White black_row (bit_or white_row columns) are on.1 within b w
+            ∙ one_coloured (grid_with side black white) p p.row columns White on all refl there elsewhere,
+      )
 
 -- a board on which nothing stands
 pub AreStones-none : (side : ℕ) (black white : List ℕ) → side ≤ 52 → black ≡ replicate 52 0 → white ≡ replicate 52 0 → AreStones side black white × (grid_with side black white ≡ empty_grid side)

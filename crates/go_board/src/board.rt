@@ -106,6 +106,22 @@ impl Board {
         self.colour_columns(point.row, column, cell);
     }
 
+    /// Puts a stone on an empty point, which must be on the board. Nothing is cleared. This is quicker than `set`.
+    pub(crate) fn add(&mut self, colour: Colour, point: Point)
+        requires on_board { IsOn self.old.side point }
+        requires empty { cell_at self.old point ≡ Empty }
+        ensures { self.new ≡ with_cell self.old point (stone_of colour) }
+    {
+        self.has_all_cells();
+        let row = usize::from(point.row);
+        let column = with_column(0, usize::from(point.col), true);
+        match colour {
+            Colour::Black => self.black[row] |= column,
+            Colour::White => self.white[row] |= column,
+        }
+        self.settled = false;
+    }
+
     /// Colours the points of a row that are in a set of columns. Nothing is cleared.
     pub(crate) fn colour_columns(&mut self, row: u8, columns: u64, cell: Cell)
         requires row { row < self.old.side }

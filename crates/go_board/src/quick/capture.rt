@@ -7,7 +7,7 @@ ghost use Rattle.board_points.specs.Point.{IsOn};
 ghost use Rattle.go_board.specs.Colour.{stone_of};
 ghost use Rattle.go_board.specs.Grid.{cell_at};
 ghost use Rattle.go_board.specs.Clearing.{play};
-ghost use Rattle.go_board.specs.inner.Groups.{AreKnownAlive, ReachesIfStone, AddsGroup, AddsShut, AreShutGroups, AreTakenOrReachBeside, IsAsked, IsEmptyOnSettled, TakesOff};
+ghost use Rattle.go_board.specs.inner.Groups.{AreKnownAlive, ReachesIfStone, AddsGroup, AddsShut, AreShutGroups, AreTakenOrReachBeside, IsAsked, IsEmptyOnSettled, IsMove, TakesOff};
 ghost use Rattle.board_points.specs.Rows.{is_set, HasNoPoint};
 
 use crate::board::Board;
@@ -155,14 +155,13 @@ impl Board {
         point.is_on(self.size()) && self.at(point) == colour.stone()
     }
 
-    /// Places a stone; `taken` is what it takes off. After that every stone reaches empty.
+    /// Puts a stone on an empty point; `taken` is what it takes off. After that every stone reaches empty.
     pub(crate) fn put(&mut self, colour: Colour, point: Point, taken: &[u64])
-        requires on_board { IsOn self.old.side point }
-        requires taken { TakesOff self.old colour point taken.now }
+        requires { IsMove self.old colour point taken.now }
         ensures { self.new ≡ play self.old colour point }
     {
         self.has_all_cells();
-        self.set(point, colour.stone());
+        self.add(colour, point);
         self.empty_set(taken);
         self.restore(true);
     }

@@ -23,7 +23,7 @@ restore-requires c = λ _.
     let g = c.args.self.now in
     let k = c.args.colour in
     let p = c.args.point in
-    ap has_unreaching (played g c.set.new.self c.empty_set.new.self k p c.args.taken.now c.has_all_cells.ensures.all (c.set.ensures ∙ ap (with_cell g p) c.stone.ensures) c.empty_set.ensures c.requires.taken)
+    ap has_unreaching (played g c.add.new.self c.empty_set.new.self k p c.args.taken.now c.has_all_cells.ensures.all c.add.ensures c.empty_set.ensures c.requires.taken)
     ∙ settled_by_play g k p
 
 pub returns : goal.returns
@@ -32,4 +32,4 @@ returns c =
     let k = c.args.colour in
     let p = c.args.point in
     c.restore.ensures
-    ∙ played g c.set.new.self c.empty_set.new.self k p c.args.taken.now c.has_all_cells.ensures.all (c.set.ensures ∙ ap (with_cell g p) c.stone.ensures) c.empty_set.ensures c.requires.taken
+    ∙ played g c.add.new.self c.empty_set.new.self k p c.args.taken.now c.has_all_cells.ensures.all c.add.ensures c.empty_set.ensures c.requires.taken
