@@ -1,9 +1,10 @@
 //! The referee: the Tromp-Taylor rules over a past, with undo. Each accepted call keeps the player and the passes from before the
 //! call, and which call it was (`Earlier`). `undo` restores these. If the call added a colouring to the past, `undo` removes it.
 
-ghost use Rattle.std.specs.Prelude.{reverse, ◌≡◌, ◌<◌, ◌≤◌, ◌∷◌, length, IsTrue, IfOk, OnOk, OnErr};
+ghost use Rattle.std.specs.Prelude.{Some, reverse, ◌≡◌, ◌<◌, ◌≤◌, ◌∷◌, length, IsTrue, IfOk, OnOk, OnErr};
 ghost use Rattle.go_board.specs.declared.stones.Colour.TheVariants.{Black, White};
 ghost use Rattle.go_board.specs.State.{States, HadSameBoard, HaveBegun, begun, followed_by, is_over};
+ghost use Rattle.go_board.specs.Reason.{must_move};
 ghost use Rattle.go_board.specs.Score.{score_of};
 ghost use Rattle.go_board.specs.inner.Earlier.{grew, turned, player_of, states_of, IsRefereeKept};
 
@@ -28,7 +29,7 @@ const FIRST_STATES: usize = 256;
 #[derive(Drop)]
 pub struct Referee<P: Past> {
     past: P,
-    player: Option<Colour>,
+    mover: Mover,
     passes: u8,
     turns: u64,
     /// One for each accepted call that wasn't taken back, oldest first.
@@ -86,25 +87,34 @@ enum Mover {
 }
 
 impl Mover {
-    /// The player who must move, as a mover; `Either` for None.
+    /// That player.
+    fn only(player: Colour) -> Mover
+        ensures { player_of result ≡ Some player }
+    {
+        match player {
+            Colour::Black => Mover::Black,
+            Colour::White => Mover::White,
+        }
+    }
+
+    /// That player; either for None.
     fn of(player: Option<Colour>) -> Mover
         ensures { player_of result ≡ player }
     {
         match player {
             None => Mover::Either,
-            Some(Colour::Black) => Mover::Black,
-            Some(Colour::White) => Mover::White,
+            Some(player) => Mover::only(player),
         }
     }
 
-    /// The player who must move; None if either may.
-    fn player(self) -> Option<Colour>
-        ensures { result ≡ player_of self }
+    /// Whether that player must move.
+    fn must_be(self, player: Colour) -> bool
+        ensures { result ≡ must_move (player_of self) player }
     {
         match self {
-            Mover::Either => None,
-            Mover::Black => Some(Colour::Black),
-            Mover::White => Some(Colour::White),
+            Mover::Either => false,
+            Mover::Black => player == Colour::Black,
+            Mover::White => player == Colour::White,
         }
     }
 }
@@ -112,9 +122,9 @@ impl Mover {
 impl<P: Past> Model for Referee<P> {
     ghost Value = { States };
 
-    ghost view = { λ r. states_of (P.held r.past) r.player r.passes r.turns r.earlier.items };
+    ghost view = { λ r. states_of (P.held r.past) (player_of r.mover) r.passes r.turns r.earlier.items };
 
-    ghost invariant = { λ r. IsRefereeKept (P.held r.past) r.player r.passes r.turns (reverse r.earlier.items) };
+    ghost invariant = { λ r. IsRefereeKept (P.held r.past) (player_of r.mover) r.passes r.turns (reverse r.earlier.items) };
 }
 
 impl<P: Past> Referee<P> {
@@ -125,7 +135,7 @@ impl<P: Past> Referee<P> {
     {
         Ok(Referee {
             past: P::new(alloc, &Board::empty(size))?,
-            player: Some(Colour::Black),
+            mover: Mover::Black,
             passes: 0,
             turns: 0,
             earlier: Vec::with_capacity(alloc, FIRST_STATES)?,
@@ -142,7 +152,7 @@ impl<P: Past> Referee<P> {
     {
         self.past
             .reset(*self.earlier.allocator(), &Board::empty(size))?;
-        self.player = Some(Colour::Black);
+        self.mover = Mover::Black;
         self.passes = 0;
         self.turns = 0;
         self.earlier.clear();
@@ -177,7 +187,7 @@ impl<P: Past> Referee<P> {
         ensures side { self.new.present.colouring.side ≡ self.old.present.colouring.side }
     {
         let earlier = self.earlier.pop().unwrap();
-        self.player = earlier.mover.player();
+        self.mover = earlier.mover;
         self.passes = earlier.passes;
         self.turns -= u64::from(earlier.call.turned());
         if earlier.call.grew() {
@@ -236,7 +246,7 @@ impl<P: Past> Referee<P> {
     {
         Earlier {
             call,
-            mover: Mover::of(self.player),
+            mover: self.mover,
             passes: self.passes,
         }
     }

@@ -7,7 +7,7 @@ ghost use Rattle.go_board.specs.inner.Earlier.{with_setup};
 
 use crate::fault::MemoryFault;
 use crate::past::Past;
-use crate::referee::{Call, Referee, SetupOp};
+use crate::referee::{Call, Mover, Referee, SetupOp};
 use crate::stones::Colour;
 
 impl<P: Past> Referee<P> {
@@ -40,7 +40,7 @@ impl<P: Past> Referee<P> {
     {
         let present = self.present_kept(Call::Stay);
         self.earlier.push(present)?;
-        self.player = player;
+        self.mover = Mover::of(player);
         Ok(())
     }
 
@@ -55,7 +55,7 @@ impl<P: Past> Referee<P> {
         self.earlier.reserve(1)?;
         self.past.set_up(ops)?;
         self.earlier.push(present).unwrap();
-        self.player = player;
+        self.mover = Mover::of(player);
         self.passes = 0;
         Ok(())
     }

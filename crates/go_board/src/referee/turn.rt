@@ -13,7 +13,7 @@ ghost use Rattle.go_board.specs.inner.Earlier.{MayOnlyRepeat};
 use crate::fault::{MemoryFault, TurnFault};
 use crate::past::Past;
 use crate::reason::Reason;
-use crate::referee::{Call, Play, Referee};
+use crate::referee::{Call, Mover, Play, Referee};
 use crate::stones::{Cell, Colour};
 use board_points::Point;
 
@@ -54,7 +54,7 @@ impl<P: Past> Referee<P> {
         if self.over() {
             return Some(Reason::Over);
         }
-        if self.player == Some(colour.opponent()) {
+        if self.mover.must_be(colour.opponent()) {
             return Some(Reason::Turn);
         }
         if let Play::Stone(point) = play {
@@ -73,7 +73,7 @@ impl<P: Past> Referee<P> {
     {
         let present = self.present_kept(Call::Pass);
         self.earlier.push(present)?;
-        self.player = Some(colour.opponent());
+        self.mover = Mover::only(colour.opponent());
         self.passes += 1;
         self.turns += 1;
         Ok(())
@@ -99,7 +99,7 @@ impl<P: Past> Referee<P> {
             self.past.pop();
             return Err(MemoryFault);
         }
-        self.player = Some(colour.opponent());
+        self.mover = Mover::only(colour.opponent());
         self.passes = 0;
         self.turns += 1;
         Ok(true)

@@ -2,7 +2,7 @@ use Rattle.std.proofs.Common.{◌≡◌, ◌++◌, [], ◌∷◌, true, false, f
 use Rattle.go_board.specs.Past.{newest_grid}
 use Rattle.go_board.specs.State.{States, with_area}
 use Rattle.go_board.proofs.AreaLemmas.{side-with_areas}
-use Rattle.go_board.specs.inner.Earlier.{grew, turned}
+use Rattle.go_board.specs.inner.Earlier.{grew, player_of, turned}
 use Rattle.go_board.proofs.EarlierLemmas.{IsRefereeKept-grown}
 use Rattle.go_board.proofs.referee.Referee.begin_anew.Goals as goal
 
@@ -13,6 +13,6 @@ invariant_of-self-2 g c =
     let past = g.P.Past.held was.past in
     let made = fold with_area (newest_grid past) c.args.ops.now in
     let items : c.push.new.self.items ≡ was.earlier.items ++ kept.result ∷ [] = search rules in
-    IsRefereeKept-grown past was.player was.passes was.turns was.earlier.items
+    IsRefereeKept-grown past (player_of was.mover) was.passes was.turns was.earlier.items
     kept.result false (kept.ensures.player ∙ sym (ap (λ (states : States). states.present.player) c.self.view_is)) (kept.ensures.passes ∙ sym (ap (λ (states : States). states.present.passes) c.self.view_is)) (ap grew kept.ensures.call) (ap turned kept.ensures.call)
-    was.turns (omega arith) c.self.invariant (g.P.Past.held c.set_up.new.self) made true c.args.player c.push.new.self.items c.in_ok-set_up.ensures.ok (side-with_areas (newest_grid past) c.args.ops.now) items
+    was.turns (omega arith) c.self.invariant (g.P.Past.held c.set_up.new.self) made true (player_of c.of-self-inside.result) c.push.new.self.items c.in_ok-set_up.ensures.ok (side-with_areas (newest_grid past) c.args.ops.now) items

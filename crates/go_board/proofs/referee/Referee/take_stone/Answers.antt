@@ -6,7 +6,7 @@ use Rattle.go_board.specs.Clearing.{play}
 use Rattle.go_board.specs.Past.{newest_grid, with_next, present_stretch}
 use Rattle.go_board.specs.State.{States}
 use Rattle.go_board.specs.Reason.{reason_of}
-use Rattle.go_board.specs.inner.Earlier.{grew, turned}
+use Rattle.go_board.specs.inner.Earlier.{grew, player_of, turned}
 use Rattle.go_board.proofs.EarlierLemmas.{IsRefereeKept-grown}
 use Rattle.go_board.proofs.SettledLemmas.{side_play}
 use Rattle.go_board.proofs.TurnLemmas.{reason_by_past, reason_of-new, on_err}
@@ -49,9 +49,9 @@ invariant_of-self-2 g c =
     let made = play (newest_grid past) c.args.colour c.args.point in
     let now : g.P.Past.held c.play.new.self ≡ with_next past made false = rw c.if-not-branch.false at c.in_ok-play.ensures.ok in
     let items : c.push.new.self.items ≡ was.earlier.items ++ kept.result ∷ [] = search rules in
-    IsRefereeKept-grown past was.player was.passes was.turns was.earlier.items
+    IsRefereeKept-grown past (player_of was.mover) was.passes was.turns was.earlier.items
     kept.result true (kept.ensures.player ∙ sym (ap (λ (states : States). states.present.player) c.self.view_is)) (kept.ensures.passes ∙ sym (ap (λ (states : States). states.present.passes) c.self.view_is)) (ap grew kept.ensures.call) (ap turned kept.ensures.call)
-    (was.turns + 1) (omega arith) c.self.invariant (g.P.Past.held c.play.new.self) made false (Some c.opponent.result) c.push.new.self.items now (side_play (newest_grid past) c.args.colour c.args.point) items
+    (was.turns + 1) (omega arith) c.self.invariant (g.P.Past.held c.play.new.self) made false (player_of c.only-self-inside.result) c.push.new.self.items now (side_play (newest_grid past) c.args.colour c.args.point) items
 
 -- these two are only there for speed
 pub overflow_add-self : goal.overflow_add-self
@@ -70,4 +70,4 @@ returns-clause-ok g c =
     let turns : was.turns + 1 - 1 ≡ was.turns = omega arith in
     let added : grew kept.result.call ≡ true = ap grew kept.ensures.call in
     let counted : turned kept.result.call ≡ true = ap turned kept.ensures.call in
-    rw (sym c.self.view_is) (simp (now, newest, added, counted, kept.ensures.player, kept.ensures.passes, c.opponent.ensures, turns) (search rules))
+    rw (sym c.self.view_is) (simp (now, newest, added, counted, kept.ensures.player, kept.ensures.passes, c.only-self-inside.ensures, c.opponent.ensures, turns) (search rules))

@@ -2,7 +2,7 @@ use Rattle.std.proofs.Common.{◌≡◌, ◌≤◌, ◌++◌, reverse, [], ◌�
 use Rattle.std.specs.Int.{from_bool}
 use Rattle.std.proofs.lemmas.List.{reverse-append}
 use Rattle.go_board.specs.declared.referee.Earlier.{Earlier}
-use Rattle.go_board.specs.inner.Earlier.{turned, past_of_older, past_before}
+use Rattle.go_board.specs.inner.Earlier.{turned, player_of, past_of_older, past_before}
 use Rattle.go_board.proofs.EarlierLemmas.{IsRefereeKept-back}
 use Rattle.go_board.proofs.referee.Referee.undo.Goals as goal
 
@@ -15,7 +15,7 @@ invariant_of-self g c =
     let parts : was.earlier.items ≡ c.pop.new.self.items ++ kept ∷ [] = search rules in
     let from : c.from.result ≡ from_bool (turned kept.call) = search rules in
     let is : past_before past kept ≡ now = ap (λ b. cond b (past_of_older past past.older) past) (sym c.grew.ensures ∙ c.if-grew.true) ∙ ap (past_of_older past) c.pop-then-grew.ensures in
-    rw (from, c.player-self-inside.ensures) (IsRefereeKept-back past now was.player was.passes was.turns was.earlier.items c.pop.new.self.items kept parts (sym is) c.self.invariant)
+    rw from (IsRefereeKept-back past now (player_of was.mover) was.passes was.turns was.earlier.items c.pop.new.self.items kept parts (sym is) c.self.invariant)
 
 pub invariant_of-self-else-grew : goal.invariant_of-self-else-grew
 invariant_of-self-else-grew g c =
@@ -25,7 +25,7 @@ invariant_of-self-else-grew g c =
     let parts : was.earlier.items ≡ c.pop.new.self.items ++ kept ∷ [] = search rules in
     let from : c.from.result ≡ from_bool (turned kept.call) = search rules in
     let is : past_before past kept ≡ past = ap (λ b. cond b (past_of_older past past.older) past) (sym c.grew.ensures ∙ c.if-grew.false) in
-    rw (from, c.player-self-inside.ensures) (IsRefereeKept-back past past was.player was.passes was.turns was.earlier.items c.pop.new.self.items kept parts (sym is) c.self.invariant)
+    rw from (IsRefereeKept-back past past (player_of was.mover) was.passes was.turns was.earlier.items c.pop.new.self.items kept parts (sym is) c.self.invariant)
 
 -- the rest is only there for speed
 pub overflow_sub-self : goal.overflow_sub-self
@@ -51,7 +51,7 @@ returns-then-grew-clause-value g c =
     let newest : reverse c.self.inside.earlier.items ≡ kept ∷ reverse c.pop.new.self.items = ap reverse parts ∙ reverse-append c.pop.new.self.items (kept ∷ []) in
     let from : c.from.result ≡ from_bool (turned kept.call) = search rules in
     let is : past_before past kept ≡ g.P.Past.held c.pop-then-grew.new.self = ap (λ b. cond b (past_of_older past past.older) past) (sym c.grew.ensures ∙ c.if-grew.true) ∙ ap (past_of_older past) c.pop-then-grew.ensures in
-    rw (sym c.self.view_is) (simp (newest, is, from, c.player-self-inside.ensures) refl)
+    rw (sym c.self.view_is) (simp (newest, is, from) refl)
 
 pub returns-else-grew-clause-value : goal.returns-else-grew-clause-value
 returns-else-grew-clause-value g c =
@@ -61,4 +61,4 @@ returns-else-grew-clause-value g c =
     let newest : reverse c.self.inside.earlier.items ≡ kept ∷ reverse c.pop.new.self.items = ap reverse parts ∙ reverse-append c.pop.new.self.items (kept ∷ []) in
     let from : c.from.result ≡ from_bool (turned kept.call) = search rules in
     let is : past_before past kept ≡ past = ap (λ b. cond b (past_of_older past past.older) past) (sym c.grew.ensures ∙ c.if-grew.false) in
-    rw (sym c.self.view_is) (simp (newest, is, from, c.player-self-inside.ensures) refl)
+    rw (sym c.self.view_is) (simp (newest, is, from) refl)
