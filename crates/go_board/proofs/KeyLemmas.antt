@@ -14,42 +14,42 @@ use Rattle.go_board.proofs.StoneRowsLemmas.{bit_same}
 
 -- The front of a key: the print, and the start of the stretch.
 
-key_at : (start print : ℕ) (grid : Grid) (index col : ℕ) → col < 64 → key_bits start print grid (64 * index + col) ≡ key_bit start print grid index col
-key_at start print grid index col low =
+key_at : (start print hash : ℕ) (grid : Grid) (index col : ℕ) → col < 64 → key_bits start print hash grid (64 * index + col) ≡ key_bit start print hash grid index col
+key_at start print hash grid index col low =
     let word : (64 * index + col) / 64 ≡ index = omega (arith, low) in
     let place : (64 * index + col) % 64 ≡ col = omega (arith, low) in
-    ap (λ n. key_bit start print grid n ((64 * index + col) % 64)) word ∙ ap (λ n. key_bit start print grid index n) place
+    ap (λ n. key_bit start print hash grid n ((64 * index + col) % 64)) word ∙ ap (λ n. key_bit start print hash grid index n) place
 
 -- the first bits of a key are those of its print
-pub print_bit : (start print : ℕ) (grid : Grid) (place : ℕ) → place < 64 → key_bits start print grid place ≡ has_bit print place
-print_bit start print grid place low =
+pub print_bit : (start print hash : ℕ) (grid : Grid) (place : ℕ) → place < 64 → key_bits start print hash grid place ≡ has_bit print place
+print_bit start print hash grid place low =
     let at : 64 * 0 + place ≡ place = omega arith in
-    ap (λ n. key_bits start print grid n) (sym at) ∙ key_at start print grid 0 place low
+    ap (λ n. key_bits start print hash grid n) (sym at) ∙ key_at start print hash grid 0 place low
 
-module _ (start start' print print' : ℕ) (grid grid' : Grid) where
-  pub front_same : start < 2 ^ 64 → start' < 2 ^ 64 → print < 2 ^ 64 → print' < 2 ^ 64 → Agree (key_bits start print grid) (key_bits start' print' grid') 128 → (start ≡ start') × (print ≡ print')
+module _ (start start' print print' hash hash' : ℕ) (grid grid' : Grid) where
+  pub front_same : start < 2 ^ 64 → start' < 2 ^ 64 → print < 2 ^ 64 → print' < 2 ^ 64 → Agree (key_bits start print hash grid) (key_bits start' print' hash' grid') 128 → (start ≡ start') × (print ≡ print')
   front_same few few' small small' a = (
     same_from_bits_below 64 start start' few few' (λ i h. bit_same start start' i (
-        sym (key_at start print grid 1 i h) ∙ a.each (64 * 1 + i) (omega (arith, h)) ∙ key_at start' print' grid' 1 i h
+        sym (key_at start print hash grid 1 i h) ∙ a.each (64 * 1 + i) (omega (arith, h)) ∙ key_at start' print' hash' grid' 1 i h
         )),
     same_from_bits_below 64 print print' small small' (λ i h. bit_same print print' i (
-        sym (key_at start print grid 0 i h) ∙ a.each (64 * 0 + i) (omega (arith, h)) ∙ key_at start' print' grid' 0 i h
+        sym (key_at start print hash grid 0 i h) ∙ a.each (64 * 0 + i) (omega (arith, h)) ∙ key_at start' print' hash' grid' 0 i h
         )),
   )
 
-  pub front_agrees : start ≡ start' → print ≡ print' → Agree (key_bits start print grid) (key_bits start' print' grid') 128
+  pub front_agrees : start ≡ start' → print ≡ print' → Agree (key_bits start print hash grid) (key_bits start' print' hash' grid') 128
   front_agrees e f = record {
     each = λ p h. elim (cases_lt p 64) [
       | inl low ↦
           let at : 64 * 0 + p ≡ p = omega arith in
-          subst (λ m. key_bits start print grid m ≡ key_bits start' print' grid' m) at
-          (key_at start print grid 0 p low ∙ ap (λ n. has_bit n p) f ∙ sym (key_at start' print' grid' 0 p low))
+          subst (λ m. key_bits start print hash grid m ≡ key_bits start' print' hash' grid' m) at
+          (key_at start print hash grid 0 p low ∙ ap (λ n. has_bit n p) f ∙ sym (key_at start' print' hash' grid' 0 p low))
       | inr high ↦
           let col = p - 64 in
           let low : col < 64 = omega (arith, h, high) in
           let at : 64 * 1 + col ≡ p = omega (arith, high) in
-          subst (λ m. key_bits start print grid m ≡ key_bits start' print' grid' m) at
-          (key_at start print grid 1 col low ∙ ap (λ n. has_bit n col) e ∙ sym (key_at start' print' grid' 1 col low))
+          subst (λ m. key_bits start print hash grid m ≡ key_bits start' print' hash' grid' m) at
+          (key_at start print hash grid 1 col low ∙ ap (λ n. has_bit n col) e ∙ sym (key_at start' print' hash' grid' 1 col low))
     ];
   }
 
@@ -72,19 +72,19 @@ cells_one Empty White e f = absurd (false≢true f)
 cells_one Empty Empty e f = refl
 
 -- the word of a row for Black, and the one for White
-stone_at : (start print : ℕ) (grid : Grid) (row col white : ℕ) → col < 64 → white < 2 → key_bits start print grid (64 * (2 * row + 2 + white) + col) ≡ has_stone grid (if white == 0 then Black else White) row col
-stone_at start print grid row col white left few =
-    let index : 2 * row + 2 + white ≡ suc (suc (2 * row + white)) = omega arith in
+stone_at : (start print hash : ℕ) (grid : Grid) (row col white : ℕ) → col < 64 → white < 2 → key_bits start print hash grid (64 * (2 * row + 3 + white) + col) ≡ has_stone grid (if white == 0 then Black else White) row col
+stone_at start print hash grid row col white left few =
+    let index : 2 * row + 3 + white ≡ suc (suc (suc (2 * row + white))) = omega arith in
     let side : (2 * row + white) % 2 ≡ white = omega (arith, few) in
     let half : (2 * row + white) / 2 ≡ row = omega (arith, few) in
-    key_at start print grid (2 * row + 2 + white) col left
-    ∙ ap (λ n. key_bit start print grid n col) index
+    key_at start print hash grid (2 * row + 3 + white) col left
+    ∙ ap (λ n. key_bit start print hash grid n col) index
     ∙ ap (λ n. has_stone grid (if n == 0 then Black else White) ((2 * row + white) / 2) col) side
     ∙ ap (λ n. has_stone grid (if white == 0 then Black else White) n col) half
 
-pub whole_same : (start start' print print' : ℕ) (grid grid' : Grid) → grid.side ≡ grid'.side → grid.side ≤ 52 → length grid.cells ≡ grid.side * grid.side → length grid'.cells ≡ grid'.side * grid'.side
-    → Agree (key_bits start print grid) (key_bits start' print' grid') 6784 → grid ≡ grid'
-whole_same start start' print print' grid grid' side few all all' a =
+pub whole_same : (start start' print print' hash hash' : ℕ) (grid grid' : Grid) → grid.side ≡ grid'.side → grid.side ≤ 52 → length grid.cells ≡ grid.side * grid.side → length grid'.cells ≡ grid'.side * grid'.side
+    → Agree (key_bits start print hash grid) (key_bits start' print' hash' grid') 6848 → grid ≡ grid'
+whole_same start start' print print' hash hash' grid grid' side few all all' a =
     one_colouring grid grid' side all all'
     (λ p on.
     let row = p.row in
@@ -94,8 +94,8 @@ whole_same start start' print print' grid grid' side few all all' a =
     let left' : col < grid'.side = omega (arith, on.0, side) in
     let same : (white : ℕ) → white < 2 → same_cell (cell_at grid p) (if white == 0 then Black else White) ≡ same_cell (cell_at grid' p) (if white == 0 then Black else White) = λ white two.
     sym (stone-on grid (if white == 0 then Black else White) row col on.1 on.0)
-    ∙ sym (stone_at start print grid row col white left two)
-    ∙ a.each (64 * (2 * row + 2 + white) + col) (omega (arith, on.1, few, left, two))
-    ∙ stone_at start' print' grid' row col white left two
+    ∙ sym (stone_at start print hash grid row col white left two)
+    ∙ a.each (64 * (2 * row + 3 + white) + col) (omega (arith, on.1, few, left, two))
+    ∙ stone_at start' print' hash' grid' row col white left two
     ∙ stone-on grid' (if white == 0 then Black else White) row col low' left' in
     cells_one (cell_at grid p) (cell_at grid' p) (same 0 (omega arith)) (same 1 (omega arith)))

@@ -28,6 +28,7 @@ pub mod FilterLemmas
 pub mod NumberLemmas
 pub mod TableLemmas
 pub mod KeyLemmas
+pub mod HashLemmas
 pub mod StoneRowsLemmas
 pub mod GlanceLemmas
 pub mod TakenLemmas

@@ -9,6 +9,7 @@ use Rattle.go_board.specs.declared.quick.print_past.table.Table.{Table}
 use Rattle.go_board.specs.Grid.{Grid}
 use Rattle.go_board.specs.Past.{Held, stretch_of}
 use Rattle.go_board.specs.inner.Changes.{IsNumber}
+use Rattle.go_board.specs.inner.Hash.{hash_of}
 use Rattle.go_board.specs.inner.Key.{key_bits, start_of, since, keys_of}
 use Rattle.go_board.specs.inner.Print.{print_of, prints_of}
 use Rattle.board_points.specs.Rows.{has_bit}
@@ -27,28 +28,28 @@ use Rattle.key_trie.proofs.TrieLemmas.{agree_self, agree_less, parts_as, trie_sa
 
 -- Keys of numbers.
 
-keys-newest : (x : Held) (xs : List Held) (number : ℕ) → number ≡ length xs → keys_of (x ∷ xs) number ≡ key_bits (start_of (x ∷ xs)) (print_of x.colouring) x.colouring
-keys-newest x xs number e = ap (λ (t : Bool). if t then key_bits (start_of (x ∷ xs)) (print_of x.colouring) x.colouring else keys_of xs number) (eq-eqb number (length xs) e)
+keys-newest : (x : Held) (xs : List Held) (number : ℕ) → number ≡ length xs → keys_of (x ∷ xs) number ≡ key_bits (start_of (x ∷ xs)) (print_of x.colouring) (hash_of x.colouring) x.colouring
+keys-newest x xs number e = ap (λ (t : Bool). if t then key_bits (start_of (x ∷ xs)) (print_of x.colouring) (hash_of x.colouring) x.colouring else keys_of xs number) (eq-eqb number (length xs) e)
 
 keys-older : (x : Held) (xs : List Held) (number : ℕ) → number < length xs → keys_of (x ∷ xs) number ≡ keys_of xs number
-keys-older x xs number h = ap (λ (t : Bool). if t then key_bits (start_of (x ∷ xs)) (print_of x.colouring) x.colouring else keys_of xs number) (ne_eqb number (length xs) (λ e. omega (arith, e, h)))
+keys-older x xs number h = ap (λ (t : Bool). if t then key_bits (start_of (x ∷ xs)) (print_of x.colouring) (hash_of x.colouring) x.colouring else keys_of xs number) (ne_eqb number (length xs) (λ e. omega (arith, e, h)))
 
-key_of_number : (held : List Held) (number : ℕ) (g : Grid) → number < length held → IsNumber held number g → keys_of held number ≡ key_bits (start_of (since number held)) (print_of g) g
+key_of_number : (held : List Held) (number : ℕ) (g : Grid) → number < length held → IsNumber held number g → keys_of held number ≡ key_bits (start_of (since number held)) (print_of g) (hash_of g) g
 key_of_number [] number g low is = absurd (omega (arith, low))
 key_of_number (x ∷ xs) number g low is = elim (cases-number x xs number g low is) [
   | inl newest ↦
       keys-newest x xs number newest.0
-      ∙ ap (λ (y : Grid). key_bits (start_of (x ∷ xs)) (print_of y) y) newest.1
-      ∙ ap (λ n. key_bits n (print_of g) g) (sym (ap (λ n. start_of (since n (x ∷ xs))) newest.0 ∙ ap start_of (since-newest x xs)))
+      ∙ ap (λ (y : Grid). key_bits (start_of (x ∷ xs)) (print_of y) (hash_of y) y) newest.1
+      ∙ ap (λ n. key_bits n (print_of g) (hash_of g) g) (sym (ap (λ n. start_of (since n (x ∷ xs))) newest.0 ∙ ap start_of (since-newest x xs)))
   | inr older ↦
       keys-older x xs number older.0 ∙ key_of_number xs number g older.0 older.1
-      ∙ ap (λ n. key_bits n (print_of g) g) (sym (ap start_of (since-older number x xs older.0)))
+      ∙ ap (λ n. key_bits n (print_of g) (hash_of g) g) (sym (ap start_of (since-older number x xs older.0)))
 ]
 
 -- the first bits of a number's key are those of its print
 print_at : (held : List Held) (number : ℕ) (g : Grid) → number < length held → IsNumber held number g → (place : ℕ) → place < 64 → keys_of held number place ≡ has_bit (print_of g) place
 print_at held number g low at place h =
-    ap (λ (x : ℕ → Bool). x place) (key_of_number held number g low at) ∙ print_bit (start_of (since number held)) (print_of g) g place h
+    ap (λ (x : ℕ → Bool). x place) (key_of_number held number g low at) ∙ print_bit (start_of (since number held)) (print_of g) (hash_of g) g place h
 
 pub keys-print : (next : Held) (held : List Held) (print place : ℕ) → print_of next.colouring ≡ print → place < 64 → keys_of (next ∷ held) (length held) place ≡ has_bit print place
 keys-print next held print place is h = print_at (next ∷ held) (length held) next.colouring (omega arith) (at-newest next held) place h ∙ ap (λ m. has_bit m place) is
@@ -70,47 +71,51 @@ module _ (held : List Held) (table : Table) (is : IsAwakeTable held table) where
   print_there number g low at = print-number held table.prints.items is.printed number g low at
 
   -- the key that is made for a number: its front is right, and if it is made from the colouring, so is the rest
-  pub key_made : (number start print : ℕ) (any : Grid) → number < length held → start ≡ start_of (since number held) → print ≡ get_or table.prints.items number 0
-      → Agree (key_bits start print any) (keys_of held number) 128 × (IsNumber held number any → key_bits start print any ≡ keys_of held number)
-  key_made number start print any low starts printed =
+  pub key_made : (number start print hash : ℕ) (any : Grid) → number < length held → start ≡ start_of (since number held) → print ≡ get_or table.prints.items number 0
+      → Agree (key_bits start print hash any) (keys_of held number) 128 × (IsNumber held number any → hash ≡ hash_of any → key_bits start print hash any ≡ keys_of held number)
+  key_made number start print hash any low starts printed =
       let there = number_there held number low in
-      let key : (g : Grid) → IsNumber held number g → key_bits start print g ≡ keys_of held number = λ g at.
-      ap (λ n. key_bits n print g) starts ∙ ap (λ n. key_bits (start_of (since number held)) n g) (printed ∙ print_there number g low at) ∙ sym (key_of_number held number g low at) in
-      (subst (λ x. Agree (key_bits start print any) x 128) (key there.0 there.1) (front_agrees start start print print any there.0 refl refl), key any)
+      let key : (g : Grid) → IsNumber held number g → key_bits start print (hash_of g) g ≡ keys_of held number = λ g at.
+      ap (λ n. key_bits n print (hash_of g) g) starts ∙ ap (λ n. key_bits (start_of (since number held)) n (hash_of g) g) (printed ∙ print_there number g low at) ∙ sym (key_of_number held number g low at) in (
+        subst (λ x. Agree (key_bits start print hash any) x 128) (key there.0 there.1) (front_agrees start start print print hash (hash_of there.0) any there.0 refl refl),
+        λ at hashed. ap (λ n. key_bits start print n any) hashed ∙ key any at,
+      )
 
-  -- What the item tells that a look-up finds, if the stretch has the colouring: it has the same key.
-  module _ (all : item_count table.trie ≡ length table.prints.items) (start print near : ℕ) (grid : Grid) (starts : start ≡ start_of held) (printed : print ≡ print_of grid) (n : IsNearest (keys_of held) table.trie (key_bits start print grid) WIDTH near) (has : Contains (stretch_of held) grid) where
-    found : (g : Grid) → IsNumber held near g → Agree (key_bits (start_of (since near held)) (print_of g) g) (key_bits start print grid) WIDTH
+  -- What the item tells that a look-up finds, if the stretch has the colouring: it has the same key, as far as the look-up goes.
+  module _ (all : item_count table.trie ≡ length table.prints.items) (start print hash end near : ℕ) (grid : Grid) (starts : start ≡ start_of held) (printed : print ≡ print_of grid) (hashed : Agree (key_bits start print (hash_of grid) grid) (key_bits start print hash grid) end) (n : IsNearest (keys_of held) table.trie (key_bits start print hash grid) end near) (has : Contains (stretch_of held) grid) where
+    found : (g : Grid) → IsNumber held near g → Agree (key_bits (start_of (since near held)) (print_of g) (hash_of g) g) (key_bits start print hash grid) end
     found g at =
         let h = has_number held grid has in
-        let same : keys_of held h.0 ≡ key_bits start print grid =
-        key_of_number held h.0 grid h.1 h.3 ∙ ap (λ m. key_bits m (print_of grid) grid) (start-since held h.0 h.2 h.1 ∙ sym starts) ∙ ap (λ m. key_bits start m grid) (sym printed) in
+        let same : keys_of held h.0 ≡ key_bits start print (hash_of grid) grid =
+        key_of_number held h.0 grid h.1 h.3
+        ∙ ap (λ m. key_bits m (print_of grid) (hash_of grid) grid) (start-since held h.0 h.2 h.1 ∙ sym starts)
+        ∙ ap (λ m. key_bits start m (hash_of grid) grid) (sym printed) in
         let near_in : near < length held = omega (arith, n.there, all, tabled) in
-        subst (λ x. Agree x (key_bits start print grid) WIDTH) (key_of_number held near g near_in at)
-        (n.equal h.0 (omega (arith, h.1, all, tabled)) (subst (λ x. Agree (keys_of held h.0) x WIDTH) same (agree_self (keys_of held h.0) WIDTH)))
+        subst (λ x. Agree x (key_bits start print hash grid) end) (key_of_number held near g near_in at)
+        (n.equal h.0 (omega (arith, h.1, all, tabled)) (subst (λ x. Agree x (key_bits start print hash grid) end) (sym same) hashed))
 
-    pub found_front : start < 2 ^ 64 → (start ≤ near) × (get_or table.prints.items near 0 ≡ print)
-    found_front small =
+    pub found_front : start < 2 ^ 64 → 128 ≤ end → (start ≤ near) × (get_or table.prints.items near 0 ≡ print)
+    found_front small far =
         let near_in : near < length held = omega (arith, n.there, all, tabled) in
         let there = number_there held near near_in in
         let before = start-before held near near_in in
-        let same = front_same (start_of (since near held)) start (print_of there.0) print there.0 grid (omega (arith, before, n.there, all, is.room, is.most)) small (print_small there.0) (subst (λ m. m < 2 ^ 64) (sym printed) (print_small grid))
-        (agree_less 128 (omega arith) (found there.0 there.1)) in
+        let same = front_same (start_of (since near held)) start (print_of there.0) print (hash_of there.0) hash there.0 grid (omega (arith, before, n.there, all, is.room, is.most)) small (print_small there.0) (subst (λ m. m < 2 ^ 64) (sym printed) (print_small grid))
+        (agree_less 128 far (found there.0 there.1)) in
         (omega (arith, before, same.0), print_there near there.0 near_in there.1 ∙ same.1)
 
-    pub found_whole : (g : Grid) → IsNumber held near g → g.side ≡ grid.side → g.side ≤ 52 → length g.cells ≡ g.side * g.side → length grid.cells ≡ grid.side * grid.side → g ≡ grid
-    found_whole g at one_side few cells cells' =
-        whole_same (start_of (since near held)) start (print_of g) print g grid one_side few cells cells' (found g at)
+    pub found_whole : WIDTH ≤ end → (g : Grid) → IsNumber held near g → g.side ≡ grid.side → g.side ≤ 52 → length g.cells ≡ g.side * g.side → length grid.cells ≡ grid.side * grid.side → g ≡ grid
+    found_whole far g at one_side few cells cells' =
+        whole_same (start_of (since near held)) start (print_of g) print (hash_of g) hash g grid one_side few cells cells' (agree_less WIDTH far (found g at))
 
   -- Where the next colouring comes in, if its print parts it from the item that a look-up for the print finds.
-  pub gap_parts : (next : Held) (print near place : ℕ) (any : Grid) (key : ℕ → Bool) → print_of next.colouring ≡ print → item_count table.trie ≡ length held → key ≡ key_bits 0 print any → IsNearest (keys_of (next ∷ held)) table.trie key 64 near → place < 64
+  pub gap_parts : (next : Held) (print near place : ℕ) (any : Grid) (key : ℕ → Bool) → print_of next.colouring ≡ print → item_count table.trie ≡ length held → key ≡ key_bits 0 print 0 any → IsNearest (keys_of (next ∷ held)) table.trie key 64 near → place < 64
       → ((p : ℕ) → p < place → bit_at (bit_xor print (get_or table.prints.items near 0)) p ≡ 0) → bit_at (bit_xor print (get_or table.prints.items near 0)) place ≡ 1
       → Agree key (keys_of (next ∷ held) (length held)) (place + 1) × IsParting (item_count table.trie) (keys_of (next ∷ held)) (keys_of (next ∷ held) (length held)) near place
   gap_parts next print near place any key is_print all is_key n low same differ =
       let other = get_or table.prints.items near 0 in
       let near_in : near < length held = omega (arith, n.there, all) in
       let there = number_there held near near_in in
-      let key_print : (p : ℕ) → p < 64 → key p ≡ has_bit print p = λ p h. ap (λ (x : ℕ → Bool). x p) is_key ∙ print_bit 0 print any p h in
+      let key_print : (p : ℕ) → p < 64 → key p ≡ has_bit print p = λ p h. ap (λ (x : ℕ → Bool). x p) is_key ∙ print_bit 0 print 0 any p h in
       let near_print : (p : ℕ) → p < 64 → keys_of (next ∷ held) near p ≡ has_bit other p = λ p h.
       print_at (next ∷ held) near there.0 (omega (arith, near_in)) (at-older next held near_in there.1) p h ∙ ap (λ m. has_bit m p) (sym (print_there near there.0 near_in there.1)) in
       parts_as n (keys_of (next ∷ held) (length held)) (keys_of (next ∷ held) near) place low

@@ -5,6 +5,7 @@ pub mod Groups
 pub mod Earlier
 pub mod Print
 pub mod Changes
+pub mod Hash
 pub mod Key
 pub mod Filter
 pub mod Table

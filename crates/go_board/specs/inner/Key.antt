@@ -1,4 +1,4 @@
--- What a colouring is looked up by, as a string of bits: the words of the print, of the stretch, and of each row of the board.
+-- What a colouring is looked up by, as a string of bits: the words of the print, of the stretch, of the hash, and of each row of the board.
 use Rattle.std.specs.Prelude.{ℕ, zero, suc, ◌/◌, ◌%◌, Bool, false, ◌==◌, ◌&&◌, nat_lt, if◌then◌else◌, List, [], ◌∷◌, length, drop, ◌-◌}
 use Rattle.go_board.specs.declared.quick.print_past.key.ColouringKey.{ColouringKey}
 use Rattle.go_board.specs.declared.stones.Cell.{Cell}
@@ -6,6 +6,7 @@ use Rattle.go_board.specs.declared.stones.Cell.TheVariants.{Black, White}
 use Rattle.go_board.specs.Colour.{same_cell}
 use Rattle.go_board.specs.Grid.{Grid, cell_at}
 use Rattle.go_board.specs.Past.{Held}
+use Rattle.go_board.specs.inner.Hash.{hash_of}
 use Rattle.go_board.specs.inner.Print.{print_of}
 use Rattle.board_points.specs.Rows.{has_bit}
 
@@ -14,20 +15,22 @@ abbrev pub has_stone : Grid → Cell → ℕ → ℕ → Bool
 has_stone grid stone row col =
     (nat_lt row grid.side && nat_lt col grid.side) && same_cell (cell_at grid (record { col = col; row = row })) stone
 
--- a bit of a word of the key: word 0 is the print, word 1 the start of the stretch; then each row has a word for Black and one for White
-abbrev pub key_bit : ℕ → ℕ → Grid → ℕ → ℕ → Bool
-key_bit start print grid zero col = has_bit print col
-key_bit start print grid (suc zero) col = has_bit start col
-key_bit start print grid (suc (suc index)) col =
+-- A bit of a word of the key: word 0 is the print, word 1 the start of the stretch, word 2 the hash. Then each row has a word for Black and
+-- one for White.
+abbrev pub key_bit : ℕ → ℕ → ℕ → Grid → ℕ → ℕ → Bool
+key_bit start print hash grid zero col = has_bit print col
+key_bit start print hash grid (suc zero) col = has_bit start col
+key_bit start print hash grid (suc (suc zero)) col = has_bit hash col
+key_bit start print hash grid (suc (suc (suc index))) col =
     has_stone grid (if index % 2 == 0 then Black else White) (index / 2) col
 
 -- the bits of the key
-abbrev pub key_bits : ℕ → ℕ → Grid → ℕ → Bool
-key_bits start print grid place = key_bit start print grid (place / 64) (place % 64)
+abbrev pub key_bits : ℕ → ℕ → ℕ → Grid → ℕ → Bool
+key_bits start print hash grid place = key_bit start print hash grid (place / 64) (place % 64)
 
 -- the bits of a key as it is kept
 abbrev pub bits_of : ColouringKey → ℕ → Bool
-bits_of key = key_bits key.start key.print key.board.now
+bits_of key = key_bits key.start key.print key.hash key.board.now
 
 -- the number of the first colouring of the newest stretch of these colourings, newest first
 abbrev pub start_of : List Held → ℕ
@@ -47,5 +50,5 @@ abbrev pub keys_of : List Held → ℕ → ℕ → Bool
 keys_of [] number = λ place. false
 keys_of (newest ∷ older) number =
     if number == length older
-    then key_bits (start_of (newest ∷ older)) (print_of newest.colouring) newest.colouring
+    then key_bits (start_of (newest ∷ older)) (print_of newest.colouring) (hash_of newest.colouring) newest.colouring
     else keys_of older number

@@ -1,5 +1,6 @@
 //! What a colouring is looked up by in a trie, as a string of bits: first its print, then the number of the first colouring of its stretch,
-//! then what stands on each row. So colourings with another print, and those of other stretches, part from it at the first bits.
+//! then its hash, then what stands on each row. So colourings with another print, and those of other stretches, part from it at the first
+//! bits, and those with its print and its stretch at bits that nobody can choose.
 
 ghost use Rattle.std.specs.Prelude.{◌≡◌};
 ghost use Rattle.go_board.specs.inner.Key.{key_bits, bits_of};
@@ -13,11 +14,11 @@ use key_trie::Key;
 /// The bits of a word.
 pub(crate) const WORD: u32 = 64;
 
-/// The bits before those of the board: the print, and the start of the stretch.
+/// The bits that are known without the board: the print, and the start of the stretch.
 pub(crate) const FRONT: u32 = 2 * WORD;
 
-/// All bits of a key: a row of the largest board has a word for Black and one for White.
-pub(crate) const WIDTH: u32 = FRONT + 2 * WORD * MAX_ROWS as u32;
+/// All bits of a key: behind the front there is the hash, and a row of the largest board has a word for Black and one for White.
+pub(crate) const WIDTH: u32 = FRONT + WORD + 2 * WORD * MAX_ROWS as u32;
 
 /// The key of a colouring.
 #[derive(Drop)]
@@ -25,17 +26,19 @@ pub(crate) struct ColouringKey<'a> {
     /// The number of the first colouring of its stretch.
     start: u64,
     print: u64,
+    hash: u64,
     board: &'a Board,
 }
 
 impl<'a> ColouringKey<'a> {
-    /// The key of a colouring, from the number of the first colouring of its stretch, its print and its board.
-    pub(crate) fn new(start: usize, print: u64, board: &'a Board) -> ColouringKey<'a>
-        ensures { bits_of result ≡ key_bits start print board.now }
+    /// The key of a colouring, from the number of the first colouring of its stretch, its print, its hash and its board.
+    pub(crate) fn new(start: usize, print: u64, hash: u64, board: &'a Board) -> ColouringKey<'a>
+        ensures { bits_of result ≡ key_bits start print hash board.now }
     {
         ColouringKey {
             start: start as u64,
             print,
+            hash,
             board,
         }
     }
@@ -68,11 +71,14 @@ impl<'a> Key for ColouringKey<'a> {
         if index == 1 {
             return self.start;
         }
-        let row = (index - 2) / 2;
+        if index == 2 {
+            return self.hash;
+        }
+        let row = (index - 3) / 2;
         if row >= u32::from(self.board.size().side()) {
             return 0;
         }
-        let colour = if index % 2 == 0 {
+        let colour = if index % 2 == 1 {
             Colour::Black
         } else {
             Colour::White

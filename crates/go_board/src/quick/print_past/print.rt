@@ -5,7 +5,7 @@
 //! to right. The print is that number modulo 2^64.
 //!
 //! A print is linear: a stone adds its code times a power of 31. So it takes few instructions to work out what a stone changes. Whoever
-//! knows that can make colourings with equal prints. This costs only bounded time: the table of prints says why.
+//! knows that can make colourings with equal prints. A hash tells those apart. This costs only bounded time: the table of prints says why.
 
 ghost use Rattle.std.specs.Prelude.{◌≡◌, ◌<◌, ◌≤◌, ◌+◌, ◌-◌, ◌*◌, ◌%◌, ◌^◌, ℕ, IsTrue, slice_index};
 ghost use Rattle.go_board.specs.declared.stones.Cell.TheVariants.{Empty};

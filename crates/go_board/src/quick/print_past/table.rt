@@ -1,12 +1,17 @@
 //! The table by which colourings are looked up.
 //!
 //! A look-up walks down a trie of keys (see `key`, and the crate `key_trie`) by the bits of the colouring that is looked up. It ends at one
-//! past colouring, and compares with that one alone: first the start of the stretch and the print, and if these are equal, all points.
-//! So it costs at most one past colouring worked out, and one walk of at most `WIDTH` steps down, whatever was played before. `gap`, which
-//! comes before it, takes at most two walks by the bits of the print.
-//! To put a colouring into the trie costs at most two colourings worked out, its own and that at the end of its walk, and this only if
-//! they have the same print. To take one out is one step. None of this depends on how many colourings there are, or on what was played:
-//! equal prints make no look-up longer.
+//! past colouring, and compares with that one alone: first the start of the stretch and the print. If these are equal, a second walk goes
+//! on by the hash, and all points are compared at its end. So a look-up costs at most two walks, one hash, and one past colouring worked
+//! out, whatever was played before. `gap`, which comes before it, takes at most two walks by the bits of the print.
+//! To put a colouring into the trie costs at most two colourings worked out, its own and that at the end of its walk, and their hashes, and
+//! this only if they have the same print and the same stretch. To take one out is one step.
+//!
+//! A walk passes a node at each place of the key where past colourings part from the one that is looked up. It passes at most 64 in the
+//! print, and 26 in the start of the stretch: that is below 2^26, since no input has more bytes. Colourings of one print and one stretch part
+//! in the hash, which nobody can choose: to have them part at one bit more, one has to try twice as many boards. So a walk passes some 50
+//! nodes there at most, after 2^50 boards tried. It goes on into the rows only if two hashes are equal. No proof rests on that.
+//! So no walk gets longer with more colourings, or with more of them that have one print.
 //!
 //! This is so once `link` has put all colourings into the trie. `gap` calls it first: the past asks `gap` for a stone that `may_have`
 //! doesn't answer (see `filter`). `has` asks no trie: it compares one by one.
@@ -19,6 +24,7 @@ ghost use Rattle.std.specs.Prelude.{◌≡◌, ◌↔◌, ◌+◌, ◌<◌, ◌�
 ghost use Rattle.go_board.specs.Grid.{Grid};
 ghost use Rattle.go_board.specs.Past.{Held, all_of, present_stretch, stretch_of, HaveSide};
 ghost use Rattle.go_board.specs.inner.Changes.{IsNumber};
+ghost use Rattle.go_board.specs.inner.Hash.{hash_of};
 ghost use Rattle.go_board.specs.inner.Key.{bits_of, keys_of};
 ghost use Rattle.go_board.specs.inner.Print.{print_of};
 ghost use Rattle.go_board.specs.inner.Table.{HasRoomForNext, HasUnlinked, IsAsleepTable, IsAwakeTable, IsGap, IsPrintOfNext, IsTable, LinksNext};
@@ -29,6 +35,7 @@ use crate::board::Board;
 use crate::fault::MemoryFault;
 use crate::quick::print_past::colourings::Colourings;
 use crate::quick::print_past::filter::Filter;
+use crate::quick::print_past::hash::hash_of;
 use crate::quick::print_past::key::{ColouringKey, FRONT, WIDTH, WORD};
 use board_points::columns::has_column;
 use key_trie::{Slot, Trie, first_difference};
@@ -200,7 +207,7 @@ impl Table {
         ensures gap { IfSome result (IsGap (all_of colourings.now) self.new.trie print) }
     {
         self.link(colourings);
-        let key = ColouringKey::new(0, print, colourings.newest());
+        let key = ColouringKey::new(0, print, 0, colourings.newest());
         let from = self.trie.descend(&key, WORD);
         let apart = print ^ self.prints[self.trie.kid(from) as usize];
         if apart == 0 {
@@ -238,7 +245,7 @@ impl Table {
     }
 
     /// The same by the trie, which must have all colourings. A run asks this last, if nothing before decides positional superko. If no
-    /// colouring has the print, none is worked out.
+    /// colouring of the stretch has the print, no hash and no colouring is worked out.
     pub(crate) fn find(&self, colourings: &Colourings, board: &Board, print: u64) -> bool
         requires table { IsAwakeTable (all_of colourings.now) self.now }
         requires all { item_count self.now.trie ≡ length self.now.prints.items }
@@ -247,9 +254,26 @@ impl Table {
         ensures { IsTrue result ↔ Contains (present_stretch colourings.now) board.now }
     {
         let start = colourings.stretch_start();
-        let key = ColouringKey::new(start, print, board);
-        let near = self.trie.nearest(&key, WIDTH);
+        let front = ColouringKey::new(start, print, 0, board);
+        let near = self.trie.nearest(&front, FRONT);
         if near < start || self.prints[near] != print {
+            return false;
+        }
+        self.find_by_hash(colourings, board, print)
+    }
+
+    /// The same, by all bits of the key: first its hash is worked out.
+    fn find_by_hash(&self, colourings: &Colourings, board: &Board, print: u64) -> bool
+        requires table { IsAwakeTable (all_of colourings.now) self.now }
+        requires all { item_count self.now.trie ≡ length self.now.prints.items }
+        requires side { HaveSide board.now.side colourings.now }
+        requires print { print ≡ print_of board.now }
+        ensures { IsTrue result ↔ Contains (present_stretch colourings.now) board.now }
+    {
+        let start = colourings.stretch_start();
+        let key = ColouringKey::new(start, print, hash_of(board), board);
+        let near = self.trie.nearest(&key, WIDTH);
+        if near < start {
             return false;
         }
         let past = colourings.board_at(near);
@@ -258,19 +282,26 @@ impl Table {
         board.same(&past)
     }
 
-    /// The front of the key of the colouring with this number, and for its rest the bits of a board.
+    /// The front of the key of the colouring with this number, and for its rest a hash and the bits of a board.
     fn key_of<'a>(
         &self,
         colourings: &Colourings,
         number: usize,
+        hash: u64,
         board: &'a Board,
     ) -> ColouringKey<'a>
         requires table { IsAwakeTable (all_of colourings.now) self.now }
         requires number { number < length (all_of colourings.now) }
         ensures front { Agree (bits_of result) (keys_of (all_of colourings.now) number) FRONT }
-        ensures whole { IsNumber (all_of colourings.now) number board.now → bits_of result ≡ keys_of (all_of colourings.now) number }
+        ensures whole { IsNumber (all_of colourings.now) number board.now → hash ≡ hash_of board.now
+            → bits_of result ≡ keys_of (all_of colourings.now) number }
     {
-        ColouringKey::new(colourings.start_at(number), self.prints[number], board)
+        ColouringKey::new(
+            colourings.start_at(number),
+            self.prints[number],
+            hash,
+            board,
+        )
     }
 
     /// Puts all colourings into the trie.
@@ -295,16 +326,16 @@ impl Table {
             self.trie.plant();
             return;
         }
-        let key = self.key_of(colourings, number, colourings.newest());
+        let key = self.key_of(colourings, number, 0, colourings.newest());
         let near = self.trie.nearest(&key, FRONT);
-        let other = self.key_of(colourings, near, colourings.newest());
+        let other = self.key_of(colourings, near, 0, colourings.newest());
         match first_difference(&key, &other, FRONT / WORD) {
             Some(place) => self.trie.part(&key, place),
             None => self.link_by_board(colourings),
         }
     }
 
-    /// The same, by all bits of the keys.
+    /// The same, by all bits of the keys: first their hashes are worked out.
     fn link_by_board(&mut self, colourings: &Colourings)
         requires unlinked { HasUnlinked (all_of colourings.now) self.old }
         requires some { 0 < item_count self.old.trie }
@@ -312,10 +343,10 @@ impl Table {
     {
         let next = self.trie.len();
         let board = colourings.board_at(next);
-        let key = self.key_of(colourings, next, &board);
+        let key = self.key_of(colourings, next, hash_of(&board), &board);
         let near = self.trie.nearest(&key, WIDTH);
         let past = colourings.board_at(near);
-        let other = self.key_of(colourings, near, &past);
+        let other = self.key_of(colourings, near, hash_of(&past), &past);
         match first_difference(&key, &other, WIDTH / WORD) {
             Some(place) => self.trie.part(&key, place),
             None => self.trie.repeat(),

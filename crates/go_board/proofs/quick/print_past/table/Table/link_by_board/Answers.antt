@@ -16,11 +16,11 @@ module _ (c : After-key_of-other) where
 
   pub own : Agree (bits_of c.key_of-key.result) (keys_of (all_of c.args.colourings.now) (item_count c.args.self.now.trie)) WIDTH
   own =
-      let same = rw c.len-next.ensures at (c.key_of-key.ensures.whole c.board_at-board.ensures) in
+      let same = rw c.len-next.ensures at (c.key_of-key.ensures.whole c.board_at-board.ensures c.hash_of.ensures) in
       subst (λ x. Agree (bits_of c.key_of-key.result) x WIDTH) same (agree_self (bits_of c.key_of-key.result) WIDTH)
 
   pub other : Agree (bits_of c.key_of-other.result) (keys_of (all_of c.args.colourings.now) c.nearest-near.result) WIDTH
-  other = subst (λ x. Agree (bits_of c.key_of-other.result) x WIDTH) (c.key_of-other.ensures.whole c.board_at-past.ensures) (agree_self (bits_of c.key_of-other.result) WIDTH)
+  other = subst (λ x. Agree (bits_of c.key_of-other.result) x WIDTH) (c.key_of-other.ensures.whole c.board_at-past.ensures c.hash_of-2.ensures) (agree_self (bits_of c.key_of-other.result) WIDTH)
 
 pub returns-in-Some : goal.returns-in-Some
 returns-in-Some c =

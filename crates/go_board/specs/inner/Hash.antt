@@ -1,0 +1,31 @@
+-- The hash of a colouring: 64 bits of the SHA-256 of its rows.
+use Rattle.std.specs.Prelude.{ℕ, zero, suc, ◌+◌, ◌*◌, Bool, if◌then◌else◌, List, [], ◌++◌, take}
+use Rattle.std.specs.Int.{w64, div_ceil, from_be_bytes, to_le_bytes}
+use Rattle.sha2.specs.Sha256.{sha256}
+use Rattle.go_board.specs.declared.stones.Cell.{Cell}
+use Rattle.go_board.specs.declared.stones.Cell.TheVariants.{Black, White}
+use Rattle.go_board.specs.Colour.{same_cell}
+use Rattle.go_board.specs.Grid.{Grid, cell_at}
+
+-- the number that has so many bits, the lowest one first
+abbrev pub number_of : ℕ → (ℕ → Bool) → ℕ
+number_of zero bit = 0
+number_of (suc n) bit = (if bit 0 then 1 else 0) + 2 * number_of n (λ i. bit (suc i))
+
+-- the columns of a row that have such a stone, as a number with a bit for each
+abbrev pub columns_of : Grid → Cell → ℕ → ℕ
+columns_of grid stone row = number_of grid.side (λ col. same_cell (cell_at grid (record { col = col; row = row })) stone)
+
+-- the bytes of a word that has the columns of a row, 8 to a byte
+abbrev pub columns_bytes : ℕ → ℕ → List ℕ
+columns_bytes side columns = take (div_ceil side 8) (to_le_bytes w64 columns)
+
+-- the bytes of the first rows: for each row those of Black, then those of White
+abbrev pub rows_bytes : Grid → ℕ → List ℕ
+rows_bytes grid zero = []
+rows_bytes grid (suc row) =
+    rows_bytes grid row ++ columns_bytes grid.side (columns_of grid Black row) ++ columns_bytes grid.side (columns_of grid White row)
+
+-- the hash: the first eight bytes of the digest of all rows, as a number
+unfoldable pub hash_of : Grid → ℕ
+hash_of grid = from_be_bytes w64 (sha256 (rows_bytes grid grid.side))
