@@ -1,17 +1,19 @@
 -- Sets of points in the halves of words.
-use Rattle.std.proofs.Common.{◌≡◌, ◌≢◌, inl, inr, ℕ, ◌+◌, ◌-◌, ◌*◌, ◌/◌, ◌%◌, ◌^◌, ◌<◌, ◌≤◌, ◌==◌, ◌&&◌, true, nat_lt, List, slice_index, refl, sym, ap, ◌∙◌, arith, length, subst}
+use Rattle.std.proofs.Common.{◌≡◌, ◌≢◌, inl, inr, ℕ, ◌+◌, ◌-◌, ◌*◌, ◌/◌, ◌%◌, ◌^◌, ◌<◌, ◌≤◌, ◌==◌, ◌&&◌, true, false, not, nat_lt, max, bit_and, count_ones, w64, List, slice_index, refl, sym, ap, ◌∙◌, arith, length, subst}
 use Rattle.std.proofs.lemmas.Grind.{common_steps}
 use Rattle.std.proofs.lemmas.Bool.{and_parts, and_from, cases_lt}
 use Rattle.std.proofs.lemmas.Bool.Decides.{Decides-ltb}
 use Rattle.std.proofs.Math.ListN.{get_or-map}
-use Rattle.std.proofs.lemmas.Nat.{mod_below, pow_pos}
-use Rattle.std.proofs.lemmas.Nat.Bits.{bit_at_cat_high}
+use Rattle.std.proofs.lemmas.Nat.{mod_below, ones_cat, pow_pos}
+use Rattle.std.proofs.lemmas.Nat.Bits.{bit_at_above, bit_at_cat_high, bit_at_cat_low, bit_at_or, bit_at-zero, same_from_bits}
+use Rattle.std.specs.Int.{bit_at, bit_not, rotate_left}
 use Rattle.std.proofs.lemmas.List.{length-map, get_or_past}
 use Rattle.board_points.specs.declared.points.Point.{Point}
 use Rattle.board_points.specs.Point.{AreAdjacent}
-use Rattle.board_points.specs.Rows.{has_bit, is_set, IsAmong, IsClosed}
+use Rattle.board_points.specs.Rows.{has_bit, is_set, AreAllColumns, IsAmong, IsClosed}
+use Rattle.board_points.specs.inner.Columns.{IsPart}
 use Rattle.board_points.specs.Halves.{low_halves, high_halves, ArePaired, AreOthersPaired}
-use Rattle.board_points.proofs.WordLemmas.{same_bools, bit_at-mod, column_below}
+use Rattle.board_points.proofs.WordLemmas.{same_bools, bit_at-mod, column_below, has_bit-less, not_in_part, same_word}
 use Rattle.board_points.proofs.ColumnLemmas.{AreOthers}
 use Rattle.board_points.proofs.RowLemmas.{AreRowsOf-others}
 use Rattle.board_points.proofs.CountLemmas.{below_from_bits}
@@ -120,6 +122,92 @@ among_high some all part p is = in_high all p ∙ part (shifted p) (sym (in_high
 pub fits_half : (word side : ℕ) → side < 32 → ((col : ℕ) → has_bit word col ≡ true → col < side) → word < 2 ^ 32
 fits_half word side small each =
     subst (λ n. n < 2 ^ 32) (below_from_bits word 32 (λ col is. let below = each col is in omega (arith, below, small))) (mod_below word (2 ^ 32) (pow_pos 32))
+
+-- halves exchanged by a rotation
+max_none : (x : ℕ) → max x 0 ≡ x
+max_none x = omega arith
+
+none_max : (x : ℕ) → max 0 x ≡ x
+none_max x = omega arith
+
+rotated : (n : ℕ) → n < 2 ^ 64 → rotate_left w64 n 32 ≡ (n % 2 ^ 32) * 2 ^ 32 + n / 2 ^ 32
+rotated n low =
+    let few : n / 2 ^ 32 < 2 ^ 32 = omega (arith, low) in
+    let cut : (n * 2 ^ 32) % 2 ^ 64 ≡ (n % 2 ^ 32) * 2 ^ 32 + 0 = omega arith in
+    same_from_bits (rotate_left w64 n 32) ((n % 2 ^ 32) * 2 ^ 32 + n / 2 ^ 32)
+    (λ i.
+    bit_at_or ((n * 2 ^ 32) % 2 ^ 64) (n / 2 ^ 32) i
+    ∙ (elim (cases_lt i 32) [
+      | inl below ↦
+          ap (λ b. max b (bit_at (n / 2 ^ 32) i)) (ap (λ m. bit_at m i) cut ∙ bit_at_cat_low (n % 2 ^ 32) 32 0 i below ∙ bit_at-zero i)
+          ∙ none_max (bit_at (n / 2 ^ 32) i)
+          ∙ sym (bit_at_cat_low (n % 2 ^ 32) 32 (n / 2 ^ 32) i below)
+      | inr above ↦
+          ap (λ b. max (bit_at ((n * 2 ^ 32) % 2 ^ 64) i) b) (bit_at_above (n / 2 ^ 32) 32 i few above)
+          ∙ max_none (bit_at ((n * 2 ^ 32) % 2 ^ 64) i)
+          ∙ ap (λ m. bit_at m i) cut
+          ∙ bit_at_cat_high (n % 2 ^ 32) 32 0 i (omega arith) above
+          ∙ sym (bit_at_cat_high (n % 2 ^ 32) 32 (n / 2 ^ 32) i few above)
+    ]))
+
+pub low_rotated : (n : ℕ) → n < 2 ^ 64 → rotate_left w64 n 32 % 2 ^ 32 ≡ n / 2 ^ 32
+low_rotated n low = let is = rotated n low in omega (arith, is, low)
+
+pub high_rotated : (n : ℕ) → n < 2 ^ 64 → rotate_left w64 n 32 / 2 ^ 32 ≡ n % 2 ^ 32
+high_rotated n low = let is = rotated n low in omega (arith, is, low)
+
+past_half : (word c : ℕ) → 32 ≤ c → has_bit (word % 2 ^ 32) c ≡ false
+past_half word c above = ap (λ n. n == 1) (bit_at_above (word % 2 ^ 32) 32 c (mod_below word (2 ^ 32) (pow_pos 32)) above)
+
+in_half : (word c : ℕ) → c < 32 → has_bit (word % 2 ^ 32) c ≡ has_bit word c
+in_half word c below = ap (λ n. n == 1) (bit_at-mod word 32 c below)
+
+past_word : (word c : ℕ) → word < 2 ^ 64 → 64 ≤ c → has_bit word c ≡ false
+past_word word c fits above = ap (λ n. n == 1) (bit_at_above word 64 c fits above)
+
+-- the halves of what is left of a word
+module _ (all word left : ℕ) (fits : all < 2 ^ 64) (word_fits : word < 2 ^ 64) (within : (c : ℕ) → c < 64 → has_bit left c ≡ (has_bit all c && not (has_bit word c))) (off : IsPart (has_bit left) (has_bit all)) where
+  pub left_low : left % 2 ^ 32 ≡ bit_and (all % 2 ^ 32) (bit_not w64 (word % 2 ^ 32))
+  left_low =
+      same_word (left % 2 ^ 32) (bit_and (all % 2 ^ 32) (bit_not w64 (word % 2 ^ 32)))
+      (λ c.
+      let less = has_bit-less (all % 2 ^ 32) (word % 2 ^ 32) c (omega arith) (omega arith) in
+      elim (cases_lt c 32) [
+        | inl below ↦
+            in_half left c below
+            ∙ within c (omega (arith, below))
+            ∙ sym (less
+            ∙ ap (λ b. b && not (has_bit (word % 2 ^ 32) c)) (in_half all c below)
+            ∙ ap (λ b. has_bit all c && not b) (in_half word c below))
+        | inr above ↦ past_half left c above ∙ sym (less ∙ ap (λ b. b && not (has_bit (word % 2 ^ 32) c)) (past_half all c above))
+      ])
+
+  pub left_high : left / 2 ^ 32 ≡ bit_and (all / 2 ^ 32) (bit_not w64 (word / 2 ^ 32))
+  left_high =
+      same_word (left / 2 ^ 32) (bit_and (all / 2 ^ 32) (bit_not w64 (word / 2 ^ 32)))
+      (λ c.
+      let less = has_bit-less (all / 2 ^ 32) (word / 2 ^ 32) c (omega (arith, fits)) (omega (arith, word_fits)) in
+      let there = less ∙ ap (λ b. b && not (has_bit (word / 2 ^ 32) c)) (has_bit-high_half all c) in
+      has_bit-high_half left c
+      ∙ (elim (cases_lt (32 + c) 64) [
+        | inl below ↦ within (32 + c) below ∙ sym (there ∙ ap (λ b. has_bit all (32 + c) && not b) (has_bit-high_half word c))
+        | inr above ↦
+            not_in_part (has_bit left) (has_bit all) (32 + c) off (past_word all (32 + c) fits above)
+            ∙ sym (there ∙ ap (λ b. b && not (has_bit (word / 2 ^ 32) c)) (past_word all (32 + c) fits above))
+      ]))
+
+-- the set bits of a word by its halves
+pub ones_by_halves : (word : ℕ) → count_ones word ≡ count_ones (word / 2 ^ 32) + count_ones (word % 2 ^ 32)
+ones_by_halves word =
+    let whole : word ≡ (word / 2 ^ 32) * 2 ^ 32 + word % 2 ^ 32 = omega arith in
+    ap count_ones whole ∙ ones_cat 32 (word / 2 ^ 32) (word % 2 ^ 32) (mod_below word (2 ^ 32) (pow_pos 32))
+
+-- all columns but those of a word
+pub others_of_all : (side columns word : ℕ) → AreAllColumns side columns → columns < 2 ^ 64 → word < 2 ^ 64 → AreOthers side word (bit_and columns (bit_not w64 word))
+others_of_all side columns word all fits low = (
+  λ c below. has_bit-less columns word c fits low ∙ ap (λ b. b && not (has_bit word c)) (all.within c below),
+  λ c is. all.off c (and_parts _ _ (sym (has_bit-less columns word c fits low) ∙ is)).0,
+)
 
 -- the words of two sets, row by row
 abbrev pub IsPair : List ℕ → List ℕ → ℕ → ℕ → Type 0

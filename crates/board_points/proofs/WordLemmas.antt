@@ -125,3 +125,10 @@ le_from_part a b part =
 
 pub same_bools : (a b : Bool) → (a ≡ true → b ≡ true) → (b ≡ true → a ≡ true) → a ≡ b
 same_bools a b there back = grind (arith, common_steps)
+
+-- words with the same columns
+test_same : (x y : ℕ) → x < 2 → y < 2 → (x == 1) ≡ (y == 1) → x ≡ y
+test_same = by_bits (λ x y. (x == 1) ≡ (y == 1) → x ≡ y) (λ _. refl) (λ same. absurd (false≢true same)) (λ same. absurd (false≢true (sym same))) (λ _. refl)
+
+pub same_word : (a b : ℕ) → ((c : ℕ) → has_bit a c ≡ has_bit b c) → a ≡ b
+same_word a b each = same_from_bits a b (λ i. test_same (bit_at a i) (bit_at b i) (bit_at-lt a i) (bit_at-lt b i) (each i))

@@ -28,6 +28,7 @@ pub fn fill(rows: &mut [u64], region: &[u64])
 
 /// From the first row to the last, each row is widened, and takes what the row above it gives. Returns the rows that can give to the row
 /// above them.
+#[inline(always)]
 fn give_down_once(rows: &mut [u64], region: &[u64]) -> u64
     requires { IsWithin rows.old region.now }
     ensures { IsFilledBut region.now rows.old rows.new Up result 0 0 0 }

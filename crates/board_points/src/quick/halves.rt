@@ -7,7 +7,7 @@ ghost use Rattle.board_points.specs.Halves.{low_halves, high_halves, AreOnSmallB
 ghost use Rattle.board_points.specs.Point.{IsOn};
 ghost use Rattle.board_points.specs.Rows.{is_set, count_apart};
 
-use crate::columns::other_columns;
+use crate::columns::{all_columns, columns_left};
 
 /// The number of columns of half a word. A board with fewer leaves an empty column between the halves.
 pub const HALF: u8 = 32;
@@ -20,6 +20,7 @@ const HALVES: u64 = 1 << HALF;
 
 /// Writes two sets to `areas`, the first (`black`) to the low halves, and to `region` for each the points that aren't in the other. The four
 /// must have as many words as the board has rows, fewer than 32, and all points must be on the board.
+#[inline(always)]
 pub fn pair_rows(black: &[u64], white: &[u64], areas: &mut [u64], region: &mut [u64])
     requires stones { AreOnSmallBoard black.now white.now }
     requires areas { length areas.old ≡ length black.now }
@@ -27,13 +28,12 @@ pub fn pair_rows(black: &[u64], white: &[u64], areas: &mut [u64], region: &mut [
     ensures areas { ArePaired black.now white.now areas.new }
     ensures region { AreOthersPaired black.now white.now region.new }
 {
-    let side = black.len();
-    'rows: for row in 0..side {
-        areas[row] = paired(black[row], white[row]);
-        region[row] = paired(
-            other_columns(white[row], side),
-            other_columns(black[row], side),
-        );
+    let columns = all_columns(black.len());
+    let all = paired(columns, columns);
+    'rows: for row in 0..black.len() {
+        let area = paired(black[row], white[row]);
+        areas[row] = area;
+        region[row] = columns_left(all, exchanged(area));
     }
 }
 
@@ -47,9 +47,18 @@ fn paired(low: u64, high: u64) -> u64
     high * HALVES + low
 }
 
+/// A word with its halves exchanged.
+fn exchanged(word: u64) -> u64
+    ensures low { result % 2 ^ 32 ≡ word / 2 ^ 32 }
+    ensures high { result / 2 ^ 32 ≡ word % 2 ^ 32 }
+{
+    word.rotate_left(u64::BITS / 2)
+}
+
 /// How many points each of two sets has that aren't in the other: first the set in the low halves (Black's area in a score), then the other.
 /// So an empty point in both areas counts for nobody, as one in neither. There must be as many words as the board has rows, fewer than 32,
 /// and all points must be on the board.
+#[inline(always)]
 pub fn count_halves(areas: &[u64]) -> (u32, u32)
     requires few { length areas.now < HALF }
     requires black_on { (p : Point) → IsTrue (is_set (low_halves areas.now) p) → IsOn (length areas.now) p }
@@ -57,12 +66,12 @@ pub fn count_halves(areas: &[u64]) -> (u32, u32)
     ensures black { result.0 ≡ count_apart (length areas.now) (low_halves areas.now) (high_halves areas.now) }
     ensures white { result.1 ≡ count_apart (length areas.now) (high_halves areas.now) (low_halves areas.now) }
 {
-    let (mut in_black, mut in_white) = (0, 0);
+    let (mut in_black, mut in_one) = (0, 0);
     'rows: for row in 0..areas.len() {
-        let black = areas[row] % HALVES;
-        let white = areas[row] / HALVES;
-        in_black += (black & !white).count_ones();
-        in_white += (white & !black).count_ones();
+        // the points that are in one half and not in the other
+        let alone = columns_left(areas[row], exchanged(areas[row]));
+        in_one += alone.count_ones();
+        in_black += (alone % HALVES).count_ones();
     }
-    (in_black, in_white)
+    (in_black, in_one - in_black)
 }

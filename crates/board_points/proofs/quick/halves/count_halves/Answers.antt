@@ -1,7 +1,9 @@
-use Rattle.std.proofs.Common.{◌≡◌, ◌/◌, ◌%◌, ◌<◌, ◌≤◌, ◌^◌, length, get_or, arith, rules}
+use Rattle.std.proofs.Common.{◌≡◌, ◌+◌, ◌-◌, ◌/◌, ◌%◌, ◌<◌, ◌≤◌, ◌^◌, ◌∙◌, ap, sym, subst, bit_and, w64, count_ones, length, get_or, arith, rules}
+use Rattle.std.specs.Int.{bit_not}
 use Rattle.std.proofs.Math.ListN.{get_or-map}
 use Rattle.board_points.specs.Halves.{low_halves, high_halves}
-use Rattle.board_points.proofs.CountLemmas.{counted_more, counted_all}
+use Rattle.board_points.proofs.CountLemmas.{IsCounted, counted_more, counted_all}
+use Rattle.board_points.proofs.HalvesLemmas.{left_low, left_high, ones_by_halves}
 use Rattle.board_points.proofs.quick.halves.count_halves.Goals as goal
 
 pub rows-preserved : goal.rows-preserved
@@ -17,9 +19,28 @@ rows-preserved c =
     let high_is : get_or (high_halves areas) row 0 ≡ word / 2 ^ 32 = get_or-map (λ w. w / 2 ^ 32) areas row 0 in
     let low_fits : word % 2 ^ 32 < 2 ^ 64 = omega arith in
     let high_fits : word / 2 ^ 32 < 2 ^ 64 = omega (arith, low_word) in
+    let alone = c.columns_left-alone in
+    let other = c.exchanged in
+    let other_fits : other.result < 2 ^ 64 = search rules in
+    let alone_fits : alone.result < 2 ^ 64 = search rules in
+    let low : alone.result % 2 ^ 32 ≡ bit_and (word % 2 ^ 32) (bit_not w64 (word / 2 ^ 32)) =
+    left_low word other.result alone.result low_word other_fits alone.ensures.within alone.ensures.off
+    ∙ ap (λ w. bit_and (word % 2 ^ 32) (bit_not w64 w)) other.ensures.low in
+    let high : alone.result / 2 ^ 32 ≡ bit_and (word / 2 ^ 32) (bit_not w64 (word % 2 ^ 32)) =
+    left_high word other.result alone.result low_word other_fits alone.ensures.within alone.ensures.off
+    ∙ ap (λ w. bit_and (word / 2 ^ 32) (bit_not w64 w)) other.ensures.high in
+    let both : count_ones alone.result ≡ count_ones (alone.result / 2 ^ 32) + count_ones (alone.result % 2 ^ 32) = ones_by_halves alone.result in
+    let in_low = ap count_ones low in
+    let in_high = ap count_ones high in
+    let one = c.rows.in_one in
+    let black = c.rows.in_black in
+    let black_too = c.rows.invariant.black_too in
     record {
-      black = counted_more n (low_halves areas) (high_halves areas) row _ _ c.rows.in_black c.rows.invariant.black small on low_is high_is low_fits high_fits c.requires.black_on;
-      white = counted_more n (high_halves areas) (low_halves areas) row _ _ c.rows.in_white c.rows.invariant.white small on high_is low_is high_fits low_fits c.requires.white_on;
+      black = subst (λ k. IsCounted n (low_halves areas) (high_halves areas) (row + 1) (black + k)) (sym in_low)
+          (counted_more n (low_halves areas) (high_halves areas) row _ _ black c.rows.invariant.black small on low_is high_is low_fits high_fits c.requires.black_on);
+      white = subst (IsCounted n (high_halves areas) (low_halves areas) (row + 1)) (omega (arith, both, in_high, black_too))
+          (counted_more n (high_halves areas) (low_halves areas) row _ _ (one - black) c.rows.invariant.white small on high_is low_is high_fits low_fits c.requires.white_on);
+      black_too = omega (arith, both, black_too);
     }
 
 pub returns-clause-black : goal.returns-clause-black
@@ -30,4 +51,4 @@ returns-clause-black c =
 pub returns-clause-white : goal.returns-clause-white
 returns-clause-white c =
     let areas = c.args.areas.now in
-    counted_all (length areas) (high_halves areas) (low_halves areas) c.rows.row c.rows.in_white c.rows.invariant.white (omega (arith, c.rows-test.false, c.rows.auto.row-end))
+    counted_all (length areas) (high_halves areas) (low_halves areas) c.rows.row (c.rows.in_one - c.rows.in_black) c.rows.invariant.white (omega (arith, c.rows-test.false, c.rows.auto.row-end))
