@@ -2,7 +2,7 @@
 
 ghost use Rattle.std.specs.Prelude.{◌≡◌, ◌≢◌, ℕ, ◌+◌, ◌<◌, Bool, not, ◌&&◌, ◌||◌, IsTrue, List, length, slice_index};
 ghost use Rattle.board_points.specs.declared.fill.Direction.TheVariants.{Up};
-ghost use Rattle.board_points.specs.inner.Fill.{IsFilledBut, IsNext, AreRowsBelow, HaveMore, row_above};
+ghost use Rattle.board_points.specs.inner.Fill.{IsFilledBut, IsNext, AreRowsBelow, HaveMore};
 ghost use Rattle.board_points.specs.Rows.{IsWithin, has_bit, is_set, IsClosed, Grows};
 ghost use Rattle.board_points.specs.inner.Columns.{IsPart, HasBeside, IsWidened};
 
@@ -185,24 +185,4 @@ fn carried(seed: u64, region: u64) -> u64
     ensures { IsWidened region seed result }
 {
     region & !region.wrapping_add(seed) | seed
-}
-
-/// The row above a row; empty above the first.
-pub(crate) fn row_above(rows: &[u64], row: usize) -> u64
-    requires { row < length rows.now }
-    ensures { result ≡ row_above rows.now row }
-{
-    if row > 0 { rows[row - 1] } else { 0 }
-}
-
-/// The row below a row; empty below the last.
-pub(crate) fn row_below(rows: &[u64], row: usize) -> u64
-    requires { row < length rows.now }
-    ensures { result ≡ slice_index rows.now (row + 1) }
-{
-    if row + 1 < rows.len() {
-        rows[row + 1]
-    } else {
-        0
-    }
 }

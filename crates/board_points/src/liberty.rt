@@ -56,17 +56,29 @@ pub(crate) fn row_at(own: &[u64], others: &[u64], all: u64, middle: usize, i: us
 {
     // the rows down to `middle` are above the board's end
     if 2 <= middle + i && (i <= 2 || middle + i - 2 < own.len()) {
-        let row = middle + i - 2;
-        return RowStones {
-            own: own[row],
-            others: others[row],
-            free: columns_left(all, own[row] | others[row]),
-        };
+        return row_inside(own, others, all, middle + i - 2);
     }
     RowStones {
         own: 0,
         others: 0,
         free: 0,
+    }
+}
+
+/// What stands on a row of the board. `all` has all columns.
+#[inline(always)]
+pub(crate) fn row_inside(own: &[u64], others: &[u64], all: u64, row: usize) -> RowStones
+    requires rows { AreOfOneBoard own.now others.now }
+    requires all { AreAllColumns (length own.now) all }
+    requires row { row < length own.now }
+    ensures is { (middle i : ℕ) → row + 2 ≡ middle + i → IsRowAt own.now others.now middle i result }
+    ensures free { (point : Point) → point.row ≡ row → IsOn (length own.now) point → is_set own.now point ≡ false
+        → is_set others.now point ≡ false → IsTrue (has_bit result.free point.col) }
+{
+    RowStones {
+        own: own[row],
+        others: others[row],
+        free: columns_left(all, own[row] | others[row]),
     }
 }
 

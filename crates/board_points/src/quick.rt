@@ -6,8 +6,8 @@
 //! | `group`: one group, straight up and down from a stone until a liberty is found, and else the whole | filling from all stones with a liberty |
 //! | `halves`: one filling fills two sets of points of a small board | two fillings |
 //!
-//! `#[inline(always)]` is on a look at rows, which is compiled for each number of rows, and `#[inline(never)]` on what few stones need. Without
-//! these attributes list form takes 2 to 7 percent more instructions.
+//! `#[inline(always)]` is on a glance, which becomes part of a turn, and `#[inline(never)]` on what few stones need. Without
+//! such attributes list form took 2 to 7 percent more instructions.
 
 pub mod glance;
 pub mod group;

@@ -10,10 +10,11 @@ ghost use Rattle.go_board.specs.inner.Groups.{TakesOff};
 use crate::board::Board;
 use crate::stones::Colour;
 use board_points::Point;
-use board_points::quick::glance::{leaves_all_alive, stands_apart};
+use board_points::quick::glance::leaves_all_alive;
 
 impl Board {
     /// Whether a glance shows that a stone on an empty point captures nothing, and isn't suicide.
+    #[inline(always)]
     pub(crate) fn takes_nothing_at_a_glance(&self, colour: Colour, point: Point) -> bool
         requires on_board { IsOn self.now.side point }
         requires settled { has_unreaching self.now ≡ false }
@@ -22,6 +23,6 @@ impl Board {
         self.has_all_cells();
         let own = self.rows_of(colour);
         let others = self.rows_of(colour.opponent());
-        stands_apart(own, others, point) || leaves_all_alive(own, others, point)
+        leaves_all_alive(own, others, point)
     }
 }

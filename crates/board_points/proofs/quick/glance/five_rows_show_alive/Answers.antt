@@ -1,15 +1,127 @@
-use Rattle.std.proofs.Common.{bit_or}
-use Rattle.std.proofs.lemmas.Bool.{eqb-true}
-use Rattle.board_points.proofs.GlanceLemmas.{none_of_two, left_across}
+use Rattle.std.proofs.Common.{◌≡◌, ◌≢◌, ◌<◌, ◌^◌, false, ℕ, inl, inr, bit_and, w64, sym, ap, ◌∙◌, arith, rules, subst}
+use Rattle.std.proofs.lemmas.Bool.{false≢true}
+use Rattle.std.specs.Int.{bit_not}
+use Rattle.board_points.specs.declared.liberty.RowStones.{RowStones}
+use Rattle.board_points.specs.Point.{DifferByOne}
+use Rattle.board_points.specs.inner.Look.{IsLookedAt}
+use Rattle.board_points.specs.Glance.{Lives, LeavesAlong, LeavesAcross}
+use Rattle.board_points.specs.Rows.{has_bit}
+use Rattle.board_points.proofs.GlanceLemmas.{row_here, free_here, none_free, free_elsewhere, stays_open, friend_there, left_there}
 use Rattle.board_points.proofs.quick.glance.five_rows_show_alive.Goals as goal
+use Rattle.board_points.proofs.quick.glance.five_rows_show_alive.Goals.{After-columns_beside-shut}
 
-pub returns-then-around-ne0 : goal.returns-then-around-ne0
-returns-then-around-ne0 c = λ none.
-    let around = c.look_around-around in
-    let both = none_of_two (bit_or around.result.along around.result.up) around.result.down (eqb-true _ _ none) in
-    let beside = none_of_two around.result.along around.result.up both.0 in
+-- the point's own row, without the point
+abbrev here : After-columns_beside-shut → RowStones
+here c = record { own = c.args.here.own; others = c.args.here.others; free = c.without_column-free.result }
+
+up : (c : After-columns_beside-shut) → IsLookedAt c.args.own.now c.args.others.now c.args.point 0 c.args.first.free c.args.above 0
+up c =
+    let p = c.args.point in
+    let own = c.args.own.now in
+    let others = c.args.others.now in
     record {
-      lives = around.ensures.alive c.if-around-ne0.true;
-      along = around.ensures.along beside.0;
-      across = left_across c.args.own.now c.args.others.now c.args.point around.result around.ensures beside.1 both.1;
+      stones = c.requires.above;
+      free_above = free_elsewhere own others p 0 c.args.first (omega arith) c.requires.first;
+      free_here = free_elsewhere own others p 1 c.args.above (omega arith) c.requires.above;
+      free_below = none_free own others p 2;
     }
+
+along : (c : After-columns_beside-shut) → IsLookedAt c.args.own.now c.args.others.now c.args.point 1 c.args.above.free (here c) c.args.below.free
+along c =
+    let p = c.args.point in
+    let own = c.args.own.now in
+    let others = c.args.others.now in
+    let same = c.from-col.ensures in
+    let free = c.without_column-free.result in
+    let gone = c.without_column-free.ensures in
+    let out = ap (has_bit free) (sym same) ∙ gone.there in
+    let left : (k : ℕ) → k ≢ p.col → has_bit free k ≡ has_bit c.args.here.free k = λ k other. gone.elsewhere k (λ e. other (e ∙ same)) in
+    record {
+      stones = row_here own others p free c.args.here out left c.requires.here;
+      free_above = free_elsewhere own others p 1 c.args.above (omega arith) c.requires.above;
+      free_here = free_here own others p free c.args.here out left c.requires.here;
+      free_below = free_elsewhere own others p 3 c.args.below (omega arith) c.requires.below;
+    }
+
+down : (c : After-columns_beside-shut) → IsLookedAt c.args.own.now c.args.others.now c.args.point 2 0 c.args.below c.args.last.free
+down c =
+    let p = c.args.point in
+    let own = c.args.own.now in
+    let others = c.args.others.now in
+    record {
+      stones = c.requires.below;
+      free_above = none_free own others p 2;
+      free_here = free_elsewhere own others p 3 c.args.below (omega arith) c.requires.below;
+      free_below = free_elsewhere own others p 4 c.args.last (omega arith) c.requires.last;
+    }
+
+-- no stone of the opponent beside the point is without a free point beside it
+abbrev NoneShut : After-columns_beside-shut → Type 0
+NoneShut c = has_bit c.columns_beside-shut.result c.from-col.result ≡ false
+
+leaves_along : (c : After-columns_beside-shut) → NoneShut c → LeavesAlong c.args.own.now c.args.others.now c.args.point
+leaves_along c none q set next =
+    let shut = c.columns_beside-shut in
+    let middle = c.columns_beside-middle in
+    let low : c.args.here.others < 2 ^ 64 = search rules in
+    let few : middle.result < 2 ^ 64 = search rules in
+    let column : c.from-col.result < 64 = omega (arith, c.from-col.ensures, c.requires.on_board.0, c.requires.rows.few) in
+    left_there c.args.own.now c.args.others.now c.args.point 1 c.args.above.free (here c) c.args.below.free (along c) middle.result middle.ensures.from q low few
+    (λ is. false≢true (sym none ∙ shut.ensures.to c.from-col.result column (inr (inr (q.col, subst (λ n. DifferByOne n q.col) (sym c.from-col.ensures) next.1, is)))))
+    (omega (arith, next.0)) set
+
+leaves_across : (c : After-columns_beside-shut) → NoneShut c → LeavesAcross c.args.own.now c.args.others.now c.args.point
+leaves_across c none q set next =
+    let p = c.args.point in
+    let own = c.args.own.now in
+    let others = c.args.others.now in
+    let shut = c.columns_beside-shut in
+    let above = c.columns_beside-up in
+    let below = c.columns_beside-down in
+    let above_low : c.args.above.others < 2 ^ 64 = search rules in
+    let below_low : c.args.below.others < 2 ^ 64 = search rules in
+    let up_low : above.result < 2 ^ 64 = search rules in
+    let down_low : below.result < 2 ^ 64 = search rules in
+    let column : c.from-col.result < 64 = omega (arith, c.from-col.ensures, c.requires.on_board.0, c.requires.rows.few) in
+    let same = c.from-col.ensures ∙ next.0 in
+    elim next.1 [
+      | inl row ↦ left_there own others p 2 0 c.args.below c.args.last.free (down c) below.result below.ensures.from q below_low down_low
+          (λ is. false≢true (sym none ∙ shut.ensures.to c.from-col.result column (inr (inl (ap (has_bit (bit_and c.args.below.others (bit_not w64 below.result))) same ∙ is)))))
+          (omega (arith, row)) set
+      | inr row ↦ left_there own others p 0 c.args.first.free c.args.above 0 (up c) above.result above.ensures.from q above_low up_low
+          (λ is. false≢true (sym none ∙ shut.ensures.to c.from-col.result column (inl (ap (has_bit (bit_and c.args.above.others (bit_not w64 above.result))) same ∙ is))))
+          (omega (arith, row)) set
+    ]
+
+pub returns-then-has_column-2 : goal.returns-then-has_column-2
+returns-then-has_column-2 c = λ _.
+    let b = (goal.at.returns-then-has_column-2 c).After-columns_beside-shut in
+    let p = c.args.point in
+    let middle = c.columns_beside-middle in
+    let none = sym c.has_column.ensures ∙ c.if-has_column.false in
+    let there = ap (has_bit middle.result) (sym c.from-col.ensures) ∙ sym c.has_column-2.ensures ∙ c.if-has_column-2.true in
+    record {
+      lives = inl (stays_open c.args.own.now c.args.others.now p 1 c.args.above.free (here b) c.args.below.free (along b) middle.result middle.ensures.from p (omega arith) there);
+      along = leaves_along b none;
+      across = leaves_across b none;
+    }
+
+pub returns : goal.returns
+returns c = λ some.
+    let b = (goal.at.returns c).After-columns_beside-shut in
+    let p = c.args.point in
+    let own = c.args.own.now in
+    let others = c.args.others.now in
+    let above = c.columns_beside-up in
+    let middle = c.columns_beside-middle in
+    let below = c.columns_beside-down in
+    let none = sym c.has_column.ensures ∙ c.if-has_column.false in
+    let there = ap (has_bit c.columns_beside-friends.result) (sym c.from-col.ensures) ∙ sym c.has_column-3.ensures ∙ some in
+    let lives : Lives own others p =
+    elim (c.columns_beside-friends.ensures.from p.col there) [
+      | inl is ↦ friend_there own others p 0 c.args.first.free c.args.above 0 (up b) above.result above.ensures.from p.col (λ q at. inl (sym at.0, inr (omega (arith, at.1)))) is
+      | inr (inl is) ↦ friend_there own others p 2 0 c.args.below c.args.last.free (down b) below.result below.ensures.from p.col (λ q at. inl (sym at.0, inl (omega (arith, at.1)))) is
+      | inr (inr w) ↦ friend_there own others p 1 c.args.above.free (here b) c.args.below.free (along b) middle.result middle.ensures.from w.0
+          (λ q at. inr (omega (arith, at.1), subst (DifferByOne p.col) (sym at.0) w.1)) w.2
+    ] in
+    record { lives = lives; along = leaves_along b none; across = leaves_across b none }
