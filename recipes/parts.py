@@ -29,14 +29,17 @@ import tool
 
 import collections
 import contextlib
+import itertools
 import mmap
 import re
+import select
 import subprocess
 import tempfile
 
 import goboard
 import sgfsplit
 
+ROWS = 1 << 16  # how many bytes of rows are raised at a time
 MARK = b"\xef\xbb\xbf"  # the byte order mark, which may stand only before the first game
 IN_VALUE = re.compile(rb"\\.?|\]", re.DOTALL)  # an escape, of which the second byte may still have to be read, or the value's end
 SPACE = rb"[ \t\n\r\v\f]*"
@@ -85,22 +88,22 @@ def first_part(file, name, most, is_empty):
     return part if is_empty or INK.search(part) or len(part) > sgfsplit.LIMIT else None
 
 
-def cuts(text, size, most):
-    """Offsets at which the first part of a text may end, the most likely one first. The program says whether it does: if it accepts the text up
-    to an offset, this is the last game that ends within `most` bytes. For from there on no further game does."""
-    found = []
+def cuts(text, begin, end, most):
+    """Offsets at which the first part of the text from `begin` to `end` may end, the most likely one first. The program says whether it does:
+    if it accepts the text up to an offset, this is the last game that ends by the offset `most`. For from there on no further game does."""
+    found = set()
     for between, distances in BETWEEN:
-        at = last_match(between, distances, text, size, most)
-        cut = None if at is None else last_end(text[at:size], most - at)
-        if cut is not None and at + cut not in found:
-            found.append(at + cut)
-    return found
+        at = last_match(between, distances, text, begin, end, most)
+        size = None if at is None else last_end(text[at:end], most - at)
+        if size is not None and at + size not in found:
+            found.add(at + size)
+            yield at + size
 
 
-def last_match(between, distances, text, size, most):
+def last_match(between, distances, text, begin, end, most):
     """The offset after the `)` of the last match in a text, or None if there is none near enough."""
     for distance in distances:
-        starts = collections.deque((match.start() for match in between.finditer(text, max(most - distance, 0), size)), 1)
+        starts = collections.deque((match.start() for match in between.finditer(text, max(most - distance, begin), end)), 1)
         if starts:
             return starts[0] + 1
     return None
@@ -122,45 +125,71 @@ def last_end(tail, most):
 
 
 class Part:
-    """The bytes of a part in a file of their own, and a process that splits them."""
+    """The bytes of a part, which stand in a file of their own from an offset on, and the processes that split them and count line feeds."""
 
-    def __init__(self, file, size, tried):
-        self.file, self.size, self.tried, self.run, self.rows = file, size, tried, None, None
+    def __init__(self, file, start, size, tried):
+        self.file, self.start, self.size, self.tried = file, start, size, tried
+        self.run, self.rows, self.said, self.status = None, None, b"", None
+        self.counting, self.feeds = None, 0
 
-    def start(self):
+    def split(self):
+        self.file.seek(self.start)
         self.rows = tempfile.TemporaryFile()
         self.run = subprocess.Popen([sgfsplit.program(), "split"], stdin=self.file, stdout=self.rows, stderr=subprocess.PIPE)
 
+    def hear(self):
+        """Takes what the process says. Once it says nothing more, it has ended, and its status is known."""
+        said = os.read(self.run.stderr.fileno(), sgfsplit.PIECE)
+        self.said += said
+        if not said:
+            self.status = self.run.wait()
+
     def pieces(self):
         """The bytes, piece by piece."""
-        return (os.pread(self.file.fileno(), sgfsplit.PIECE, at) for at in range(0, self.size, sgfsplit.PIECE))
+        return (os.pread(self.file.fileno(), sgfsplit.PIECE, at) for at in range(self.start, self.start + self.size, sgfsplit.PIECE))
 
     def text(self):
         return b"".join(self.pieces())
 
+    def is_marked(self):
+        return os.pread(self.file.fileno(), len(MARK), self.start) == MARK
+
+    def count(self):
+        """Starts a process that counts the line feeds, four times as fast as Python would, and beside the other jobs."""
+        self.file.seek(self.start)
+        self.counting = subprocess.Popen(["wc", "-l"], stdin=self.file, stdout=subprocess.PIPE)
+
     def line_feeds(self):
-        """A process that counts the line feeds, four times as fast as Python would, and beside the other jobs."""
-        self.file.seek(0)
-        return subprocess.Popen(["wc", "-l"], stdin=self.file, stdout=subprocess.PIPE)
+        """How many line feeds were counted. After this call no process reads the file."""
+        if self.counting is not None:
+            self.feeds = int(self.counting.communicate()[0])
+            self.counting = None
+        return self.feeds
 
     def last_line_feed(self):
-        """The offset of the last line feed, or -1."""
-        end = self.size
-        while end > 0:
-            begin = max(end - sgfsplit.PIECE, 0)
+        """The offset of the last line feed in the part, or -1."""
+        end = self.start + self.size
+        while end > self.start:
+            begin = max(end - sgfsplit.PIECE, self.start)
             feed = os.pread(self.file.fileno(), end - begin, begin).rfind(b"\n")
             if feed >= 0:
-                return begin + feed
+                return begin + feed - self.start
             end = begin
         return -1
 
-    def end(self):
-        """Ends the process and drops the bytes."""
+    def stop(self):
+        """Ends the process that splits, and drops the rows."""
         if self.run is not None:
             self.run.kill()
             self.run.wait()
             self.run.stderr.close()
             self.rows.close()
+
+    def end(self):
+        """Ends the processes, and drops the rows and the bytes."""
+        self.stop()
+        if self.counting is not None:
+            self.counting.communicate()
         self.file.close()
 
 
@@ -176,6 +205,17 @@ def write(file, data):
         data = data[file.write(data):]
 
 
+def send(source, file, most):
+    """Lets the system copy the next bytes of a file, at most so many, to another one, so that they don't pass through this process. Returns
+    their number. They are fewer at the end of the file, and if the system can't copy them: from a pipe, for example."""
+    size = 0
+    if sys.platform == "linux":  # elsewhere this call is for sockets
+        with contextlib.suppress(OSError):  # what is wrong with the file is said when it is read
+            while size < most and (more := os.sendfile(file.fileno(), source.fileno(), None, most - size)):
+                size += more
+    return size
+
+
 def viewed(file, size):
     """The bytes of a file, of which only those that are looked at are loaded."""
     return mmap.mmap(file.fileno(), size) if size else contextlib.nullcontext(b"")
@@ -185,8 +225,10 @@ class Parts:
     """The parts of an open file, one by one. If a part turns out to be wrong, it is put back with all after it, and is cut in another way."""
 
     def __init__(self, file, name, most):
-        self.file, self.name, self.most, self.ahead, self.begin = file, name, most, b"", 0
+        self.file = getattr(file, "raw", file)  # without Python's buffer, because the system copies from its own place in the file
+        self.name, self.most, self.ahead, self.begin = name, most, b"", 0
         self.buffer = memoryview(bytearray(sgfsplit.PIECE))
+        self.spare = None  # a part that is done
 
     def read(self, size):
         """The next bytes, at most so many; none at the end of the file. First come those that were put back."""
@@ -198,6 +240,7 @@ class Parts:
         size = min(most, len(self.ahead))
         write(file, memoryview(self.ahead)[:size])
         self.ahead = self.ahead[size:]
+        size += send(self.file, file, most - size)
         while size < most and (more := self.take(most - size)):
             write(file, self.buffer[:more])
             size += more
@@ -214,26 +257,46 @@ class Parts:
         self.ahead = b"".join([part.text() for part in parts] + [self.ahead])
         self.begin -= sum(part.size for part in parts)
 
+    def emptied(self):
+        """A file to be filled. Filling that of an earlier part is faster, because the system has its memory already."""
+        if self.spare is None:
+            return unnamed()
+        self.spare.line_feeds()
+        file, self.spare = self.spare.file, None
+        return file
+
+    def drop_spare(self):
+        if self.spare is not None:
+            self.spare.end()
+            self.spare = None
+
     def next(self, tried):
         """The next part, cut in the likeliest way that wasn't `tried`. None if there is none, or if only white space is left."""
-        file = unnamed()
-        size = self.fill(file, self.most + 1)
-        with viewed(file, size) as text:
-            is_over = self.begin and size <= self.most and not INK.search(text)
-            is_marked = self.begin and text[:len(MARK)] == MARK
-            ends = [] if is_over or is_marked else [size] if size <= self.most else cuts(text, size, self.most)
-            kept = ends[tried] if tried < len(ends) else 0
-            self.ahead = text[kept:size] + self.ahead
-        if tried >= len(ends):
+        file, start = self.emptied(), self.begin % mmap.PAGESIZE  # the system is faster at copying bytes to the same place of a page
+        file.seek(start)
+        end = start + self.fill(file, self.most + 1)
+        file.truncate(end)
+        with viewed(file, end) as text:
+            cut = self.cut(text, start, end, tried)
+            self.ahead = text[start if cut is None else cut:end] + self.ahead
+        if cut is None:
             file.close()
             return None
-        file.truncate(kept)
-        file.seek(0)
-        self.begin += kept
-        return Part(file, kept, tried)
+        file.truncate(cut)
+        self.begin += cut - start
+        return Part(file, start, cut - start, tried)
+
+    def cut(self, text, start, end, tried):
+        """The offset at which the part ends that begins at `start`, or None."""
+        is_whole = end - start <= self.most
+        is_marked = text[start:start + len(MARK)] == MARK
+        if self.begin and (is_marked or is_whole and not INK.search(text, start)):
+            return None
+        return next(itertools.islice([end] if is_whole else cuts(text, start, end, start + self.most), tried, None), None)
 
     def next_by_games(self):
         """The next part, found game by game, which takes long; None if only white space is left. It is the right one."""
+        self.drop_spare()
         seen = Seen(self)
         part = first_part(seen, self.name, self.most, self.begin == 0)
         if part is None:
@@ -241,9 +304,8 @@ class Parts:
         self.ahead = bytes(seen.bytes[len(part):]) + self.ahead
         file = unnamed()
         write(file, part)
-        file.seek(0)
         self.begin += len(part)
-        return Part(file, len(part), None)
+        return Part(file, 0, len(part), None)
 
 
 class Seen:
@@ -259,91 +321,127 @@ class Seen:
 
 
 class Splitting:
-    """A file while it is split: the parts whose processes run, in their order, and the part that will be started next."""
+    """A file while it is split: the part whose rows are written, the parts whose processes run or have ended, in their order, and the part
+    that will be started next."""
 
     def __init__(self, parts, jobs):
-        self.parts, self.jobs, self.running, self.ready = parts, jobs, collections.deque(), None
+        self.parts, self.jobs, self.written, self.started, self.ready = parts, jobs, None, collections.deque(), None
         self.tried, self.is_stuck = 0, False
 
     def more(self):
-        """Cuts and starts parts, as many as there are jobs, and cuts one more. A part begins where the one before is thought to end."""
+        """Cuts and starts parts, so that as many processes run as there are jobs, and cuts one more. A part begins where the one before is
+        thought to end. One that is split early waits for its turn. Never are more parts held than two beside the jobs."""
+        self.hear(0)
         while True:
-            if self.running and self.running[-1].tried is None:
+            if self.started and self.started[-1].tried is None:
                 return  # such a part may be refused in any case, so no more is read yet
-            if self.ready is None and not self.is_stuck:
+            if self.ready is None and not self.is_stuck and len(self.started) + (self.written is not None) < self.jobs + 2:
                 self.ready = self.parts.next(self.tried)
                 self.is_stuck = self.ready is None
-            if self.ready is None and not self.running:
+            if self.ready is None and not self.started:
                 self.ready = self.parts.next_by_games()
-            if self.ready is None or len(self.running) >= self.jobs:
+            if self.ready is None or len(self.running()) >= self.jobs:
                 return
-            self.ready.start()
-            self.running.append(self.ready)
+            self.ready.split()
+            self.started.append(self.ready)
             self.ready, self.tried, self.is_stuck = None, 0, False
 
+    def running(self):
+        return [part for part in self.started if part.status is None]
+
     def first(self):
-        """The first part, once it is split, with the status of its process and what this has said; None if no part is left. A part that is
-        refused may have been cut in the wrong place."""
+        """The first part, once it is split; None if no part is left. A part that is refused may have been cut in the wrong place."""
+        self.put_away()
         while True:
             self.more()
-            if not self.running:
+            if not self.started:
                 return None
-            part = self.running[0]
-            said = part.run.communicate()[1]
-            if part.run.returncode != 1 or part.tried is None:
-                self.running.popleft()
-                return part, part.run.returncode, said
-            self.tried = part.tried + 1
-            self.parts.put_back(*self.all())
-            self.end()
+            part = self.started[0]
+            if part.status is None:
+                self.hear(None)
+            elif part.status != 1 or part.tried is None:
+                self.written = self.started.popleft()
+                return part
+            else:
+                self.tried = part.tried + 1
+                self.parts.put_back(*self.all())
+                self.end()
+
+    def hear(self, timeout):
+        """Waits until a process says something or ends, but no longer than so many milliseconds, if this isn't None."""
+        asked, heard = select.poll(), {part.run.stderr.fileno(): part for part in self.running()}
+        for stream in heard:
+            asked.register(stream, select.POLLIN)
+        for stream, _ in asked.poll(timeout):
+            heard[stream].hear()
+
+    def put_away(self):
+        """Makes the part whose rows are written the spare one."""
+        if self.written is not None:
+            self.written.stop()
+            self.parts.drop_spare()
+            self.parts.spare, self.written = self.written, None
 
     def all(self):
-        return [*self.running, *([] if self.ready is None else [self.ready])]
+        return [*self.started, *([] if self.ready is None else [self.ready])]
 
     def end(self):
+        """Drops all parts but the spare one."""
         for part in self.all():
             part.end()
-        self.running.clear()
+        self.started.clear()
         self.ready, self.is_stuck = None, False
 
 
 def rows_of(name, most, jobs):
-    """The rows of a file of any size, as lines of bytes."""
+    """The rows of a file of any size, as bytes, many rows at a time."""
     begin, games_before, line, feed = 0, 0, 1, -1  # `feed` is the offset of the last line feed before the part
-    counts = collections.deque()  # the processes that count line feeds, one at a time
     with sgfsplit.opened(name) as file:
-        splitting = Splitting(Parts(file, name, most), jobs)
+        splitting, before = Splitting(Parts(file, name, most), jobs), None
         try:
-            while (done := splitting.first()) is not None:
-                part, status, said = done
-                if begin > 0 and os.pread(part.file.fileno(), len(MARK), 0) == MARK:
+            while (part := splitting.first()) is not None:
+                status, said = part.status, part.said
+                if begin > 0 and part.is_marked():
                     status, said = 1, b"sgfsplit: byte 0: not SGF"
-                line += sum(int(counts.pop().communicate()[0]) for _ in list(counts))
+                line += 0 if before is None else before.line_feeds()
                 if status:
                     raise sgfsplit.refusal(sgfsplit.Text(name, part.text(), (line, begin - feed)), status, said)
                 splitting.more()
-                counts.append(part.line_feeds())
-                games_before = yield from raised(part.rows, begin, games_before)
+                part.count()
+                games_before = yield from raised(part.rows, begin, games_before, splitting.more)
                 last = part.last_line_feed()
-                begin, feed = begin + part.size, feed if last < 0 else begin + last
-                part.end()
+                begin, feed, before = begin + part.size, feed if last < 0 else begin + last, part
         finally:
             splitting.end()
-            for count in counts:
-                count.communicate()
+            splitting.put_away()
+            splitting.parts.drop_spare()
 
 
-def raised(rows, begin, games_before):
-    """The rows of a part as rows of the whole text. Returns the number of games up to the part's end."""
-    game = 0
+def raised(rows, begin, games_before, meanwhile):
+    """The rows of a part as rows of the whole text, many at a time; after each time calls `meanwhile`. Returns the number of games up to the
+    part's end."""
+    game = "0"
     rows.seek(0)
-    for row in rows:
-        place, game, rest = row.split(b" ", 2)
-        if b" illegal " in rest:
-            nodes, verdict, turn, fault, reason = rest.split(b" ")
-            rest = b"%b %b %b %d %b" % (nodes, verdict, turn, int(fault) + begin, reason)
-        yield b"%d %d %b" % (int(place) + begin, int(game) + games_before, rest)
+    while piece := rows.read(ROWS) + rows.readline():
+        words = []
+        game = raise_all(piece.decode().splitlines(True), begin, games_before, words)
+        yield "".join(words).encode()
+        meanwhile()
     return games_before + int(game)
+
+
+def raise_all(rows, begin, games_before, words):
+    """Appends the words of these rows, raised. Returns the number that the last game has in the part."""
+    last = None
+    for row in rows:
+        place, game, rest = row.split(" ", 2)
+        if game != last:
+            last, number = game, f" {int(game) + games_before} "
+        if " illegal " in rest:
+            nodes, verdict, turn, fault, reason = rest.split(" ")
+            rest = f"{nodes} {verdict} {turn} {int(fault) + begin} {reason}"
+        words += (str(int(place) + begin), number, rest)
+    return last
 
 
 def main(job):

@@ -38,8 +38,11 @@ done
 
 # The cut that the program accepts is the one that is found game by game. So the rows are the same, and for a refused text, too, the fault and
 # the rows before it, with any number of jobs. The texts have variations, comments that look like the ends of games, and damage at any byte.
+# They come from a file, of which the system copies the bytes, or from a pipe. The system may refuse to copy, at once or later, or copy a few
+# bytes at a time, or the file may be cut off meanwhile.
 cat > cuts.py <<'PYTHON'
-import io
+import errno
+import os
 import random
 import sys
 
@@ -69,10 +72,48 @@ def collection():
     return bytes(data)
 
 
-def given(text, most, jobs):
+class System:
+    """Copies the bytes of the file `text`, or doesn't, as its way says. Counts the bytes that it copies, and those that are read."""
+
+    def __init__(self):
+        self.way, self.plain, self.was_cut_off = None, os.sendfile, False
+        self.copied, self.read = dict.fromkeys(WAYS, 0), dict.fromkeys(WAYS, 0)
+
+    def sendfile(self, *words):
+        *files, most = words
+        if self.way == "refused" or self.way == "refused later" and random.random() < 0.5:
+            raise OSError(errno.EINVAL, "refused")
+        size = self.plain(*files, min(most, 40) if self.way in ("slow", "cut off", "refused later") else most)
+        self.copied[self.way] += size
+        if self.way == "cut off" and not self.was_cut_off:
+            os.truncate("text", min(CUT_OFF, os.path.getsize("text")))
+            self.was_cut_off = True
+        return size
+
+
+WAYS = ["whole", "slow", "refused", "refused later", "cut off", "pipe"]
+CUT_OFF = 120  # at least the bytes that are copied at once
+system = System()
+os.sendfile = system.sendfile
+
+
+def opened(text, way):
+    """The text in a file or a pipe."""
+    system.way, system.was_cut_off = way, False
+    if way == "pipe":
+        reads, writes = os.pipe()
+        with open(writes, "wb") as file:
+            file.write(text)
+        return open(reads, "rb")
+    with open("text", "wb") as file:
+        file.write(text)
+    return open("text", "rb")
+
+
+def given(text, most, jobs, way):
     """The rows, and the fault or None."""
     rows = []
-    sgfsplit.opened = lambda name: io.BytesIO(text)
+    sgfsplit.opened = lambda name: opened(text, way)
     try:
         rows.extend(parts.rows_of("text", most, jobs))
     except sgfsplit.Refused as refused:
@@ -85,31 +126,46 @@ def by_games(text, most):
     new = parts.Parts.next
     parts.Parts.next = lambda self, tried: None
     try:
-        return given(text, most, 1)
+        return given(text, most, 1, "refused")
     finally:
         parts.Parts.next = new
 
 
+def take(self, most, plain=parts.Parts.take):
+    size = plain(self, most)
+    system.read[system.way] += size
+    return size
+
+
 random.seed(77)
-refused, kept = 0, {"cut": 0, "by games": 0}
+parts.Parts.take = take
+refused, kept, again = 0, {"cut": 0, "by games": 0}, 0
 for way, name in (("next", "cut"), ("next_by_games", "by games")):
     def counted(self, *words, plain=getattr(parts.Parts, way), name=name):
+        global again
         part = plain(self, *words)
         kept[name] += part is not None
+        again += part is not None and words not in ((), (0,))
         return part
     setattr(parts.Parts, way, counted)
-for number in range(150):
-    text, most = collection(), random.choice([1, 30, 100, 200, 400, 1000])
-    want = by_games(text, most)
+for number in range(180):
+    text, most, way = collection(), random.choice([1, 30, 100, 200, 400, 1000]), WAYS[number % len(WAYS)]
+    want = by_games(text[:CUT_OFF] if way == "cut off" else text, most)
     refused += want[1] is not None
-    got = given(text, most, random.choice([1, 2, 5]))
+    got = given(text, most, random.choice([1, 2, 5]), way)
     if got != want:
-        sys.exit(f"parts of {most} bytes of {text}:\n{got}\nnot\n{want}")
-print(30 < refused < 120 and kept["cut"] > 100 or (refused, kept))
+        sys.exit(f"parts of {most} bytes, {way}, of {text}:\n{got}\nnot\n{want}")
+print(40 < refused < 140 and kept["cut"] > 100 and again > 10 or (refused, kept, again))
+print(*(way for way in WAYS if system.copied[way] > 2000), "are copied")
+print(*(way for way in WAYS if system.read[way] > 2000), "are read")
 PYTHON
 python3 cuts.py "$top" > got || failed "$(cat got)"
-echo True > want
-same want got "how often the texts are refused and cut"
+cat > want <<'WANT'
+True
+whole slow refused later cut off are copied
+refused refused later pipe are read
+WANT
+same want got "how often the texts are refused and cut, and how their bytes are handed over"
 
 # A library of 8 MB in parts of 1 MB is never gone through game by game, and the program is asked once for each part.
 python3 - <<'PYTHON'
@@ -146,15 +202,26 @@ if status or used.ru_utime + used.ru_stime > 3:
     sys.exit(f"status {status}, {used.ru_utime + used.ru_stime:.2f} seconds for 16 MB of moves")
 PYTHON
 same want got "the rows of 16 MB of moves"
-# For each job a part is in memory, and two more are, of however many: the one whose rows are written, and the one that is started next.
+# For each job a part is in memory, and two more are, of however many: the one whose rows are written, and the one that is started next. The
+# memory of the former is used again.
 cat > held.py <<'PYTHON'
 import sys
 
 sys.path.insert(0, sys.argv[1] + "/recipes")
 import parts
 
+cut = 0
+
+
+def counted_parts(self, tried, plain=parts.Parts.next):
+    global cut
+    cut += 1
+    return plain(self, tried)
+
+
+parts.Parts.next = counted_parts
 for jobs in 1, 2, 5:
-    files, most, plain = [], 0, parts.unnamed
+    files, most, cut, plain = [], 0, 0, parts.unnamed
 
     def counted():
         global most
@@ -165,12 +232,12 @@ for jobs in 1, 2, 5:
     parts.unnamed = counted
     rows = b"".join(parts.rows_of("library.sgf", 500000, jobs))
     parts.unnamed = plain
-    print(len(files) > 15, most - jobs, rows == open("want.library", "rb").read())
+    print(cut > 15, most - jobs, len(files) - jobs, all(file.closed for file in files), rows == open("want.library", "rb").read())
 PYTHON
 "$SGFSPLIT" split library.sgf > want.library
 python3 held.py "$top" > got
-for _ in 1 2 5; do echo True 2 True; done > want
-same want got "how many of many parts are held, beside one for each job"
+for _ in 1 2 5; do echo True 2 2 True True; done > want
+same want got "how many of many parts are held, and how many files are made, beside one for each job"
 
 # With four jobs four programs run at a time, and no more.
 cat > meets <<'MEETS'
@@ -193,6 +260,25 @@ chmod +x meets
 TRUE_SGFSPLIT=$SGFSPLIT SGFSPLIT=$work/meets "$tool" --jobs 4 --most 1000000 library.sgf > got
 same want.library got "the rows of four jobs"
 [ "$(sort -n met | tail -n 1)" = 4 ] || failed "with four jobs $(sort -n met | tail -n 1) programs ran at a time"
+# While a part takes long, the other job splits those after it, as long as no more than two beside the jobs are held.
+cat > late <<'LATE'
+#!/bin/sh
+if [ "$1" = split ] && mkdir first 2> /dev/null; then
+    for _ in $(seq 100); do
+        [ "$(cat ended 2> /dev/null | wc -l)" -lt 3 ] || break
+        sleep 0.1
+    done
+    sleep 0.5
+    cat ended > ended_before
+    exec "$TRUE_SGFSPLIT" "$@"
+fi
+"$TRUE_SGFSPLIT" "$@"
+[ "$1" != split ] || echo "$$" >> ended
+LATE
+chmod +x late
+TRUE_SGFSPLIT=$SGFSPLIT SGFSPLIT=$work/late "$tool" --jobs 2 --most 1000000 library.sgf > got
+same want.library got "the rows after a part that takes long"
+[ "$(wc -l < ended_before)" = 3 ] || failed "$(wc -l < ended_before) programs ended before the first one, which took long"
 
 # More than the program accepts: 48 games of about 1.5 MB, and the same once more.
 python3 - <<'PYTHON'
