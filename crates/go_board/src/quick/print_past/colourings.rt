@@ -216,7 +216,8 @@ impl Colourings {
 
     /// Adds a colouring, which begins a stretch or continues the present one. After a refusal nothing is changed.
     pub(crate) fn add(&mut self, board: &Board, begins: bool) -> Result<(), MemoryFault>
-        requires { (newest_grid self.old).side ≡ board.now.side }
+        requires side { (newest_grid self.old).side ≡ board.now.side }
+        requires few { length (all_of self.old) ≤ MOST }
         ensures ok { OnOk result (self.new ≡ with_next self.old board.now begins) }
         ensures err { OnErr result (self.new ≡ self.old) }
     {
@@ -277,6 +278,7 @@ impl Colourings {
     ) -> Result<(), MemoryFault>
         requires stone { IsMove (newest_grid self.old) colour point taken.now }
         requires fresh { IsTrue fresh → IsLastStone (with_next self.old (play (newest_grid self.old) colour point) false) point }
+        requires few { length (all_of self.old) ≤ MOST }
         ensures ok { OnOk result (self.new ≡ with_next self.old (play (newest_grid self.old) colour point) false) }
         ensures err { OnErr result (self.new ≡ self.old) }
     {
@@ -323,7 +325,7 @@ impl Colourings {
     }
 }
 
-/// Makes room for one more older colouring, and if `rows` is true, for all rows of it. There are at most `MOST` of both.
+/// Makes room for one more older colouring, and if `rows` is true, for all rows of it. There are at most `MOST` rows.
 #[inline(always)]
 fn make_room(
     older: &mut Vec<Older>,
@@ -332,14 +334,10 @@ fn make_room(
 ) -> Result<(), MemoryFault>
     ensures items { older.new.items ≡ older.old.items }
     ensures ok { OnOk result (length older.new.items < vec_capacity older.new) }
-    ensures few { OnOk result (length older.new.items < MOST) }
     ensures changes { changes.new.items ≡ changes.old.items }
     ensures rows { OnOk result (IsTrue rows → length changes.new.items + MAX_ROWS ≤ vec_capacity changes.new) }
     ensures few_rows { OnOk result (IsTrue rows → length changes.new.items + MAX_ROWS ≤ MOST) }
 {
-    if are_most(older.len()) {
-        return Err(MemoryFault);
-    }
     older.reserve(1)?;
     if rows {
         make_room_for_rows(changes)?;
@@ -360,8 +358,7 @@ fn make_room_for_rows(changes: &mut Vec<Change>) -> Result<(), MemoryFault>
     Ok(())
 }
 
-/// Whether so many older colourings, or changes, are the most that are kept.
-#[inline(always)]
+/// Whether so many changes are the most that are kept.
 fn are_most(count: usize) -> bool
     ensures { IsTrue result ↔ 2 ^ 32 - 1 ≤ count }
 {

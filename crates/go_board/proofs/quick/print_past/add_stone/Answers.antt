@@ -1,10 +1,10 @@
-use Rattle.std.proofs.Common.{false}
+use Rattle.std.proofs.Common.{false, arith}
 use Rattle.go_board.specs.declared.stones.Colour.{Colour}
 use Rattle.board_points.specs.declared.points.Point.{Point}
 use Rattle.go_board.specs.Clearing.{play}
 use Rattle.go_board.specs.Past.{Held, PastColourings, all_of, newest_grid}
 use Rattle.go_board.proofs.RepeatLemmas.{emptied_by_play}
-use Rattle.go_board.proofs.TableLemmas.{gaps_same, print_same, table_same}
+use Rattle.go_board.proofs.TableLemmas.{few_all, gaps_same, print_same, table_same}
 use Rattle.go_board.proofs.quick.print_past.add_stone.Goals as goal
 use Rattle.go_board.proofs.quick.print_past.add_stone.Goals.{In_ok-reserve-2}
 
@@ -31,6 +31,9 @@ returns-clause-table c =
     (print_same held c.args.table.now c.reserve-2.new.self (c.reserve-2.ensures.asleep held) (c.reserve-2.ensures.awake held) next c.args.print c.requires.print)
     (gaps_same held c.args.table.now.trie c.reserve-2.new.self.trie c.args.print c.args.gap c.reserve-2.ensures.trie c.requires.gap)
     (c.in_ok-reserve-2.ensures.ok held c.len-number.ensures))
+
+pub add_stone-requires-clause-few : goal.add_stone-requires-clause-few
+add_stone-requires-clause-few c = omega (arith, few_all (all_of c.args.colourings.now) c.args.table.now c.requires.table)
 
 pub push-requires : goal.push-requires
 push-requires c =

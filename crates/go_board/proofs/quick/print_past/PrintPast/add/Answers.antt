@@ -1,4 +1,5 @@
-use Rattle.std.proofs.Common.{◌≡◌, ◌≢◌, true, subst}
+use Rattle.std.proofs.Common.{◌≡◌, ◌≢◌, true, subst, arith}
+use Rattle.std.proofs.Math.Facts.{Fits-of_lt}
 use Rattle.go_board.specs.declared.stones.Cell.TheVariants.{Empty}
 use Rattle.board_points.specs.declared.points.Point.{Point}
 use Rattle.board_points.specs.Point.{IsOn}
@@ -6,7 +7,7 @@ use Rattle.go_board.specs.Grid.{Grid, cell_at}
 use Rattle.go_board.specs.Past.{Held, all_of}
 use Rattle.go_board.specs.inner.Table.{IsPrintOfNext}
 use Rattle.board_points.specs.Rows.{is_set}
-use Rattle.go_board.proofs.TableLemmas.{no_gap, print_same, table_same}
+use Rattle.go_board.proofs.TableLemmas.{few_all, no_gap, print_same, table_same}
 use Rattle.go_board.proofs.quick.print_past.PrintPast.add.Goals as goal
 use Rattle.go_board.proofs.quick.print_past.PrintPast.add.Goals.{After-add_stones, then-is_awake, else-is_awake}
 
@@ -37,6 +38,12 @@ invariant_of-self-in_err-add c =
       tabled = table_same held c.self.inside.table c.reserve-2.new.self (c.reserve-2.ensures.asleep held) (c.reserve-2.ensures.awake held) c.self.invariant.tabled;
       emptied_in = c.reserve.ensures.emptied held c.self.invariant.emptied_in;
     })
+
+pub overflow_cast-number : goal.overflow_cast-number
+overflow_cast-number c = Fits-of_lt (omega (arith, c.len-number.ensures, few_all (all_of c.self.inside.colourings) c.self.inside.table c.self.invariant.tabled))
+
+pub add-requires-clause-few : goal.add-requires-clause-few
+add-requires-clause-few c = omega (arith, few_all (all_of c.self.inside.colourings) c.self.inside.table c.self.invariant.tabled)
 
 pub push-requires : goal.push-requires
 push-requires c =

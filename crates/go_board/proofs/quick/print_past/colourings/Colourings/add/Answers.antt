@@ -1,17 +1,19 @@
-use Rattle.std.proofs.Common.{◌≡◌, ◌+◌, cond, false, ◌++◌, [], ◌∷◌, length, reverse, refl, ap, sym, ◌∙◌, arith, rules}
+use Rattle.std.proofs.Common.{◌≡◌, ◌+◌, ◌<◌, cond, false, ◌++◌, [], ◌∷◌, length, reverse, refl, ap, sym, ◌∙◌, arith, rules}
 use Rattle.std.proofs.lemmas.Bool.{false≢true}
 use Rattle.std.proofs.Math.Facts.{Fits-of_lt}
 use Rattle.go_board.specs.declared.quick.print_past.changes.Older.{Older}
 use Rattle.go_board.specs.Grid.{Grid}
 use Rattle.go_board.specs.Past.{PastColourings, newest_grid, with_next}
 use Rattle.go_board.specs.inner.Changes.{is_full, IsPast, KeepRows}
-use Rattle.go_board.proofs.ColouringsLemmas.{started-below, past_held, room_for_all, grown}
+use Rattle.go_board.proofs.ColouringsLemmas.{count-all, started-below, past_held, room_for_all, grown}
 use Rattle.go_board.proofs.quick.print_past.colourings.Colourings.add.Goals as goal
 use Rattle.go_board.proofs.quick.print_past.colourings.Colourings.add.Goals.{After-copy-self-inside, then-begins, else-begins}
 
 pub overflow_cast-kept-2 : goal.overflow_cast-kept-2
 overflow_cast-kept-2 c =
-    Fits-of_lt (omega (arith, started-below c.self.inside.older.items _ c.self.inside.stretch_start 4294967295 c.in_ok-make_room.ensures.items c.in_ok-make_room.ensures.few c.self.invariant.started))
+    let was = c.self.inside in
+    let few : length was.older.items < 4294967295 = omega (arith, c.requires.few, count-all was.newest was.stretch_start was.older.items was.changes.items c.args.self.now c.self.view_is) in
+    Fits-of_lt (omega (arith, started-below was.older.items was.older.items was.stretch_start 4294967295 refl few c.self.invariant.started))
 
 -- what is kept, and what it tells
 next : (c : After-copy-self-inside) → IsPast c.copy-self-inside.result c.if-begins.stretch_start c.push_reserved.new.self.items c.keep_rows.new.changes.items
@@ -20,7 +22,7 @@ next c =
     let was = c.self.inside in
     let board : Grid = c.args.board.now in
     let kept : Older = record { start = c.len.result; stretch_start = was.stretch_start; point = record { col = 0; row = 0 }; alone = false; known = c.new.result } in
-    let side : board.side ≡ was.newest.side = sym c.requires ∙ sym (ap (λ (past : PastColourings). (newest_grid past).side) c.self.view_is) in
+    let side : board.side ≡ was.newest.side = sym c.requires.side ∙ sym (ap (λ (past : PastColourings). (newest_grid past).side) c.self.view_is) in
     let count : c.len-2.result ≡ length was.older.items = search rules in
     let start : c.len.result ≡ length was.changes.items = search rules in
     let older : c.push_reserved.new.self.items ≡ was.older.items ++ kept ∷ [] = search rules in

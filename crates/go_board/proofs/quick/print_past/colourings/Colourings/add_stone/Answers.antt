@@ -1,4 +1,4 @@
-use Rattle.std.proofs.Common.{◌≡◌, Bool, not, ◌++◌, [], ◌∷◌, false, true, length, reverse, refl, ap, sym, subst, ◌∙◌, IsTrue, arith, rules}
+use Rattle.std.proofs.Common.{◌≡◌, Bool, not, ◌++◌, [], ◌∷◌, false, true, length, reverse, refl, ap, sym, subst, ◌∙◌, ◌<◌, IsTrue, arith, rules}
 use Rattle.std.proofs.lemmas.Bool.{eqb-true, false≢true}
 use Rattle.std.proofs.Math.Facts.{Fits-of_lt}
 use Rattle.go_board.specs.declared.quick.print_past.changes.Older.{Older}
@@ -7,14 +7,16 @@ use Rattle.go_board.specs.Past.{PastColourings, newest_grid, with_next}
 use Rattle.go_board.specs.inner.Changes.{is_full, is_fresh, is_settled, IsLastStone, IsPast, KeepRows}
 use Rattle.go_board.specs.inner.Groups.{IsMove}
 use Rattle.go_board.proofs.ChangesLemmas.{alone_back, play_cells}
-use Rattle.go_board.proofs.ColouringsLemmas.{started-below, past_held, room_for_all, grown, grown_alone}
+use Rattle.go_board.proofs.ColouringsLemmas.{count-all, started-below, past_held, room_for_all, grown, grown_alone}
 use Rattle.go_board.proofs.SettledLemmas.{side_play}
 use Rattle.go_board.proofs.quick.print_past.colourings.Colourings.add_stone.Goals as goal
 use Rattle.go_board.proofs.quick.print_past.colourings.Colourings.add_stone.Goals.{After-push_reserved, then-is_empty, else-is_empty, then-not-alone, else-not-alone}
 
 pub overflow_cast-kept-2 : goal.overflow_cast-kept-2
 overflow_cast-kept-2 c =
-    Fits-of_lt (omega (arith, started-below c.self.inside.older.items _ c.self.inside.stretch_start 4294967295 c.in_ok-make_room.ensures.items c.in_ok-make_room.ensures.few c.self.invariant.started))
+    let was = c.self.inside in
+    let few : length was.older.items < 4294967295 = omega (arith, c.requires.few, count-all was.newest was.stretch_start was.older.items was.changes.items c.args.self.now c.self.view_is) in
+    Fits-of_lt (omega (arith, started-below was.older.items was.older.items was.stretch_start 4294967295 refl few c.self.invariant.started))
 
 not_true : (b : Bool) → not b ≡ true → b ≡ false
 not_true true e = sym e
