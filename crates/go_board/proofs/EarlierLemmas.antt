@@ -1,14 +1,16 @@
 -- A referee has as many earlier states as it keeps something of.
-use Rattle.std.proofs.Common.{◌≡◌, ℕ, suc, ◌+◌, ◌-◌, ◌≤◌, Bool, true, false, cond, Option, Some, List, [], ◌∷◌, ◌++◌, length, reverse, refl, sym, ap, subst, ◌∙◌, arith}
+use Rattle.std.proofs.Common.{◌≡◌, ℕ, suc, ◌+◌, ◌-◌, ◌<◌, ◌≤◌, get_or, Bool, true, false, cond, Option, Some, List, [], ◌∷◌, ◌++◌, length, length-append, reverse, refl, sym, ap, subst, ◌∙◌, arith}
 use Rattle.std.specs.Int.{from_bool}
-use Rattle.std.proofs.lemmas.List.{length-reverse, reverse-append}
+use Rattle.std.proofs.lemmas.List.{get_or-reverse, length-reverse, reverse-append}
+use Rattle.go_board.specs.declared.referee.Call.TheVariants.{Stay}
+use Rattle.go_board.specs.declared.referee.Mover.{Mover}
 use Rattle.go_board.specs.declared.referee.Earlier.{Earlier}
 use Rattle.go_board.specs.declared.stones.Colour.{Colour}
 use Rattle.go_board.specs.declared.stones.Colour.TheVariants.{Black}
 use Rattle.go_board.specs.Grid.{Grid, empty_grid}
 use Rattle.go_board.specs.Past.{Held, PastColourings, newest_grid, only, with_next, AllHaveSide, HaveSide}
-use Rattle.go_board.specs.State.{begun, starting}
-use Rattle.go_board.specs.inner.Earlier.{grew, turned, player_of, past_before, past_of_older, states_before, turns_before, grown, turn_count, states_of, IsRefereeKept}
+use Rattle.go_board.specs.State.{State, HadSameBoardSince, begun, starting}
+use Rattle.go_board.specs.inner.Earlier.{grew, turned, player_of, past_before, past_of_older, states_before, turns_before, grown, turn_count, state_of, states_of, IsRefereeKept}
 
 length-states_before : (past : PastColourings) (turns : ℕ) (es : List Earlier) → length (states_before past turns es) ≡ length es
 length-states_before past turns [] = refl
@@ -88,3 +90,30 @@ module _ (side : ℕ) (past : PastColourings) (earlier : List Earlier) (is : pas
 
   pub states_of-begun : states_of past (Some Black) 0 0 earlier ≡ begun side
   states_of-begun = rw (is, none) refl
+
+-- while no call made the past grow, the board stayed
+pub same_since : (past : PastColourings) (turns n : ℕ) (es : List Earlier) (d : Earlier) → ((i : ℕ) → i < n → grew (get_or es i d).call ≡ false) → (later older : List State) (before : State) → states_before past turns es ≡ later ++ before ∷ older → length later < n → before.colouring ≡ newest_grid past
+same_since past turns n [] d still [] older before is few = absurd cc
+same_since past turns n [] d still (state ∷ later) older before is few = absurd cc
+same_since past turns n (e ∷ es) d still [] older before is few =
+    let left : grew e.call ≡ false = still 0 few in
+    let head : before ≡ state_of (past_before past e) (player_of e.mover) e.passes (turns_before turns e) = cc in
+    ap (λ (s : State). s.colouring) head ∙ rw left refl
+same_since past turns n (e ∷ es) d still (state ∷ later) older before is few =
+    let left : grew e.call ≡ false = still 0 (omega (arith, few)) in
+    let same : past_before past e ≡ past = rw left refl in
+    let rest : states_before (past_before past e) (turns_before turns e) es ≡ later ++ before ∷ older = cc in
+    same_since past (turns_before turns e) (n - 1) es d (λ i below. still (suc i) (omega (arith, below))) later older before
+    (ap (λ p. states_before p (turns_before turns e) es) (sym same) ∙ rest) (omega (arith, few))
+
+pub same_board_since : (past : PastColourings) (player : Option Colour) (passes turns : ℕ) (items : List Earlier) (count depth : ℕ) → count ≤ depth → ((d : Earlier) (i : ℕ) → count ≤ i → i < length items → grew (get_or items i d).call ≡ false) → HadSameBoardSince (states_of past player passes turns items) depth
+same_board_since past player passes turns items count depth le still later older before at enough =
+    let d : Earlier = record { call = Stay; mover = Mover.Either; passes = 0 } in
+    let long : length items ≡ length later + (1 + length older) =
+    sym (length-earlier past turns items) ∙ ap length at ∙ length-append later (before ∷ older) ∙ omega arith in
+    same_since past turns (length later + 1) (reverse items) d
+    (λ i below.
+    let within : i < length items = omega (arith, below, long) in
+    ap (λ (e : Earlier). grew e.call) (get_or-reverse items i d within)
+    ∙ still d (length items - 1 - i) (omega (arith, below, long, le, enough)) (omega (arith, within)))
+    later older before at (omega arith)

@@ -1,5 +1,5 @@
 -- The state of a game, and what setups and turns do to it (Tromp-Taylor; setup by SGF FF[4]).
-use Rattle.std.specs.Prelude.{◌≡◌, ℕ, ◌+◌, Bool, ◌&&◌, ◌==◌, nat_le, if◌then◌else◌, Option, Some, List, [], ◌∷◌, fold}
+use Rattle.std.specs.Prelude.{◌≡◌, ℕ, ◌+◌, ◌≤◌, Bool, ◌&&◌, ◌==◌, nat_le, if◌then◌else◌, Option, Some, List, [], ◌∷◌, ◌++◌, fold, length}
 use Rattle.go_board.specs.declared.stones.Colour.{Colour}
 use Rattle.go_board.specs.declared.stones.Colour.TheVariants.{Black}
 use Rattle.board_points.specs.declared.points.Point.{Point}
@@ -99,3 +99,9 @@ followed_by states state = record { present = state; earlier = states.present �
 -- the board was the same before the newest call
 abbrev pub HadSameBoard : States → Type 0
 HadSameBoard states = (before : State) (earlier : List State) → states.earlier ≡ before ∷ earlier → before.colouring ≡ states.present.colouring
+
+-- the board was the same as now after the first `depth` calls, and after each call since
+abbrev pub HadSameBoardSince : States → ℕ → Type 0
+HadSameBoardSince states depth =
+    (later older : List State) (before : State) → states.earlier ≡ later ++ before ∷ older → depth ≤ length older
+    → before.colouring ≡ states.present.colouring

@@ -51,7 +51,7 @@
 //! | what PL does with stones and without; passes after a setup of stones | `Referee::setup`; `Referee::begin_anew`; `Referee::set_player` (`referee/setup`) |
 //! | the colouring that a setup makes; the list of colourings begins anew | `Board::colour_areas` (`board/areas`); `Past::set_up` (`past`), and in a run `PrintPast::set_up` (`quick/print_past`) |
 //! | a node that changes nothing | `Referee::stay` (`referee`) |
-//! | undo; whether the newest call left the board as it was | `Referee::undo`; `Referee::newest_left_board` (`referee`) |
+//! | undo; whether the newest call, or each call since some depth, left the board as it was | `Referee::undo`; `Referee::newest_left_board`, `Referee::left_board_since` (`referee`) |
 //!
 //! A point *reaches* a colour if a path of adjacent points of the point's own colour leads
 //! from it to a point of that colour. A stone that reaches empty has a liberty.

@@ -3,7 +3,7 @@
 
 ghost use Rattle.std.specs.Prelude.{Some, reverse, ◌≡◌, ◌<◌, ◌≤◌, ◌∷◌, length, IsTrue, IfOk, OnOk, OnErr};
 ghost use Rattle.go_board.specs.declared.stones.Colour.TheVariants.{Black, White};
-ghost use Rattle.go_board.specs.State.{States, HadSameBoard, HaveBegun, begun, followed_by, is_over};
+ghost use Rattle.go_board.specs.State.{States, HadSameBoard, HadSameBoardSince, HaveBegun, begun, followed_by, is_over};
 ghost use Rattle.go_board.specs.Reason.{must_move};
 ghost use Rattle.go_board.specs.Score.{score_of};
 ghost use Rattle.go_board.specs.inner.Earlier.{grew, turned, player_of, states_of, IsRefereeKept};
@@ -204,6 +204,21 @@ impl<P: Past> Referee<P> {
     {
         let newest = self.earlier.last().unwrap();
         !newest.call.grew()
+    }
+
+    /// Whether each accepted call after the first `depth` calls left the board as it was. False says nothing. If there are no such calls, this
+    /// is true. It looks at the newest calls first, and no further than at one that changed the board.
+    pub fn left_board_since(&self, depth: usize) -> bool
+        ensures { IsTrue result → HadSameBoardSince self.now depth }
+    {
+        let mut count = self.earlier.len();
+        'calls: while depth < count {
+            if self.earlier[count - 1].call.grew() {
+                return false;
+            }
+            count -= 1;
+        }
+        true
     }
 
     /// The present board.
