@@ -4,7 +4,7 @@
 ghost use Rattle.std.specs.Prelude.{◌≡◌, ◌≤◌, ◌<◌, ◌↔◌, ◌||◌, false, not, IsTrue, length, replicate};
 ghost use Rattle.board_points.specs.declared.points.Point.{Point};
 ghost use Rattle.board_points.specs.Point.{IsOn};
-ghost use Rattle.board_points.specs.Rows.{is_set, AreRowsOf, IsDifference, count_apart};
+ghost use Rattle.board_points.specs.Rows.{is_set, AreRowsOf, HasNoPoint, IsDifference, count_apart};
 
 use crate::columns::{has_column, other_columns};
 use crate::points::Point;
@@ -85,4 +85,11 @@ pub fn count_apart(rows: &[u64], others: &[u64]) -> u32
         count += (word & !others[row]).count_ones();
     }
     count
+}
+
+/// Removes all points of a set.
+pub fn remove_all(rows: &mut [u64])
+    ensures { HasNoPoint (length rows.old) rows.new }
+{
+    rows.fill(0);
 }

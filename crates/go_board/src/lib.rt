@@ -41,7 +41,7 @@
 //! |---|---|
 //! | reaching a colour | `fill` of `board_points` (`fill`), which clearing and the score use. `Board::reaching` (`board/flood`) goes point by point, and only the tests call it here |
 //! | clearing a colour, which captures its groups without a liberty | `Board::clear` (`board`); which stones have none: `Board::shut_stones` (`board/regions`) |
-//! | a stone: capture, then suicide | `Board::place` (`board`); shortcuts: `Board::takes_nothing_at_a_glance` (`quick/glance`), `Board::find_taken` and `Board::put`, which takes off what was found (`quick/capture`), by `add_if_shut` and `add_to_either` of `board_points` (`quick/group`) |
+//! | a stone: capture, then suicide | `Board::place` (`board`); shortcuts: `Board::takes_nothing_at_a_glance` (`quick/glance`), `Board::find_taken` and `Board::put`, which takes off what was found (`quick/capture`), by `fill_if_shut` and `add_to_either` of `board_points` (`quick/group`) |
 //! | the area score; an empty point that reaches both colours or neither counts for nobody | `Board::score` (`board`), by `area_of` (`board/regions`), and `count_apart` of `board_points` (`rows`); shortcut below side 32: `Board::score_in_halves` (`quick/both_areas`), by `count_halves` of `board_points` (`quick/halves`) |
 //! | taking a turn; the reasons `over`, `turn` and `occupied`, in this order | `Referee::turn`, `Referee::reason_before_repeat` (`referee/turn`) |
 //! | `repeat` (positional superko; suicide of one stone is a case of it) | `Past::play` (`past`); shortcuts: `PrintPast::play_asked`, if `may_repeat` says that it may, and `play_on_copy` after a setup that leaves a stone without a liberty (`quick/print_past`) |

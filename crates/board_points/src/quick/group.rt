@@ -14,23 +14,23 @@ use crate::points::Point;
 use crate::rows::{add_points, no_rows};
 use crate::size::MAX_ROWS;
 
-/// Adds the group of the stone on `from` to `shut` if it has no liberty: no empty point beside it. Returns whether that is so. `own` has
-/// the stones of its colour, `others` those of the other colour. `shut` must have at least as many words as the board has rows.
-pub fn add_if_shut(own: &[u64], others: &[u64], from: Point, shut: &mut [u64]) -> bool
+/// Whether the group of the stone on `from` has no liberty: no empty point beside it. `own` has the stones of its colour, `others` those of
+/// the other colour. `group` must be empty. It becomes the group if so, and otherwise gets stones of it. It is quicker to ask
+/// `lives_in_row` first.
+#[inline(never)]
+pub fn fill_if_shut(own: &[u64], others: &[u64], from: Point, group: &mut [u64]) -> bool
     requires stone { IsStone own.now others.now from }
-    requires few { length own.now ≤ MAX_ROWS }
-    requires shut { length own.now ≤ length shut.old }
-    ensures { AddsIfShut own.now others.now from shut.old shut.new result }
+    requires none { HasNoPoint (length own.now) group.old }
+    ensures shut { IsTrue result → IsShutIn own.now others.now from group.new }
+    ensures lives { IsFalse result → (stone : Point) × IsLiberty own.now others.now from stone }
+    ensures all { length group.new ≡ length own.now }
 {
-    // most groups live by a stone in the same row, and this needs no rows to be cleared
-    let Some(joined) = row_in_doubt(own, others, from) else {
-        return false;
-    };
-    add_if_shut_beyond(own, others, from, joined, shut)
+    let joined = joined_in_row(own, from);
+    !has_liberty(own, others, from, joined, group)
 }
 
-/// Adds the group of the stone on `from` to `shut` if it has no liberty, as `add_if_shut` does. Otherwise adds the stones of it that were found
-/// to `alive`: so these needn't be asked about. Returns whether it has no liberty.
+/// Adds the group of the stone on `from` to `shut` if it has no liberty. Otherwise adds the stones of it that were found to `alive`: so
+/// these needn't be asked about. Returns whether it has no liberty. `shut` must have at least as many words as the board has rows.
 #[inline(never)]
 pub fn add_to_either(
     own: &[u64],
@@ -82,33 +82,11 @@ fn row_in_doubt(own: &[u64], others: &[u64], from: Point) -> Option<u64>
     Some(joined)
 }
 
-/// The same as `add_if_shut`, for a group that may have a liberty only in other rows. `joined` has its stones in the row of `from`.
-#[inline(never)]
-fn add_if_shut_beyond(
-    own: &[u64],
-    others: &[u64],
-    from: Point,
-    joined: u64,
-    shut: &mut [u64],
-) -> bool
-    requires row { IsShutRow own.now others.now from joined }
-    requires few { length own.now ≤ MAX_ROWS }
-    requires shut { length own.now ≤ length shut.old }
-    ensures { AddsIfShut own.now others.now from shut.old shut.new result }
-{
-    let mut words = no_rows();
-    let group = &mut words[..own.len()];
-    if has_liberty(own, others, from, joined, group) {
-        return false;
-    }
-    add_points(group, shut);
-    true
-}
-
-/// Whether the group of the stone on `from` has a liberty. `joined` has its stones in the row of `from`, and none of these has one.
-/// `group` must be empty. It gets stones of the group, and all of them if none has a liberty.
+/// Whether the group of the stone on `from` has a liberty. `joined` has stones of it in the row of `from`. `group` must be empty.
+/// It gets stones of the group, and all of them if none has a liberty.
 fn has_liberty(own: &[u64], others: &[u64], from: Point, joined: u64, group: &mut [u64]) -> bool
-    requires row { IsShutRow own.now others.now from joined }
+    requires stone { IsStone own.now others.now from }
+    requires row { IsJoined own.now from joined }
     requires none { HasNoPoint (length own.now) group.old }
     ensures lives { IsTrue result → (p : Point) × IsLiberty own.now others.now from p }
     ensures shut { IsFalse result → IsShutIn own.now others.now from group.new }

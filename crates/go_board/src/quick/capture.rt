@@ -1,50 +1,72 @@
 //! What a stone takes off, as rows of bits: the groups beside it that it captures, or its own group by suicide. `Board::place` is the
 //! plain way.
 
-ghost use Rattle.std.specs.Prelude.{◌≡◌, ◌↔◌, ◌⊎◌, IsTrue, IsFalse, false, length};
+ghost use Rattle.std.specs.Prelude.{◌≡◌, ◌↔◌, ◌⊎◌, [], IsTrue, IsFalse, length};
+ghost use Rattle.go_board.specs.declared.stones.Cell.TheVariants.{Empty};
 ghost use Rattle.board_points.specs.declared.points.Point.{Point};
 ghost use Rattle.board_points.specs.Point.{IsOn};
 ghost use Rattle.go_board.specs.Colour.{stone_of};
 ghost use Rattle.go_board.specs.Grid.{cell_at};
 ghost use Rattle.go_board.specs.Clearing.{play};
-ghost use Rattle.go_board.specs.inner.Groups.{AreKnownAlive, ReachesIfStone, AddsGroup, AddsShut, AreShutGroups, AreTakenOrReachBeside, IsAsked, IsEmptyOnSettled, IsMove, TakesOff};
+ghost use Rattle.go_board.specs.Reaching.{Reaches};
+ghost use Rattle.go_board.specs.inner.Groups.{AreKnownAlive, ReachesIfStone, AddsGroup, AddsShut, AreShutGroups, AreTakenOrReachBeside, IsAsked, ReachBeside, IsEmptyOnSettled, IsMove, TakesOff};
 ghost use Rattle.board_points.specs.Rows.{is_set, HasNoPoint};
 
 use crate::board::Board;
 use crate::stones::{Cell, Colour};
 use board_points::Point;
-use board_points::quick::group::{add_if_shut, add_to_either, lives_in_row};
-use board_points::rows::{has_point, no_rows};
+use board_points::quick::group::{add_to_either, fill_if_shut, lives_in_row};
+use board_points::rows::{has_point, no_rows, remove_all};
 
 impl Board {
-    /// Finds what a stone on an empty point takes off, by capture or else by suicide. `taken` must be empty, and becomes the points taken off.
-    /// False is returned only if that is nothing.
+    /// Finds what a stone on an empty point takes off, by capture or else by suicide. `taken` must be empty. If the stone takes something
+    /// off, `taken` becomes that; if not, false is returned, and what is in `taken` says nothing.
     /// Before the move every stone on the board must reach empty. So after it only the stone's own group and the groups beside the
     /// stone can be without a liberty. The stone is put on the board for this search, and removed again.
     pub(crate) fn find_taken(&mut self, colour: Colour, point: Point, taken: &mut [u64]) -> bool
         requires stone { IsEmptyOnSettled self.old point }
         requires none { HasNoPoint self.old.side taken.old }
-        ensures taken { TakesOff self.old colour point taken.new }
-        ensures none { IsFalse result → (p : Point) → is_set taken.new p ≡ false }
+        ensures taken { IsTrue result → TakesOff self.old colour point taken.new }
+        ensures none { IsFalse result → TakesOff self.old colour point [] }
         ensures unchanged { self.new ≡ self.old }
     {
         self.has_all_cells();
         self.set(point, colour.stone());
         let mut some = self.find_shut_beside(colour.opponent(), point, taken);
         if !some {
-            some = self.find_shut(colour, point, taken);
+            some = self.find_suicide(colour, point, taken);
         }
         self.set(point, Cell::Empty);
         self.restore(true);
         some
     }
 
-    /// Adds to `shut` the groups of a colour that are beside a point and have no liberty. Returns whether there are any.
+    /// Whether the group of the stone on a point has no liberty. If so, `shut` becomes the group.
+    fn find_suicide(&self, colour: Colour, point: Point, shut: &mut [u64]) -> bool
+        requires on_board { IsOn self.now.side point }
+        requires stone { cell_at self.now point ≡ stone_of colour }
+        requires all { length shut.old ≡ self.now.side }
+        ensures shut { IsTrue result → AreShutGroups self.now colour shut.new }
+        ensures here { IsTrue result → IsTrue (is_set shut.new point) }
+        ensures lives { IsFalse result → Reaches self.now Empty point }
+    {
+        if !self.may_be_shut(colour, point) {
+            return false;
+        }
+        // a search that found a liberty left stones here
+        remove_all(shut);
+        self.find_shut(colour, point, shut)
+    }
+
+    /// Whether a group of a colour beside a point has no liberty. If so, `shut` becomes all such groups. It must be empty.
     fn find_shut_beside(&self, colour: Colour, point: Point, shut: &mut [u64]) -> bool
         requires on_board { IsOn self.now.side point }
-        requires shut { AreShutGroups self.now colour shut.old }
-        ensures adds { AddsShut self.now colour shut.old shut.new result }
-        ensures beside { AreTakenOrReachBeside self.now colour point shut.new }
+        requires none { HasNoPoint self.now.side shut.old }
+        ensures shut { IsTrue result → AreShutGroups self.now colour shut.new }
+        ensures some { IsTrue result → (stone : Point) × IsTrue (is_set shut.new stone) }
+        ensures beside { IsTrue result → AreTakenOrReachBeside self.now colour point shut.new }
+        ensures lives { IsFalse result → ReachBeside self.now colour point }
+        ensures all { length shut.new ≡ self.now.side }
     {
         self.has_all_cells();
         let beside = point.neighbours();
@@ -64,8 +86,8 @@ impl Board {
         }
     }
 
-    /// The same as `find_shut_beside`, for stones several of which may be shut. No group is filled twice: stones that a search has found
-    /// aren't asked about again, whether their group is shut or not.
+    /// Adds to `shut` the groups of a colour that are beside a point and have no liberty. Returns whether there are any. No group is filled
+    /// twice: stones that a search has found aren't asked about again, whether their group is shut or not.
     #[inline(never)]
     fn find_shut_among(&self, colour: Colour, point: Point, shut: &mut [u64]) -> bool
         requires on_board { IsOn self.now.side point }
@@ -79,8 +101,8 @@ impl Board {
         let mut some = false;
         let beside = point.neighbours();
         for at in beside {
-            if self.is_unknown(colour, at, shut, alive) {
-                some |= self.find_either(colour, at, shut, alive);
+            if self.is_unsearched(colour, at, shut, alive) {
+                some |= self.add_to_either(colour, at, shut, alive);
             }
         }
         some
@@ -99,7 +121,7 @@ impl Board {
     }
 
     /// Whether a point has a stone of a colour that isn't among those found already.
-    fn is_unknown(&self, colour: Colour, point: Point, shut: &[u64], alive: &[u64]) -> bool
+    fn is_unsearched(&self, colour: Colour, point: Point, shut: &[u64], alive: &[u64]) -> bool
         requires shut { length shut.now ≡ self.now.side }
         requires alive { length alive.now ≡ self.now.side }
         ensures stone { IsTrue result → IsOn self.now.side point × (cell_at self.now point ≡ stone_of colour) }
@@ -117,7 +139,13 @@ impl Board {
     }
 
     /// Adds the group of the stone on a point to `shut` if it has no liberty, otherwise stones of it to `alive`. Returns whether it has none.
-    fn find_either(&self, colour: Colour, point: Point, shut: &mut [u64], alive: &mut [u64]) -> bool
+    fn add_to_either(
+        &self,
+        colour: Colour,
+        point: Point,
+        shut: &mut [u64],
+        alive: &mut [u64],
+    ) -> bool
         requires asked { IsAsked self.now colour point shut.old }
         requires alive { AreKnownAlive self.now colour alive.old }
         ensures group { AddsGroup self.now colour point shut.old shut.new result }
@@ -133,14 +161,19 @@ impl Board {
         )
     }
 
-    /// Adds the group of the stone on a point to `shut` if it has no liberty. Returns whether that is so.
+    /// Whether the group of the stone on a point has no liberty. If so, `shut` becomes the group. It must be empty.
     #[inline(always)]
     fn find_shut(&self, colour: Colour, point: Point, shut: &mut [u64]) -> bool
-        requires { IsAsked self.now colour point shut.old }
-        ensures { AddsGroup self.now colour point shut.old shut.new result }
+        requires on_board { IsOn self.now.side point }
+        requires stone { cell_at self.now point ≡ stone_of colour }
+        requires none { HasNoPoint self.now.side shut.old }
+        ensures shut { IsTrue result → AreShutGroups self.now colour shut.new }
+        ensures here { IsTrue result → IsTrue (is_set shut.new point) }
+        ensures lives { IsFalse result → Reaches self.now Empty point }
+        ensures all { length shut.new ≡ self.now.side }
     {
         self.has_all_cells();
-        add_if_shut(
+        fill_if_shut(
             self.rows_of(colour),
             self.rows_of(colour.opponent()),
             point,

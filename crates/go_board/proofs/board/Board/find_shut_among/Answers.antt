@@ -11,7 +11,7 @@ use Rattle.board_points.proofs.LinkedLemmas.{none_in_front}
 use Rattle.board_points.proofs.PointLemmas.{Contains-take_more}
 use Rattle.go_board.proofs.TakenLemmas.{adds_either, taken_still, beside_taken}
 use Rattle.go_board.proofs.board.Board.find_shut_among.Goals as goal
-use Rattle.go_board.proofs.board.Board.find_shut_among.Goals.{then-is_unknown, else-is_unknown}
+use Rattle.go_board.proofs.board.Board.find_shut_among.Goals.{then-is_unsearched, else-is_unsearched}
 
 pub loop-at-init : goal.loop-at-init
 loop-at-init c = record {
@@ -34,20 +34,20 @@ loop-at-preserved c =
     let k = c.args.colour in
     let before = c.loop-at.invariant in
     let turn = λ (q : Point). Contains-take_more c.neighbours-beside.result c.loop-at.at-index q (omega arith) in
-    elim c.if-is_unknown.branch [
-      | then-is_unknown w ↦
-          let now = w.find_either-some.ensures.group in
+    elim c.if-is_unsearched.branch [
+      | then-is_unsearched w ↦
+          let now = w.add_to_either-some.ensures.group in
           rw (w.shut-is, w.alive-is)
           (record {
-            alive = w.find_either-some.ensures.alive;
+            alive = w.add_to_either-some.ensures.alive;
             adds = search (rules, adds_either, before.adds, now, w.some-is);
             beside = λ q among on.
                 elim ((turn q).0 among) [
                   | inl earlier ↦ taken_still g k _ _ q now.adds.kept (before.beside q earlier on)
-                  | inr is ↦ subst (IsTakenOrReaches g k w.find_either-some.new.shut) (sym is) now.here
+                  | inr is ↦ subst (IsTakenOrReaches g k w.add_to_either-some.new.shut) (sym is) now.here
                 ];
           })
-      | else-is_unknown w ↦
+      | else-is_unsearched w ↦
           rw (w.shut-is, w.alive-is)
           (record {
             alive = before.alive;
@@ -61,7 +61,7 @@ loop-at-preserved c =
                 elim ((turn q).0 among) [
                   | inl earlier ↦ before.beside q earlier on stone
                   | inr is ↦
-                      elim (c.is_unknown.ensures.known w.if-is_unknown.false (subst (IsOn g.side) is on) (ap (cell_at g) (sym is) ∙ stone)) [
+                      elim (c.is_unsearched.ensures.known w.if-is_unsearched.false (subst (IsOn g.side) is on) (ap (cell_at g) (sym is) ∙ stone)) [
                         | inl shut ↦ inl (ap (is_set _) is ∙ shut)
                         | inr alive ↦ inr (subst (Reaches g Empty) (sym is) (before.alive.reach _ alive))
                       ]

@@ -2,7 +2,10 @@ use Rattle.std.proofs.Common.{inl, inr, sym, ◌∙◌, ap, subst, arith, Some, 
 use Rattle.std.proofs.lemmas.Bool.{false≢true}
 use Rattle.board_points.specs.Point.{IsOn}
 use Rattle.board_points.specs.declared.points.Point.{Point}
-use Rattle.go_board.specs.inner.Groups.{IsTakenOrReaches, ReachesIfStone}
+use Rattle.go_board.specs.inner.Groups.{ReachesIfStone}
+use Rattle.go_board.specs.Reaching.{Reaches}
+use Rattle.go_board.specs.declared.stones.Cell.TheVariants.{Empty}
+use Rattle.board_points.specs.Rows.{is_set}
 use Rattle.board_points.proofs.PointLemmas.{Contains-take_more}
 use Rattle.go_board.proofs.TakenLemmas.{beside_taken}
 use Rattle.go_board.proofs.board.Board.find_shut_beside.Goals as goal
@@ -45,19 +48,28 @@ loop-at-preserved c =
     ]
 
 pub returns-in-Some-clause-beside : goal.returns-in-Some-clause-beside
-returns-in-Some-clause-beside c = λ q on next stone.
+returns-in-Some-clause-beside c = λ some q on next stone.
     let few = c.has_all_cells.ensures.few in
     let seen = beside_taken c.args.point q c.neighbours-beside.result c.loop-at.at-index c.args.self.now.side c.neighbours-beside.ensures (omega (arith, c.loop-at-test.false)) few on next in
     elim (c.loop-at.invariant.beside q seen on) [
-      | inl some ↦ (let is : c.in-Some.at ≡ q = cc in subst (IsTakenOrReaches c.args.self.now c.args.colour c.find_shut.new.shut) is c.find_shut.ensures.here stone)
+      | inl found ↦ (let is : c.in-Some.at ≡ q = cc in inl (ap (is_set c.find_shut.new.shut) (sym is) ∙ c.find_shut.ensures.here some))
       | inr reaches ↦ inr (reaches stone)
     ]
 
-pub returns-in-None-clause-beside : goal.returns-in-None-clause-beside
-returns-in-None-clause-beside c = λ q on next stone.
+pub returns-in-Some-clause-lives : goal.returns-in-Some-clause-lives
+returns-in-Some-clause-lives c = λ none q on next stone.
+    let few = c.has_all_cells.ensures.few in
+    let seen = beside_taken c.args.point q c.neighbours-beside.result c.loop-at.at-index c.args.self.now.side c.neighbours-beside.ensures (omega (arith, c.loop-at-test.false)) few on next in
+    elim (c.loop-at.invariant.beside q seen on) [
+      | inl found ↦ (let is : c.in-Some.at ≡ q = cc in subst (Reaches c.args.self.now Empty) is (c.find_shut.ensures.lives none))
+      | inr reaches ↦ reaches stone
+    ]
+
+pub returns-in-None-clause-lives : goal.returns-in-None-clause-lives
+returns-in-None-clause-lives c = λ _ q on next stone.
     let few = c.has_all_cells.ensures.few in
     let seen = beside_taken c.args.point q c.neighbours-beside.result c.loop-at.at-index c.args.self.now.side c.neighbours-beside.ensures (omega (arith, c.loop-at-test.false)) few on next in
     elim (c.loop-at.invariant.beside q seen on) [
       | inl some ↦ absurd cc
-      | inr reaches ↦ inr (reaches stone)
+      | inr reaches ↦ reaches stone
     ]
