@@ -211,7 +211,7 @@ def send(source, file, most):
     size = 0
     if sys.platform == "linux":  # elsewhere this call is for sockets
         with contextlib.suppress(OSError):  # what is wrong with the file is said when it is read
-            while size < most and (more := os.sendfile(file.fileno(), source.fileno(), None, most - size)):
+            while size < most and (more := os.sendfile(file.fileno(), source.fileno(), None, min(most - size, sgfsplit.PIECE))):
                 size += more
     return size
 
@@ -340,11 +340,22 @@ class Splitting:
                 self.is_stuck = self.ready is None
             if self.ready is None and not self.started:
                 self.ready = self.parts.next_by_games()
-            if self.ready is None or len(self.running()) >= self.jobs:
+            if not self.start():
                 return
-            self.ready.split()
-            self.started.append(self.ready)
-            self.ready, self.tried, self.is_stuck = None, 0, False
+
+    def start(self):
+        """Starts the part that was cut last, if it isn't started and fewer processes run than there are jobs. Returns whether it did."""
+        if self.ready is None or len(self.running()) >= self.jobs:
+            return False
+        self.ready.split()
+        self.started.append(self.ready)
+        self.ready, self.tried, self.is_stuck = None, 0, False
+        return True
+
+    def meanwhile(self):
+        """While rows are written: lets a job that has ended go on with the part that was cut last. Reads no more, because that may fail."""
+        self.hear(0)
+        self.start()
 
     def running(self):
         return [part for part in self.started if part.status is None]
@@ -408,7 +419,7 @@ def rows_of(name, most, jobs):
                     raise sgfsplit.refusal(sgfsplit.Text(name, part.text(), (line, begin - feed)), status, said)
                 splitting.more()
                 part.count()
-                games_before = yield from raised(part.rows, begin, games_before, splitting.more)
+                games_before = yield from raised(part.rows, begin, games_before, splitting.meanwhile)
                 last = part.last_line_feed()
                 begin, feed, before = begin + part.size, feed if last < 0 else begin + last, part
         finally:

@@ -76,12 +76,12 @@ class System:
     """Copies the bytes of the file `text`, or doesn't, as its way says. Counts the bytes that it copies, and those that are read."""
 
     def __init__(self):
-        self.way, self.plain, self.was_cut_off = None, os.sendfile, False
+        self.way, self.plain, self.was_cut_off, self.random = None, os.sendfile, False, random.Random(77)
         self.copied, self.read = dict.fromkeys(WAYS, 0), dict.fromkeys(WAYS, 0)
 
     def sendfile(self, *words):
         *files, most = words
-        if self.way == "refused" or self.way == "refused later" and random.random() < 0.5:
+        if self.way == "refused" or self.way == "refused later" and self.random.random() < 0.2:
             raise OSError(errno.EINVAL, "refused")
         size = self.plain(*files, min(most, 40) if self.way in ("slow", "cut off", "refused later") else most)
         self.copied[self.way] += size
@@ -156,8 +156,8 @@ for number in range(180):
     if got != want:
         sys.exit(f"parts of {most} bytes, {way}, of {text}:\n{got}\nnot\n{want}")
 print(40 < refused < 140 and kept["cut"] > 100 and again > 10 or (refused, kept, again))
-print(*(way for way in WAYS if system.copied[way] > 2000), "are copied")
-print(*(way for way in WAYS if system.read[way] > 2000), "are read")
+print(*(way for way in WAYS if system.copied[way] > 1000), "are copied")
+print(*(way for way in WAYS if system.read[way] > 1000), "are read")
 PYTHON
 python3 cuts.py "$top" > got || failed "$(cat got)"
 cat > want <<'WANT'
