@@ -260,10 +260,13 @@ chmod +x meets
 TRUE_SGFSPLIT=$SGFSPLIT SGFSPLIT=$work/meets "$tool" --jobs 4 --most 1000000 library.sgf > got
 same want.library got "the rows of four jobs"
 [ "$(sort -n met | tail -n 1)" = 4 ] || failed "with four jobs $(sort -n met | tail -n 1) programs ran at a time"
-# While a part takes long, the other job splits those after it, as long as no more than two beside the jobs are held.
+# While the first part takes long, the other job splits those after it, as long as no more than two beside the jobs are held.
+{ echo '(;FF[4]C[first])'; cat library.sgf; } > late.sgf
+"$SGFSPLIT" split late.sgf > want
 cat > late <<'LATE'
 #!/bin/sh
-if [ "$1" = split ] && mkdir first 2> /dev/null; then
+is_first='import os, sys; sys.exit(os.pread(0, 16, os.lseek(0, 0, os.SEEK_CUR)) != b"(;FF[4]C[first])")'
+if [ "$1" = split ] && python3 -c "$is_first"; then
     for _ in $(seq 100); do
         [ "$(cat ended 2> /dev/null | wc -l)" -lt 3 ] || break
         sleep 0.1
@@ -276,8 +279,8 @@ fi
 [ "$1" != split ] || echo "$$" >> ended
 LATE
 chmod +x late
-TRUE_SGFSPLIT=$SGFSPLIT SGFSPLIT=$work/late "$tool" --jobs 2 --most 1000000 library.sgf > got
-same want.library got "the rows after a part that takes long"
+TRUE_SGFSPLIT=$SGFSPLIT SGFSPLIT=$work/late "$tool" --jobs 2 --most 1000000 late.sgf > got
+same want got "the rows after a part that takes long"
 [ "$(wc -l < ended_before)" = 3 ] || failed "$(wc -l < ended_before) programs ended before the first one, which took long"
 
 # More than the program accepts: 48 games of about 1.5 MB, and the same once more.
