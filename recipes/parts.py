@@ -130,7 +130,7 @@ class Part:
     def __init__(self, file, start, size, tried):
         self.file, self.start, self.size, self.tried = file, start, size, tried
         self.run, self.rows, self.said, self.status = None, None, b"", None
-        self.counting, self.feeds = None, 0
+        self.counting, self.feeds = None, b"0"
 
     def split(self):
         self.file.seek(self.start)
@@ -159,12 +159,14 @@ class Part:
         self.file.seek(self.start)
         self.counting = subprocess.Popen(["wc", "-l"], stdin=self.file, stdout=subprocess.PIPE)
 
-    def line_feeds(self):
-        """How many line feeds were counted. After this call no process reads the file."""
+    def wait(self):
+        """Waits until the line feeds are counted, so that no process reads the file any more."""
         if self.counting is not None:
-            self.feeds = int(self.counting.communicate()[0])
-            self.counting = None
-        return self.feeds
+            self.feeds, self.counting = self.counting.communicate()[0], None
+
+    def line_feeds(self):
+        self.wait()
+        return int(self.feeds)
 
     def last_line_feed(self):
         """The offset of the last line feed in the part, or -1."""
@@ -188,8 +190,7 @@ class Part:
     def end(self):
         """Ends the processes, and drops the rows and the bytes."""
         self.stop()
-        if self.counting is not None:
-            self.counting.communicate()
+        self.wait()
         self.file.close()
 
 
@@ -261,7 +262,7 @@ class Parts:
         """A file to be filled. Filling that of an earlier part is faster, because the system has its memory already."""
         if self.spare is None:
             return unnamed()
-        self.spare.line_feeds()
+        self.spare.wait()
         file, self.spare = self.spare.file, None
         return file
 

@@ -35,6 +35,13 @@ for file in open.sgf damaged.sgf front.sgf empty.sgf mark_between.sgf; do
         same want.fault fault "the fault of $file in parts of $size bytes"
     done
 done
+# Line feeds are counted in a part's bytes before other bytes take their place, however long that lasts.
+mkdir slow
+printf '#!/bin/sh\nsleep 0.3\nexec %s "$@"\n' "$(command -v wc)" > slow/wc
+chmod +x slow/wc
+if "$tool" damaged.sgf 2> want.fault; then failed "damaged.sgf was accepted"; fi
+if PATH=$work/slow:$PATH "$tool" --jobs 1 --most 350 damaged.sgf > got 2> fault; then failed "damaged.sgf was accepted in parts"; fi
+same want.fault fault "the fault if line feeds are counted slowly"
 
 # The cut that the program accepts is the one that is found game by game. So the rows are the same, and for a refused text, too, the fault and
 # the rows before it, with any number of jobs. The texts have variations, comments that look like the ends of games, and damage at any byte.
