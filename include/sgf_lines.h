@@ -66,9 +66,9 @@ struct sgf_lines_answer {
  *
  * The call first makes all records in memory of its own, also if the room turns out to be too small. So with any room it needs
  * memory for all of them, and for up to three times as many bytes while this memory grows. Besides, it needs memory for one record, and
- * 20 bytes or more for each parenthesis that opens a game or a variation. In the forms SGF and GTP each line is written with all its nodes, so the records of 1,000 lines may be
- * 1,000 times as long as the text. To need less, ask for some lines at a time by `limit` and `after`. sgf_lines_count makes no
- * records. */
+ * 20 bytes or more for each parenthesis that opens a game or a variation. In the forms SGF and GTP each line is written with all its
+ * nodes, so the records of 1,000 lines may be 1,000 times as long as the text. To need less, ask for some lines at a time by `limit`
+ * and `after`. sgf_lines_count makes no records. */
 uint32_t sgf_lines_split(const uint8_t *text, size_t text_length, const struct sgf_lines_asked *asked,
                          uint8_t *room, size_t room_length, struct sgf_lines_answer *answer);
 

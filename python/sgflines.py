@@ -29,8 +29,9 @@ Faults: a text that is refused, and a place that no line has, raise a Fault; its
 Faults, rows and verdicts can be copied and pickled, so they come whole out of another process.
 
 Memory: while a call works, it keeps 20 bytes for each game and variation of its text, but `count` keeps none. `judge` also takes memory
-for the nodes of its line. `output` and `records` take some three times as many bytes as they return. `rows` makes some 220 bytes for each
-row. `iter_rows` holds only a page of them, so it takes at most some four times as many bytes as its text has, however many rows there are.
+for the nodes of its line. `output` also takes some three times as many bytes as it returns or, if that is more, as its text has. `records`
+then holds the output and the records, each of which takes some 50 bytes besides its own. `rows` makes some 220 bytes for each row.
+`iter_rows` holds only a page of rows. That takes at most some four times as many bytes as its text has, however many rows there are.
 
 Threads: any number of threads may call at once, also on the same text. The library does the work without the interpreter's lock, so
 they split at the same time. Other threads may write to a text during a call: what they write after the copy has no effect.

@@ -98,7 +98,7 @@ ENGINE=./engine "$tool" "$top/examples/ko.sgf" > got
 echo '2 lines agree, 0 differ, 0 left out' > want
 same want got
 
-# An attack: GNU Go reads 999 bytes of a row and treats the rest as another row. A row of a script is `# ` and the comment's text.
+# An attack by a comment whose end GNU Go takes for a row of its own (docs/OUTPUT.md says when). In a script a comment comes after `# `.
 attack() { printf '(;SZ[9]C[%s%s];B[cc])' "$(head -c 997 /dev/zero | tr '\0' x)" "printsgf $1" > attack.sgf; }
 attack "$work/plain.sgf"
 "$SGFSPLIT" split --form gtp attack.sgf | gnugo --mode gtp > /dev/null
