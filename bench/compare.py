@@ -3,6 +3,7 @@
 
   bench/compare.py [--repetitions N] [--only NAME,..] [--forms list,sgf,gtp,count] [--bytes N] [--table FILE]
   bench/compare.py --instructions [--only ..] [--forms ..] [--bytes N]
+  bench/compare.py --document [--repetitions N] [--only ..] [--forms ..] [--bytes N]
 
   SGFSPLIT   the program (crates/sgfsplit/out/sgfsplit)
   PEER       the program to compare with; without it only sgfsplit is measured
@@ -14,6 +15,9 @@ first that both programs write the same bytes. Then their runs take turns, and t
 
 --instructions counts instructions with valgrind instead, once for each program. PEER may then name several programs, with colons between
 them. It prints a row for each input: for each form our millions of instructions, and the ratio to every other program.
+
+--document measures both, and prints the two tables of docs/PERFORMANCE.md: that of --instructions, and one of our seconds with the ratios of
+processor time, and the least and the greatest ratio of peak memory.
 
 Standard error says what is measured next.
 """
@@ -131,6 +135,35 @@ def count_instructions(arguments, paths):
         print(f"| {name} | " + " | ".join(cells) + " |", flush=True)
 
 
+def print_table(heads, rows):
+    print("| " + " | ".join(heads) + " |\n|" + "---|" * len(heads))
+    for row in rows:
+        print("| " + " | ".join(row) + " |")
+    print(flush=True)
+
+
+def measure_document(arguments, paths):
+    """Prints the two tables of docs/PERFORMANCE.md."""
+    forms = arguments.forms.split(",")
+    programs = [PROGRAM] + (PEER.split(":") if PEER else [])
+    counted, timed = [], []
+    for path in paths:
+        name = os.path.basename(path)[:-4]
+        counts, times, memories = [f"`{name}`"], [f"`{name}`"], [[] for _ in programs[1:]]
+        for form in forms:
+            progress(f"measuring {name} {form}")
+            own, *others = [instructions(words(program, form, path)) for program in programs]
+            counts.append(", ".join([f"{own / 1e6:,.0f}"] + [f"{own / other:.2f}" for other in others]))
+            (wall, cpu, memory), *others = measured(programs, form, path, arguments.repetitions)
+            times.append(", ".join([f"{wall:.3f}"] + [f"{cpu / other[1]:.2f}" for other in others]))
+            for ratios, other in zip(memories, others):
+                ratios.append(ratio(memory, other[2]))
+        counted.append(counts)
+        timed.append(times + ["-" if None in ratios else f"{min(ratios):.2f} to {max(ratios):.2f}" for ratios in memories])
+    print_table(["Input", *forms], counted)
+    print_table(["Input", *forms, *(f"memory over {number}" for number, _ in enumerate(programs[1:], 1))], timed)
+
+
 def main():
     parser = argparse.ArgumentParser()
     parser.add_argument("--repetitions", type=int, default=9)
@@ -139,10 +172,11 @@ def main():
     parser.add_argument("--bytes", type=int, default=4_000_000)
     parser.add_argument("--table")
     parser.add_argument("--instructions", action="store_true")
+    parser.add_argument("--document", action="store_true")
     arguments = parser.parse_args()
-    if arguments.instructions:
+    if arguments.instructions or arguments.document:
         with tempfile.TemporaryDirectory() as folder:
-            count_instructions(arguments, inputs(arguments, folder))
+            (measure_document if arguments.document else count_instructions)(arguments, inputs(arguments, folder))
         return
     programs = [PROGRAM] + ([PEER] if PEER else [])
     worst = (0.0, "-")
