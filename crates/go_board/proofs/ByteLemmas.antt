@@ -3,7 +3,7 @@ use Rattle.std.proofs.Common.{◌≡◌, ℕ, ◌%◌, ◌<◌, List, map, get_o
 use Rattle.std.specs.Int.{bit_at}
 use Rattle.std.specs.List.{range_with_len}
 use Rattle.std.proofs.lemmas.List.FromFn.{get_or-map-range_with_len}
-use Rattle.go_board.specs.declared.quick.print_past.bytes.TheConstants.{NUMBERS}
+use Rattle.go_board.specs.declared.past.print_past.bytes.TheConstants.{NUMBERS}
 use Rattle.go_board.specs.inner.Print.{word_number}
 use Rattle.go_board.proofs.PrintLemmas.{in_base-same}
 use Rattle.board_points.proofs.WordLemmas.{bit_at-mod}

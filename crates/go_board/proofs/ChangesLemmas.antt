@@ -7,8 +7,8 @@ use Rattle.std.proofs.lemmas.List.Elements.{All-nil, All-push, All-head, All-tai
 use Rattle.go_board.specs.declared.stones.Cell.{Cell}
 use Rattle.go_board.specs.declared.stones.Cell.TheVariants.{Black, White, Empty}
 use Rattle.board_points.specs.declared.points.Point.{Point}
-use Rattle.go_board.specs.declared.quick.print_past.changes.Change.{Change}
-use Rattle.go_board.specs.declared.quick.print_past.changes.Older.{Older}
+use Rattle.go_board.specs.declared.past.print_past.changes.Change.{Change}
+use Rattle.go_board.specs.declared.past.print_past.changes.Older.{Older}
 use Rattle.go_board.specs.declared.stones.Colour.{Colour}
 use Rattle.go_board.specs.Colour.{same_cell, stone_of}
 use Rattle.board_points.specs.Point.{IsOn, index_of}

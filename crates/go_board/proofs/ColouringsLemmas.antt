@@ -6,13 +6,13 @@ use Rattle.std.proofs.lemmas.Bool.{cases_eq, eq-eqb, ne_eqb, false≢true}
 use Rattle.std.proofs.lemmas.Slice.{between_is}
 use Rattle.go_board.specs.declared.stones.Cell.TheVariants.{Empty}
 use Rattle.board_points.specs.Point.{IsOn}
-use Rattle.go_board.specs.declared.quick.print_past.changes.Change.{Change}
-use Rattle.go_board.specs.declared.quick.print_past.changes.Older.{Older}
-use Rattle.go_board.specs.declared.quick.print_past.changes.TheConstants.{MOST}
+use Rattle.go_board.specs.declared.past.print_past.changes.Change.{Change}
+use Rattle.go_board.specs.declared.past.print_past.changes.Older.{Older}
+use Rattle.go_board.specs.declared.past.print_past.changes.TheConstants.{MOST}
 use Rattle.go_board.specs.Grid.{Grid, cell_at, with_cell}
 use Rattle.go_board.specs.Clearing.{has_unreaching}
 use Rattle.go_board.specs.Past.{Held, PastColourings, all_of, with_next, stretch_of}
-use Rattle.go_board.specs.inner.Changes.{first_grid, after_changes, step_back, is_full, is_settled, is_fresh, IsEndOf, IsNumber, IsLastStone, KeepRows, IsChangeOn, MakeOne, before, changes_before, held_before, all_held, AreFresh, AreKept, AreStarted, AreOn, IsPast}
+use Rattle.go_board.specs.inner.Changes.{first_grid, after_changes, step_back, is_full, is_settled, is_fresh, IsEndOf, IsNumber, IsFreshStone, KeepRows, IsChangeOn, MakeOne, before, changes_before, held_before, all_held, AreFresh, AreKept, AreStarted, AreOn, IsPast}
 use Rattle.go_board.specs.inner.Print.{print_of, prints_of}
 use Rattle.go_board.specs.inner.Key.{start_of, since}
 use Rattle.go_board.proofs.ChangesLemmas.{step-side, leads_back, makes_one, kept_on}
@@ -67,7 +67,7 @@ module _ (g h : Grid) (stretch next : ℕ) (older : List Older) (o : Older) (cha
   held-push started = rw turned (next_held started)
 
   pub past-push : IsPast g stretch older changes → o.start ≤ length all → (IsTrue o.alone → IsOn h.side o.point) → (IsTrue (is_settled o.known) → has_unreaching g ≡ false) → (IsTrue (is_full (length older)) → MakeOne g (drop o.start all)) → AreOn h.side all → length all ≤ MOST
-      → (IsTrue (is_fresh o.known) → IsLastStone (with_next (past_held g stretch (reverse older) changes) h begins) o.point) → IsPast h next (older ++ o ∷ []) all
+      → (IsTrue (is_fresh o.known) → IsFreshStone (with_next (past_held g stretch (reverse older) changes) h begins) o.point) → IsPast h next (older ++ o ∷ []) all
   past-push past start on_point settled full on few fresh = record {
     kept = rw turned (
       start,
@@ -79,7 +79,7 @@ module _ (g h : Grid) (stretch next : ℕ) (older : List Older) (o : Older) (cha
     started = rw turned (omega (arith, length-reverse older, (next-is begins follows past.started).0), (next-is begins follows past.started).1, rw same past.started);
     on_grid = on;
     fresh = rw turned (
-      λ is. subst (λ (p : PastColourings). IsLastStone p o.point) (sym (next_held past.started)) (fresh is),
+      λ is. subst (λ (p : PastColourings). IsFreshStone p o.point) (sym (next_held past.started)) (fresh is),
       subst (λ (hs : List Held). AreFresh (reverse older) hs) (sym (ap (λ (p : PastColourings). p.older) (next_held past.started))) past.fresh,
     );
     few = few;
@@ -97,7 +97,7 @@ room_for_all same few low = omega (arith, ap (λ (cs : List Change). length cs) 
 pub grown : (g h : Grid) (stretch next : ℕ) (older older' : List Older) (o : Older) (changes all : List Change) (full begins : Bool) (past : PastColourings)
     → past_held g stretch (reverse older) changes ≡ past → IsPast g stretch older changes → length g.cells ≡ g.side * g.side → h.side ≡ g.side → length h.cells ≡ h.side * h.side
     → KeepRows g h full g.side changes all → older' ≡ older ++ o ∷ [] → next ≡ cond begins (length older + 1) stretch → o.stretch_start ≡ stretch → o.start ≡ length changes → o.alone ≡ false
-    → (IsTrue (is_settled o.known) → has_unreaching g ≡ false) → (IsTrue (is_fresh o.known) → IsLastStone (with_next past h begins) o.point) → full ≡ is_full (length older) → length changes + g.side ≤ MOST
+    → (IsTrue (is_settled o.known) → has_unreaching g ≡ false) → (IsTrue (is_fresh o.known) → IsFreshStone (with_next past h begins) o.point) → full ≡ is_full (length older) → length changes + g.side ≤ MOST
     → IsPast h next older' all × (past_held h next (reverse older') all ≡ with_next past h begins)
 grown g h stretch next older older' o changes all full begins past view is cells side cells_h kept grows follows same start not_alone settled fresh is_full_so room =
     let newest_are : drop o.start all ≡ kept.more = ap (λ xs. drop o.start xs) kept.added ∙ drop_at changes kept.more o.start (sym start) in
@@ -107,7 +107,7 @@ grown g h stretch next older older' o changes all full begins past view is cells
     let on : AreOn h.side all = rw (kept.added, side) (All-append (IsChangeOn g.side) changes kept.more is.on_grid (kept_on cells kept)) in
     rw grows (
       past-push g h stretch next older o changes all begins follows same rest_is before_is is (omega (arith, count, start)) (λ alone. absurd (false≢true (sym not_alone ∙ alone))) settled
-          (λ yes. rw newest_are (makes_one cells kept (is_full_so ∙ yes))) on (omega (arith, count, kept.few, room)) (λ known. subst (λ (p : PastColourings). IsLastStone (with_next p h begins) o.point) (sym view) (fresh known)),
+          (λ yes. rw newest_are (makes_one cells kept (is_full_so ∙ yes))) on (omega (arith, count, kept.few, room)) (λ known. subst (λ (p : PastColourings). IsFreshStone (with_next p h begins) o.point) (sym view) (fresh known)),
       held-push g h stretch next older o changes all begins follows same rest_is before_is is.started ∙ ap (λ (p : PastColourings). with_next p h begins) view,
     )
 
@@ -115,14 +115,14 @@ grown g h stretch next older older' o changes all full begins past view is cells
 pub grown_alone : (g h : Grid) (stretch : ℕ) (older older' : List Older) (o : Older) (changes : List Change) (past : PastColourings)
     → past_held g stretch (reverse older) changes ≡ past → IsPast g stretch older changes → h.side ≡ g.side → IsOn g.side o.point → with_cell h o.point Empty ≡ g
     → older' ≡ older ++ o ∷ [] → o.stretch_start ≡ stretch → o.start ≡ length changes → o.alone ≡ true
-    → (IsTrue (is_settled o.known) → has_unreaching g ≡ false) → (IsTrue (is_fresh o.known) → IsLastStone (with_next past h false) o.point) → is_full (length older) ≡ false
+    → (IsTrue (is_settled o.known) → has_unreaching g ≡ false) → (IsTrue (is_fresh o.known) → IsFreshStone (with_next past h false) o.point) → is_full (length older) ≡ false
     → IsPast h stretch older' changes × (past_held h stretch (reverse older') changes ≡ with_next past h false)
 grown_alone g h stretch older older' o changes past view is side on_point back grows same start alone settled fresh not_full =
     let rest_is : changes_before o changes ≡ changes = take_all o.start changes (omega (arith, start)) in
     let before_is : before h o changes ≡ g = rw alone back in
     rw grows (
       past-push g h stretch stretch older o changes changes false refl same rest_is before_is is (omega (arith, start)) (λ _. rw side on_point) settled
-          (λ full. absurd (false≢true (sym not_full ∙ full))) (rw side is.on_grid) is.few (λ known. subst (λ (p : PastColourings). IsLastStone (with_next p h false) o.point) (sym view) (fresh known)),
+          (λ full. absurd (false≢true (sym not_full ∙ full))) (rw side is.on_grid) is.few (λ known. subst (λ (p : PastColourings). IsFreshStone (with_next p h false) o.point) (sym view) (fresh known)),
       held-push g h stretch stretch older o changes changes false refl same rest_is before_is is.started ∙ ap (λ (p : PastColourings). with_next p h false) view,
     )
 

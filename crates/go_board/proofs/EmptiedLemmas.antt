@@ -4,8 +4,8 @@ use Rattle.std.specs.Vec.{vec_capacity}
 use Rattle.std.proofs.lemmas.Bool.{cases_eq, or_left}
 use Rattle.std.proofs.lemmas.List.{get_or_append_left, get_or-set_same, get_or-set_other, length-set, set-get_or, reverse-append, set-set}
 use Rattle.std.proofs.lemmas.List.Elements.{All-push}
-use Rattle.go_board.specs.declared.quick.print_past.emptied.Emptied.{Emptied}
-use Rattle.go_board.specs.declared.quick.print_past.emptied.OldRow.{OldRow}
+use Rattle.go_board.specs.declared.past.print_past.emptied.Emptied.{Emptied}
+use Rattle.go_board.specs.declared.past.print_past.emptied.OldRow.{OldRow}
 use Rattle.board_points.specs.declared.points.Point.{Point}
 use Rattle.go_board.specs.Past.{Held}
 use Rattle.go_board.specs.inner.Emptied.{HasAllEmptied, HasHistory, HasRowsBelow, IsBelow, IsEmptied, IsLogged}

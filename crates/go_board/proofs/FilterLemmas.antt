@@ -1,7 +1,7 @@
 -- A filter of prints.
 use Rattle.std.proofs.Common.{ℕ, ◌++◌, ◌∷◌, [], List, length-append, subst, sym, arith}
 use Rattle.std.proofs.lemmas.List.{get_or_append_left}
-use Rattle.go_board.specs.declared.quick.print_past.filter.Filter.{Filter}
+use Rattle.go_board.specs.declared.past.print_past.filter.Filter.{Filter}
 use Rattle.go_board.specs.inner.Filter.{HasPrint, IsFilter}
 
 -- once there is one more print

@@ -4,7 +4,7 @@ use Rattle.std.specs.List.{range_with_len}
 use Rattle.std.proofs.lemmas.List.FromFn.{get_or-map-range_with_len}
 use Rattle.std.proofs.lemmas.Nat.{mul-mod, pow-add}
 use Rattle.std.proofs.Math.Nat.{mod-add-div}
-use Rattle.go_board.specs.declared.quick.print_past.powers.TheConstants.{LOW, HIGH}
+use Rattle.go_board.specs.declared.past.print_past.powers.TheConstants.{LOW, HIGH}
 
 abbrev low : ℕ → ℕ
 low exponent = 31 ^ exponent % 2 ^ 64

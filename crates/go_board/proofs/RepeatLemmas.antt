@@ -11,7 +11,7 @@ use Rattle.go_board.specs.Grid.{Grid, cell_at}
 use Rattle.go_board.specs.Clearing.{play}
 use Rattle.go_board.specs.Past.{Held, PastColourings, all_of, newest_grid, with_next, stretch_of, present_stretch, AllHaveSide, HaveSide, IsPlayed}
 use Rattle.go_board.specs.Reason.{WasEmptied}
-use Rattle.go_board.specs.inner.Changes.{IsLastStone}
+use Rattle.go_board.specs.inner.Changes.{IsFreshStone}
 use Rattle.go_board.specs.inner.Emptied.{HasEmptied, HasAllEmptied}
 use Rattle.go_board.specs.inner.Groups.{IsMove}
 use Rattle.board_points.specs.Rows.{is_set, IsAmong}
@@ -77,9 +77,9 @@ never_back past k p rows emptied all sides kept move fresh stays has =
     false≢true (sym fresh ∙ was_in_set (is_set emptied) g.side p move.on_board (all_of past) sides kept was)
 
 -- a stone that stays on such a point is in no older colouring of the stretch
-pub last_stone_put : (past : PastColourings) (k : Colour) (p : Point) (rows emptied : List ℕ) → length (newest_grid past).cells ≡ (newest_grid past).side * (newest_grid past).side → HaveSide (newest_grid past).side past → HasAllEmptied (is_set emptied) (all_of past)
-    → IsMove (newest_grid past) k p rows → is_set emptied p ≡ false → is_set rows p ≡ false → IsLastStone (with_next past (play (newest_grid past) k p) false) p
-last_stone_put past k p rows emptied all sides kept move fresh stays =
+pub fresh_stone_put : (past : PastColourings) (k : Colour) (p : Point) (rows emptied : List ℕ) → length (newest_grid past).cells ≡ (newest_grid past).side * (newest_grid past).side → HaveSide (newest_grid past).side past → HasAllEmptied (is_set emptied) (all_of past)
+    → IsMove (newest_grid past) k p rows → is_set emptied p ≡ false → is_set rows p ≡ false → IsFreshStone (with_next past (play (newest_grid past) k p) false) p
+fresh_stone_put past k p rows emptied all sides kept move fresh stays =
     let g = newest_grid past in
     let there : cell_at (play g k p) p ≡ stone_of k = move.taken.played.kept p move.on_board (λ taken. false≢true (sym stays ∙ taken)) ∙ cell_at-with_cell g p (stone_of k) move.on_board all in
     record {
@@ -97,7 +97,7 @@ last_stone_put past k p rows emptied all sides kept move fresh stays =
 
 -- while such a stone stays, a stone that stays makes no colouring of the present stretch
 pub never_back_with : (past : PastColourings) (k : Colour) (p q : Point) (rows : List ℕ) → length (newest_grid past).cells ≡ (newest_grid past).side * (newest_grid past).side
-    → IsMove (newest_grid past) k p rows → IsLastStone past q → is_set rows q ≡ false → is_set rows p ≡ false → Contains (present_stretch past) (play (newest_grid past) k p) → ⊥
+    → IsMove (newest_grid past) k p rows → IsFreshStone past q → is_set rows q ≡ false → is_set rows p ≡ false → Contains (present_stretch past) (play (newest_grid past) k p) → ⊥
 never_back_with past k p q rows all move last stays_too stays (zero, h, e) =
     let g = newest_grid past in
     let there : cell_at (play g k p) p ≡ stone_of k = move.taken.played.kept p move.on_board (λ taken. false≢true (sym stays ∙ taken)) ∙ cell_at-with_cell g p (stone_of k) move.on_board all in

@@ -3,9 +3,9 @@ use Rattle.std.proofs.Common.{◌≡◌, ℕ, ◌+◌, ◌*◌, ◌<◌, ◌≤�
 use Rattle.std.specs.Int.{bit_at}
 use Rattle.std.proofs.lemmas.Bool.{eq-eqb, ne_eqb, false≢true}
 use Rattle.std.proofs.lemmas.List.{reverse-append}
-use Rattle.go_board.specs.declared.quick.print_past.key.TheConstants.{WIDTH}
-use Rattle.go_board.specs.declared.quick.print_past.table.Gap.{Gap}
-use Rattle.go_board.specs.declared.quick.print_past.table.Table.{Table}
+use Rattle.go_board.specs.declared.past.print_past.key.TheConstants.{WIDTH}
+use Rattle.go_board.specs.declared.past.print_past.table.Gap.{Gap}
+use Rattle.go_board.specs.declared.past.print_past.table.Table.{Table}
 use Rattle.go_board.specs.Grid.{Grid}
 use Rattle.go_board.specs.Past.{Held, stretch_of}
 use Rattle.go_board.specs.inner.Changes.{IsNumber}

@@ -17,10 +17,10 @@
 //! Points, and sets of points as rows of bits, are the crate `board_points`. `Size`, `Point`, `Rect`, `Marks`, `point`, `rect`, `vertex` and the
 //! laws `listing` and `naming` are passed on from there.
 //!
-//! The code outside `quick` plays by the rules and can be read by itself, with `ListPast` as the past. `quick` has faster ways to the
-//! same answers, and may be skipped. Three functions outside it begin with a test that only saves work: `Board::score`, which calls a
-//! shortcut on a small board, `Board::has_unreaching` and `Board::shut_stones`. `sgf_lines` judges with the past of `quick`, `PrintPast`.
-//! Only that past uses the crate `key_trie`.
+//! The code outside `quick` plays by the rules and can be read by itself. `quick` has faster ways to the same answers, and may be skipped.
+//! Three functions outside it begin with a test that only saves work: `Board::score`, which calls a shortcut on a small board,
+//! `Board::has_unreaching` and `Board::shut_stones`. A run judges over the past `PrintPast`, whose `play` calls shortcuts for what a stone
+//! takes off. `Past::play` is the plain way, and `ListPast` goes it. Only `PrintPast` uses the crates `key_trie` and `sha2`.
 //!
 //! | Module | What it has |
 //! |---|---|
@@ -31,11 +31,11 @@
 //! | `board/flood` | the flood that counts its steps |
 //! | `board/regions` | sets of points by what stands on them; filling these shows the score and who reaches empty |
 //! | `board/areas` | colouring the rectangles of a setup, and emptying sets of points |
-//! | `past` | the colourings that a game has been through; `past/list_past` keeps them as they are |
+//! | `past` | the colourings that a game has been through, and whether a stone repeats one: `past/print_past` in a run, `past/list_past` in the plainest way |
 //! | `reason`, `fault` | why a turn, or a node, is illegal; the errors |
 //! | `referee` | the referee and undo; below it `plays`, `setup` and `turn` |
 //! | `laws` | what follows from the definitions |
-//! | `quick` | shortcuts; `quick/print_past` looks colourings up among the newest ones, or else by a number |
+//! | `quick` | shortcuts |
 //!
 //! | Rule (docs/RULES.md) | Function, and its module |
 //! |---|---|
@@ -44,12 +44,12 @@
 //! | a stone: capture, then suicide | `Board::place` (`board`); shortcuts: `Board::takes_nothing_at_a_glance` (`quick/glance`), `Board::find_taken` and `Board::put`, which takes off what was found (`quick/capture`), by `fill_if_shut` and `add_to_either` of `board_points` (`quick/group`) |
 //! | the area score; an empty point that reaches both colours or neither counts for nobody | `Board::score` (`board`), by `area_of` (`board/regions`), and `count_apart` of `board_points` (`rows`); shortcut below side 32: `Board::score_in_halves` (`quick/both_areas`), by `count_halves` of `board_points` (`quick/halves`) |
 //! | taking a turn; the reasons `over`, `turn` and `occupied`, in this order | `Referee::turn`, `Referee::reason_before_repeat` (`referee/turn`) |
-//! | `repeat` (positional superko; suicide of one stone is a case of it) | `Past::play` (`past`); shortcuts: `PrintPast::play_asked`, if `may_repeat` says that it may, and `play_on_copy` after a setup that leaves a stone without a liberty (`quick/print_past`) |
-//! | the colourings that `repeat` looks at: those since the last setup of stones | `ListPast::holds`, `stretch_has` (`past/list_past`); what a run uses: `Colourings::look_back` (`quick/print_past/colourings`), which goes over the newest ones, and if these don't tell, `Table::near` and `Table::find` (`quick/print_past/table`). All look from `Colourings::stretch_start` on. If `Table::gap` finds that no print is the same, nothing is looked up |
+//! | `repeat` (positional superko; suicide of one stone is a case of it) | in a run `PrintPast::play_asked`, if `may_repeat` says that it may, and `play_on_copy` after a setup that leaves a stone without a liberty (`past/print_past`); the plain way is `Past::play` (`past`) |
+//! | the colourings that `repeat` looks at: those since the last setup of stones | `ListPast::holds`, `stretch_has` (`past/list_past`); what a run uses: `Colourings::look_back` (`past/print_past/colourings`), which goes over the newest ones, and if these don't tell, `Table::near` and `Table::find` (`past/print_past/table`). All look from `Colourings::stretch_start` on. If `Table::gap` finds that no print is the same, nothing is looked up |
 //! | a pass; two passes end the game | `Referee::take_pass` (`referee/turn`); `Referee::over` (`referee`) |
 //! | how a game begins | `Referee::new`, `Referee::reset` (`referee`) |
 //! | what PL does with stones and without; passes after a setup of stones | `Referee::setup`; `Referee::begin_anew`; `Referee::set_player` (`referee/setup`) |
-//! | the colouring that a setup makes; the list of colourings begins anew | `Board::colour_areas` (`board/areas`); `Past::set_up` (`past`), and in a run `PrintPast::set_up` (`quick/print_past`) |
+//! | the colouring that a setup makes; the list of colourings begins anew | `Board::colour_areas` (`board/areas`); `Past::set_up` (`past`), and in a run `PrintPast::set_up` (`past/print_past`) |
 //! | a node that changes nothing | `Referee::stay` (`referee`) |
 //! | undo; whether the newest call, or each call since some depth, left the board as it was | `Referee::undo`; `Referee::newest_left_board`, `Referee::left_board_since` (`referee`) |
 //!
@@ -77,8 +77,7 @@ pub use board_points::{
     MAX_POINTS, MAX_SIDE, MAX_VERTEX_SIDE, Marks, Point, Rect, Size, Vertex, point, rect, vertex,
 };
 pub use fault::{MemoryFault, TurnFault};
-pub use past::{ListPast, Past};
-pub use quick::PrintPast;
+pub use past::{ListPast, Past, PrintPast};
 pub use reason::Reason;
 pub use referee::{Play, Referee, SetupOp};
 pub use steps::Steps;

@@ -1,6 +1,12 @@
 //! The colourings that a game has been through, which positional superko forbids to repeat.
+//!
+//! | Module | What it has |
+//! |---|---|
+//! | `print_past` | the past of every run, `PrintPast`. Its head tells how a repetition is found |
+//! | `list_past` | the plainest past, `ListPast`: it keeps all colourings as they are, and compares them one by one. The tests hold both side by side |
 
 mod list_past;
+mod print_past;
 
 ghost use Rattle.std.specs.Prelude.{◌≡◌, ◌<◌, ◌↔◌, ◌∷◌, true, false, All, fold, length, IsTrue, IfOk, OnOk, OnErr, Contains};
 ghost use Rattle.go_board.specs.declared.stones.Cell.TheVariants.{Empty};
@@ -15,6 +21,7 @@ use crate::referee::SetupOp;
 use crate::stones::Colour;
 use board_points::Point;
 pub use list_past::ListPast;
+pub use print_past::PrintPast;
 use std::alloc::Global;
 
 /// The colourings that a game has been through, at least one. Each is marked if it begins a stretch.

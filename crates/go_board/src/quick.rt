@@ -5,7 +5,6 @@
 //! | `both_areas`: on a small board, one filling finds the areas of both colours | `Board::score` |
 //! | `glance`: the rows around most stones show that these take nothing off | `Board::place` |
 //! | `capture`: only a stone's group and the groups beside it can be left without a liberty | `Board::place` |
-//! | `print_past`: a past colouring is looked up by its print, in a trie | `ListPast` |
 //!
 //! Most stones take nothing off and can't repeat a colouring. `#[inline(always)]` stands on the functions that such a stone goes
 //! through: as it is known there that nothing is taken off, most of their code drops out. `#[inline(never)]` stands on those that it doesn't
@@ -14,6 +13,3 @@
 pub(crate) mod both_areas;
 pub(crate) mod capture;
 mod glance;
-mod print_past;
-
-pub use print_past::PrintPast;

@@ -4,11 +4,11 @@ use Rattle.std.specs.Prelude.{◌≡◌, ◌≢◌, ◌⊎◌, ◌==◌, ℕ, su
 use Rattle.go_board.specs.declared.stones.Cell.TheVariants.{Black, White, Empty}
 use Rattle.board_points.specs.declared.points.Point.{Point}
 use Rattle.board_points.specs.Point.{IsOn}
-use Rattle.go_board.specs.declared.quick.print_past.changes.Change.{Change}
-use Rattle.go_board.specs.declared.quick.print_past.changes.Known.{Known}
-use Rattle.go_board.specs.declared.quick.print_past.changes.Known.TheVariants.{Nothing, Settled, Fresh}
-use Rattle.go_board.specs.declared.quick.print_past.changes.Older.{Older}
-use Rattle.go_board.specs.declared.quick.print_past.changes.TheConstants.{FULL, MOST}
+use Rattle.go_board.specs.declared.past.print_past.changes.Change.{Change}
+use Rattle.go_board.specs.declared.past.print_past.changes.Known.{Known}
+use Rattle.go_board.specs.declared.past.print_past.changes.Known.TheVariants.{Nothing, Settled, Fresh}
+use Rattle.go_board.specs.declared.past.print_past.changes.Older.{Older}
+use Rattle.go_board.specs.declared.past.print_past.changes.TheConstants.{FULL, MOST}
 use Rattle.go_board.specs.Colour.{same_cell}
 use Rattle.go_board.specs.Grid.{Grid, cell_at, with_cell}
 use Rattle.go_board.specs.Clearing.{has_unreaching}
@@ -123,7 +123,7 @@ is_fresh Settled = false
 is_fresh Fresh = true
 
 -- the newest colouring has a stone on that point, and no older one of the present stretch has
-pub record IsLastStone (past : PastColourings) (point : Point) : Type 0 where
+pub record IsFreshStone (past : PastColourings) (point : Point) : Type 0 where
   pub on : IsOn (newest_grid past).side point
   pub there : cell_at (newest_grid past) point ≢ Empty
   pub new : (grid : Grid) → Contains (if past.newest.begins then [] else stretch_of past.older) grid → cell_at grid point ≡ Empty
@@ -133,7 +133,7 @@ abbrev pub AreFresh : List Older → List Held → Type 0
 AreFresh [] held = Unit {0}
 AreFresh (kept ∷ others) [] = Unit {0}
 AreFresh (kept ∷ others) (later ∷ older) =
-    (IsTrue (is_fresh kept.known) → IsLastStone (record { newest = later; older = older }) kept.point) × AreFresh others older
+    (IsTrue (is_fresh kept.known) → IsFreshStone (record { newest = later; older = older }) kept.point) × AreFresh others older
 
 -- Each `start` is at most the number of changes, and the point of a lone stone is on the grid. The changes of a full step make the
 -- colouring before it from any grid. A colouring that is marked settled is settled.

@@ -5,9 +5,9 @@ use Rattle.board_points.specs.declared.points.Point.{Point}
 use Rattle.board_points.specs.Point.{IsOn}
 use Rattle.go_board.specs.Grid.{Grid, cell_at}
 use Rattle.go_board.specs.Past.{Held, PastColourings, all_of}
-use Rattle.go_board.specs.declared.quick.print_past.emptied.Emptied.{Emptied}
-use Rattle.go_board.specs.declared.quick.print_past.emptied.OldRow.{OldRow}
-use Rattle.go_board.specs.declared.quick.print_past.table.Table.{Table}
+use Rattle.go_board.specs.declared.past.print_past.emptied.Emptied.{Emptied}
+use Rattle.go_board.specs.declared.past.print_past.emptied.OldRow.{OldRow}
+use Rattle.go_board.specs.declared.past.print_past.table.Table.{Table}
 use Rattle.go_board.specs.inner.Table.{IsTable}
 use Rattle.go_board.specs.inner.Key.{oldest}
 use Rattle.board_points.specs.Rows.{is_set}

@@ -1,6 +1,6 @@
 -- A filter of prints: a bit for each number of 13 low bits that a print has.
 use Rattle.std.specs.Prelude.{◌≡◌, ℕ, ◌/◌, ◌%◌, ◌<◌, ◌≤◌, IsTrue, List, length, slice_index}
-use Rattle.go_board.specs.declared.quick.print_past.filter.Filter.{Filter}
+use Rattle.go_board.specs.declared.past.print_past.filter.Filter.{Filter}
 use Rattle.board_points.specs.Rows.{has_bit}
 
 -- the word and the column of the bit of a print

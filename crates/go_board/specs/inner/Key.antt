@@ -1,6 +1,6 @@
 -- What a colouring is looked up by, as a string of bits: the words of the print, of the stretch, of the hash, and of each row of the board.
 use Rattle.std.specs.Prelude.{ℕ, zero, suc, ◌/◌, ◌%◌, Bool, false, ◌==◌, ◌&&◌, nat_lt, if◌then◌else◌, List, [], ◌∷◌, length, drop, ◌-◌}
-use Rattle.go_board.specs.declared.quick.print_past.key.ColouringKey.{ColouringKey}
+use Rattle.go_board.specs.declared.past.print_past.key.ColouringKey.{ColouringKey}
 use Rattle.go_board.specs.declared.stones.Cell.{Cell}
 use Rattle.go_board.specs.declared.stones.Cell.TheVariants.{Black, White}
 use Rattle.go_board.specs.Colour.{same_cell}

@@ -1,9 +1,9 @@
 -- The table by which past colourings are looked up: their prints, and a trie of the keys of the oldest ones.
 use Rattle.std.specs.Prelude.{◌≡◌, ◌⊎◌, ℕ, ◌+◌, ◌<◌, ◌≤◌, ◌^◌, List, [], ◌∷◌, Option, IfSome, IfNone, length, reverse}
 use Rattle.std.specs.Vec.{vec_capacity}
-use Rattle.go_board.specs.declared.quick.print_past.table.Gap.{Gap}
-use Rattle.go_board.specs.declared.quick.print_past.key.TheConstants.{WIDTH}
-use Rattle.go_board.specs.declared.quick.print_past.table.Table.{Table}
+use Rattle.go_board.specs.declared.past.print_past.table.Gap.{Gap}
+use Rattle.go_board.specs.declared.past.print_past.key.TheConstants.{WIDTH}
+use Rattle.go_board.specs.declared.past.print_past.table.Table.{Table}
 use Rattle.go_board.specs.Past.{Held}
 use Rattle.go_board.specs.inner.Filter.{IsFilter}
 use Rattle.go_board.specs.inner.Key.{keys_of}

@@ -1,0 +1,74 @@
+use Rattle.std.proofs.Common.{◌≡◌, ◌∙◌, Contains, false, inr, refl, ap, sym, subst}
+use Rattle.std.proofs.lemmas.Bool.{false≢true}
+use Rattle.go_board.specs.Grid.{Grid}
+use Rattle.go_board.specs.Clearing.{play}
+use Rattle.go_board.specs.Past.{PastColourings, all_of, newest_grid, present_stretch, with_next}
+use Rattle.go_board.specs.inner.Print.{print_of}
+use Rattle.go_board.specs.inner.Table.{IsAwakeTable}
+use Rattle.go_board.proofs.RepeatLemmas.{played_new, played_refused}
+use Rattle.go_board.proofs.TableLemmas.{gap_found}
+use Rattle.go_board.proofs.past.print_past.PrintPast.play_by_print.Goals as goal
+use Rattle.go_board.proofs.past.print_past.PrintPast.play_by_print.Goals.{Joined-may_have, then-may_have+else-has_near+else-has_made, else-may_have}
+
+pub invariant_of-self : goal.invariant_of-self
+invariant_of-self c = record { tabled = inr (c.may_have.ensures.table (all_of c.self.inside.colourings) c.wake.ensures); emptied_in = c.self.invariant.emptied_in }
+
+pub invariant_of-self-then-has_near : goal.invariant_of-self-then-has_near
+invariant_of-self-then-has_near c = record { tabled = inr (c.may_have.ensures.table (all_of c.self.inside.colourings) c.wake.ensures); emptied_in = c.self.invariant.emptied_in }
+
+pub gap-gap-requires : goal.gap-gap-requires
+gap-gap-requires c = c.may_have.ensures.table (all_of c.self.inside.colourings) c.wake.ensures
+
+pub has_made-requires-clause-lacks : goal.has_made-requires-clause-lacks
+has_made-requires-clause-lacks c = gap_found (all_of c.self.inside.colourings) c.gap-gap.new.self.trie c.print_after_taking-print.result c.gap-gap.result c.gap-gap.ensures.gap
+
+module _ (c : Joined-may_have) where
+  -- the colourings stay, and the table is awake
+  pub kept : c.if-may_have.self-inside.colourings ≡ c.self.inside.colourings
+  kept = elim c.if-may_have.branch [
+    | then-may_have+else-has_near+else-has_made w ↦ rw w.self-inside-is refl
+    | else-may_have w ↦ rw w.self-inside-is refl
+  ]
+
+  pub awake : IsAwakeTable (all_of c.if-may_have.self-inside.colourings) c.if-may_have.self-inside.table
+  awake = elim c.if-may_have.branch [
+    | then-may_have+else-has_near+else-has_made w ↦ rw w.self-inside-is w.gap-gap.ensures.table
+    | else-may_have w ↦ rw w.self-inside-is (c.may_have.ensures.table (all_of c.self.inside.colourings) c.wake.ensures)
+  ]
+
+  pub printed : c.print_after_taking-print.result ≡ print_of (play (newest_grid c.self.inside.colourings) c.args.colour c.args.point)
+  printed = c.print_after_taking-print.ensures ∙ ap (λ (g : Grid). print_of (play g c.args.colour c.args.point)) c.newest-newest.ensures
+
+  -- the stone brings no colouring back
+  pub never : Contains (present_stretch c.args.self.now) (play (newest_grid c.args.self.now) c.args.colour c.args.point) → ⊥
+  never has =
+      let inside = c.self.inside.colourings in
+      let there = subst (λ (past : PastColourings). Contains (present_stretch past) (play (newest_grid past) c.args.colour c.args.point)) (sym c.self.view_is) has in
+      elim c.if-may_have.branch [
+        | then-may_have+else-has_near+else-has_made w ↦ false≢true (sym w.if-has_made.false ∙ w.has_made.ensures.1 there)
+        | else-may_have w ↦ c.may_have.ensures.lacks (all_of inside) (play (newest_grid inside) c.args.colour c.args.point) c.wake.ensures w.if-may_have.false printed there
+      ]
+
+pub add_stone-requires-clause-table : goal.add_stone-requires-clause-table
+add_stone-requires-clause-table c = inr (awake (goal.at.add_stone-requires-clause-table c).Joined-may_have)
+
+pub add_stone-requires-clause-print : goal.add_stone-requires-clause-print
+add_stone-requires-clause-print c =
+    let w = (goal.at.add_stone-requires-clause-print c).Joined-may_have in
+    record {
+      awake = (awake w, rw (kept w) (printed w));
+      asleep = tt;
+    }
+
+pub returns-in_err-add_stone : goal.returns-in_err-add_stone
+returns-in_err-add_stone c =
+    let w = (goal.at.returns-in_err-add_stone c).Joined-may_have in
+    played_refused c.args.colour c.args.point c.args.self.now c.add_stone.new.colourings c.from_residual.result c.from_residual.ensures.0 (never w) (c.in_err-add_stone.ensures.err ∙ kept w ∙ c.self.view_is)
+
+pub returns : goal.returns
+returns c =
+    let w = (goal.at.returns c).Joined-may_have in
+    let k = c.args.colour in
+    let p = c.args.point in
+    played_new k p c.args.self.now c.add_stone.new.colourings (never w)
+    (c.in_ok-add_stone.ensures.ok ∙ ap (λ (past : PastColourings). with_next past (play (newest_grid past) k p) false) (kept w ∙ c.self.view_is))

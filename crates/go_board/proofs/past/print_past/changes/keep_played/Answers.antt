@@ -1,0 +1,38 @@
+use Rattle.std.proofs.Common.{◌≡◌, ◌<◌, ◌∷◌, [], length, length-append, subst, ap, arith}
+use Rattle.std.proofs.lemmas.Bool.{or_parts}
+use Rattle.go_board.specs.Clearing.{play}
+use Rattle.go_board.specs.inner.Changes.{KeepRows}
+use Rattle.go_board.proofs.ChangesLemmas.{kept_none, kept_more, kept_same, row_kept}
+use Rattle.go_board.proofs.past.print_past.changes.keep_played.Goals as goal
+use Rattle.go_board.proofs.past.print_past.changes.keep_played.Goals.{then-apart, else-apart}
+
+pub loop-row-init : goal.loop-row-init
+loop-row-init c = record {
+  kept = λ k move. kept_none c.args.board.now (play c.args.board.now k c.args.point) c.args.all c.args.changes.now.items;
+  room = omega (arith, c.requires.room);
+}
+
+pub loop-row-preserved : goal.loop-row-preserved
+loop-row-preserved c =
+    let was = c.loop-row.invariant in
+    let low : c.loop-row.row < c.args.board.now.side = omega arith in
+    elim c.if-apart.branch [
+      | then-apart w ↦
+          let adds = w.keep_row.ensures.row in
+          rw w.changes-is (record {
+            kept = λ k move. kept_more (was.kept k move) adds;
+            room = omega (arith, was.room, w.keep_row.ensures.room, ap length adds.added, length-append c.loop-row.changes.items (adds.change ∷ []));
+          })
+      | else-apart w ↦
+          let parts = or_parts _ _ w.if-apart.false in
+          let still = c.may_change.ensures parts.1 in
+          rw w.changes-is (record {
+            kept = λ k move. kept_same (was.kept k move) parts.0 (row_kept c.args.board.now k c.args.point c.args.taken.now c.loop-row.row move low still.0 still.1);
+            room = omega (arith, was.room);
+          })
+    ]
+
+pub returns : goal.returns
+returns c = λ k move.
+    let all : c.loop-row.row ≡ c.args.board.now.side = omega arith in
+    subst (λ n. KeepRows c.args.board.now (play c.args.board.now k c.args.point) c.args.all n c.args.changes.now.items c.loop-row.changes.items) all (c.loop-row.invariant.kept k move)

@@ -1,0 +1,33 @@
+use Rattle.std.proofs.Common.{◌<◌, ◌≤◌, ◌^◌, [], inl, inr, length, refl, rules, arith}
+use Rattle.std.specs.Vec.{vec_capacity}
+use Rattle.std.proofs.lemmas.List.{nil_from_length}
+use Rattle.go_board.specs.inner.Filter.{IsFilter}
+use Rattle.key_trie.specs.Trie.{room_of}
+use Rattle.go_board.proofs.TableLemmas.{tabled}
+use Rattle.go_board.proofs.past.print_past.table.Table.reset.Goals as goal
+
+pub returns : goal.returns
+returns c = λ first.
+    let t = c.args.self.now in
+    let filtered : IsFilter t.prints.items t.filter = elim c.requires.1 [
+      | inl asleep ↦ rw asleep.no_prints asleep.filtered
+      | inr awake ↦ awake.filtered
+    ] in
+    let most : room_of t.trie < 2 ^ 32 = elim c.requires.1 [ inl asleep ↦ asleep.most | inr awake ↦ awake.most ] in
+    let room : 1 ≤ room_of t.trie = elim c.requires.1 [
+      | inl asleep ↦ omega (arith, asleep.room, c.requires.2)
+      | inr awake ↦ omega (arith, awake.room, tabled c.requires.0 t awake, c.requires.2)
+    ] in
+    let fits : length t.prints.items ≤ vec_capacity t.prints = search rules in
+    let prints_room : 1 ≤ vec_capacity t.prints = elim c.requires.1 [
+      | inl asleep ↦ omega (arith, asleep.prints_room, c.requires.2)
+      | inr awake ↦ omega (arith, fits, tabled c.requires.0 t awake, c.requires.2)
+    ] in
+    inl (record {
+      no_prints = search rules;
+      no_items = nil_from_length _ c.clear.ensures.none;
+      room = omega (arith, room, c.clear.ensures.room);
+      prints_room = omega (arith, prints_room, c.clear-2.ensures.capacity);
+      most = omega (arith, most, c.clear.ensures.room);
+      filtered = c.go_back.ensures [] t.prints.items refl filtered;
+    })

@@ -1,0 +1,490 @@
+//! The past of a run, and how it finds a stone that repeats a colouring (positional superko).
+//!
+//! A colouring can come back only by a stone on a point that was emptied before, or by suicide. So most stones are played without a look-up
+//! (`may_repeat`). For any other one, the newest colourings are gone over one by one (`decide_by_newest`). Nearly always they tell: one
+//! of them is the colouring that the stone makes, or one put a stone there that no older colouring has and the made one keeps. If they
+//! don't tell, a table of prints and a trie of keys do, for all colourings at once (`play_by_print`). `ListPast` is the plainest past.
+//!
+//! | Module | What it has |
+//! |---|---|
+//! | `colourings`, `changes` | past colourings as what leads back to them, a point or rows; the look back over the newest ones |
+//! | `emptied` | the points that were emptied, where a colouring can come back |
+//! | `print`, `powers`, `bytes` | the print of a colouring, a number in base 31; the numbers that it is made from |
+//! | `table` | how a past colouring is looked up if the newest ones don't tell, and what that costs |
+//! | `filter` | a filter of prints, which answers most look-ups by print |
+//! | `key`, `hash` | a colouring as a key, which is a string of bits; a hash that is part of it. The crate `key_trie` has the trie of keys |
+
+mod bytes;
+mod changes;
+mod colourings;
+mod emptied;
+mod filter;
+mod hash;
+mod key;
+mod powers;
+mod print;
+mod table;
+
+ghost use Rattle.std.specs.Prelude.{◌≡◌, ◌≢◌, ◌<◌, ◌↔◌, false, IsTrue, IsSome, IfSome, OnOk, OnErr, Contains, length, IsFalse};
+ghost use Rattle.go_board.specs.declared.stones.Cell.TheVariants.{Empty};
+ghost use Rattle.board_points.specs.declared.points.Point.{Point};
+ghost use Rattle.go_board.specs.declared.stones.Colour.{Colour};
+ghost use Rattle.board_points.specs.Point.{IsOn};
+ghost use Rattle.go_board.specs.Grid.{Grid, cell_at};
+ghost use Rattle.go_board.specs.Clearing.{play};
+ghost use Rattle.go_board.specs.Past.{all_of, newest_grid, with_next, present_stretch, HaveSide, PastColourings, IsPlayed};
+ghost use Rattle.go_board.specs.inner.Changes.{IsFreshStone};
+ghost use Rattle.go_board.specs.inner.Emptied.{IsEmptied, IsPrintPast};
+ghost use Rattle.go_board.specs.inner.Groups.{IsMove, IsEmptyOnSettled, TakesOff};
+ghost use Rattle.go_board.specs.inner.Print.{print_of, IsPrintedMove};
+ghost use Rattle.board_points.specs.Rows.{is_set};
+ghost use Rattle.go_board.specs.inner.Table.{IsAwakeTable, IsGap, IsPrintOfNext, IsTable};
+ghost use Rattle.key_trie.specs.Trie.{item_count};
+
+use crate::board::Board;
+use crate::fault::MemoryFault;
+use crate::past::Past;
+use crate::past::print_past::colourings::Colourings;
+use crate::past::print_past::emptied::Emptied;
+use crate::past::print_past::print::{has_point, print_after_taking, print_of};
+use crate::past::print_past::table::{Gap, Table};
+use crate::referee::SetupOp;
+use crate::stones::Colour;
+use board_points::rows::{add_points, no_rows};
+use board_points::{MAX_ROWS, Point};
+use std::alloc::Global;
+use std::marker::Model;
+
+/// A past that keeps the newest colouring whole. Of each older one it keeps what leads back to it. A colouring is looked up only in the
+/// present stretch, and only if a stone may repeat one. At first it is looked for among the newest colourings. Once these haven't told in a
+/// game, it is looked up by its print, a 64-bit number made from what stands on all its points. If two prints are equal, hashes are worked
+/// out, and all points are compared.
+///
+/// A colouring that only adds one stone to the one before it takes 12 bytes. Room for its print and for a node of the trie, 24 bytes, is
+/// kept beside.
+#[derive(Drop)]
+pub struct PrintPast {
+    colourings: Colourings,
+    /// The table by which colourings are looked up.
+    table: Table,
+    /// The points that were emptied. A stone that stays can bring a colouring back only on one of these.
+    emptied: Emptied,
+}
+
+impl Model for PrintPast {
+    ghost Value = { PastColourings };
+
+    ghost view = { λ p. p.colourings };
+
+    ghost invariant = { λ p. IsPrintPast p.colourings p.table p.emptied };
+}
+
+impl Past for PrintPast {
+    ghost held = { λ past. past };
+
+    fn new(alloc: Global, board: &Board) -> Result<PrintPast, MemoryFault> {
+        Ok(PrintPast {
+            colourings: Colourings::new(alloc, board)?,
+            table: Table::new(alloc)?,
+            emptied: Emptied::new(alloc),
+        })
+    }
+
+    fn holds(&self, board: &Board) -> bool {
+        self.table.has(&self.colourings, board, print_of(board))
+    }
+
+    fn newest(&self) -> &Board {
+        self.colourings.newest()
+    }
+
+    fn push(&mut self, board: &Board) -> Result<(), MemoryFault> {
+        self.add(board, None, false)
+    }
+
+    fn restart(&mut self, board: &Board) -> Result<(), MemoryFault> {
+        self.link_stretch();
+        self.add(board, None, true)
+    }
+
+    /// Finds captures and suicide near the stone (`find_taken`), unless a glance shows that there are none. A repetition (positional
+    /// superko) is looked up by `play_asked`. The plain ways are `Past::play` and `Board::place`; the second is taken on a board
+    /// that isn't settled (`play_on_copy`).
+    fn play(&mut self, colour: Colour, point: Point) -> Result<bool, MemoryFault> {
+        let newest = self.colourings.newest();
+        if !newest.is_settled() {
+            return self.play_on_copy(colour, point);
+        }
+        if newest.takes_nothing_at_a_glance(colour, point) {
+            return self.play_taking(colour, point, &[]);
+        }
+        self.play_in_doubt(colour, point)
+    }
+
+    /// The same as the plain one; then the board is settled if that can be.
+    fn set_up(&mut self, ops: &[SetupOp]) -> Result<(), MemoryFault> {
+        let mut made = self.newest().copy();
+        made.colour_areas(ops);
+        made.work_settled_out();
+        self.restart(&made)
+    }
+
+    fn pop(&mut self) {
+        self.table.pop();
+        self.colourings.pop();
+        self.emptied.go_back(self.colourings.len() as u32);
+    }
+
+    fn reset(&mut self, _alloc: Global, board: &Board) -> Result<(), MemoryFault> {
+        self.colourings.reset(board);
+        self.table.reset();
+        self.emptied.clear();
+        Ok(())
+    }
+}
+
+impl PrintPast {
+    /// Wakes the table and puts the colourings of the present stretch into the trie, if there are several. After a setup this would cost
+    /// more: to work out a colouring, one goes back over later ones, and a setup may have changed all rows.
+    fn link_stretch(&mut self)
+        ensures { self.new ≡ self.old }
+    {
+        if self.colourings.stretch_start() + 1 < self.colourings.len() {
+            self.table.wake(&self.colourings);
+            self.table.link(&self.colourings);
+        }
+    }
+
+    /// Adds a colouring, which begins a stretch or continues the present one. `print` is its print, if that is known.
+    fn add(&mut self, board: &Board, print: Option<u64>, begins: bool) -> Result<(), MemoryFault>
+        requires side { HaveSide board.now.side self.old }
+        requires print { IfSome print (λ number. number ≡ print_of board.now) }
+        ensures ok { OnOk result (self.new ≡ with_next self.old board.now begins) }
+        ensures err { OnErr result (self.new ≡ self.old) }
+    {
+        let print = if self.table.is_awake() {
+            Some(print_if_unknown(print, board))
+        } else {
+            None
+        };
+        let number = self.colourings.len();
+        let mut stones = no_rows();
+        add_stones(self.colourings.newest(), &mut stones);
+        self.emptied.reserve(stones.len())?;
+        self.table.reserve(number)?;
+        self.colourings.add(board, begins)?;
+        self.emptied.add(&stones, number as u32);
+        self.table.push(print, None);
+        Ok(())
+    }
+
+    /// The same as `play`, on a settled board, for a stone that may capture or be suicide: a glance doesn't rule it out.
+    #[inline(never)]
+    fn play_in_doubt(&mut self, colour: Colour, point: Point) -> Result<bool, MemoryFault>
+        requires one_side { HaveSide (newest_grid self.old).side self.old }
+        requires stone { IsEmptyOnSettled (newest_grid self.old) point }
+        ensures { IsPlayed colour point self.old self.new result }
+    {
+        let mut words = no_rows();
+        match self.colourings.find_taken(colour, point, &mut words) {
+            Some(taken) => self.play_taking(colour, point, taken),
+            None => self.play_taking(colour, point, &[]),
+        }
+    }
+
+    /// The same as `play`; `taken` is what the stone takes off.
+    #[inline(always)]
+    fn play_taking(
+        &mut self,
+        colour: Colour,
+        point: Point,
+        taken: &[u64],
+    ) -> Result<bool, MemoryFault>
+        requires one_side { HaveSide (newest_grid self.old).side self.old }
+        requires stone { IsMove (newest_grid self.old) colour point taken.now }
+        ensures { IsPlayed colour point self.old self.new result }
+    {
+        if self.may_repeat(point, taken) {
+            return self.play_asked(colour, point, taken);
+        }
+        self.play_new(colour, point, taken, true)
+    }
+
+    /// Whether a stone may bring a colouring of the present stretch back: it is put on a point that was emptied, or is suicide.
+    #[inline(always)]
+    fn may_repeat(&self, point: Point, taken: &[u64]) -> bool
+        requires one_side { HaveSide (newest_grid self.now).side self.now }
+        requires on_board { IsOn (newest_grid self.now).side point }
+        requires empty { cell_at (newest_grid self.now) point ≡ Empty }
+        ensures never { (colour : Colour) → TakesOff (newest_grid self.now) colour point taken.now
+            → IsFalse result → ¬ Contains (present_stretch self.now) (play (newest_grid self.now) colour point) }
+        ensures fresh { (colour : Colour) → TakesOff (newest_grid self.now) colour point taken.now
+            → IsFalse result → IsFreshStone (with_next self.now (play (newest_grid self.now) colour point) false) point }
+    {
+        self.colourings.newest().has_all_cells();
+        has_point(&self.emptied.rows, point) | has_point(taken, point)
+    }
+
+    /// The same as `play_taking`, for a stone that may bring a colouring back. Decides by positional superko whether the stone may be played.
+    #[inline(never)]
+    fn play_asked(
+        &mut self,
+        colour: Colour,
+        point: Point,
+        taken: &[u64],
+    ) -> Result<bool, MemoryFault>
+        requires one_side { HaveSide (newest_grid self.old).side self.old }
+        requires stone { IsMove (newest_grid self.old) colour point taken.now }
+        ensures { IsPlayed colour point self.old self.new result }
+    {
+        match self.decide_by_newest(colour, point, taken) {
+            Some(true) => Ok(false),
+            Some(false) => self.play_new(colour, point, taken, false),
+            None => self.play_by_print(colour, point, taken),
+        }
+    }
+
+    /// Whether the present stretch has the colouring that a stone makes, if the newest colourings tell; None if they don't. A table that is
+    /// awake tells sooner than a look back.
+    fn decide_by_newest(&self, colour: Colour, point: Point, taken: &[u64]) -> Option<bool>
+        requires stone { IsMove (newest_grid self.now) colour point taken.now }
+        ensures { IfSome result (λ has. IsTrue has ↔ Contains (present_stretch self.now) (play (newest_grid self.now) colour point)) }
+    {
+        self.colourings.newest().has_all_cells();
+        if let Some(stone) = self.colourings.fresh_stone() {
+            let gone = has_point(taken, point) | has_point(taken, stone);
+            if !gone {
+                return Some(false);
+            }
+        }
+        if self.table.is_awake() {
+            return None;
+        }
+        let mut made = self.newest().copy();
+        made.put(colour, point, taken);
+        self.colourings.look_back(&made)
+    }
+
+    /// Plays a stone that brings no colouring back; `taken` is what the stone takes off. `fresh` says that no colouring of the present stretch
+    /// has a stone on that point.
+    #[inline(always)]
+    fn play_new(
+        &mut self,
+        colour: Colour,
+        point: Point,
+        taken: &[u64],
+        fresh: bool,
+    ) -> Result<bool, MemoryFault>
+        requires stone { IsMove (newest_grid self.old) colour point taken.now }
+        requires never { ¬ Contains (present_stretch self.old) (play (newest_grid self.old) colour point) }
+        requires fresh { IsTrue fresh → IsFreshStone (with_next self.old (play (newest_grid self.old) colour point) false) point }
+        ensures { IsPlayed colour point self.old self.new result }
+    {
+        let print = print_if_awake(&self.table, &self.colourings, colour, point, taken);
+        add_stone(
+            &mut self.colourings,
+            &mut self.table,
+            &mut self.emptied,
+            colour,
+            point,
+            taken,
+            fresh,
+            print,
+            None,
+        )?;
+        Ok(true)
+    }
+
+    /// The same as `play_asked`, by the table. Wakes it first. If a look-up is needed to tell, this puts the colouring into the trie at once.
+    #[inline(never)]
+    fn play_by_print(
+        &mut self,
+        colour: Colour,
+        point: Point,
+        taken: &[u64],
+    ) -> Result<bool, MemoryFault>
+        requires one_side { HaveSide (newest_grid self.old).side self.old }
+        requires stone { IsMove (newest_grid self.old) colour point taken.now }
+        ensures { IsPlayed colour point self.old self.new result }
+    {
+        self.table.wake(&self.colourings);
+        let newest = self.colourings.newest();
+        newest.has_all_cells();
+        let print = print_after_taking(self.table.newest(), newest, colour, point, taken);
+        let mut gap = None;
+        if self.table.may_have(print) {
+            if self.has_near(colour, point, taken, print) {
+                return Ok(false);
+            }
+            gap = self.table.gap(&self.colourings, print);
+            if has_made(
+                &self.colourings,
+                &self.table,
+                gap,
+                colour,
+                point,
+                taken,
+                print,
+            ) {
+                return Ok(false);
+            }
+        }
+        add_stone(
+            &mut self.colourings,
+            &mut self.table,
+            &mut self.emptied,
+            colour,
+            point,
+            taken,
+            false,
+            Some(print),
+            gap,
+        )?;
+        Ok(true)
+    }
+
+    /// Whether the colouring that a stone makes is one of the newest two, and in the present stretch: the newest, after suicide of one stone,
+    /// or the one before it, in a simple ko. False says nothing. `print` is its print, and `taken` is what the stone takes off.
+    fn has_near(&self, colour: Colour, point: Point, taken: &[u64], print: u64) -> bool
+        requires stone { IsMove (newest_grid self.now) colour point taken.now }
+        ensures { IsTrue result → Contains (present_stretch self.now) (play (newest_grid self.now) colour point) }
+    {
+        let start = self.colourings.stretch_start();
+        let Some(number) = self.table.near(start, print) else {
+            return false;
+        };
+        let mut made = self.newest().copy();
+        made.put(colour, point, taken);
+        self.colourings.is_at(number, &made)
+    }
+
+    /// The same as `play`, the plain way (`Board::place`) on a copy of the newest board. It is for boards that aren't settled.
+    #[inline(never)]
+    fn play_on_copy(&mut self, colour: Colour, point: Point) -> Result<bool, MemoryFault>
+        requires one_side { HaveSide (newest_grid self.old).side self.old }
+        requires on_board { IsOn (newest_grid self.old).side point }
+        requires empty { cell_at (newest_grid self.old) point ≡ Empty }
+        ensures { IsPlayed colour point self.old self.new result }
+    {
+        let mut made = self.newest().copy();
+        made.place(colour, point);
+        made.restore(true);
+        let print = print_of(&made);
+        self.table.wake(&self.colourings);
+        self.table.link(&self.colourings);
+        if self.table.find(&self.colourings, &made, print) {
+            return Ok(false);
+        }
+        self.add(&made, Some(print), false)?;
+        Ok(true)
+    }
+}
+
+/// The print of a board, which is worked out if it isn't known.
+fn print_if_unknown(known: Option<u64>, board: &Board) -> u64
+    requires { IfSome known (λ number. number ≡ print_of board.now) }
+    ensures { result ≡ print_of board.now }
+{
+    match known {
+        Some(print) => print,
+        None => print_of(board),
+    }
+}
+
+/// The print of the colouring that a stone makes; None if the table sleeps. `taken` is what the stone takes off.
+#[inline(always)]
+fn print_if_awake(
+    table: &Table,
+    colourings: &Colourings,
+    colour: Colour,
+    point: Point,
+    taken: &[u64],
+) -> Option<u64>
+    requires table { IsTable (all_of colourings.now) table.now }
+    requires stone { IsMove (newest_grid colourings.now) colour point taken.now }
+    ensures { IsPrintOfNext (all_of colourings.now) table.now
+        (with_next colourings.now (play (newest_grid colourings.now) colour point) false).newest result }
+{
+    if !table.is_awake() {
+        return None;
+    }
+    let newest = colourings.newest();
+    newest.has_all_cells();
+    Some(print_after_taking(table.newest(), newest, colour, point, taken))
+}
+
+/// Adds the colouring that a stone makes; `taken` is what the stone takes off. `fresh` says that no colouring of the present stretch has a
+/// stone on that point. `print` is the colouring's print, or None if the table sleeps. Puts the colouring into the trie if its gap there
+/// is known. After a refusal nothing is changed.
+// No method: between its steps the invariant of the past doesn't hold.
+#[inline(always)]
+fn add_stone(
+    colourings: &mut Colourings,
+    table: &mut Table,
+    emptied: &mut Emptied,
+    colour: Colour,
+    point: Point,
+    taken: &[u64],
+    fresh: bool,
+    print: Option<u64>,
+    gap: Option<Gap>,
+) -> Result<(), MemoryFault>
+    requires table { IsTable (all_of colourings.old) table.old }
+    requires emptied { IsEmptied (all_of colourings.old) emptied.old }
+    requires stone { IsMove (newest_grid colourings.old) colour point taken.now }
+    requires fresh { IsTrue fresh → IsFreshStone (with_next colourings.old (play (newest_grid colourings.old) colour point) false) point }
+    requires print { IsPrintOfNext (all_of colourings.old) table.old
+        (with_next colourings.old (play (newest_grid colourings.old) colour point) false).newest print }
+    requires gap { IfSome print (λ number. IfSome gap (IsGap (all_of colourings.old) table.old.trie number)) }
+    ensures ok { OnOk result (colourings.new ≡ with_next colourings.old (play (newest_grid colourings.old) colour point) false) }
+    ensures err { OnErr result (colourings.new ≡ colourings.old) }
+    ensures table { IsTable (all_of colourings.new) table.new }
+    ensures emptied { IsEmptied (all_of colourings.new) emptied.new }
+{
+    colourings.newest().has_all_cells();
+    let number = colourings.len();
+    emptied.reserve(taken.len())?;
+    table.reserve(number)?;
+    colourings.add_stone(colour, point, taken, fresh)?;
+    emptied.add(taken, number as u32);
+    table.push(print, gap);
+    Ok(())
+}
+
+/// Whether the present stretch has the colouring that a stone makes. If so, positional superko forbids the stone. `print` is that
+/// colouring's print, and `taken` is what the stone takes off. If it has a gap in the trie, the stretch can't have it. Otherwise all
+/// points are compared.
+fn has_made(
+    colourings: &Colourings,
+    table: &Table,
+    gap: Option<Gap>,
+    colour: Colour,
+    point: Point,
+    taken: &[u64],
+    print: u64,
+) -> bool
+    requires table { IsAwakeTable (all_of colourings.now) table.now }
+    requires all { item_count table.now.trie ≡ length table.now.prints.items }
+    requires lacks { (grid : Grid) → IsSome gap → print ≡ print_of grid → ¬ Contains (present_stretch colourings.now) grid }
+    requires one_side { HaveSide (newest_grid colourings.now).side colourings.now }
+    requires stone { IsPrintedMove (newest_grid colourings.now) colour point taken.now print }
+    ensures { IsTrue result ↔ Contains (present_stretch colourings.now) (play (newest_grid colourings.now) colour point) }
+{
+    if gap.is_some() {
+        return false;
+    }
+    let mut made = colourings.newest().copy();
+    made.put(colour, point, taken);
+    table.find(colourings, &made, print)
+}
+
+/// Adds the points of a board's stones to a set.
+fn add_stones(board: &Board, all: &mut [u64])
+    requires { length all.old ≡ MAX_ROWS }
+    ensures stones { (point : Point) → IsOn board.now.side point → cell_at board.now point ≢ Empty → IsTrue (is_set all.new point) }
+    ensures rows { length all.new ≡ length all.old }
+{
+    board.has_all_cells();
+    add_points(board.rows_of(Colour::Black), all);
+    add_points(board.rows_of(Colour::White), all);
+}

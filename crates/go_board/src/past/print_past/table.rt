@@ -1,0 +1,355 @@
+//! The table by which colourings are looked up.
+//!
+//! A look-up walks down a trie of keys (see `key`, and the crate `key_trie`) by the bits of the colouring that is looked up. It ends at one
+//! past colouring, and compares with that one alone: first the start of the stretch and the print. If these are equal, a second walk goes
+//! on by the hash, and all points are compared at its end. So a look-up costs at most two walks, one hash, and one past colouring worked
+//! out, whatever was played before. `gap`, which comes before it, takes at most two walks by the bits of the print.
+//! To put a colouring into the trie costs at most two colourings worked out, its own and that at the end of its walk, and their hashes, and
+//! this only if they have the same print and the same stretch. To take one out is one step.
+//!
+//! A walk passes a node at each place of the key where past colourings part from the one that is looked up. It passes at most 64 in the
+//! print, and 26 in the start of the stretch: that is below 2^26, since no input has more bytes. Colourings of one print and one stretch part
+//! in the hash, which nobody can choose: to have them part at one bit more, one has to try twice as many boards. So a walk passes some 50
+//! nodes there at most, after 2^50 boards tried. It goes on into the rows only if two hashes are equal. No proof rests on that.
+//! So no walk gets longer with more colourings, or with more of them that have one print.
+//!
+//! This is so once `link` has put all colourings into the trie. `gap` calls it first: the past asks `gap` for a stone that `may_have`
+//! doesn't answer (see `filter`). `has` asks no trie: it compares one by one.
+//!
+//! In most games the newest colourings answer all that is asked (`Colourings::look_back`). So the table sleeps at first: it has no prints,
+//! and a stone costs no more here than the test that there is room. `wake` works the prints out, once a game, one for each colouring; from
+//! then on the table has those of all colourings.
+
+ghost use Rattle.std.specs.Prelude.{◌≡◌, ◌↔◌, ◌+◌, ◌<◌, ◌≤◌, [], ◌∷◌, List, length, slice_index, IsTrue, IsFalse, IfSome, IfOk, OnOk, Contains};
+ghost use Rattle.go_board.specs.Grid.{Grid};
+ghost use Rattle.go_board.specs.Past.{Held, all_of, present_stretch, stretch_of, HaveSide};
+ghost use Rattle.go_board.specs.inner.Changes.{IsNumber};
+ghost use Rattle.go_board.specs.inner.Hash.{hash_of};
+ghost use Rattle.go_board.specs.inner.Key.{bits_of, keys_of};
+ghost use Rattle.go_board.specs.inner.Print.{print_of};
+ghost use Rattle.go_board.specs.inner.Table.{HasRoomForNext, HasUnlinked, IsAsleepTable, IsAwakeTable, IsGap, IsPrintOfNext, IsTable, LinksNext};
+ghost use Rattle.key_trie.specs.Key.{Agree};
+ghost use Rattle.key_trie.specs.Trie.{item_count, nodes_of};
+
+use crate::board::Board;
+use crate::fault::MemoryFault;
+use crate::past::print_past::colourings::Colourings;
+use crate::past::print_past::filter::Filter;
+use crate::past::print_past::hash::hash_of;
+use crate::past::print_past::key::{ColouringKey, FRONT, WIDTH, WORD};
+use board_points::columns::has_column;
+use key_trie::{Slot, Trie, first_difference};
+use std::alloc::Global;
+
+/// The number of colourings that a new table has room for.
+const FIRST_ROOM: usize = 256;
+
+/// How many of the newest colourings are looked at before the trie is asked: the newest, and the one that a simple ko brings back. To work
+/// that one out takes one step. Without this look, fights take 1.3 times as long (the workload `awkward` of docs/PERF.md).
+const NEAR: usize = 2;
+
+/// The prints of colourings, oldest first, and a trie of their keys. Most colourings are never looked up, and no look-up comes before
+/// they are taken back. So a colouring is put into the trie only when a look-up comes. There is always room for all of them, so this
+/// takes no memory.
+#[derive(Drop)]
+pub(crate) struct Table {
+    /// The prints of all colourings; none while the table sleeps.
+    prints: Vec<u64>,
+    /// The trie of the oldest colourings. The newest ones may not be in it yet.
+    trie: Trie,
+    /// A filter of the prints.
+    filter: Filter,
+}
+
+/// Where a colouring comes into the trie.
+#[derive(Clone, Copy)]
+pub(crate) struct Gap {
+    slot: Slot,
+    /// The place of the bit where it parts from the others. It is one of the print.
+    place: u32,
+}
+
+impl Table {
+    /// The table of one colouring. It sleeps.
+    pub(crate) fn new(alloc: Global) -> Result<Table, MemoryFault>
+        ensures { IfOk result (λ table. (first : Held) → IsTable (first ∷ []) table) }
+    {
+        Ok(Table {
+            prints: Vec::with_capacity(alloc, FIRST_ROOM)?,
+            trie: Trie::new(alloc)?,
+            filter: Filter::new(),
+        })
+    }
+
+    /// Whether the table has the prints of all colourings. If not, it has none.
+    pub(crate) fn is_awake(&self) -> bool
+        ensures awake { (newest : Held) (older : List Held) → IsTable (newest ∷ older) self.now → IsTrue result
+            → IsAwakeTable (newest ∷ older) self.now }
+        ensures asleep { (held : List Held) → IsTable held self.now → IsFalse result → IsAsleepTable held self.now }
+    {
+        !self.prints.is_empty()
+    }
+
+    /// The newest print. The table must be awake.
+    pub(crate) fn newest(&self) -> u64
+        requires { 0 < length self.now.prints.items }
+        ensures { (newest : Held) (older : List Held) → IsAwakeTable (newest ∷ older) self.now → result ≡ print_of newest.colouring }
+    {
+        self.prints[self.prints.len() - 1]
+    }
+
+    /// Works out the prints of all colourings, if the table sleeps. This takes no memory, since there is room for them.
+    pub(crate) fn wake(&mut self, colourings: &Colourings)
+        requires { IsTable (all_of colourings.now) self.old }
+        ensures { IsAwakeTable (all_of colourings.now) self.new }
+    {
+        if !self.prints.is_empty() {
+            return;
+        }
+        'each: for _ in 0..colourings.len() {
+            self.prints.push_reserved(0);
+        }
+        colourings.write_prints(&mut self.prints);
+    }
+
+    /// Makes room for one more colouring than these; `count` is how many there are.
+    #[inline(always)]
+    pub(crate) fn reserve(&mut self, count: usize) -> Result<(), MemoryFault>
+        requires { (held : List Held) × IsTable held self.old × (count ≡ length held) }
+        ensures asleep { (held : List Held) → IsAsleepTable held self.old → IsAsleepTable held self.new }
+        ensures awake { (held : List Held) → IsAwakeTable held self.old → IsAwakeTable held self.new }
+        ensures trie { nodes_of self.new.trie ≡ nodes_of self.old.trie }
+        ensures ok { (held : List Held) → count ≡ length held → OnOk result (HasRoomForNext held self.new) }
+    {
+        if count >= self.trie.room() {
+            self.trie.make_room()?;
+        }
+        if count >= self.prints.capacity() {
+            self.prints.reserve(count + 1 - self.prints.len())?;
+        }
+        Ok(())
+    }
+
+    /// Adds a colouring. `print` is its print, or None if the table sleeps. Puts it into the trie if its gap there is known. There must
+    /// be room for it.
+    #[inline(always)]
+    pub(crate) fn push(&mut self, print: Option<u64>, gap: Option<Gap>)
+        requires table { (held : List Held) × (next : Held) × IsPrintOfNext held self.old next print
+            × IfSome print (λ number. IfSome gap (IsGap held self.old.trie number)) × HasRoomForNext held self.old }
+        ensures { (held : List Held) (next : Held) → IsPrintOfNext held self.old next print
+            → IfSome print (λ number. IfSome gap (IsGap held self.old.trie number)) → HasRoomForNext held self.old
+            → IsTable (next ∷ held) self.new }
+    {
+        let Some(print) = print else {
+            return;
+        };
+        self.prints.push_reserved(print);
+        let Some(gap) = gap else {
+            return;
+        };
+        let bit = has_column(print, gap.place as usize);
+        self.trie.insert(gap.slot, gap.place, bit);
+    }
+
+    /// Takes back the newest colouring.
+    pub(crate) fn pop(&mut self)
+        requires { (newest : Held) × (older : List Held) × IsTable (newest ∷ older) self.old }
+        ensures { (newest : Held) (older : List Held) → IsTable (newest ∷ older) self.old → IsTable older self.new }
+    {
+        if self.prints.is_empty() {
+            return;
+        }
+        if self.trie.len() == self.prints.len() {
+            self.trie.take_back();
+        }
+        let _ = self.prints.pop();
+        self.filter.go_back(self.prints.len());
+    }
+
+    /// Replaces all colourings by one. The table sleeps then.
+    pub(crate) fn reset(&mut self)
+        requires { (held : List Held) × IsTable held self.old × (0 < length held) }
+        ensures { (first : Held) → IsTable (first ∷ []) self.new }
+    {
+        self.trie.clear();
+        self.prints.clear();
+        self.filter.go_back(0);
+    }
+
+    /// The newest colouring with this print, if it is one of the last `NEAR` and not before `start`.
+    pub(crate) fn near(&self, start: usize, print: u64) -> Option<usize>
+        ensures { IfSome result (λ number. (start ≤ number) × (number < length self.now.prints.items)) }
+    {
+        let len = self.prints.len();
+        'each: for number in (start.max(len.saturating_sub(NEAR))..len).rev() {
+            if self.prints[number] == print {
+                return Some(number);
+            }
+        }
+        None
+    }
+
+    /// Whether a colouring may have this print. This doesn't ask the trie.
+    pub(crate) fn may_have(&mut self, print: u64) -> bool
+        requires { (held : List Held) × IsAwakeTable held self.old }
+        ensures table { (held : List Held) → IsAwakeTable held self.old → IsAwakeTable held self.new }
+        ensures lacks { (held : List Held) (grid : Grid) → IsAwakeTable held self.old → IsFalse result → print ≡ print_of grid
+            → ¬ Contains (stretch_of held) grid }
+    {
+        self.filter.may_have(&self.prints, print)
+    }
+
+    /// Where a colouring with this print comes in, if none has this print; None otherwise. Puts all colourings into the trie first.
+    pub(crate) fn gap(&mut self, colourings: &Colourings, print: u64) -> Option<Gap>
+        requires { IsAwakeTable (all_of colourings.now) self.old }
+        ensures table { IsAwakeTable (all_of colourings.now) self.new }
+        ensures all { item_count self.new.trie ≡ length self.new.prints.items }
+        ensures gap { IfSome result (IsGap (all_of colourings.now) self.new.trie print) }
+    {
+        self.link(colourings);
+        let key = ColouringKey::new(0, print, 0, colourings.newest());
+        let from = self.trie.descend(&key, WORD);
+        let apart = print ^ self.prints[self.trie.kid(from) as usize];
+        if apart == 0 {
+            return None;
+        }
+        let place = apart.trailing_zeros();
+        Some(Gap {
+            slot: self.trie.opening(&key, from, place),
+            place,
+        })
+    }
+
+    /// Whether the present stretch has this colouring; `print` is its print. All that may have the print are compared one by one: this
+    /// is the plain way.
+    pub(crate) fn has(&self, colourings: &Colourings, board: &Board, print: u64) -> bool
+        requires table { IsTable (all_of colourings.now) self.now }
+        requires print { print ≡ print_of board.now }
+        ensures { IsTrue result ↔ Contains (present_stretch colourings.now) board.now }
+    {
+        let start = colourings.stretch_start();
+        'each: for number in (start..colourings.len()).rev() {
+            if self.may_be(number, print) && colourings.is_at(number, board) {
+                return true;
+            }
+        }
+        false
+    }
+
+    /// Whether the colouring with this number may have this print. While the table sleeps, each may.
+    fn may_be(&self, number: usize, print: u64) -> bool
+        ensures { (held : List Held) (grid : Grid) → IsTable held self.now → IsNumber held number grid → number < length held
+            → print ≡ print_of grid → IsTrue result }
+    {
+        number >= self.prints.len() || self.prints[number] == print
+    }
+
+    /// The same by the trie, which must have all colourings. A run asks this last, if nothing before decides positional superko. If no
+    /// colouring of the stretch has the print, no hash and no colouring is worked out.
+    pub(crate) fn find(&self, colourings: &Colourings, board: &Board, print: u64) -> bool
+        requires table { IsAwakeTable (all_of colourings.now) self.now }
+        requires all { item_count self.now.trie ≡ length self.now.prints.items }
+        requires side { HaveSide board.now.side colourings.now }
+        requires print { print ≡ print_of board.now }
+        ensures { IsTrue result ↔ Contains (present_stretch colourings.now) board.now }
+    {
+        let start = colourings.stretch_start();
+        let front = ColouringKey::new(start, print, 0, board);
+        let near = self.trie.nearest(&front, FRONT);
+        if near < start || self.prints[near] != print {
+            return false;
+        }
+        self.find_by_hash(colourings, board, print)
+    }
+
+    /// The same, by all bits of the key: first its hash is worked out.
+    fn find_by_hash(&self, colourings: &Colourings, board: &Board, print: u64) -> bool
+        requires table { IsAwakeTable (all_of colourings.now) self.now }
+        requires all { item_count self.now.trie ≡ length self.now.prints.items }
+        requires side { HaveSide board.now.side colourings.now }
+        requires print { print ≡ print_of board.now }
+        ensures { IsTrue result ↔ Contains (present_stretch colourings.now) board.now }
+    {
+        let start = colourings.stretch_start();
+        let key = ColouringKey::new(start, print, hash_of(board), board);
+        let near = self.trie.nearest(&key, WIDTH);
+        if near < start {
+            return false;
+        }
+        let past = colourings.board_at(near);
+        past.has_all_cells();
+        board.has_all_cells();
+        board.same(&past)
+    }
+
+    /// The front of the key of the colouring with this number, and for its rest a hash and the bits of a board.
+    fn key_of<'a>(
+        &self,
+        colourings: &Colourings,
+        number: usize,
+        hash: u64,
+        board: &'a Board,
+    ) -> ColouringKey<'a>
+        requires table { IsAwakeTable (all_of colourings.now) self.now }
+        requires number { number < length (all_of colourings.now) }
+        ensures front { Agree (bits_of result) (keys_of (all_of colourings.now) number) FRONT }
+        ensures whole { IsNumber (all_of colourings.now) number board.now → hash ≡ hash_of board.now
+            → bits_of result ≡ keys_of (all_of colourings.now) number }
+    {
+        ColouringKey::new(
+            colourings.start_at(number),
+            self.prints[number],
+            hash,
+            board,
+        )
+    }
+
+    /// Puts all colourings into the trie.
+    #[inline(never)]
+    pub(crate) fn link(&mut self, colourings: &Colourings)
+        requires { IsAwakeTable (all_of colourings.now) self.old }
+        ensures table { IsAwakeTable (all_of colourings.now) self.new }
+        ensures all { item_count self.new.trie ≡ length self.new.prints.items }
+    {
+        'each: while self.trie.len() < self.prints.len() {
+            self.link_next(colourings);
+        }
+    }
+
+    /// Puts the oldest colouring that isn't there yet into the trie.
+    fn link_next(&mut self, colourings: &Colourings)
+        requires unlinked { HasUnlinked (all_of colourings.now) self.old }
+        ensures { LinksNext (all_of colourings.now) self.old self.new }
+    {
+        let number = self.trie.len();
+        if number == 0 {
+            self.trie.plant();
+            return;
+        }
+        let key = self.key_of(colourings, number, 0, colourings.newest());
+        let near = self.trie.nearest(&key, FRONT);
+        let other = self.key_of(colourings, near, 0, colourings.newest());
+        match first_difference(&key, &other, FRONT / WORD) {
+            Some(place) => self.trie.part(&key, place),
+            None => self.link_by_board(colourings),
+        }
+    }
+
+    /// The same, by all bits of the keys: first their hashes are worked out.
+    fn link_by_board(&mut self, colourings: &Colourings)
+        requires unlinked { HasUnlinked (all_of colourings.now) self.old }
+        requires some { 0 < item_count self.old.trie }
+        ensures { LinksNext (all_of colourings.now) self.old self.new }
+    {
+        let next = self.trie.len();
+        let board = colourings.board_at(next);
+        let key = self.key_of(colourings, next, hash_of(&board), &board);
+        let near = self.trie.nearest(&key, WIDTH);
+        let past = colourings.board_at(near);
+        let other = self.key_of(colourings, near, hash_of(&past), &past);
+        match first_difference(&key, &other, WIDTH / WORD) {
+            Some(place) => self.trie.part(&key, place),
+            None => self.trie.repeat(),
+        }
+    }
+}
