@@ -27,7 +27,7 @@ back_none states depth le = by states.present states.earlier le
     by s (e ∷ es) le = rw (le-leb (length (e ∷ es)) depth le) refl
 
 -- one to take back
-back_one : (s e : State) (es : List State) (depth : ℕ) → depth < length (e ∷ es) → back_from s (e ∷ es) depth ≡ back_from e es depth
+pub back_one : (s e : State) (es : List State) (depth : ℕ) → depth < length (e ∷ es) → back_from s (e ∷ es) depth ≡ back_from e es depth
 back_one s e es depth lt = rw (lt-leb (length (e ∷ es)) depth lt) refl
 
 pub back_undone : (old new : States) (depth : ℕ) (s : State) → depth < length old.earlier → old ≡ followed_by new s → back_to old depth ≡ back_to new depth

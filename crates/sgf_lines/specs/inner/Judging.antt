@@ -1,5 +1,5 @@
 -- The judgement on a line after its first nodes.
-use Rattle.std.specs.Prelude.{◌≡◌, ◌<◌, ◌+◌, ℕ, Option, Some, None, List, [], ◌∷◌, fold, length, nat_le, if◌then◌else◌, unwrap_or, codes, option_copied, Result, Ok, Err}
+use Rattle.std.specs.Prelude.{◌≡◌, ◌<◌, ◌≤◌, ◌+◌, ℕ, Option, Some, None, List, [], ◌∷◌, fold, length, nat_le, if◌then◌else◌, unwrap_or, codes, option_copied, Result, Ok, Err}
 use Rattle.sgf_tree.specs.Tree.{Node}
 use Rattle.go_board.specs.declared.reason.Reason.{Reason}
 use Rattle.go_board.specs.declared.fault.TurnFault.{TurnFault}
@@ -35,6 +35,11 @@ back_to states depth = back_from states.present states.earlier depth
 abbrev pub IsScoreOf : State → Option (ℕ × ℕ) → Type 0
 IsScoreOf state None = Unit {0}
 IsScoreOf state (Some score) = (score.0 ≡ score_of state.colouring Black) × (score.1 ≡ score_of state.colouring White)
+
+-- the scores of Black and of White, if they are there, are those of the board after the first `depth` nodes
+abbrev pub IsScoreAt : States → ℕ → Option (ℕ × ℕ) → Type 0
+IsScoreAt states depth None = Unit {0}
+IsScoreAt states depth (Some score) = (depth ≤ length states.earlier) × IsScoreOf (back_to states depth).present (Some score)
 
 -- Either the game isn't judged, and the verdict is `told`. Or a referee has these states, one more
 -- than the nodes that were allowed; if a node wasn't allowed, `ended` is the verdict.

@@ -1,13 +1,15 @@
-//! A game that is judged: its referee, and the score of the present board once that was asked for. Many lines may end on one board, as
+//! A game that is judged: its referee, and the score of a board of its line once that was asked for. Many lines may end on one board, as
 //! lines that differ only in a pass or in an empty node do. Its score isn't worked out again.
 
-ghost use Rattle.std.specs.Prelude.{◌≡◌, ◌<◌, ◌∷◌, Some, length, IfOk, IfSome, OnOk, OnErr};
+ghost use Rattle.std.specs.Prelude.{◌≡◌, ◌<◌, ◌≤◌, ◌⊎◌, Some, length, IfOk, IfSome, OnOk, OnErr};
 ghost use Rattle.sgf_tree.specs.Tree.{Node};
-ghost use Rattle.go_board.specs.State.{States, HadSameBoard, begun};
+ghost use Rattle.go_board.specs.declared.stones.Colour.TheVariants.{Black, White};
+ghost use Rattle.go_board.specs.Score.{score_of};
+ghost use Rattle.go_board.specs.State.{States, HadSameBoardSince, begun};
 ghost use Rattle.sgf_lines.specs.Step.{step};
 ghost use Rattle.sgf_lines.specs.Verdict.{score_in};
 ghost use Rattle.sgf_lines.specs.inner.Gathered.{ComesAs};
-ghost use Rattle.sgf_lines.specs.inner.Judging.{IsStepped, IsStepOf, IsScoreOf, back_to};
+ghost use Rattle.sgf_lines.specs.inner.Judging.{IsStepped, IsStepOf, IsScoreAt, back_to};
 
 use crate::judging::quick::take_step;
 use crate::judging::step::TakenStep;
@@ -23,8 +25,10 @@ use std::marker::Model;
 pub(crate) struct Game {
     referee: Referee<PrintPast>,
 
-    /// The area scores of Black and of White on the present board; None if they aren't known.
+    /// The area scores of Black and of White on the board after the first `scored` nodes; None if they aren't known. A node that is taken
+    /// need not look at them: only a verdict asks whether the board is still the same.
     score: Option<(u32, u32)>,
+    scored: usize,
 }
 
 impl Model for Game {
@@ -32,7 +36,7 @@ impl Model for Game {
 
     ghost view = { λ g. g.referee };
 
-    ghost invariant = { λ g. IsScoreOf g.referee.present g.score };
+    ghost invariant = { λ g. IsScoreAt g.referee g.scored g.score };
 }
 
 impl Game {
@@ -47,6 +51,7 @@ impl Game {
         Ok(Game {
             referee,
             score: None,
+            scored: 0,
         })
     }
 
@@ -76,16 +81,7 @@ impl Game {
             → IfOk result (IsStepOf self.old.present.colouring.side node) }
         ensures left { nodes.new.nodes ≡ nodes.old.nodes }
     {
-        match take_step(&mut self.referee, next, nodes, operations) {
-            Ok(step) => {
-                // usually no score is known, since it is asked for only at the end of a line
-                if self.score.is_some() {
-                    self.score = score_after(self.score, &self.referee);
-                }
-                Ok(step)
-            }
-            Err(fault) => Err(fault),
-        }
+        take_step(&mut self.referee, next, nodes, operations)
     }
 
     /// Goes back to the first `count` nodes, if there are more.
@@ -93,23 +89,11 @@ impl Game {
     pub(crate) fn go_back(&mut self, count: usize)
         ensures { self.new ≡ back_to self.old count }
     {
-        // usually the first node that is gone back over changed the board, and no score is kept for the others
-        'scored: while self.score.is_some() && count < self.referee.depth() {
-            self.undo();
-        }
         if count < self.referee.depth() {
-            self.score = None;
+            self.score = score_back(self.score, self.scored, &self.referee, count);
+            self.scored = self.scored.min(count);
             undo_to(&mut self.referee, count);
         }
-    }
-
-    /// Goes back over one node.
-    fn undo(&mut self)
-        requires { 0 < length self.old.earlier }
-        ensures { self.old.earlier ≡ self.new.present ∷ self.new.earlier }
-    {
-        self.score = score_if_left(self.score, &self.referee);
-        self.referee.undo();
     }
 
     /// The area scores of the present board, and whether the game is over. The scores are kept for the next call.
@@ -117,11 +101,9 @@ impl Game {
         ensures told { result ≡ score_in self.old.present }
         ensures unchanged { self.new ≡ self.old }
     {
-        let (black, white) = match self.score {
-            Some(score) => score,
-            None => self.referee.score(),
-        };
+        let (black, white) = present_score(self.score, self.scored, &self.referee);
         self.score = Some((black, white));
+        self.scored = self.referee.depth();
         Verdict::Score {
             black,
             white,
@@ -152,27 +134,46 @@ impl Game {
     }
 }
 
-/// A score of the present board or of the board before the newest call, if that call left the board as it was. Else None.
+/// The score of the present board. `score` is that of the board after the first `scored` nodes, if it is known.
 #[inline(always)]
-fn score_if_left(score: Option<(u32, u32)>, referee: &Referee<PrintPast>) -> Option<(u32, u32)>
-    requires { 0 < length referee.now.earlier }
-    ensures { IfSome result (λ kept. (score ≡ Some kept) × HadSameBoard referee.now) }
+fn present_score(
+    score: Option<(u32, u32)>,
+    scored: usize,
+    referee: &Referee<PrintPast>,
+) -> (u32, u32)
+    requires { IsScoreAt referee.now scored score }
+    ensures black { result.0 ≡ score_of referee.now.present.colouring Black }
+    ensures white { result.1 ≡ score_of referee.now.present.colouring White }
 {
-    if score.is_some() && referee.newest_left_board() {
+    if let Some(known) = score {
+        if referee.left_board_since(scored) {
+            return known;
+        }
+    }
+    referee.score()
+}
+
+/// The score of the board after the first `scored` nodes, if it is known and the board is the same after the first `count`, or if that many
+/// nodes leave it alone. Else None.
+#[inline(always)]
+fn score_back(
+    score: Option<(u32, u32)>,
+    scored: usize,
+    referee: &Referee<PrintPast>,
+    count: usize,
+) -> Option<(u32, u32)>
+    requires { count < length referee.now.earlier }
+    ensures { IfSome result (λ kept. (score ≡ Some kept) × ((scored ≤ count) ⊎ HadSameBoardSince referee.now count)) }
+{
+    // usually the newest node changed the board
+    if score.is_none() || scored <= count {
+        return score;
+    }
+    if referee.newest_left_board() && referee.left_board_since(count) {
         score
     } else {
         None
     }
-}
-
-/// The same as `score_if_left`, apart from the code that runs for each node.
-#[cold]
-#[inline(never)]
-fn score_after(score: Option<(u32, u32)>, referee: &Referee<PrintPast>) -> Option<(u32, u32)>
-    requires { 0 < length referee.now.earlier }
-    ensures { IfSome result (λ kept. (score ≡ Some kept) × HadSameBoard referee.now) }
-{
-    score_if_left(score, referee)
 }
 
 /// Takes back states until at most `depth` are left before the present one.
