@@ -1,6 +1,6 @@
 -- While no node changes the board, its score stays.
 use Rattle.std.proofs.Common.{◌≡◌, ◌⊎◌, ℕ, ◌+◌, ◌<◌, ◌≤◌, min, inl, inr, List, [], ◌∷◌, ◌++◌, length, refl, sym, ap, ◌∙◌, subst, Option, Some, None, Err, arith}
-use Rattle.std.proofs.lemmas.Bool.{cases_lt, le-leb}
+use Rattle.std.proofs.lemmas.Bool.{cases_lt}
 use Rattle.std.specs.Prelude.{Result, Ok, IfSome}
 use Rattle.sgf_tree.specs.Tree.{Node}
 use Rattle.go_board.specs.declared.reason.Reason.{Reason}
@@ -9,7 +9,7 @@ use Rattle.go_board.specs.declared.fault.TurnFault.TheVariants.{Illegal, Memory}
 use Rattle.go_board.specs.declared.stones.Colour.TheVariants.{Black, White}
 use Rattle.go_board.specs.Grid.{Grid}
 use Rattle.go_board.specs.Score.{score_of}
-use Rattle.go_board.specs.State.{State, States, HadSameBoardSince, followed_by}
+use Rattle.go_board.specs.State.{State, States, HadSameBoardSince}
 use Rattle.sgf_lines.specs.Step.{step}
 use Rattle.sgf_lines.specs.inner.Judging.{IsScoreAt, IsScoreOf, IsStepped, back_from, back_to}
 use Rattle.sgf_lines.proofs.Judgements.{back_none, back_one, back_undone}
