@@ -1,18 +1,17 @@
 -- How many nodes are judged of a front of a line, and of the whole.
 use Rattle.std.proofs.Common.{◌≡◌, ℕ, ◌+◌, ◌-◌, ◌≤◌, List, [], ◌∷◌, refl, length, min, take, drop, ◌++◌, slice_get, Option, Some, Result, Ok, Err, OnOk, sym, ap, subst, ◌∙◌, arith, rules}
 use Rattle.std.proofs.lemmas.Grind.{common_steps}
-use Rattle.std.specs.Prelude.{IfSome}
 use Rattle.std.specs.Result.{IsErr}
 use Rattle.std.proofs.lemmas.List.{take_all, take-append-drop, length-take}
 use Rattle.sgf_tree.specs.Tree.{Node}
-use Rattle.sgf_lines.specs.JudgedGames.{game_kind, root_properties}
+use Rattle.sgf_lines.specs.JudgedGames.{GameKind, game_kind, root_properties}
+use Rattle.sgf_lines.specs.Walk.{TakenNode, taken_on}
 use Rattle.sgf_lines.specs.Verdict.{judged_on}
 use Rattle.sgf_lines.specs.inner.Judging.{Judging, IsSettled, begun_game, judging, after, next_plays}
-use Rattle.sgf_lines.specs.inner.Keeping.{HoldsJudgement, judging_front, script_front, fresh_plays, PlaysUpTo}
-use Rattle.sgf_lines.specs.inner.Scripting.{ScriptState, script_of}
+use Rattle.sgf_lines.specs.inner.Keeping.{HoldsJudgement, HoldsTaken, judging_front, taken_front, fresh_plays, PlaysUpTo}
 use Rattle.tree_lines.proofs.Lists.{front_more}
 use Rattle.sgf_lines.proofs.Walking.{judged_of_front}
-use Rattle.sgf_lines.proofs.Scripts.{script_settled}
+use Rattle.sgf_lines.proofs.TakenNodes.{taken_settled}
 use Rattle.sgf_lines.proofs.Judgements.{judging_more, plays_more, settled_all, one_at_most}
 
 -- how many nodes of a line are judged
@@ -66,11 +65,11 @@ pub on_any : {A E : Type 0} {P : Type 0} (r : Result A E) → P → OnOk r P
 on_any (Ok x) p = p
 on_any (Err e) p = tt
 
--- no node more is judged than the first `i`, and the judgement and the script stay
+-- no node more is judged than the first `i`, and the judgement and the taken nodes stay
 module _ (nodes : List Node) (held old i : ℕ) (judge : Judging) (h : JudgesTo nodes held old i judge) where
   pub record IsWhole : Type 0 where
     pub judged : judging_front nodes (length nodes) ≡ judging_front nodes i
-    pub said : script_front nodes (length nodes) ≡ script_front nodes i
+    pub taken : taken_on (game_kind (root_properties nodes)) nodes ≡ taken_front nodes i
     pub count : judged_count nodes ≡ min i (judged_count nodes)
 
   -- all nodes
@@ -87,18 +86,18 @@ module _ (nodes : List Node) (held old i : ℕ) (judge : Judging) (h : JudgesTo 
       let all = take_all (length nodes) nodes (omega arith) ∙ parts in
       record {
         judged = ap (judging kind) all ∙ on.0;
-        said = ap (script_of kind) all ∙ script_settled kind (take i nodes) (drop i nodes) stays;
+        taken = ap (taken_on kind) parts ∙ taken_settled kind (take i nodes) (drop i nodes) stays;
         count = ap (λ ns. length (judged_on kind ns)) parts ∙ on.1 ∙ front_count nodes i;
       }
 
-  pub finish : IsWhole → (told : Option ScriptState) → IfSome told (λ t. t ≡ script_front nodes i) → {A E : Type 0} (r : Result A E)
+  pub finish : IsWhole → (tells : GameKind → List TakenNode → Type 0) → tells (game_kind (root_properties nodes)) (taken_front nodes i) → {A E : Type 0} (r : Result A E)
       → record {
         judged : OnOk r (HoldsJudgement nodes judge.judgement);
-        told : OnOk r (IfSome told (λ t. t ≡ script_front nodes (length nodes)));
+        told : OnOk r (HoldsTaken tells nodes);
         plays : PlaysUpTo old judge.plays (fresh_plays nodes held) r;
       }
-  finish whole told is r = record {
+  finish whole tells is r = record {
     judged = on_any r (h.judged ∙ sym whole.judged);
-    told = on_any r (rw whole.said is);
+    told = on_any r (subst (tells (game_kind (root_properties nodes))) (sym whole.taken) is);
     plays = record { not_fewer = omega (arith, h.plays); not_more = omega (arith, h.plays, whole.count); each = on_any r (omega (arith, h.plays, whole.count)) };
   }

@@ -13,7 +13,7 @@ use Rattle.sgf_lines.specs.declared.verdict.Verdict.{Verdict}
 use Rattle.sgf_lines.specs.declared.verdict.Verdict.TheVariants.{Illegal, NotGo, BadSize}
 use Rattle.sgf_lines.specs.JudgedGames.{GameKind, not_go, bad_size, board}
 use Rattle.sgf_lines.specs.Step.{step}
-use Rattle.sgf_lines.specs.Walk.{TakenNode, IllegalNode, Walk, before_root, next_by, next, walk, judged_by}
+use Rattle.sgf_lines.specs.Walk.{TakenNode, IllegalNode, Walk, before_root, next_by, next, walk, taken_on, judged_by}
 use Rattle.sgf_lines.specs.Verdict.{verdict_at, verdict_by, judged_on}
 use Rattle.sgf_lines.proofs.Walking.{StandsAfter, scores_there, next_is, one_judged}
 use Rattle.sgf_lines.specs.Walk as along
@@ -143,13 +143,21 @@ walk_step side nodes node = fold-append next (before_root side) nodes (node ∷ 
 taken_next : (j : Judgement) (walked : Walk) (node : Node) → IsOfWalk j walked → (next walked node).taken ≡ walked.taken ++ taken_by (state_after j node) node
 taken_next j walked node known = first_of (search rules, grind (arith, common_steps, append-nil, next_is, next_none))
 
-pub taken_more : (side : ℕ) (nodes : List Node) (node : Node) → (walk side (nodes ++ node ∷ [])).taken ≡ (walk side nodes).taken ++ taken_by (state_after (judging (board side) nodes) node) node
-taken_more side nodes node = first_of (search rules, grind (arith, common_steps, of_walk, taken_next, walk_step))
+walk_takes : (side : ℕ) (nodes : List Node) (node : Node) → (walk side (nodes ++ node ∷ [])).taken ≡ (walk side nodes).taken ++ taken_by (state_after (judging (board side) nodes) node) node
+walk_takes side nodes node = first_of (search rules, grind (arith, common_steps, of_walk, taken_next, walk_step))
+
+pub taken_more : (kind : GameKind) (nodes : List Node) (node : Node) → taken_on kind (nodes ++ node ∷ []) ≡ taken_on kind nodes ++ taken_by (state_after (judging kind nodes) node) node
+taken_more not_go nodes node = rw (unjudged_stays NotGo nodes) refl
+taken_more bad_size nodes node = rw (unjudged_stays BadSize nodes) refl
+taken_more (board side) nodes node = walk_takes side nodes node
+
+take_none : (count : ℕ) → (let none : List TakenNode = [] in take count none ≡ [])
+take_none count = first_of (search rules, grind (arith, common_steps))
 
 -- those of a longer walk begin with them
-taken_on : (count : ℕ) (walked : Walk) (nodes : List Node) → (walked.illegal ≡ None → count ≤ length walked.taken) → take count (fold next walked nodes).taken ≡ take count walked.taken
-taken_on count walked [] h = refl
-taken_on count walked (n ∷ ns) h = (let one = by walked.illegal refl in taken_on count (next walked n) ns one.0 ∙ one.1)
+taken_further : (count : ℕ) (walked : Walk) (nodes : List Node) → (walked.illegal ≡ None → count ≤ length walked.taken) → take count (fold next walked nodes).taken ≡ take count walked.taken
+taken_further count walked [] h = refl
+taken_further count walked (n ∷ ns) h = (let one = by walked.illegal refl in taken_further count (next walked n) ns one.0 ∙ one.1)
   where
     by_step : (r : Result State Reason) → count ≤ length walked.taken → let w = along.stepped walked n r in (w.illegal ≡ None → count ≤ length w.taken) × (take count w.taken ≡ take count walked.taken)
     by_step (Ok s) le =
@@ -164,13 +172,18 @@ taken_on count walked (n ∷ ns) h = (let one = by walked.illegal refl in taken_
 taken_count : (count : ℕ) (j : Judgement) (walked : Walk) → Came count j → IsOfWalk j walked → (length walked.taken ≤ count) × (walked.illegal ≡ None → count ≤ length walked.taken)
 taken_count count j walked known known2 = first_of (search rules, grind (arith, common_steps))
 
-pub taken_cut : (side : ℕ) (nodes : List Node) (count : ℕ) → count ≤ length nodes → (walk side (take count nodes)).taken ≡ take count (walk side nodes).taken
-taken_cut side nodes count le =
+walk_cut : (side : ℕ) (nodes : List Node) (count : ℕ) → count ≤ length nodes → (walk side (take count nodes)).taken ≡ take count (walk side nodes).taken
+walk_cut side nodes count le =
     let front = walk side (take count nodes) in
     let counted = taken_count count (judging (board side) (take count nodes)) front (came_front (board side) nodes count le) (of_walk side (take count nodes)) in
     sym (
     ap (λ ns. take count (walk side ns).taken) (sym (take-append-drop count nodes)) ∙ ap (λ (w : Walk). take count w.taken) (fold-append next (before_root side) (take count nodes) (drop count nodes))
-    ∙ taken_on count front (drop count nodes) counted.1 ∙ take_all count front.taken counted.0)
+    ∙ taken_further count front (drop count nodes) counted.1 ∙ take_all count front.taken counted.0)
+
+pub taken_cut : (kind : GameKind) (nodes : List Node) (count : ℕ) → count ≤ length nodes → taken_on kind (take count nodes) ≡ take count (taken_on kind nodes)
+taken_cut not_go nodes count le = sym (take_none count)
+taken_cut bad_size nodes count le = sym (take_none count)
+taken_cut (board side) nodes count le = walk_cut side nodes count le
 
 -- a node was taken only if the line had not ended, by a step that is taken
 pub taken_only : (j : Judgement) (node : Node) (s : State) → state_after j node ≡ Some s → (states : States) × (j ≡ judged states None) × (step states.present node ≡ Ok s)

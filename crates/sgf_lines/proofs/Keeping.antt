@@ -1,5 +1,5 @@
 -- What is held of a line is kept of the next one, as far as it begins alike.
-use Rattle.std.proofs.Common.{◌≡◌, ℕ, suc, ◌+◌, ◌-◌, ◌<◌, ◌≤◌, List, [], ◌∷◌, length, take, map, slice_get, Option, Some, refl, sym, ap, ◌∙◌, arith, add-one, length-append, rules}
+use Rattle.std.proofs.Common.{◌≡◌, ℕ, suc, ◌+◌, ◌-◌, ◌<◌, ◌≤◌, List, [], ◌∷◌, length, take, map, slice_get, Option, Some, refl, sym, ap, subst, ◌∙◌, arith, add-one, length-append, rules}
 use Rattle.std.proofs.lemmas.Grind.{common_steps}
 use Rattle.std.proofs.lemmas.List.{take-map, take_all, length-take-le}
 use Rattle.std.proofs.lemmas.List.FromFn.{length-range_with_len}
@@ -7,23 +7,22 @@ use Rattle.sgf_tree.specs.Tree.{Node}
 use Rattle.sgf_tree.specs.FileOrder.{node_at}
 use Rattle.sgf_lines.specs.Lines.{lines}
 use Rattle.sgf_lines.specs.Cursor.{CursorState, advanced}
-use Rattle.sgf_lines.specs.JudgedGames.{game_kind, root_properties}
+use Rattle.sgf_lines.specs.JudgedGames.{GameKind, game_kind, root_properties}
+use Rattle.sgf_lines.specs.Walk.{TakenNode, taken_on}
 use Rattle.tree_lines.specs.declared.sequence_cursor.Front.{Front}
 use Rattle.sgf_lines.specs.inner.Judging.{Judgement, back}
 use Rattle.sgf_lines.specs.inner.Pieces.{PiecesState, cut}
 use Rattle.sgf_lines.specs.inner.Recording.{open_record, whole_record}
-use Rattle.sgf_lines.specs.inner.Scripting.{ScriptState, script_back, script_ended}
 use Rattle.tree_lines.specs.Following.{Continues, line_in, line_before, nodes_before, path_before}
-use Rattle.sgf_lines.specs.inner.Keeping.{judging_front, script_front, KeepsJudgement, HoldsJudgement}
+use Rattle.sgf_lines.specs.inner.Keeping.{judging_front, taken_front, KeepsJudgement, HoldsJudgement, KeepsTaken, HoldsTaken}
 use Rattle.tree_lines.specs.Sequences.{SequencesState, RiseTo, SharesFront}
 use Rattle.sgf_lines.specs.inner.Fronts.{sequences_before, HasFront}
 use Rattle.sgf_lines.specs.inner.GoingOn.{IsHeldOf}
 use Rattle.sgf_lines.proofs.Along.{same_root}
 use Rattle.tree_lines.proofs.Fronts.{end_of, alike, front_kept}
-use Rattle.sgf_lines.proofs.Judgements.{judging_back}
+use Rattle.sgf_lines.proofs.Judgements.{judging_back, taken_cut}
 use Rattle.tree_lines.proofs.LineNodes.{named_in, as_long}
 use Rattle.sgf_lines.proofs.Recordings.{record_back}
-use Rattle.sgf_lines.proofs.Scripts.{script_cut}
 
 some_inj : (xs ys : List Node) → map Some xs ≡ map Some ys → xs ≡ ys
 some_inj [] [] e = refl
@@ -50,8 +49,14 @@ module _ (old nodes : List Node) (count : ℕ) (some : 0 < count) (within : coun
   judged_same : (judgement : Judgement) → HoldsJudgement old judgement → back count judgement ≡ judging_front nodes count
   judged_same judgement h = first_of (search rules, grind (arith, common_steps, judging_back, kinds, whole))
 
-  said_same : (script : ScriptState) → script ≡ script_ended (script_front old (length old)) → script_back count script ≡ script_front nodes count
-  said_same script h = first_of (search rules, grind (arith, common_steps, kinds, script_cut, whole))
+  taken_same : (keeps : GameKind → List TakenNode → Type 0) → HoldsTaken keeps old → (taken : List TakenNode) × keeps (game_kind (root_properties nodes)) taken × (take count taken ≡ taken_front nodes count)
+  taken_same keeps h =
+      let kind = game_kind (root_properties old) in
+      let taken = taken_on kind old in (
+        taken,
+        subst (λ k. keeps k taken) kinds h,
+        sym (taken_cut kind old count within) ∙ ap (taken_on kind) same ∙ ap (λ k. taken_on k (take count nodes)) kinds,
+      )
 
 -- the cursor went on by a line
 named : (at : CursorState) → map Some (nodes_before at) ≡ map (node_at at.games) (path_before at)
@@ -100,12 +105,11 @@ module _ (holds : SequencesState → Type 0) (cursor : SequencesState) (front : 
       judged_same (nodes_before old.at) (nodes_before cursor.at) front.nodes some (within_old old.at cursor.at front.nodes moved shares.nodes)
       (same_nodes old.at cursor.at front.nodes moved shares.nodes) j (of old h))
 
-  pub script_kept : (script : ScriptState) → ((old : SequencesState) → holds old → script ≡ script_ended (script_front (nodes_before old.at) (length (nodes_before old.at))))
-      → 0 < front.nodes → script_back front.nodes script ≡ script_front (nodes_before cursor.at) front.nodes
-  script_kept script of some =
-      by_old (script_back front.nodes script ≡ script_front (nodes_before cursor.at) front.nodes) (some_front some) (λ old h moved shares.
-      said_same (nodes_before old.at) (nodes_before cursor.at) front.nodes some (within_old old.at cursor.at front.nodes moved shares.nodes)
-      (same_nodes old.at cursor.at front.nodes moved shares.nodes) script (of old h))
+  pub taken_kept : (keeps : GameKind → List TakenNode → Type 0) → ((old : SequencesState) → holds old → HoldsTaken keeps (nodes_before old.at)) → KeepsTaken keeps (nodes_before cursor.at) front.nodes
+  taken_kept keeps of some =
+      let nodes = nodes_before cursor.at in
+      by_old ((taken : List TakenNode) × keeps (game_kind (root_properties nodes)) taken × (take front.nodes taken ≡ taken_front nodes front.nodes)) (some_front some) (λ old h moved shares.
+      taken_same (nodes_before old.at) nodes front.nodes some (within_old old.at cursor.at front.nodes moved shares.nodes) (same_nodes old.at cursor.at front.nodes moved shares.nodes) keeps (of old h))
 
   pub record_kept : (game : PiecesState) → ((old : SequencesState) → holds old → game ≡ whole_record (sequences_before old)) → RiseTo 0 cursor.ends (length (nodes_before cursor.at))
       → 0 < front.sequences → cut (front.sequences + 1) game ≡ open_record (take front.sequences (sequences_before cursor))

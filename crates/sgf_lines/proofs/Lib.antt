@@ -12,6 +12,7 @@ pub mod Judgements
 pub mod PieceTexts
 pub mod NodesToCome
 pub mod Recordings
+pub mod TakenNodes
 pub mod Scripts
 pub mod Along
 pub mod Again

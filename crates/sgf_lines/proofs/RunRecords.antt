@@ -12,6 +12,7 @@ use Rattle.sgf_lines.specs.Script.{comment_row, commands_by}
 use Rattle.sgf_lines.specs.Verdict.{verdict_of, verdict, IsVerdictAt, IsVerdictOf}
 use Rattle.sgf_lines.specs.Cursor.{CursorState, IsAfterPlace}
 use Rattle.sgf_lines.specs.JudgedGames.{game_kind, root_properties}
+use Rattle.sgf_lines.specs.Walk.{taken_on}
 use Rattle.sgf_lines.specs.declared.verdict.Verdict.{Verdict}
 use Rattle.sgf_lines.specs.declared.options.Form.{Form}
 use Rattle.sgf_lines.specs.declared.options.Form.TheVariants.{List as list_form, Sgf as sgf_form, Gtp as gtp_form}
@@ -22,7 +23,7 @@ use Rattle.sgf_lines.specs.inner.Pieces.{PiecesState}
 use Rattle.sgf_lines.specs.inner.Recording.{whole_record}
 use Rattle.sgf_lines.specs.inner.Scripting.{ScriptState, script_of, script_ended, script_text}
 use Rattle.tree_lines.specs.Sequences.{RiseTo, SequencesState, sequences_of}
-use Rattle.sgf_lines.specs.inner.Keeping.{HoldsJudgement, IsRecord, judging_front, script_front}
+use Rattle.sgf_lines.specs.inner.Keeping.{HoldsJudgement, HoldsTaken, IsRecord, judging_front}
 use Rattle.sgf_lines.proofs.Judgements.{judging_verdict}
 use Rattle.sgf_lines.proofs.Recordings.{record_text}
 use Rattle.sgf_lines.proofs.Scripts.{script_put}
@@ -52,13 +53,11 @@ module _ (at : CursorState) (own : Line) (before : line_before at ≡ Some own) 
     made_row row is = rw before (ap Some (is ∙ ap (λ t. t ++ codes "\n") row_is))
 
     -- in gtp form: its row as a comment, its commands, and an empty line
-    pub made_script : (row : List ℕ) (script : ScriptState) → script ≡ script_ended (script_front (nodes_before at) (length (nodes_before at)))
-        → row ≡ comment_row (row_of own v) → Some (row ++ script_text script) ≡ option_map (record_of gtp_form) (line_before at)
+    pub made_script : (row : List ℕ) (script : ScriptState) → HoldsTaken (λ kind taken. script ≡ script_ended (script_of kind taken)) (nodes_before at) → row ≡ comment_row (row_of own v) → Some (row ++ script_text script) ≡ option_map (record_of gtp_form) (line_before at)
     made_script row script said is =
-        let nodes = nodes_before at in
         let kind = game_kind (root_properties own.nodes) in
-        let ended : script ≡ script_ended (script_of kind own.nodes) =
-        said ∙ ap (λ ns. script_ended (script_of (game_kind (root_properties nodes)) ns)) (take_all (length nodes) nodes (omega arith)) ∙ ap (λ ns. script_ended (script_of (game_kind (root_properties ns)) ns)) nodes_are in
+        let ended : script ≡ script_ended (script_of kind (taken_on kind own.nodes)) =
+        said ∙ ap (λ (ns : List Node). script_ended (script_of (game_kind (root_properties ns)) (taken_on (game_kind (root_properties ns)) ns))) nodes_are in
         let first : row ≡ comment_row (list_row own) = is ∙ ap comment_row row_is in
         rw before (ap Some (ap (λ t. t ++ script_text script) first ∙ ap (λ s. comment_row (list_row own) ++ script_text s) ended
         ∙ ap (λ t. comment_row (list_row own) ++ t) (script_put kind own.nodes) ∙ sym (append_assoc (comment_row (list_row own)) (commands_by kind own.nodes) (codes "\n"))))

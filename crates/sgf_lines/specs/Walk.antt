@@ -3,6 +3,7 @@ use Rattle.std.specs.Prelude.{◌≡◌, ℕ, Option, Some, None, option_to_list
 use Rattle.sgf_tree.specs.Tree.{Node}
 use Rattle.go_board.specs.declared.reason.Reason.{Reason}
 use Rattle.go_board.specs.State.{State, starting}
+use Rattle.sgf_lines.specs.JudgedGames.{GameKind, not_go, bad_size, board}
 use Rattle.sgf_lines.specs.Step.{step}
 
 -- a node whose step was taken, and the state after it
@@ -42,6 +43,12 @@ next walked node = next_by walked walked.illegal node
 -- the walk along these nodes, from the state in which a game on a board of that side begins
 abbrev pub walk : ℕ → List Node → Walk
 walk side nodes = fold next (before_root side) nodes
+
+-- the nodes of a game of this kind whose steps were taken; none if the game isn't judged
+abbrev pub taken_on : GameKind → List Node → List TakenNode
+taken_on not_go nodes = []
+taken_on bad_size nodes = []
+taken_on (board side) nodes = (walk side nodes).taken
 
 -- the nodes that were judged: those whose steps were taken, and the illegal one
 abbrev pub judged_by : Walk → List Node

@@ -155,6 +155,12 @@ pub record IsStepOf (side : ℕ) (node : Node) (taken : TakenStep) : Type 0 wher
   pub effect_is : IsEffect side node taken.effect
   pub comment_is : option_copied taken.comment ≡ first_value (codes "C") node.properties
 
+-- a step is that of this taken node, in a game of this kind; `grid` is the board after it
+pub record IsStepTaken (kind : GameKind) (grid : Grid) (step : TakenStep) (taken : TakenNode) : Type 0 where
+  pub kind_is : kind ≡ board grid.side
+  pub board_is : grid ≡ taken.after.colouring
+  pub step_is : IsStepOf grid.side taken.node step
+
 -- the side of the board; 0 if the game isn't judged
 abbrev pub side_in : Judgement → ℕ
 side_in (unjudged told) = 0

@@ -1,19 +1,17 @@
 -- The commands of a line, in pieces: first those that begin a game on its board, then those of each node whose step was taken.
 use Rattle.std.specs.Prelude.{ℕ, suc, ◌+◌, ◌==◌, min, Bool, false, nat_lt, if◌then◌else◌, Option, Some, None, List, [], ◌∷◌, ◌++◌, length, map, codes, option_copied}
 use Rattle.std.specs.List.{concat, position_or_len}
-use Rattle.sgf_tree.specs.Tree.{Node}
 use Rattle.board_points.specs.declared.vertices.TheConstants.{MAX_VERTEX_SIDE}
 use Rattle.go_board.specs.Clearing.{has_unreaching}
 use Rattle.go_board.specs.Grid.{Grid}
-use Rattle.go_board.specs.State.{State, IsPlayOn}
+use Rattle.go_board.specs.State.{IsPlayOn}
 use Rattle.sgf_lines.specs.JudgedGames.{GameKind, not_go, bad_size, board}
-use Rattle.sgf_lines.specs.Walk.{TakenNode, walk}
+use Rattle.sgf_lines.specs.Walk.{TakenNode}
 use Rattle.sgf_lines.specs.Script.{text_rows, comment_text, colouring_commands, play_command, taken_script, leaves_unreaching, board_commands}
 use Rattle.sgf_lines.specs.declared.judging.step.Effect.{Effect}
 use Rattle.sgf_lines.specs.declared.judging.step.Effect.TheVariants.{Nothing, Stones as stones_set, Play as one_play}
 use Rattle.sgf_lines.specs.declared.judging.step.TakenStep.{TakenStep}
 use Rattle.sgf_lines.specs.inner.Pieces.{PiecesState, no_pieces, pushed, closed, cut}
-use Rattle.sgf_lines.specs.inner.Judging.{Judgement, state_after}
 
 -- the commands that an effect adds; `grid` is the board after it
 abbrev pub effect_script : Grid → Effect → List ℕ
@@ -53,11 +51,6 @@ script_begun side =
     if nat_lt MAX_VERTEX_SIDE side then no_script
     else record { text = record { pieces = board_commands side ∷ []; begun = [] }; said = 1 }
 
--- the script before the commands of the root, for a line on this board; the line may be unjudged
-abbrev pub script_on : Option Grid → ScriptState
-script_on None = no_script
-script_on (Some grid) = script_begun grid.side
-
 -- the script with one more piece; a script without commands stays without
 abbrev pub said_on : ScriptState → Bool → List ℕ → ScriptState
 said_on old unreaching more =
@@ -67,10 +60,6 @@ said_on old unreaching more =
 -- the script cut back to the first `count` taken nodes
 abbrev pub script_back : ℕ → ScriptState → ScriptState
 script_back count old = record { text = cut (count + 1) old.text; said = min (count + 1) old.said }
-
--- the script before the next of a line's nodes, of which the first `held` are said already; if `held` is 0, the line may have another board
-abbrev pub script_resumed : ℕ → Option Grid → ScriptState → ScriptState
-script_resumed held grid old = if held == 0 then script_on grid else script_back held old
 
 -- the script with the empty row that ends it
 abbrev pub script_ended : ScriptState → ScriptState
@@ -85,18 +74,8 @@ script_along side taken =
     if nat_lt MAX_VERTEX_SIDE side then no_script
     else record { text = record { pieces = board_commands side ∷ map taken_script taken; begun = [] }; said = suc (position_or_len leaves_unreaching taken) }
 
--- the script of these nodes, in a game of this kind
-abbrev pub script_of : GameKind → List Node → ScriptState
-script_of not_go nodes = no_script
-script_of bad_size nodes = no_script
-script_of (board side) nodes = script_along side (walk side nodes).taken
-
--- the script after one more node, by the state after the node or by the judgement before it
-abbrev pub said_by : ScriptState → Option State → Node → ScriptState
-said_by old None node = old
-said_by old (Some state) node =
-    let taken : TakenNode = record { node = node; after = state } in
-    said_on old (leaves_unreaching taken) (taken_script taken)
-
-abbrev pub said_after : ScriptState → Judgement → Node → ScriptState
-said_after old judgement node = said_by old (state_after judgement node) node
+-- the script of a game of this kind, after these nodes were taken
+abbrev pub script_of : GameKind → List TakenNode → ScriptState
+script_of not_go taken = no_script
+script_of bad_size taken = no_script
+script_of (board side) taken = script_along side taken

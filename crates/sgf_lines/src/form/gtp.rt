@@ -1,10 +1,10 @@
 //! The gtp form: a line's record is its row as a comment, and its script.
 
-ghost use Rattle.std.specs.Prelude.{◌≡◌, ◌++◌, length, refl};
+ghost use Rattle.std.specs.Prelude.{◌≡◌, ◌++◌, refl};
 ghost use Rattle.sgf_lines.specs.declared.options.Form.TheVariants.{Gtp as gtp_form};
 ghost use Rattle.tree_lines.specs.Following.{nodes_before};
-ghost use Rattle.sgf_lines.specs.inner.Keeping.{HoldsJudgement, IsRecord, script_front};
-ghost use Rattle.sgf_lines.specs.inner.Scripting.{script_ended, script_text};
+ghost use Rattle.sgf_lines.specs.inner.Keeping.{HoldsJudgement, HoldsTaken, IsRecord};
+ghost use Rattle.sgf_lines.specs.inner.Scripting.{script_ended, script_of, script_text};
 ghost use Rattle.sgf_lines.specs.inner.Views.{built_text};
 
 use crate::form::LineForm;
@@ -28,7 +28,7 @@ pub(crate) struct GtpForm {
 
 impl LineKeeper for GtpForm {
     ghost holds = { λ kept cursor. HoldsJudgement (nodes_before cursor.at) kept.judge.judgement
-        × (kept.script ≡ script_ended (script_front (nodes_before cursor.at) (length (nodes_before cursor.at))))
+        × HoldsTaken (λ kind taken. kept.script ≡ script_ended (script_of kind taken)) (nodes_before cursor.at)
         × IsRecord gtp_form cursor (built_text kept.row ++ script_text kept.script) };
 
     ghost played = { λ kept. kept.judge.plays };

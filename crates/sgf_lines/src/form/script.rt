@@ -1,7 +1,7 @@
 //! The script of a line in gtp form.
 
-ghost use Rattle.std.specs.Prelude.{◌≡◌, ◌≤◌, Some, OnOk};
-ghost use Rattle.sgf_lines.specs.inner.Scripting.{is_unreaching, no_script, script_begun, script_ended, script_text};
+ghost use Rattle.std.specs.Prelude.{◌≡◌, ◌≤◌, OnOk};
+ghost use Rattle.sgf_lines.specs.inner.Scripting.{is_unreaching, no_script, script_begun, script_ended, script_of, script_text};
 
 use crate::form::pieces::Pieces;
 use crate::judging::judged::StepKeeper;
@@ -80,7 +80,9 @@ impl Script {
 }
 
 impl StepKeeper for Script {
-    ghost script = { λ script. Some script };
+    ghost tells = { λ script kind taken. script ≡ script_of kind taken };
+
+    ghost keeps = { λ script kind taken. script ≡ script_ended (script_of kind taken) };
 
     fn keep(&mut self, held: usize, board: Option<&Board>) -> Result<(), MemoryFault> {
         if held > 0 {

@@ -1,39 +1,49 @@
 //! Judging a line from the first node that it doesn't share with the line before it.
 
-ghost use Rattle.std.specs.Prelude.{◌≡◌, ◌==◌, ◌+◌, ◌<◌, ◌≤◌, false, None, Option, length, option_copied, option_map, IfSome, OnOk};
+ghost use Rattle.std.specs.Prelude.{◌≡◌, ◌+◌, ◌<◌, ◌++◌, ◌∷◌, [], List, length, take, option_copied, OnOk};
 ghost use Rattle.tree_lines.specs.Following.{nodes_before};
+ghost use Rattle.sgf_lines.specs.JudgedGames.{GameKind};
+ghost use Rattle.sgf_lines.specs.Walk.{TakenNode};
 ghost use Rattle.sgf_lines.specs.inner.Fronts.{HasFront};
-ghost use Rattle.sgf_lines.specs.inner.Keeping.{HoldsJudgement, KeepsJudgement, KeepsScript, PlaysUpTo, fresh_plays, script_front};
-ghost use Rattle.sgf_lines.specs.inner.Scripting.{IsPlayable, ScriptState, is_unreaching, said_on, script_resumed, step_script};
+ghost use Rattle.sgf_lines.specs.inner.Judging.{IsStepTaken, begun_game, board_in};
+ghost use Rattle.sgf_lines.specs.inner.Keeping.{HoldsJudgement, HoldsTaken, KeepsJudgement, KeepsTaken, PlaysUpTo, fresh_plays};
 
 use crate::judging::judge::Judge;
 use crate::judging::step::TakenStep;
 use crate::line_nodes::LineNodes;
-use go_board::{Board, MAX_VERTEX_SIDE};
+use go_board::Board;
 use sgf_tree::MemoryFault;
 use tree_lines::{Front, SequenceCursor};
 
 /// Is told each step that is taken on a line. Most forms need no step: `()` is told them.
 pub(crate) trait StepKeeper {
-    // The script that it keeps of the line, if it keeps one.
-    ghost script: { Self → Option ScriptState };
+    // It was told that these nodes were taken, in a game of this kind.
+    ghost tells: { Self → GameKind → List TakenNode → Type 0 };
+
+    // It keeps what it was told of these nodes, and maybe an end after it, which `keep` takes off.
+    ghost keeps: { Self → GameKind → List TakenNode → Type 0 };
 
     /// Keeps what it was told of the first `held` nodes. If `held` is 0, begins a line whose game is judged on this board; None if the
     /// game isn't judged.
     fn keep(&mut self, held: usize, board: Option<&Board>) -> Result<(), MemoryFault>
         requires { held < usize.MAX }
-        ensures { OnOk result (script self.new ≡ option_map (script_resumed held (option_copied board.entry)) (script self.old)) };
+        ensures begun { held ≡ 0 → (kind : GameKind) → option_copied board.entry ≡ board_in (begun_game kind)
+            → OnOk result (tells self.new kind []) }
+        ensures kept { 0 < held → (kind : GameKind) (taken : List TakenNode) → keeps self.old kind taken
+            → OnOk result (tells self.new kind (take held taken)) };
 
-    /// Takes a step; `board` is the board after it.
+    /// Takes the step of one more node; `board` is the board after it.
     fn say(&mut self, step: TakenStep<'_>, board: &Board) -> Result<(), MemoryFault>
-        requires letters { IfSome (script self.old) (λ told. (length told.text.pieces == 0) ≡ false → board.now.side ≤ MAX_VERTEX_SIDE) }
-        requires playable { IsPlayable board.now.side step.effect }
-        ensures { OnOk result (script self.new
-            ≡ option_map (λ told. said_on told (is_unreaching board.now step.entry.effect) (step_script board.now step.entry)) (script self.old)) };
+        requires { (kind : GameKind) × (before : List TakenNode) × (taken : TakenNode) × tells self.old kind before
+            × IsStepTaken kind board.now step taken }
+        ensures { (kind : GameKind) (before : List TakenNode) (taken : TakenNode) → tells self.old kind before
+            → IsStepTaken kind board.now step.entry taken → OnOk result (tells self.new kind (before ++ taken ∷ [])) };
 }
 
 impl StepKeeper for () {
-    ghost script = { λ _. None };
+    ghost tells = { λ _ _ _. Unit {0} };
+
+    ghost keeps = { λ _ _ _. Unit {0} };
 
     fn keep(&mut self, held: usize, board: Option<&Board>) -> Result<(), MemoryFault> {
         Ok(())
@@ -54,10 +64,10 @@ pub(crate) fn judge_line<K: StepKeeper>(
 ) -> Result<(), MemoryFault>
     requires front { HasFront cursor.now.ends held }
     requires judged { KeepsJudgement (nodes_before cursor.now.at) held.nodes judge.old.judgement }
-    requires told { IfSome (K.script keeper.old) (KeepsScript (nodes_before cursor.now.at) held.nodes) }
+    requires told { KeepsTaken (K.keeps keeper.old) (nodes_before cursor.now.at) held.nodes }
     requires countable { judge.old.plays + length (nodes_before cursor.now.at) < u64.MAX }
     ensures judged { OnOk result (HoldsJudgement (nodes_before cursor.now.at) judge.new.judgement) }
-    ensures told { OnOk result (IfSome (K.script keeper.new) (λ told. told ≡ script_front (nodes_before cursor.now.at) (length (nodes_before cursor.now.at)))) }
+    ensures told { OnOk result (HoldsTaken (K.tells keeper.new) (nodes_before cursor.now.at)) }
     ensures plays { PlaysUpTo judge.old.plays judge.new.plays (fresh_plays (nodes_before cursor.now.at) held.nodes) result }
 {
     // The ends of the sequences rise to the number of nodes.

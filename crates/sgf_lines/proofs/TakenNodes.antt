@@ -1,0 +1,107 @@
+-- Taken nodes are told one by one, and those of a line's front are kept for the next line.
+use Rattle.std.proofs.Common.{◌≡◌, ℕ, zero, suc, ◌+◌, ◌<◌, List, [], ◌∷◌, ◌++◌, take, Option, Some, None, Result, Ok, Err, refl, sym, ap, subst, ◌∙◌, arith, append-nil, append_assoc}
+use Rattle.std.specs.Prelude.{fold, slice_get}
+use Rattle.sgf_tree.specs.Tree.{Node}
+use Rattle.go_board.specs.declared.reason.Reason.{Reason}
+use Rattle.go_board.specs.Grid.{Grid}
+use Rattle.go_board.specs.State.{State}
+use Rattle.sgf_lines.specs.declared.judging.step.TakenStep.{TakenStep}
+use Rattle.sgf_lines.specs.declared.verdict.Verdict.TheVariants.{NotGo, BadSize}
+use Rattle.sgf_lines.specs.JudgedGames.{GameKind, not_go, bad_size, board, game_kind, root_properties}
+use Rattle.sgf_lines.specs.Step.{step}
+use Rattle.sgf_lines.specs.Walk.{TakenNode, taken_on}
+use Rattle.sgf_lines.specs.inner.Judging.{Judgement, IsSettled, unjudged, judged, side_in, judging, begun_game, after, stepped, state_after, taken_by, board_in, IsStepOf, IsStepTaken, IsTakenFrom}
+use Rattle.sgf_lines.specs.inner.Keeping.{judging_front, taken_front, KeepsTaken}
+use Rattle.sgf_lines.proofs.Steps.{side-step}
+use Rattle.tree_lines.proofs.Lists.{front_more}
+use Rattle.sgf_lines.proofs.Judgements.{judging_more, settled_none, settled_more, unjudged_stays, taken_more, taken_only, board_after}
+
+-- no more nodes are taken once the verdict is known
+pub taken_settled : (kind : GameKind) (nodes more : List Node) → IsSettled (judging kind nodes) → taken_on kind (nodes ++ more) ≡ taken_on kind nodes
+taken_settled kind nodes [] h = ap (taken_on kind) (append-nil nodes)
+taken_settled kind nodes (n ∷ ns) h =
+    let none = settled_none (judging kind nodes) n h in
+    ap (taken_on kind) (sym (append_assoc nodes (n ∷ []) ns)) ∙ taken_settled kind (nodes ++ n ∷ []) ns (subst IsSettled (sym (settled_more kind nodes n h)) h)
+    ∙ taken_more kind nodes n ∙ ap (λ o. taken_on kind nodes ++ taken_by o n) none.0 ∙ append-nil (taken_on kind nodes)
+
+-- each board of a game has its side
+abbrev HasSide : ℕ → Judgement → Type 0
+HasSide side (unjudged told) = Unit {0}
+HasSide side (judged states ended) = states.present.colouring.side ≡ side
+
+keeps_side : (side : ℕ) (j : Judgement) (n : Node) → HasSide side j → HasSide side (after j n)
+keeps_side side (unjudged told) n h = tt
+keeps_side side (judged states (Some told)) n h = h
+keeps_side side (judged states None) n h = by (step states.present n) refl
+  where
+    by : (r : Result State Reason) → step states.present n ≡ r → HasSide side (stepped states n r)
+    by (Ok s) e = side-step states.present s n e ∙ h
+    by (Err reason) e = h
+
+has_side : (side : ℕ) (j : Judgement) (nodes : List Node) → HasSide side j → HasSide side (fold after j nodes)
+has_side side j [] h = h
+has_side side j (n ∷ ns) h = has_side side (after j n) ns (keeps_side side j n h)
+
+-- a game that has this board is judged on its side
+kind_there : (kind : GameKind) (nodes : List Node) (grid : Grid) → board_in (judging kind nodes) ≡ Some grid → kind ≡ board grid.side
+kind_there not_go nodes grid there = absurd (let none = ap board_in (unjudged_stays NotGo nodes) in cc)
+kind_there bad_size nodes grid there = absurd (let none = ap board_in (unjudged_stays BadSize nodes) in cc)
+kind_there (board side) nodes grid there = by (judging (board side) nodes) (has_side side (begun_game (board side)) nodes refl) there
+  where
+    by : (j : Judgement) → HasSide side j → board_in j ≡ Some grid → board side ≡ board grid.side
+    by (unjudged told) h e = absurd cc
+    by (judged states ended) h e = let same : states.present.colouring ≡ grid = cc in ap board (sym h ∙ ap (λ (g : Grid). g.side) same)
+
+-- a step that a judge told of
+side_after : (j : Judgement) (n : Node) (s : State) → state_after j n ≡ Some s → side_in j ≡ s.colouring.side
+side_after j n s e = let t = taken_only j n s e in ap side_in t.1 ∙ sym (side-step t.0.present s n t.2)
+
+-- there is a board after a step that was taken
+pub on_board : (j : Judgement) (n : Node) (step : TakenStep) → IsTakenFrom j n (Some step) → None ≡ board_in (after j n) → ⊥
+on_board j n step taken none = let some = board_after j n taken.0 taken.1 in cc
+
+-- a node of a line is told if its step was taken
+module _ (nodes : List Node) (i : ℕ) (n : Node) (at : slice_get nodes i ≡ Some n) (j : Judgement) (is : j ≡ judging_front nodes i) where
+  abbrev kind : GameKind
+  kind = game_kind (root_properties nodes)
+
+  taken_next : taken_front nodes i ++ taken_by (state_after j n) n ≡ taken_front nodes (i + 1)
+  taken_next = ap (λ k. taken_front nodes i ++ taken_by (state_after k n) n) is ∙ sym (taken_more kind (take i nodes) n) ∙ ap (taken_on kind) (sym (front_more nodes i n at))
+
+  pub untaken : state_after j n ≡ None → taken_front nodes i ≡ taken_front nodes (i + 1)
+  untaken none = sym (append-nil (taken_front nodes i)) ∙ ap (λ o. taken_front nodes i ++ taken_by o n) (sym none) ∙ taken_next
+
+  module _ (step : TakenStep) (grid : Grid) (taken : IsTakenFrom j n (Some step)) (there : Some grid ≡ board_in (after j n)) where
+    abbrev pub taken_node : TakenNode
+    taken_node = record { node = n; after = taken.0 }
+
+    same : grid ≡ taken.0.colouring
+    same = let both : Some grid ≡ Some taken.0.colouring = there ∙ board_after j n taken.0 taken.1 in cc
+
+    pub told_last : taken_front nodes i ++ taken_node ∷ [] ≡ taken_front nodes (i + 1)
+    told_last = ap (λ o. taken_front nodes i ++ taken_by o n) (sym taken.1) ∙ taken_next
+
+    pub step_taken : IsStepTaken (game_kind (root_properties nodes)) grid step taken_node
+    step_taken =
+        let next : board_in (judging kind (take i nodes ++ n ∷ [])) ≡ Some grid = ap board_in (judging_more kind (take i nodes) n ∙ ap (λ k. after k n) (sym is)) ∙ sym there in
+        record {
+          kind_is = kind_there kind (take i nodes ++ n ∷ []) grid next;
+          board_is = same;
+          step_is = subst (λ side. IsStepOf side n step) (side_after j n taken.0 taken.1 ∙ ap (λ (g : Grid). g.side) (sym same)) taken.2;
+        }
+
+-- what is kept of a line is told of its first nodes
+told_none : (kind : GameKind) → taken_on kind [] ≡ []
+told_none not_go = refl
+told_none bad_size = refl
+told_none (board side) = refl
+
+pub told_front : (keeps tells : GameKind → List TakenNode → Type 0) (nodes : List Node) (held : ℕ) (j : Judgement) → j ≡ judging_front nodes held
+    → (held ≡ 0 → (kind : GameKind) → board_in j ≡ board_in (begun_game kind) → tells kind []) → (0 < held → (kind : GameKind) (taken : List TakenNode) → keeps kind taken → tells kind (take held taken))
+    → KeepsTaken keeps nodes held → tells (game_kind (root_properties nodes)) (taken_front nodes held)
+told_front keeps tells nodes zero j is begun kept h =
+    let kind = game_kind (root_properties nodes) in subst (tells kind) (sym (told_none kind)) (begun refl kind (ap board_in is))
+told_front keeps tells nodes (suc held) j is begun kept h =
+    let kind = game_kind (root_properties nodes) in
+    let some : 0 < suc held = omega arith in
+    let k = h some in subst (tells kind) k.2 (kept some kind k.0 k.1)
