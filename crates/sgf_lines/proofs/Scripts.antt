@@ -1,5 +1,5 @@
 -- A script goes on by a node, and back to the first ones; and what is put of it.
-use Rattle.std.proofs.Common.{◌≡◌, ℕ, zero, suc, ◌+◌, ◌≤◌, ◌==◌, min, Bool, true, false, cond, List, [], ◌∷◌, ◌++◌, length, take, map, refl, sym, ap, subst, ◌∙◌, arith, add-one, append-nil, append_assoc, rules}
+use Rattle.std.proofs.Common.{◌≡◌, ℕ, zero, suc, min, List, [], ◌∷◌, ◌++◌, length, take, refl, sym, ap, subst, ◌∙◌, arith, add-one, append-nil, rules}
 use Rattle.std.proofs.lemmas.Grind.{common_steps}
 use Rattle.std.specs.Prelude.{nat_lt, codes, option_copied}
 use Rattle.std.specs.List.{list_any, position_or_len}
@@ -7,7 +7,6 @@ use Rattle.std.proofs.lemmas.Bool.{lt-ltb, le-ltb}
 use Rattle.std.proofs.lemmas.List.{map-append, take-map, length-map}
 use Rattle.std.proofs.lemmas.List.Folds.{position_or_len_push}
 use Rattle.sgf_tree.specs.Tree.{Node}
-use Rattle.board_points.specs.declared.vertices.TheConstants.{MAX_VERTEX_SIDE}
 use Rattle.go_board.specs.Grid.{Grid}
 use Rattle.go_board.specs.State.{State}
 use Rattle.sgf_lines.specs.declared.judging.step.Effect.{Effect}
@@ -16,9 +15,9 @@ use Rattle.sgf_lines.specs.declared.judging.step.TakenStep.{TakenStep}
 use Rattle.sgf_lines.specs.JudgedGames.{GameKind, not_go, bad_size, board}
 use Rattle.sgf_lines.specs.NodeContents.{Move, Stones, moves, stones}
 use Rattle.sgf_lines.specs.Walk.{TakenNode, Walk, taken_on}
-use Rattle.sgf_lines.specs.Script.{comment_rows, setup_commands, move_commands, taken_script, text_rows, comment_text, leaves_unreaching, leaves_unreaching_by, board_commands, commands_of, commands_by}
-use Rattle.sgf_lines.specs.inner.Judging.{begun_game, board_in, IsEffectBy, IsStepOf, IsStepTaken}
-use Rattle.sgf_lines.specs.inner.Scripting.{ScriptState, effect_script, step_script, is_unreaching, no_script, script_on, said_on, script_back, script_ended, script_text, script_along, script_of}
+use Rattle.sgf_lines.specs.Script.{comment_rows, setup_commands, move_commands, taken_script, text_rows, comment_text, leaves_unreaching, leaves_unreaching_by, commands_of, commands_by}
+use Rattle.sgf_lines.specs.inner.Judging.{IsEffectBy, IsStepOf, IsStepTaken}
+use Rattle.sgf_lines.specs.inner.Scripting.{effect_script, step_script, is_unreaching, no_script, said_on, script_back, script_ended, script_text, script_along, script_of}
 use Rattle.sgf_lines.proofs.Recordings.{joined}
 
 -- the pieces before those that can't be said

@@ -1,5 +1,5 @@
 -- The commands of a line, in pieces: first those that begin a game on its board, then those of each node whose step was taken.
-use Rattle.std.specs.Prelude.{ℕ, suc, ◌+◌, ◌==◌, min, Bool, false, nat_lt, if◌then◌else◌, Option, Some, None, List, [], ◌∷◌, ◌++◌, length, map, codes, option_copied}
+use Rattle.std.specs.Prelude.{ℕ, suc, ◌+◌, ◌==◌, min, Bool, false, nat_lt, if◌then◌else◌, List, [], ◌∷◌, ◌++◌, length, map, codes, option_copied}
 use Rattle.std.specs.List.{concat, position_or_len}
 use Rattle.board_points.specs.declared.vertices.TheConstants.{MAX_VERTEX_SIDE}
 use Rattle.go_board.specs.Clearing.{has_unreaching}
