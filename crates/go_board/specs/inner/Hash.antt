@@ -1,7 +1,7 @@
--- The hash of a colouring: 64 bits of the SHA-256 of its rows.
+-- The hash of a colouring: 64 bits of the SHA-512 of its rows.
 use Rattle.std.specs.Prelude.{ℕ, zero, suc, ◌+◌, ◌*◌, Bool, if◌then◌else◌, List, [], ◌++◌, take}
 use Rattle.std.specs.Int.{w64, div_ceil, from_be_bytes, to_le_bytes}
-use Rattle.sha2.specs.Sha256.{sha256}
+use Rattle.sha2.specs.Sha512.{sha512}
 use Rattle.go_board.specs.declared.stones.Cell.{Cell}
 use Rattle.go_board.specs.declared.stones.Cell.TheVariants.{Black, White}
 use Rattle.go_board.specs.Colour.{same_cell}
@@ -28,4 +28,4 @@ rows_bytes grid (suc row) =
 
 -- the hash: the first eight bytes of the digest of all rows, as a number
 unfoldable pub hash_of : Grid → ℕ
-hash_of grid = from_be_bytes w64 (sha256 (rows_bytes grid grid.side))
+hash_of grid = from_be_bytes w64 (sha512 (rows_bytes grid grid.side))

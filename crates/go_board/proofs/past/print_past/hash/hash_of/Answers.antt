@@ -1,7 +1,7 @@
 use Rattle.std.proofs.Common.{◌≡◌, ℕ, suc, ◌+◌, ◌++◌, List, ap, subst, ◌∙◌, arith}
 use Rattle.std.specs.Int.{w64, from_be_bytes}
-use Rattle.sha2.specs.Hashers.{Holds256}
-use Rattle.sha2.specs.Sha256.{sha256}
+use Rattle.sha2.specs.Hashers.{Holds512}
+use Rattle.sha2.specs.Sha512.{sha512}
 use Rattle.go_board.specs.declared.stones.Cell.TheVariants.{Black, White}
 use Rattle.go_board.specs.Colour.{same_cell}
 use Rattle.go_board.specs.Grid.{cell_at}
@@ -29,7 +29,7 @@ loop-row-preserved c =
     ∙ ap (λ n. before ++ columns_bytes g.side n ++ columns_bytes g.side white.result) black_is
     ∙ ap (λ n. before ++ columns_bytes g.side (columns_of g Black row) ++ columns_bytes g.side n) white_is
     ∙ ap (λ n. rows_bytes g n) next in
-    subst (λ (message : List ℕ). Holds256 c.add_columns-in-loop-row.new.hasher message) bytes holds
+    subst (λ (message : List ℕ). Holds512 c.add_columns-in-loop-row.new.hasher message) bytes holds
 
 pub returns : goal.returns
 unfolding hash_of
@@ -37,4 +37,4 @@ returns c =
     let g = c.args.board.now in
     let all : c.loop-row.row ≡ g.side = omega (arith, c.loop-row-test.false, c.loop-row.auto.row-end, c.side-side.ensures.value, c.size.ensures) in
     c.first_word.ensures
-    ∙ ap (λ (digest : List ℕ). from_be_bytes w64 digest) (c.finalize.ensures (rows_bytes g c.loop-row.row) c.loop-row.invariant ∙ ap (λ n. sha256 (rows_bytes g n)) all)
+    ∙ ap (λ (digest : List ℕ). from_be_bytes w64 digest) (c.finalize.ensures (rows_bytes g c.loop-row.row) c.loop-row.invariant ∙ ap (λ n. sha512 (rows_bytes g n)) all)
