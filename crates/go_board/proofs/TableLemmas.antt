@@ -7,7 +7,10 @@ use Rattle.go_board.specs.declared.past.print_past.key.TheConstants.{WIDTH}
 use Rattle.go_board.specs.declared.past.print_past.table.Gap.{Gap}
 use Rattle.go_board.specs.declared.past.print_past.table.Table.{Table}
 use Rattle.go_board.specs.Grid.{Grid}
-use Rattle.go_board.specs.Past.{Held, stretch_of}
+use Rattle.go_board.specs.declared.stones.Colour.{Colour}
+use Rattle.board_points.specs.declared.points.Point.{Point}
+use Rattle.go_board.specs.Clearing.{play}
+use Rattle.go_board.specs.Past.{Held, PastColourings, all_of, newest_grid, present_stretch, stretch_of, with_next}
 use Rattle.go_board.specs.inner.Changes.{IsNumber}
 use Rattle.go_board.specs.inner.Hash.{hash_of}
 use Rattle.go_board.specs.inner.Key.{key_bits, start_of, since, keys_of}
@@ -31,7 +34,7 @@ use Rattle.key_trie.proofs.TrieLemmas.{agree_self, agree_less, parts_as, trie_sa
 keys-newest : (x : Held) (xs : List Held) (number : ℕ) → number ≡ length xs → keys_of (x ∷ xs) number ≡ key_bits (start_of (x ∷ xs)) (print_of x.colouring) (hash_of x.colouring) x.colouring
 keys-newest x xs number e = ap (λ (t : Bool). if t then key_bits (start_of (x ∷ xs)) (print_of x.colouring) (hash_of x.colouring) x.colouring else keys_of xs number) (eq-eqb number (length xs) e)
 
-keys-older : (x : Held) (xs : List Held) (number : ℕ) → number < length xs → keys_of (x ∷ xs) number ≡ keys_of xs number
+pub keys-older : (x : Held) (xs : List Held) (number : ℕ) → number < length xs → keys_of (x ∷ xs) number ≡ keys_of xs number
 keys-older x xs number h = ap (λ (t : Bool). if t then key_bits (start_of (x ∷ xs)) (print_of x.colouring) (hash_of x.colouring) x.colouring else keys_of xs number) (ne_eqb number (length xs) (λ e. omega (arith, e, h)))
 
 key_of_number : (held : List Held) (number : ℕ) (g : Grid) → number < length held → IsNumber held number g → keys_of held number ≡ key_bits (start_of (since number held)) (print_of g) (hash_of g) g
@@ -53,6 +56,10 @@ print_at held number g low at place h =
 
 pub keys-print : (next : Held) (held : List Held) (print place : ℕ) → print_of next.colouring ≡ print → place < 64 → keys_of (next ∷ held) (length held) place ≡ has_bit print place
 keys-print next held print place is h = print_at (next ∷ held) (length held) next.colouring (omega arith) (at-newest next held) place h ∙ ap (λ m. has_bit m place) is
+
+-- the key of a colouring that goes on with the present stretch
+pub keys-next : (held : List Held) (g : Grid) → keys_of (record { colouring = g; begins = false } ∷ held) (length held) ≡ key_bits (start_of held) (print_of g) (hash_of g) g
+keys-next held g = keys-newest (record { colouring = g; begins = false }) held (length held) refl
 
 -- with one colouring more, and with one less, the others have the same keys
 pub linked_before : (next : Held) (held : List Held) (trie : Trie) → item_count trie ≤ length held → IsTrie WIDTH (keys_of held) trie → IsTrie WIDTH (keys_of (next ∷ held)) trie
@@ -81,31 +88,18 @@ module _ (held : List Held) (table : Table) (is : IsAwakeTable held table) where
         λ at hashed. ap (λ n. key_bits start print n any) hashed ∙ key any at,
       )
 
-  -- What the item tells that a look-up finds, if the stretch has the colouring: it has the same key, as far as the look-up goes.
-  module _ (all : item_count table.trie ≡ length table.prints.items) (start print hash end near : ℕ) (grid : Grid) (starts : start ≡ start_of held) (printed : print ≡ print_of grid) (hashed : Agree (key_bits start print (hash_of grid) grid) (key_bits start print hash grid) end) (n : IsNearest (keys_of held) table.trie (key_bits start print hash grid) end near) (has : Contains (stretch_of held) grid) where
-    found : (g : Grid) → IsNumber held near g → Agree (key_bits (start_of (since near held)) (print_of g) (hash_of g) g) (key_bits start print hash grid) end
-    found g at =
-        let h = has_number held grid has in
-        let same : keys_of held h.0 ≡ key_bits start print (hash_of grid) grid =
-        key_of_number held h.0 grid h.1 h.3
-        ∙ ap (λ m. key_bits m (print_of grid) (hash_of grid) grid) (start-since held h.0 h.2 h.1 ∙ sym starts)
-        ∙ ap (λ m. key_bits start m (hash_of grid) grid) (sym printed) in
-        let near_in : near < length held = omega (arith, n.there, all, tabled) in
-        subst (λ x. Agree x (key_bits start print hash grid) end) (key_of_number held near g near_in at)
-        (n.equal h.0 (omega (arith, h.1, all, tabled)) (subst (λ x. Agree x (key_bits start print hash grid) end) (sym same) hashed))
-
-    pub found_front : start < 2 ^ 64 → 128 ≤ end → (start ≤ near) × (get_or table.prints.items near 0 ≡ print)
-    found_front small far =
-        let near_in : near < length held = omega (arith, n.there, all, tabled) in
-        let there = number_there held near near_in in
-        let before = start-before held near near_in in
-        let same = front_same (start_of (since near held)) start (print_of there.0) print (hash_of there.0) hash there.0 grid (omega (arith, before, n.there, all, is.room, is.most)) small (print_small there.0) (subst (λ m. m < 2 ^ 64) (sym printed) (print_small grid))
-        (agree_less 128 far (found there.0 there.1)) in
-        (omega (arith, before, same.0), print_there near there.0 near_in there.1 ∙ same.1)
-
-    pub found_whole : WIDTH ≤ end → (g : Grid) → IsNumber held near g → g.side ≡ grid.side → g.side ≤ 52 → length g.cells ≡ g.side * g.side → length grid.cells ≡ grid.side * grid.side → g ≡ grid
-    found_whole far g at one_side few cells cells' =
-        whole_same (start_of (since near held)) start (print_of g) print (hash_of g) hash g grid one_side few cells cells' (agree_less WIDTH far (found g at))
+  -- if a number's key is that of a colouring that goes on with the present stretch, the stretch has it
+  pub repeats : (start print hash near : ℕ) (grid g : Grid) → start ≡ start_of held → start < 2 ^ 64 → print ≡ print_of grid → near < length held → IsNumber held near g
+      → g.side ≡ grid.side → grid.side ≤ 52 → length g.cells ≡ g.side * g.side → length grid.cells ≡ grid.side * grid.side
+      → Agree (key_bits start print hash grid) (keys_of held near) WIDTH → Contains (stretch_of held) grid
+  repeats start print hash near grid g starts small printed near_in at side few cells cells' agree =
+      let same : Agree (key_bits start print hash grid) (key_bits (start_of (since near held)) (print_of g) (hash_of g) g) WIDTH =
+      subst (λ x. Agree (key_bits start print hash grid) x WIDTH) (key_of_number held near g near_in at) agree in
+      let before = start-before held near near_in in
+      let front = front_same start (start_of (since near held)) print (print_of g) hash (hash_of g) grid g small (omega (arith, before, near_in, tabled, is.room, is.most))
+      (subst (λ m. m < 2 ^ 64) (sym printed) (print_small grid)) (print_small g) (agree_less 128 (omega arith) same) in
+      let whole = whole_same start (start_of (since near held)) print (print_of g) hash (hash_of g) grid g (sym side) few cells' cells same in
+      has_colouring held near grid (omega (arith, before, front.0, starts)) near_in (at ∙ ap (λ (x : Grid). Some x) (sym whole))
 
   -- Where the next colouring comes in, if its print parts it from the item that a look-up for the print finds.
   pub gap_parts : (next : Held) (print near place : ℕ) (any : Grid) (key : ℕ → Bool) → print_of next.colouring ≡ print → item_count table.trie ≡ length held → key ≡ key_bits 0 print 0 any → IsNearest (keys_of (next ∷ held)) table.trie key 64 near → place < 64
@@ -176,25 +170,27 @@ printed_back prints left last newest older parts printed =
     let turned : ◌≡◌ {A = List ℕ} (last ∷ reverse left) (print_of newest.colouring ∷ prints_of older) = sym (reverse-append left (last ∷ [])) ∙ ap (λ (xs : List ℕ). reverse xs) (sym parts) ∙ printed in
     cc
 
--- if a gap opens, no colouring of the present stretch has its print
-gap_lacks : (held : List Held) (trie : Trie) (print : ℕ) (gap : Gap) (g : Grid) → IsGap held trie print gap → print ≡ print_of g → ¬ Contains (stretch_of held) g
-gap_lacks held trie print gap g is printed has =
+-- if a colouring that goes on with the present stretch has a gap, the stretch doesn't have it
+pub gap_lacks : (held : List Held) (trie : Trie) (g : Grid) (gap : Gap) → IsGap held trie (record { colouring = g; begins = false }) gap → ¬ Contains (stretch_of held) g
+gap_lacks held trie g gap is has =
     let h = has_number held g has in
     let next : Held = record { colouring = g; begins = false } in
-    (is.opens next (sym printed)).part.best h.0 (omega (arith, is.all, h.1)) (record {
-      each = λ p low.
-          let fits : p < 64 = omega (arith, low, is.low) in
-          print_at (next ∷ held) h.0 g (omega (arith, h.1)) (at-older next held h.1 h.3) p fits ∙ sym (keys-print next held (print_of g) p refl fits);
-    })
+    let same : keys_of (next ∷ held) h.0 ≡ keys_of (next ∷ held) (length held) =
+    keys-older next held h.0 h.1 ∙ key_of_number held h.0 g h.1 h.3
+    ∙ ap (λ n. key_bits n (print_of g) (hash_of g) g) (start-since held h.0 h.2 h.1)
+    ∙ sym (keys-next held g) in
+    is.opens.part.best h.0 (omega (arith, is.all, h.1)) (subst (λ x. Agree (keys_of (next ∷ held) h.0) x (gap.place + 1)) same (agree_self (keys_of (next ∷ held) h.0) (gap.place + 1)))
 
-pub gap_found : (held : List Held) (trie : Trie) (print : ℕ) (gap : Option Gap) → IfSome gap (IsGap held trie print) → (g : Grid) → IsSome gap → print ≡ print_of g → ¬ Contains (stretch_of held) g
-gap_found held trie print None is g some same = absurd (false≢true some)
-gap_found held trie print (Some one) is g some same = gap_lacks held trie print one g is same
+-- so a stone that makes it brings no colouring back
+pub gap_never : (was past : PastColourings) (k : Colour) (p : Point) (trie : Trie) (gap : Gap) → was ≡ past → IsGap (all_of was) trie (with_next was (play (newest_grid was) k p) false).newest gap
+    → ¬ Contains (present_stretch past) (play (newest_grid past) k p)
+gap_never was past k p trie gap same is =
+    subst (λ (x : PastColourings). ¬ Contains (present_stretch x) (play (newest_grid x) k p)) same (gap_lacks (all_of was) trie (play (newest_grid was) k p) gap is)
 
 -- with the same nodes, a gap is at the same slot
-pub gap_same : (held : List Held) (one other : Trie) (print : ℕ) (gap : Option Gap) → nodes_of other ≡ nodes_of one → IfSome gap (IsGap held one print) → IfSome gap (IsGap held other print)
-gap_same held one other print None same is = is
-gap_same held one other print (Some gap) same is = record { all = rw same is.all; low = is.low; opens = λ next printed. opening_same same (is.opens next printed) }
+pub gap_same : (held : List Held) (one other : Trie) (next : Held) (gap : Option Gap) → nodes_of other ≡ nodes_of one → IfSome gap (IsGap held one next) → IfSome gap (IsGap held other next)
+gap_same held one other next None same is = is
+gap_same held one other next (Some gap) same is = record { all = rw same is.all; within = is.within; opens = opening_same same is.opens; bit = is.bit }
 
 -- A call that changes the room alone leaves a table of the same colourings.
 module _ (held : List Held) (old new : Table) (asleep : IsAsleepTable held old → IsAsleepTable held new) (awake : IsAwakeTable held old → IsAwakeTable held new) where
@@ -205,14 +201,6 @@ module _ (held : List Held) (old new : Table) (asleep : IsAsleepTable held old �
   pub print_same : (next : Held) (print : Option ℕ) → IsPrintOfNext held old next print → IsPrintOfNext held new next print
   print_same next None is = record { awake = tt; asleep = asleep is.asleep }
   print_same next (Some number) is = record { awake = (awake is.awake.0, is.awake.1); asleep = tt }
-
-pub gaps_same : (held : List Held) (one other : Trie) (print : Option ℕ) (gap : Option Gap) → nodes_of other ≡ nodes_of one → IfSome print (λ number. IfSome gap (IsGap held one number)) → IfSome print (λ number. IfSome gap (IsGap held other number))
-gaps_same held one other None gap same is = tt
-gaps_same held one other (Some number) gap same is = gap_same held one other number gap same is
-
-pub no_gap : (held : List Held) (trie : Trie) (print : Option ℕ) → IfSome print (λ number. IfSome None (IsGap held trie number))
-no_gap held trie None = tt
-no_gap held trie (Some number) = tt
 
 -- so many colourings that a number of 32 bits counts them
 pub few_all : (held : List Held) (table : Table) → IsTable held table → length held < 2 ^ 32

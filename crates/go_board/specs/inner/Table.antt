@@ -55,9 +55,9 @@ pub record LinksNext (held : List Held) (old new : Table) : Type 0 where
   pub next : item_count new.trie ≡ item_count old.trie + 1
   pub prints : new.prints.items ≡ old.prints.items
 
--- where the next colouring comes into a trie that has all of these, if it has that print
-pub record IsGap (held : List Held) (trie : Trie) (print : ℕ) (gap : Gap) : Type 0 where
+-- where the next colouring comes into a trie that has all of these
+pub record IsGap (held : List Held) (trie : Trie) (next : Held) (gap : Gap) : Type 0 where
   pub all : item_count trie ≡ length held
-  pub low : gap.place < 64
-  pub opens : (next : Held) → print_of next.colouring ≡ print
-      → IsOpening (keys_of (next ∷ held)) trie (keys_of (next ∷ held) (length held)) gap.slot gap.place
+  pub within : gap.place < WIDTH
+  pub opens : IsOpening (keys_of (next ∷ held)) trie (keys_of (next ∷ held) (length held)) gap.slot gap.place
+  pub bit : keys_of (next ∷ held) (length held) gap.place ≡ gap.bit

@@ -25,7 +25,7 @@ mod powers;
 mod print;
 mod table;
 
-ghost use Rattle.std.specs.Prelude.{◌≡◌, ◌≢◌, ◌<◌, ◌↔◌, false, IsTrue, IsSome, IfSome, OnOk, OnErr, Contains, length, IsFalse};
+ghost use Rattle.std.specs.Prelude.{◌≡◌, ◌≢◌, ◌<◌, ◌↔◌, false, IsTrue, IfSome, IfNone, OnOk, OnErr, Contains, length, IsFalse};
 ghost use Rattle.go_board.specs.declared.stones.Cell.TheVariants.{Empty};
 ghost use Rattle.board_points.specs.declared.points.Point.{Point};
 ghost use Rattle.go_board.specs.declared.stones.Colour.{Colour};
@@ -39,7 +39,6 @@ ghost use Rattle.go_board.specs.inner.Groups.{IsMove, IsEmptyOnSettled, TakesOff
 ghost use Rattle.go_board.specs.inner.Print.{print_of, IsPrintedMove};
 ghost use Rattle.board_points.specs.Rows.{is_set};
 ghost use Rattle.go_board.specs.inner.Table.{IsAwakeTable, IsGap, IsPrintOfNext, IsTable};
-ghost use Rattle.key_trie.specs.Trie.{item_count};
 
 use crate::board::Board;
 use crate::fault::MemoryFault;
@@ -316,16 +315,15 @@ impl PrintPast {
             if self.has_near(colour, point, taken, print) {
                 return Ok(false);
             }
-            gap = self.table.gap(&self.colourings, print);
-            if has_made(
+            gap = gap_of_stone(
                 &self.colourings,
-                &self.table,
-                gap,
+                &mut self.table,
                 colour,
                 point,
                 taken,
                 print,
-            ) {
+            );
+            if gap.is_none() {
                 return Ok(false);
             }
         }
@@ -371,10 +369,9 @@ impl PrintPast {
         made.restore(true);
         let print = print_of(&made);
         self.table.wake(&self.colourings);
-        self.table.link(&self.colourings);
-        if self.table.find(&self.colourings, &made, print) {
+        let Some(_gap) = self.table.gap_of(&self.colourings, &made, print) else {
             return Ok(false);
-        }
+        };
         self.add(&made, Some(print), false)?;
         Ok(true)
     }
@@ -435,7 +432,8 @@ fn add_stone(
     requires fresh { IsTrue fresh → IsFreshStone (with_next colourings.old (play (newest_grid colourings.old) colour point) false) point }
     requires print { IsPrintOfNext (all_of colourings.old) table.old
         (with_next colourings.old (play (newest_grid colourings.old) colour point) false).newest print }
-    requires gap { IfSome print (λ number. IfSome gap (IsGap (all_of colourings.old) table.old.trie number)) }
+    requires gap { IfSome gap (IsGap (all_of colourings.old) table.old.trie
+        (with_next colourings.old (play (newest_grid colourings.old) colour point) false).newest) }
     ensures ok { OnOk result (colourings.new ≡ with_next colourings.old (play (newest_grid colourings.old) colour point) false) }
     ensures err { OnErr result (colourings.new ≡ colourings.old) }
     ensures table { IsTable (all_of colourings.new) table.new }
@@ -451,31 +449,31 @@ fn add_stone(
     Ok(())
 }
 
-/// Whether the present stretch has the colouring that a stone makes. If so, positional superko forbids the stone. `print` is that
-/// colouring's print, and `taken` is what the stone takes off. If it has a gap in the trie, the stretch can't have it. Otherwise all
-/// points are compared.
-fn has_made(
+/// Where the colouring that a stone makes comes into the trie, which gets all colourings first; None if the present stretch has it, so that
+/// positional superko forbids the stone. `print` is that colouring's print, and `taken` is what the stone takes off. All points are looked
+/// at only if another colouring has the print.
+fn gap_of_stone(
     colourings: &Colourings,
-    table: &Table,
-    gap: Option<Gap>,
+    table: &mut Table,
     colour: Colour,
     point: Point,
     taken: &[u64],
     print: u64,
-) -> bool
-    requires table { IsAwakeTable (all_of colourings.now) table.now }
-    requires all { item_count table.now.trie ≡ length table.now.prints.items }
-    requires lacks { (grid : Grid) → IsSome gap → print ≡ print_of grid → ¬ Contains (present_stretch colourings.now) grid }
+) -> Option<Gap>
+    requires table { IsAwakeTable (all_of colourings.now) table.old }
     requires one_side { HaveSide (newest_grid colourings.now).side colourings.now }
     requires stone { IsPrintedMove (newest_grid colourings.now) colour point taken.now print }
-    ensures { IsTrue result ↔ Contains (present_stretch colourings.now) (play (newest_grid colourings.now) colour point) }
+    ensures table { IsAwakeTable (all_of colourings.now) table.new }
+    ensures gap { IfSome result (IsGap (all_of colourings.now) table.new.trie
+        (with_next colourings.now (play (newest_grid colourings.now) colour point) false).newest) }
+    ensures has { IfNone result (Contains (present_stretch colourings.now) (play (newest_grid colourings.now) colour point)) }
 {
-    if gap.is_some() {
-        return false;
+    if let Some(gap) = table.gap(colourings, print) {
+        return Some(gap);
     }
     let mut made = colourings.newest().copy();
     made.put(colour, point, taken);
-    table.find(colourings, &made, print)
+    table.gap_by_board(colourings, &made, print)
 }
 
 /// Adds the points of a board's stones to a set.

@@ -20,9 +20,9 @@
 //! and a stone costs no more here than the test that there is room. `wake` works the prints out, once a game, one for each colouring; from
 //! then on the table has those of all colourings.
 
-ghost use Rattle.std.specs.Prelude.{◌≡◌, ◌↔◌, ◌+◌, ◌<◌, ◌≤◌, [], ◌∷◌, List, length, slice_index, IsTrue, IsFalse, IfSome, IfOk, OnOk, Contains};
+ghost use Rattle.std.specs.Prelude.{◌≡◌, ◌↔◌, ◌+◌, ◌<◌, ◌≤◌, [], ◌∷◌, List, length, false, slice_index, IsTrue, IsFalse, IfNone, IfSome, IfOk, OnOk, Contains};
 ghost use Rattle.go_board.specs.Grid.{Grid};
-ghost use Rattle.go_board.specs.Past.{Held, all_of, present_stretch, stretch_of, HaveSide};
+ghost use Rattle.go_board.specs.Past.{Held, all_of, present_stretch, stretch_of, with_next, HaveSide};
 ghost use Rattle.go_board.specs.inner.Changes.{IsNumber};
 ghost use Rattle.go_board.specs.inner.Hash.{hash_of};
 ghost use Rattle.go_board.specs.inner.Key.{bits_of, keys_of};
@@ -38,7 +38,7 @@ use crate::past::print_past::filter::Filter;
 use crate::past::print_past::hash::hash_of;
 use crate::past::print_past::key::{ColouringKey, FRONT, WIDTH, WORD};
 use board_points::columns::has_column;
-use key_trie::{Slot, Trie, first_difference};
+use key_trie::{Key, Slot, Trie, first_difference};
 use std::alloc::Global;
 
 /// The number of colourings that a new table has room for.
@@ -65,8 +65,10 @@ pub(crate) struct Table {
 #[derive(Clone, Copy)]
 pub(crate) struct Gap {
     slot: Slot,
-    /// The place of the bit where it parts from the others. It is one of the print.
+    /// The place of the bit where it parts from the others.
     place: u32,
+    /// That bit.
+    bit: bool,
 }
 
 impl Table {
@@ -135,10 +137,9 @@ impl Table {
     #[inline(always)]
     pub(crate) fn push(&mut self, print: Option<u64>, gap: Option<Gap>)
         requires table { (held : List Held) × (next : Held) × IsPrintOfNext held self.old next print
-            × IfSome print (λ number. IfSome gap (IsGap held self.old.trie number)) × HasRoomForNext held self.old }
-        ensures { (held : List Held) (next : Held) → IsPrintOfNext held self.old next print
-            → IfSome print (λ number. IfSome gap (IsGap held self.old.trie number)) → HasRoomForNext held self.old
-            → IsTable (next ∷ held) self.new }
+            × IfSome gap (IsGap held self.old.trie next) × HasRoomForNext held self.old }
+        ensures { (held : List Held) (next : Held) → IsPrintOfNext held self.old next print → IfSome gap (IsGap held self.old.trie next)
+            → HasRoomForNext held self.old → IsTable (next ∷ held) self.new }
     {
         let Some(print) = print else {
             return;
@@ -147,8 +148,7 @@ impl Table {
         let Some(gap) = gap else {
             return;
         };
-        let bit = has_column(print, gap.place as usize);
-        self.trie.insert(gap.slot, gap.place, bit);
+        self.trie.insert(gap.slot, gap.place, gap.bit);
     }
 
     /// Takes back the newest colouring.
@@ -204,7 +204,8 @@ impl Table {
         requires { IsAwakeTable (all_of colourings.now) self.old }
         ensures table { IsAwakeTable (all_of colourings.now) self.new }
         ensures all { item_count self.new.trie ≡ length self.new.prints.items }
-        ensures gap { IfSome result (IsGap (all_of colourings.now) self.new.trie print) }
+        ensures gap { IfSome result (λ gap. (next : Held) → print_of next.colouring ≡ print
+            → IsGap (all_of colourings.now) self.new.trie next gap) }
     {
         self.link(colourings);
         let key = ColouringKey::new(0, print, 0, colourings.newest());
@@ -217,7 +218,51 @@ impl Table {
         Some(Gap {
             slot: self.trie.opening(&key, from, place),
             place,
+            bit: key.bit(place),
         })
+    }
+
+    /// Where a colouring comes in that goes on with the present stretch; None if the stretch has it. `print` is its print. Puts all
+    /// colourings into the trie first.
+    pub(crate) fn gap_of(&mut self, colourings: &Colourings, board: &Board, print: u64) -> Option<Gap>
+        requires table { IsAwakeTable (all_of colourings.now) self.old }
+        requires side { HaveSide board.now.side colourings.now }
+        requires print { print ≡ print_of board.now }
+        ensures table { IsAwakeTable (all_of colourings.now) self.new }
+        ensures gap { IfSome result (IsGap (all_of colourings.now) self.new.trie (with_next colourings.now board.now false).newest) }
+        ensures has { IfNone result (Contains (present_stretch colourings.now) board.now) }
+    {
+        if let Some(gap) = self.gap(colourings, print) {
+            return Some(gap);
+        }
+        self.gap_by_board(colourings, board, print)
+    }
+
+    /// The same, by all bits of the key: first its hash is worked out. The trie must have all colourings. A run asks this last, if nothing
+    /// before decides positional superko.
+    pub(crate) fn gap_by_board(&self, colourings: &Colourings, board: &Board, print: u64) -> Option<Gap>
+        requires table { IsAwakeTable (all_of colourings.now) self.now }
+        requires all { item_count self.now.trie ≡ length self.now.prints.items }
+        requires side { HaveSide board.now.side colourings.now }
+        requires print { print ≡ print_of board.now }
+        ensures gap { IfSome result (IsGap (all_of colourings.now) self.now.trie (with_next colourings.now board.now false).newest) }
+        ensures has { IfNone result (Contains (present_stretch colourings.now) board.now) }
+    {
+        let key = ColouringKey::new(colourings.stretch_start(), print, hash_of(board), board);
+        let from = self.trie.descend(&key, WIDTH);
+        let near = self.trie.kid(from) as usize;
+        let past = colourings.board_at(near);
+        past.has_all_cells();
+        board.has_all_cells();
+        let past_key = self.key_of(colourings, near, hash_of(&past), &past);
+        match first_difference(&key, &past_key, WIDTH / WORD) {
+            Some(place) => Some(Gap {
+                slot: self.trie.opening(&key, from, place),
+                place,
+                bit: key.bit(place),
+            }),
+            None => None,
+        }
     }
 
     /// Whether the present stretch has this colouring; `print` is its print. All that may have the print are compared one by one: this
@@ -242,44 +287,6 @@ impl Table {
             → print ≡ print_of grid → IsTrue result }
     {
         number >= self.prints.len() || self.prints[number] == print
-    }
-
-    /// The same by the trie, which must have all colourings. A run asks this last, if nothing before decides positional superko. If no
-    /// colouring of the stretch has the print, no hash and no colouring is worked out.
-    pub(crate) fn find(&self, colourings: &Colourings, board: &Board, print: u64) -> bool
-        requires table { IsAwakeTable (all_of colourings.now) self.now }
-        requires all { item_count self.now.trie ≡ length self.now.prints.items }
-        requires side { HaveSide board.now.side colourings.now }
-        requires print { print ≡ print_of board.now }
-        ensures { IsTrue result ↔ Contains (present_stretch colourings.now) board.now }
-    {
-        let start = colourings.stretch_start();
-        let front = ColouringKey::new(start, print, 0, board);
-        let near = self.trie.nearest(&front, FRONT);
-        if near < start || self.prints[near] != print {
-            return false;
-        }
-        self.find_by_hash(colourings, board, print)
-    }
-
-    /// The same, by all bits of the key: first its hash is worked out.
-    fn find_by_hash(&self, colourings: &Colourings, board: &Board, print: u64) -> bool
-        requires table { IsAwakeTable (all_of colourings.now) self.now }
-        requires all { item_count self.now.trie ≡ length self.now.prints.items }
-        requires side { HaveSide board.now.side colourings.now }
-        requires print { print ≡ print_of board.now }
-        ensures { IsTrue result ↔ Contains (present_stretch colourings.now) board.now }
-    {
-        let start = colourings.stretch_start();
-        let key = ColouringKey::new(start, print, hash_of(board), board);
-        let near = self.trie.nearest(&key, WIDTH);
-        if near < start {
-            return false;
-        }
-        let past = colourings.board_at(near);
-        past.has_all_cells();
-        board.has_all_cells();
-        board.same(&past)
     }
 
     /// The front of the key of the colouring with this number, and for its rest a hash and the bits of a board.

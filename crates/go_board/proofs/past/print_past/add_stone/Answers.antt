@@ -4,7 +4,7 @@ use Rattle.board_points.specs.declared.points.Point.{Point}
 use Rattle.go_board.specs.Clearing.{play}
 use Rattle.go_board.specs.Past.{Held, PastColourings, all_of, newest_grid}
 use Rattle.go_board.proofs.RepeatLemmas.{emptied_by_play}
-use Rattle.go_board.proofs.TableLemmas.{few_all, gaps_same, print_same, table_same}
+use Rattle.go_board.proofs.TableLemmas.{few_all, gap_same, print_same, table_same}
 use Rattle.go_board.proofs.past.print_past.add_stone.Goals as goal
 use Rattle.go_board.proofs.past.print_past.add_stone.Goals.{In_ok-reserve-2}
 
@@ -29,7 +29,7 @@ returns-clause-table c =
     rw c.in_ok-add_stone.ensures.ok
     (c.push.ensures held next
     (print_same held c.args.table.now c.reserve-2.new.self (c.reserve-2.ensures.asleep held) (c.reserve-2.ensures.awake held) next c.args.print c.requires.print)
-    (gaps_same held c.args.table.now.trie c.reserve-2.new.self.trie c.args.print c.args.gap c.reserve-2.ensures.trie c.requires.gap)
+    (gap_same held c.args.table.now.trie c.reserve-2.new.self.trie next c.args.gap c.reserve-2.ensures.trie c.requires.gap)
     (c.in_ok-reserve-2.ensures.ok held c.len-number.ensures))
 
 pub add_stone-requires-clause-few : goal.add_stone-requires-clause-few
@@ -45,7 +45,7 @@ push-requires c =
         held,
         next,
         print_same held c.args.table.now c.reserve-2.new.self (c.reserve-2.ensures.asleep held) (c.reserve-2.ensures.awake held) next c.args.print c.requires.print,
-        gaps_same held c.args.table.now.trie c.reserve-2.new.self.trie c.args.print c.args.gap c.reserve-2.ensures.trie c.requires.gap,
+        gap_same held c.args.table.now.trie c.reserve-2.new.self.trie next c.args.gap c.reserve-2.ensures.trie c.requires.gap,
         c.in_ok-reserve-2.ensures.ok held c.len-number.ensures,
       );
     }

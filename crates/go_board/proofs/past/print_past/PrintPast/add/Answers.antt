@@ -7,7 +7,7 @@ use Rattle.go_board.specs.Grid.{Grid, cell_at}
 use Rattle.go_board.specs.Past.{Held, all_of}
 use Rattle.go_board.specs.inner.Table.{IsPrintOfNext}
 use Rattle.board_points.specs.Rows.{is_set}
-use Rattle.go_board.proofs.TableLemmas.{few_all, no_gap, print_same, table_same}
+use Rattle.go_board.proofs.TableLemmas.{few_all, print_same, table_same}
 use Rattle.go_board.proofs.past.print_past.PrintPast.add.Goals as goal
 use Rattle.go_board.proofs.past.print_past.PrintPast.add.Goals.{After-add_stones, then-is_awake, else-is_awake}
 
@@ -49,7 +49,7 @@ pub push-requires : goal.push-requires
 push-requires c =
     let held = all_of c.self.inside.colourings in
     let w = (goal.at.push-requires c).After-add_stones in
-    record { table = (held, next_of w, print_same held c.self.inside.table c.reserve-2.new.self (c.reserve-2.ensures.asleep held) (c.reserve-2.ensures.awake held) (next_of w) c.if-is_awake.print (given w), no_gap held c.reserve-2.new.self.trie c.if-is_awake.print, c.in_ok-reserve-2.ensures.ok held c.len-number.ensures) }
+    record { table = (held, next_of w, print_same held c.self.inside.table c.reserve-2.new.self (c.reserve-2.ensures.asleep held) (c.reserve-2.ensures.awake held) (next_of w) c.if-is_awake.print (given w), tt, c.in_ok-reserve-2.ensures.ok held c.len-number.ensures) }
 
 pub invariant_of-self-2 : goal.invariant_of-self-2
 invariant_of-self-2 c =
@@ -59,6 +59,6 @@ invariant_of-self-2 c =
     let next = next_of w in
     let stones = subst (λ (g : Grid). (q : Point) → IsOn g.side q → cell_at g q ≢ Empty → is_set c.add_stones.new.all q ≡ true) c.newest.ensures c.add_stones.ensures.stones in
     rw c.in_ok-add.ensures.ok (record {
-      tabled = c.push.ensures held next (print_same held c.self.inside.table c.reserve-2.new.self (c.reserve-2.ensures.asleep held) (c.reserve-2.ensures.awake held) next c.if-is_awake.print (given w)) (no_gap held c.reserve-2.new.self.trie c.if-is_awake.print) (c.in_ok-reserve-2.ensures.ok held c.len-number.ensures);
+      tabled = c.push.ensures held next (print_same held c.self.inside.table c.reserve-2.new.self (c.reserve-2.ensures.asleep held) (c.reserve-2.ensures.awake held) next c.if-is_awake.print (given w)) tt (c.in_ok-reserve-2.ensures.ok held c.len-number.ensures);
       emptied_in = c.add-2.ensures.emptied next was.newest was.older (c.reserve.ensures.emptied held c.self.invariant.emptied_in) c.len-number.ensures (λ goes_on q on some free. stones q on some);
     })

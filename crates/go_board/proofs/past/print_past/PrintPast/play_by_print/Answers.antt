@@ -1,14 +1,18 @@
-use Rattle.std.proofs.Common.{◌≡◌, ◌∙◌, Contains, false, inr, refl, ap, sym, subst}
+use Rattle.std.proofs.Common.{◌≡◌, ◌∙◌, Contains, IfSome, IsSome, Option, None, Some, false, not, inr, refl, ap, sym, subst}
 use Rattle.std.proofs.lemmas.Bool.{false≢true}
+use Rattle.go_board.specs.declared.past.print_past.table.Gap.{Gap}
+use Rattle.go_board.specs.declared.stones.Colour.{Colour}
+use Rattle.board_points.specs.declared.points.Point.{Point}
 use Rattle.go_board.specs.Grid.{Grid}
 use Rattle.go_board.specs.Clearing.{play}
 use Rattle.go_board.specs.Past.{PastColourings, all_of, newest_grid, present_stretch, with_next}
 use Rattle.go_board.specs.inner.Print.{print_of}
-use Rattle.go_board.specs.inner.Table.{IsAwakeTable}
+use Rattle.go_board.specs.inner.Table.{IsAwakeTable, IsGap}
+use Rattle.key_trie.specs.declared.trie.Trie.{Trie}
 use Rattle.go_board.proofs.RepeatLemmas.{played_new, played_refused}
-use Rattle.go_board.proofs.TableLemmas.{gap_found}
+use Rattle.go_board.proofs.TableLemmas.{gap_never}
 use Rattle.go_board.proofs.past.print_past.PrintPast.play_by_print.Goals as goal
-use Rattle.go_board.proofs.past.print_past.PrintPast.play_by_print.Goals.{Joined-may_have, then-may_have+else-has_near+else-has_made, else-may_have}
+use Rattle.go_board.proofs.past.print_past.PrintPast.play_by_print.Goals.{Joined-may_have, then-may_have+else-has_near+else-is_none, else-may_have}
 
 pub invariant_of-self : goal.invariant_of-self
 invariant_of-self c = record { tabled = inr (c.may_have.ensures.table (all_of c.self.inside.colourings) c.wake.ensures); emptied_in = c.self.invariant.emptied_in }
@@ -16,24 +20,34 @@ invariant_of-self c = record { tabled = inr (c.may_have.ensures.table (all_of c.
 pub invariant_of-self-then-has_near : goal.invariant_of-self-then-has_near
 invariant_of-self-then-has_near c = record { tabled = inr (c.may_have.ensures.table (all_of c.self.inside.colourings) c.wake.ensures); emptied_in = c.self.invariant.emptied_in }
 
-pub gap-gap-requires : goal.gap-gap-requires
-gap-gap-requires c = c.may_have.ensures.table (all_of c.self.inside.colourings) c.wake.ensures
+pub gap_of_stone-gap-requires-clause-table : goal.gap_of_stone-gap-requires-clause-table
+gap_of_stone-gap-requires-clause-table c = c.may_have.ensures.table (all_of c.self.inside.colourings) c.wake.ensures
 
-pub has_made-requires-clause-lacks : goal.has_made-requires-clause-lacks
-has_made-requires-clause-lacks c = gap_found (all_of c.self.inside.colourings) c.gap-gap.new.self.trie c.print_after_taking-print.result c.gap-gap.result c.gap-gap.ensures.gap
+-- a stone whose colouring has a gap brings no colouring back
+gap_some : (was past : PastColourings) (k : Colour) (p : Point) (trie : Trie) (gap : Option Gap) → was ≡ past → IsSome gap → IfSome gap (IsGap (all_of was) trie (with_next was (play (newest_grid was) k p) false).newest)
+    → ¬ Contains (present_stretch past) (play (newest_grid past) k p)
+gap_some was past k p trie None same some is = absurd (false≢true some)
+gap_some was past k p trie (Some gap) same some is = gap_never was past k p trie gap same is
 
 module _ (c : Joined-may_have) where
   -- the colourings stay, and the table is awake
   pub kept : c.if-may_have.self-inside.colourings ≡ c.self.inside.colourings
   kept = elim c.if-may_have.branch [
-    | then-may_have+else-has_near+else-has_made w ↦ rw w.self-inside-is refl
+    | then-may_have+else-has_near+else-is_none w ↦ rw w.self-inside-is refl
     | else-may_have w ↦ rw w.self-inside-is refl
   ]
 
   pub awake : IsAwakeTable (all_of c.if-may_have.self-inside.colourings) c.if-may_have.self-inside.table
   awake = elim c.if-may_have.branch [
-    | then-may_have+else-has_near+else-has_made w ↦ rw w.self-inside-is w.gap-gap.ensures.table
+    | then-may_have+else-has_near+else-is_none w ↦ rw w.self-inside-is w.gap_of_stone-gap.ensures.table
     | else-may_have w ↦ rw w.self-inside-is (c.may_have.ensures.table (all_of c.self.inside.colourings) c.wake.ensures)
+  ]
+
+  pub gapped : IfSome c.if-may_have.gap (IsGap (all_of c.if-may_have.self-inside.colourings) c.if-may_have.self-inside.table.trie
+      (with_next c.if-may_have.self-inside.colourings (play (newest_grid c.if-may_have.self-inside.colourings) c.args.colour c.args.point) false).newest)
+  gapped = elim c.if-may_have.branch [
+    | then-may_have+else-has_near+else-is_none w ↦ rw (w.self-inside-is, w.gap-is) w.gap_of_stone-gap.ensures.gap
+    | else-may_have w ↦ rw w.gap-is tt
   ]
 
   pub printed : c.print_after_taking-print.result ≡ print_of (play (newest_grid c.self.inside.colourings) c.args.colour c.args.point)
@@ -43,10 +57,13 @@ module _ (c : Joined-may_have) where
   pub never : Contains (present_stretch c.args.self.now) (play (newest_grid c.args.self.now) c.args.colour c.args.point) → ⊥
   never has =
       let inside = c.self.inside.colourings in
-      let there = subst (λ (past : PastColourings). Contains (present_stretch past) (play (newest_grid past) c.args.colour c.args.point)) (sym c.self.view_is) has in
       elim c.if-may_have.branch [
-        | then-may_have+else-has_near+else-has_made w ↦ false≢true (sym w.if-has_made.false ∙ w.has_made.ensures.1 there)
-        | else-may_have w ↦ c.may_have.ensures.lacks (all_of inside) (play (newest_grid inside) c.args.colour c.args.point) c.wake.ensures w.if-may_have.false printed there
+        | then-may_have+else-has_near+else-is_none w ↦
+            gap_some inside c.args.self.now c.args.colour c.args.point w.gap_of_stone-gap.new.table.trie w.gap_of_stone-gap.result c.self.view_is
+            (w.is_none.ensures ∙ ap not w.if-is_none.false) w.gap_of_stone-gap.ensures.gap has
+        | else-may_have w ↦
+            let there = subst (λ (past : PastColourings). Contains (present_stretch past) (play (newest_grid past) c.args.colour c.args.point)) (sym c.self.view_is) has in
+            c.may_have.ensures.lacks (all_of inside) (play (newest_grid inside) c.args.colour c.args.point) c.wake.ensures w.if-may_have.false printed there
       ]
 
 pub add_stone-requires-clause-table : goal.add_stone-requires-clause-table
@@ -59,6 +76,9 @@ add_stone-requires-clause-print c =
       awake = (awake w, rw (kept w) (printed w));
       asleep = tt;
     }
+
+pub add_stone-requires-clause-gap : goal.add_stone-requires-clause-gap
+add_stone-requires-clause-gap c = gapped (goal.at.add_stone-requires-clause-gap c).Joined-may_have
 
 pub returns-in_err-add_stone : goal.returns-in_err-add_stone
 returns-in_err-add_stone c =

@@ -1,27 +1,42 @@
-use Rattle.std.proofs.Common.{◌≡◌, Contains, false, ap, sym, subst, ◌∙◌}
-use Rattle.std.proofs.lemmas.Bool.{false≢true}
+use Rattle.std.proofs.Common.{◌≡◌, Contains, Ok, false, true, ap, sym, subst, ◌∙◌}
+use Rattle.go_board.specs.declared.fault.MemoryFault.{MemoryFault}
+use Rattle.go_board.specs.declared.past.print_past.table.Gap.{Gap}
 use Rattle.go_board.specs.Grid.{Grid}
 use Rattle.go_board.specs.Clearing.{has_unreaching, play}
-use Rattle.go_board.specs.Past.{PastColourings, newest_grid, present_stretch, IsPlayed}
-use Rattle.go_board.proofs.RepeatLemmas.{played_refused}
+use Rattle.go_board.specs.Past.{PastColourings, all_of, newest_grid, present_stretch, with_next, IsPlayed}
+use Rattle.go_board.specs.inner.Table.{IsGap}
+use Rattle.go_board.proofs.RepeatLemmas.{played_new, played_refused}
+use Rattle.go_board.proofs.TableLemmas.{gap_lacks}
 use Rattle.go_board.proofs.SettledLemmas.{settled_by_play}
 use Rattle.go_board.proofs.past.print_past.PrintPast.play_on_copy.Goals as goal
-use Rattle.go_board.proofs.past.print_past.PrintPast.play_on_copy.Goals.{After-find}
+use Rattle.go_board.proofs.past.print_past.PrintPast.play_on_copy.Goals.{After-gap_of}
 
 pub restore-requires : goal.restore-requires
 restore-requires c = λ _. ap has_unreaching c.place.ensures.value ∙ settled_by_play c.copy-made.result c.args.colour c.args.point
 
-module _ (c : After-find) where
+module _ (c : After-gap_of) where
   pub made : c.restore.new.self ≡ play (newest_grid c.self.inside.colourings) c.args.colour c.args.point
   made =
       c.restore.ensures ∙ c.place.ensures.value
       ∙ ap (λ (g : Grid). play g c.args.colour c.args.point) (c.copy-made.ensures ∙ c.newest.ensures ∙ ap (λ (past : PastColourings). newest_grid past) (sym c.self.view_is))
 
-  pub never : c.find.result ≡ false → Contains (present_stretch c.self.inside.colourings) (play (newest_grid c.self.inside.colourings) c.args.colour c.args.point) → ⊥
-  never none has = false≢true (sym none ∙ c.find.ensures.1 (subst (λ (g : Grid). Contains (present_stretch c.self.inside.colourings) g) (sym made) has))
+  -- the stone brings no colouring back
+  pub never : (gap : Gap) → IsGap (all_of c.self.inside.colourings) c.gap_of.new.self.trie (with_next c.self.inside.colourings c.restore.new.self false).newest gap
+      → ¬ Contains (present_stretch c.self.inside.colourings) (play (newest_grid c.self.inside.colourings) c.args.colour c.args.point)
+  never gap is =
+      let was = c.self.inside.colourings in
+      gap_lacks (all_of was) c.gap_of.new.self.trie (play (newest_grid was) c.args.colour c.args.point) gap
+      (subst (λ (g : Grid). IsGap (all_of was) c.gap_of.new.self.trie (with_next was g false).newest gap) made is)
 
 pub returns-in_err-add : goal.returns-in_err-add
 returns-in_err-add c =
     let was = c.self.inside.colourings in
     subst (λ (past : PastColourings). IsPlayed c.args.colour c.args.point past c.add.new.self c.from_residual.result) c.self.view_is
-    (played_refused c.args.colour c.args.point was c.add.new.self c.from_residual.result c.from_residual.ensures.0 (never (goal.at.returns-in_err-add c).After-find c.if-find.false) c.in_err-add.ensures.err)
+    (played_refused c.args.colour c.args.point was c.add.new.self c.from_residual.result c.from_residual.ensures.0 (never (goal.at.returns-in_err-add c).After-gap_of c.in-Some._gap c.in-Some.ensures.gap) c.in_err-add.ensures.err)
+
+pub returns : goal.returns
+returns c =
+    let w = (goal.at.returns c).After-gap_of in
+    let was = c.self.inside.colourings in
+    subst (λ (past : PastColourings). IsPlayed {E = MemoryFault} c.args.colour c.args.point past c.add.new.self (Ok true)) c.self.view_is
+    (played_new c.args.colour c.args.point was c.add.new.self (never w c.in-Some._gap c.in-Some.ensures.gap) (c.in_ok-add.ensures.ok ∙ ap (λ (g : Grid). with_next was g false) (made w)))

@@ -37,13 +37,14 @@ returns-clause-gap c =
     let positive : 0 < xor = elim (cases_lt 0 xor) [ inl more ↦ more | inr none ↦ absurd (c.if-apart-eq0.false (omega (arith, none))) ] in
     let lowest = bit_at-trailing_zeros w64 xor positive small in
     let place = trailing_zeros w64 xor in
+    λ next same.
+    let parts = gap_parts held t is next c.args.print near place c.newest.result.now key same count c.new-key.ensures (found next) lowest.0
+    (λ p h. ap (λ n. bit_at (bit_xor c.args.print n) p) (sym print) ∙ lowest.2 p h) (ap (λ n. bit_at (bit_xor c.args.print n) place) (sym print) ∙ lowest.1) in
     record {
       all = count;
-      low = lowest.0;
-      opens = λ next same.
-          let parts = gap_parts held t is next c.args.print near place c.newest.result.now key same count c.new-key.ensures (found next) lowest.0
-          (λ p h. ap (λ n. bit_at (bit_xor c.args.print n) p) (sym print) ∙ lowest.2 p h) (ap (λ n. bit_at (bit_xor c.args.print n) place) (sym print) ∙ lowest.1) in
-          c.opening.ensures.opening WIDTH (keys_of (next ∷ held)) (keys_of (next ∷ held) (length held)) 64 (linked next) (walk next) lowest.0 parts.0 parts.1;
+      within = omega (arith, lowest.0);
+      opens = c.opening.ensures.opening WIDTH (keys_of (next ∷ held)) (keys_of (next ∷ held) (length held)) 64 (linked next) (walk next) lowest.0 parts.0 parts.1;
+      bit = sym (c.bit.ensures ∙ parts.0.each place (omega arith));
     }
 
 -- these two are only there for speed

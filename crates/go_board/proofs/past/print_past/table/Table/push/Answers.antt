@@ -2,9 +2,8 @@ use Rattle.std.proofs.Common.{◌≡◌, ◌∷◌, inl, inr, length, refl, subs
 use Rattle.go_board.specs.declared.past.print_past.key.TheConstants.{WIDTH}
 use Rattle.go_board.specs.declared.past.print_past.table.Table.{Table}
 use Rattle.go_board.specs.inner.Key.{keys_of}
-use Rattle.board_points.specs.Rows.{has_bit}
 use Rattle.key_trie.specs.Trie.{IsOpening}
-use Rattle.go_board.proofs.TableLemmas.{keys-print, linked_before, tabled, tabled_more, asleep_more}
+use Rattle.go_board.proofs.TableLemmas.{linked_before, tabled, tabled_more, asleep_more}
 use Rattle.go_board.proofs.past.print_past.table.Table.push.Goals as goal
 
 pub returns-in_default : goal.returns-in_default
@@ -24,12 +23,10 @@ returns c = λ held next given some room.
     let t = c.args.self.now in
     let awake = rw c.in-Some.is at given.awake in
     let is = awake.0 in
-    let gap = rw (c.in-Some.is, c.in-Some-gap.is) at some in
-    let print = c.in-Some.print in
+    let gap = rw c.in-Some-gap.is at some in
     let keys = keys_of (next ∷ held) in
     let after : Table = record t { prints = c.push_reserved.new.self; trie = c.insert.new.self } in
-    let bit : keys (length held) c.in-Some-gap.gap.place ≡ has_bit print c.in-Some-gap.gap.place = keys-print next held print c.in-Some-gap.gap.place (sym awake.1) gap.low in
-    let trie = c.insert.ensures.trie WIDTH keys (linked_before next held t.trie (omega (arith, gap.all)) is.linked) (omega (arith, gap.low)) (subst (λ m. IsOpening keys t.trie (keys m) c.in-Some-gap.gap.slot c.in-Some-gap.gap.place) (sym gap.all) (gap.opens next (sym awake.1)))
-    (subst (λ m. keys m c.in-Some-gap.gap.place ≡ has_bit print c.in-Some-gap.gap.place) (sym gap.all) bit ∙ sym c.has_column-bit.ensures) in
-    inr (tabled_more held t after next print is awake.1 c.push_reserved.ensures.items refl (omega (arith, room.trie, c.insert.ensures.room, tabled held t is)) (omega (arith, is.most, c.insert.ensures.room))
+    let trie = c.insert.ensures.trie WIDTH keys (linked_before next held t.trie (omega (arith, gap.all)) is.linked) gap.within (subst (λ m. IsOpening keys t.trie (keys m) c.in-Some-gap.gap.slot c.in-Some-gap.gap.place) (sym gap.all) gap.opens)
+    (subst (λ m. keys m c.in-Some-gap.gap.place ≡ c.in-Some-gap.gap.bit) (sym gap.all) gap.bit) in
+    inr (tabled_more held t after next c.in-Some.print is awake.1 c.push_reserved.ensures.items refl (omega (arith, room.trie, c.insert.ensures.room, tabled held t is)) (omega (arith, is.most, c.insert.ensures.room))
     (omega (arith, c.insert.ensures.more, gap.all, tabled held t is)) trie)
