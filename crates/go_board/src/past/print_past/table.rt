@@ -1,11 +1,11 @@
 //! The table by which colourings are looked up.
 //!
 //! A look-up walks down a trie of keys (see `key`, and the crate `key_trie`) by the bits of the colouring that is looked up. It ends at one
-//! past colouring, and compares with that one alone: first the start of the stretch and the print. If these are equal, a second walk goes
-//! on by the hash, and all points are compared at its end. So a look-up costs at most two walks, one hash, and one past colouring worked
-//! out, whatever was played before. `gap`, which comes before it, takes at most two walks by the bits of the print.
-//! To put a colouring into the trie costs at most two colourings worked out, its own and that at the end of its walk, and their hashes, and
-//! this only if they have the same print and the same stretch. To take one out is one step.
+//! past colouring, and compares with that one alone: first by the print (`gap`). Only if a past colouring has the print, another walk goes on
+//! by the start of the stretch and the hash, and the two keys are compared to their ends (`gap_by_board`). So a look-up costs at most four
+//! walks, two hashes, and one past colouring worked out, whatever was played before. It also tells where the new colouring comes in.
+//! To put a colouring into the trie that wasn't looked up costs at most two colourings worked out, its own and that at the end of its walk,
+//! and their hashes, and this only if they have the same print and the same stretch. To take one out is one step.
 //!
 //! A walk passes a node at each place of the key where past colourings part from the one that is looked up. It passes at most 64 in the
 //! print, and 26 in the start of the stretch: that is below 2^26, since no input has more bytes. Colourings of one print and one stretch part
@@ -224,7 +224,12 @@ impl Table {
 
     /// Where a colouring comes in that goes on with the present stretch; None if the stretch has it. `print` is its print. Puts all
     /// colourings into the trie first.
-    pub(crate) fn gap_of(&mut self, colourings: &Colourings, board: &Board, print: u64) -> Option<Gap>
+    pub(crate) fn gap_of(
+        &mut self,
+        colourings: &Colourings,
+        board: &Board,
+        print: u64,
+    ) -> Option<Gap>
         requires table { IsAwakeTable (all_of colourings.now) self.old }
         requires side { HaveSide board.now.side colourings.now }
         requires print { print ≡ print_of board.now }
@@ -240,7 +245,12 @@ impl Table {
 
     /// The same, by all bits of the key: first its hash is worked out. The trie must have all colourings. A run asks this last, if nothing
     /// before decides positional superko.
-    pub(crate) fn gap_by_board(&self, colourings: &Colourings, board: &Board, print: u64) -> Option<Gap>
+    pub(crate) fn gap_by_board(
+        &self,
+        colourings: &Colourings,
+        board: &Board,
+        print: u64,
+    ) -> Option<Gap>
         requires table { IsAwakeTable (all_of colourings.now) self.now }
         requires all { item_count self.now.trie ≡ length self.now.prints.items }
         requires side { HaveSide board.now.side colourings.now }

@@ -1,13 +1,12 @@
-use Rattle.std.proofs.Common.{◌≡◌, ℕ, Bool, false, ◌<◌, ◌^◌, ◌∷◌, length, ap, subst, sym, ◌∙◌, arith}
+use Rattle.std.proofs.Common.{◌≡◌, ℕ, Bool, false, ◌<◌, ◌∷◌, length, ap, subst, sym, ◌∙◌, arith}
 use Rattle.go_board.specs.declared.past.print_past.key.TheConstants.{WIDTH}
 use Rattle.go_board.specs.Past.{Held, all_of}
-use Rattle.go_board.specs.inner.Hash.{hash_of}
 use Rattle.go_board.specs.inner.Key.{bits_of, key_bits, keys_of, start_of}
 use Rattle.go_board.specs.inner.Print.{print_of}
 use Rattle.key_trie.specs.Key.{Agree}
 use Rattle.key_trie.specs.Trie.{item_count, kid_at, IsNearest, IsTrie, IsWayTo}
 use Rattle.go_board.proofs.TableLemmas.{keys-next, keys-older, linked_before, repeats, side-number, tabled}
-use Rattle.key_trie.proofs.TrieLemmas.{agree_on, agree_self, parts_as, way_nearest}
+use Rattle.key_trie.proofs.TrieLemmas.{agree_self, parts_as, way_nearest}
 use Rattle.go_board.proofs.past.print_past.table.Table.gap_by_board.Goals as goal
 use Rattle.go_board.proofs.past.print_past.table.Table.gap_by_board.Goals.{After-key_of-past_key}
 
