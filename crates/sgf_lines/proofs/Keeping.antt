@@ -1,5 +1,5 @@
 -- What is held of a line is kept of the next one, as far as it begins alike.
-use Rattle.std.proofs.Common.{◌≡◌, ℕ, suc, ◌+◌, ◌-◌, ◌<◌, ◌≤◌, List, [], ◌∷◌, length, take, map, slice_get, Option, Some, refl, sym, ap, subst, ◌∙◌, arith, add-one, length-append, rules}
+use Rattle.std.proofs.Common.{◌≡◌, ℕ, suc, ◌+◌, ◌-◌, ◌<◌, ◌≤◌, List, [], ◌∷◌, length, take, map, slice_get, Option, Some, refl, sym, ap, subst, inl, inr, ◌∙◌, arith, add-one, length-append, rules}
 use Rattle.std.proofs.lemmas.Grind.{common_steps}
 use Rattle.std.proofs.lemmas.List.{take-map, take_all, length-take-le}
 use Rattle.std.proofs.lemmas.List.FromFn.{length-range_with_len}
@@ -14,7 +14,7 @@ use Rattle.sgf_lines.specs.inner.Judging.{Judgement, back}
 use Rattle.sgf_lines.specs.inner.Pieces.{PiecesState, cut}
 use Rattle.sgf_lines.specs.inner.Recording.{open_record, whole_record}
 use Rattle.tree_lines.specs.Following.{Continues, line_in, line_before, nodes_before, path_before}
-use Rattle.sgf_lines.specs.inner.Keeping.{judging_front, taken_front, KeepsJudgement, HoldsJudgement, KeepsTaken, HoldsTaken}
+use Rattle.sgf_lines.specs.inner.Keeping.{judging_front, taken_front, HoldsJudgement, HoldsTaken}
 use Rattle.tree_lines.specs.Sequences.{SequencesState, RiseTo, SharesFront}
 use Rattle.sgf_lines.specs.inner.Fronts.{sequences_before, HasFront}
 use Rattle.sgf_lines.specs.inner.GoingOn.{IsHeldOf}
@@ -23,6 +23,15 @@ use Rattle.tree_lines.proofs.Fronts.{end_of, alike, front_kept}
 use Rattle.sgf_lines.proofs.Judgements.{judging_back, taken_cut}
 use Rattle.tree_lines.proofs.LineNodes.{named_in, as_long}
 use Rattle.sgf_lines.proofs.Recordings.{record_back}
+
+-- a judgement can be cut back to the first `count` of a line's nodes; if `count` is 0, nothing is known
+abbrev pub KeepsJudgement : List Node → ℕ → Judgement → Type 0
+KeepsJudgement nodes count judgement = 0 < count → back count judgement ≡ judging_front nodes count
+
+-- taken nodes are kept that begin with those of a line's first `count` nodes; if `count` is 0, nothing is known
+abbrev pub KeepsTaken : (GameKind → List TakenNode → Type 0) → List Node → ℕ → Type 0
+KeepsTaken keeps nodes count =
+    0 < count → (taken : List TakenNode) × keeps (game_kind (root_properties nodes)) taken × (take count taken ≡ taken_front nodes count)
 
 some_inj : (xs ys : List Node) → map Some xs ≡ map Some ys → xs ≡ ys
 some_inj [] [] e = refl
@@ -87,6 +96,11 @@ module _ (old new : CursorState) (shared : ℕ) (moved : new ≡ advanced old) (
 -- the front that a line shares with the line before it
 pub has_front : (old new : SequencesState) (shared : Front) → SharesFront old new shared → HasFront new.ends shared
 has_front old new shared h = grind (arith, common_steps)
+
+-- a part of what is held of a line
+pub held_part : (holds part : SequencesState → Type 0) (cursor : SequencesState) (front : Front) → ((old : SequencesState) → holds old → part old) → IsHeldOf holds cursor front → IsHeldOf part cursor front
+held_part holds part cursor front of (inl none) = inl none
+held_part holds part cursor front of (inr h) = inr (h.0, of h.0 h.1, h.2, h.3)
 
 module _ (holds : SequencesState → Type 0) (cursor : SequencesState) (front : Front) (held : IsHeldOf holds cursor front) where
   -- some nodes are held, of the line before

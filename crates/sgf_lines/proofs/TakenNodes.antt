@@ -11,9 +11,10 @@ use Rattle.sgf_lines.specs.JudgedGames.{GameKind, not_go, bad_size, board, game_
 use Rattle.sgf_lines.specs.Step.{step}
 use Rattle.sgf_lines.specs.Walk.{TakenNode, taken_on}
 use Rattle.sgf_lines.specs.inner.Judging.{Judgement, IsSettled, unjudged, judged, side_in, judging, begun_game, after, stepped, state_after, taken_by, board_in, IsStepOf, IsStepTaken, IsTakenFrom}
-use Rattle.sgf_lines.specs.inner.Keeping.{judging_front, taken_front, KeepsTaken}
+use Rattle.sgf_lines.specs.inner.Keeping.{judging_front, taken_front}
 use Rattle.sgf_lines.proofs.Steps.{side-step}
 use Rattle.tree_lines.proofs.Lists.{front_more}
+use Rattle.sgf_lines.proofs.Keeping.{KeepsTaken}
 use Rattle.sgf_lines.proofs.Judgements.{judging_more, settled_none, settled_more, unjudged_stays, taken_more, taken_only, board_after}
 
 -- no more nodes are taken once the verdict is known

@@ -1,13 +1,13 @@
 -- What is kept of the line before a cursor: its judgement, its taken nodes, its record. How many nodes are played for it.
-use Rattle.std.specs.Prelude.{◌≡◌, ℕ, ◌+◌, ◌-◌, ◌<◌, ◌≤◌, List, length, take, Some, option_map, Result, OnOk}
+use Rattle.std.specs.Prelude.{◌≡◌, ℕ, ◌+◌, ◌-◌, ◌≤◌, List, length, take, Some, option_map, Result, OnOk}
 use Rattle.sgf_tree.specs.Tree.{Node}
 use Rattle.sgf_lines.specs.JudgedGames.{GameKind, game_kind, root_properties}
 use Rattle.sgf_lines.specs.Record.{record_of}
 use Rattle.sgf_lines.specs.Verdict.{judged_on}
 use Rattle.sgf_lines.specs.Walk.{TakenNode, taken_on}
 use Rattle.sgf_lines.specs.declared.options.Form.{Form}
-use Rattle.sgf_lines.specs.inner.Judging.{Judgement, judging, back}
-use Rattle.tree_lines.specs.Following.{line_before}
+use Rattle.sgf_lines.specs.inner.Judging.{Judgement, judging}
+use Rattle.tree_lines.specs.Following.{line_before, nodes_before}
 use Rattle.tree_lines.specs.Sequences.{SequencesState}
 
 -- the judgement on a line after its first nodes, and the taken ones of them
@@ -17,15 +17,6 @@ judging_front nodes count = judging (game_kind (root_properties nodes)) (take co
 abbrev pub taken_front : List Node → ℕ → List TakenNode
 taken_front nodes count = taken_on (game_kind (root_properties nodes)) (take count nodes)
 
--- a judgement can be cut back to the first `count` of a line's nodes; if `count` is 0, nothing is known
-abbrev pub KeepsJudgement : List Node → ℕ → Judgement → Type 0
-KeepsJudgement nodes count judgement = 0 < count → back count judgement ≡ judging_front nodes count
-
--- taken nodes are kept that begin with those of a line's first `count` nodes; if `count` is 0, nothing is known
-abbrev pub KeepsTaken : (GameKind → List TakenNode → Type 0) → List Node → ℕ → Type 0
-KeepsTaken keeps nodes count =
-    0 < count → (taken : List TakenNode) × keeps (game_kind (root_properties nodes)) taken × (take count taken ≡ taken_front nodes count)
-
 -- the judgement is that on a line with these nodes
 abbrev pub HoldsJudgement : List Node → Judgement → Type 0
 HoldsJudgement nodes judgement = judgement ≡ judging_front nodes (length nodes)
@@ -33,6 +24,10 @@ HoldsJudgement nodes judgement = judgement ≡ judging_front nodes (length nodes
 -- the taken nodes of a line with these nodes are held
 abbrev pub HoldsTaken : (GameKind → List TakenNode → Type 0) → List Node → Type 0
 HoldsTaken holds nodes = holds (game_kind (root_properties nodes)) (taken_on (game_kind (root_properties nodes)) nodes)
+
+-- the judgement and the taken nodes of the line before a cursor are held
+abbrev pub HoldsLine : (GameKind → List TakenNode → Type 0) → Judgement → SequencesState → Type 0
+HoldsLine holds judgement cursor = HoldsJudgement (nodes_before cursor.at) judgement × HoldsTaken holds (nodes_before cursor.at)
 
 -- a text is the record of the line before a cursor
 abbrev pub IsRecord : Form → SequencesState → List ℕ → Type 0

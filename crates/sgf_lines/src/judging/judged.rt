@@ -5,8 +5,9 @@ ghost use Rattle.tree_lines.specs.Following.{nodes_before};
 ghost use Rattle.sgf_lines.specs.JudgedGames.{GameKind};
 ghost use Rattle.sgf_lines.specs.Walk.{TakenNode};
 ghost use Rattle.sgf_lines.specs.inner.Fronts.{HasFront};
+ghost use Rattle.sgf_lines.specs.inner.GoingOn.{IsHeldOf};
 ghost use Rattle.sgf_lines.specs.inner.Judging.{IsStepTaken, begun_game, board_in};
-ghost use Rattle.sgf_lines.specs.inner.Keeping.{HoldsJudgement, HoldsTaken, KeepsJudgement, KeepsTaken, PlaysUpTo, fresh_plays};
+ghost use Rattle.sgf_lines.specs.inner.Keeping.{HoldsJudgement, HoldsLine, HoldsTaken, PlaysUpTo, fresh_plays};
 
 use crate::judging::judge::Judge;
 use crate::judging::step::TakenStep;
@@ -63,8 +64,7 @@ pub(crate) fn judge_line<K: StepKeeper>(
     keeper: &mut K,
 ) -> Result<(), MemoryFault>
     requires front { HasFront cursor.now.ends held }
-    requires judged { KeepsJudgement (nodes_before cursor.now.at) held.nodes judge.old.judgement }
-    requires told { KeepsTaken (K.keeps keeper.old) (nodes_before cursor.now.at) held.nodes }
+    requires held { IsHeldOf (HoldsLine (K.keeps keeper.old) judge.old.judgement) cursor.now held }
     requires countable { judge.old.plays + length (nodes_before cursor.now.at) < u64.MAX }
     ensures judged { OnOk result (HoldsJudgement (nodes_before cursor.now.at) judge.new.judgement) }
     ensures told { OnOk result (HoldsTaken (K.tells keeper.new) (nodes_before cursor.now.at)) }

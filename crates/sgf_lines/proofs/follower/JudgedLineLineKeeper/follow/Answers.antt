@@ -1,12 +1,10 @@
 -- The judgement on the line before is kept as far as this line begins alike.
-use Rattle.sgf_lines.proofs.Keeping.{judgement_kept, taken_kept}
+use Rattle.sgf_lines.specs.inner.Keeping.{HoldsLine}
+use Rattle.sgf_lines.proofs.Keeping.{held_part}
 use Rattle.sgf_lines.proofs.follower.JudgedLineLineKeeper.follow.Goals as goal
 
-pub judge_line-requires-clause-judged : goal.judge_line-requires-clause-judged
-judge_line-requires-clause-judged c = judgement_kept _ c.args.cursor.now c.args.held c.requires.held c.args.self.now.judge.judgement (λ old h. h.0)
-
-pub judge_line-requires-clause-told : goal.judge_line-requires-clause-told
-judge_line-requires-clause-told c = taken_kept _ c.args.cursor.now c.args.held c.requires.held (λ kind taken. Unit {0}) (λ old h. tt)
+pub judge_line-requires-clause-held : goal.judge_line-requires-clause-held
+judge_line-requires-clause-held c = held_part _ (HoldsLine (λ kind taken. Unit {0}) c.args.self.now.judge.judgement) c.args.cursor.now c.args.held (λ old h. (h.0, tt)) c.requires.held
 
 pub judge_line-requires-clause-front : goal.judge_line-requires-clause-front
 judge_line-requires-clause-front c = c.requires.front

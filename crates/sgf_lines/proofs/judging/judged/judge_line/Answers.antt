@@ -9,6 +9,7 @@ use Rattle.sgf_lines.specs.JudgedGames.{GameKind, game_kind, root_properties}
 use Rattle.sgf_lines.specs.inner.Keeping.{judging_front, taken_front}
 use Rattle.tree_lines.proofs.Fronts.{rises_through}
 use Rattle.sgf_lines.proofs.JudgedLines.{begun_front, judges_begun, judges_on, all_whole, settled_whole, finish, stopped}
+use Rattle.sgf_lines.proofs.Keeping.{judgement_kept, taken_kept}
 use Rattle.sgf_lines.proofs.NodesToCome.{comes, come_on}
 use Rattle.sgf_lines.proofs.TakenNodes.{told_front, told_last, taken_node, step_taken, untaken, on_board}
 use Rattle.sgf_lines.proofs.judging.judged.judge_line.Given.{Over}
@@ -29,11 +30,12 @@ loop-index-init g c =
     let judged : (judge.judgement ≡ judging_front nodes held) × (judge.plays ≡ c.args.judge.now.plays) =
     elim c.if-held-eq0.branch [
       | then-held-eq0+in_ok-begin w ↦ rw w.judge-is (w.in_ok-begin.ensures.begun ∙ begun_front nodes w.root.result held w.root.ensures (omega (arith, w.if-held-eq0.true)), w.in_ok-begin.ensures.plays)
-      | else-held-eq0 w ↦ rw w.judge-is (w.cut_back.ensures.judged ∙ c.requires.judged (omega (arith, w.if-held-eq0.false)), w.cut_back.ensures.plays)
+      | else-held-eq0 w ↦ rw w.judge-is (w.cut_back.ensures.judged ∙ judgement_kept _ c.args.cursor.now c.args.held c.requires.held c.args.judge.now.judgement (λ old h. h.0) (omega (arith, w.if-held-eq0.false)), w.cut_back.ensures.plays)
     ] in
     record {
       judges = judges_begun nodes held c.args.judge.now.plays judge judged.0 judged.1;
-      told = told_front (g.K.StepKeeper.keeps c.args.keeper.now) (g.K.StepKeeper.tells c.keep.new.self) nodes held judge.judgement judged.0 (rw c.board.ensures at c.in_ok-keep.ensures.begun) c.in_ok-keep.ensures.kept c.requires.told;
+      told = told_front (g.K.StepKeeper.keeps c.args.keeper.now) (g.K.StepKeeper.tells c.keep.new.self) nodes held judge.judgement judged.0 (rw c.board.ensures at c.in_ok-keep.ensures.begun) c.in_ok-keep.ensures.kept
+          (taken_kept _ c.args.cursor.now c.args.held c.requires.held (g.K.StepKeeper.keeps c.args.keeper.now) (λ old h. h.1));
       comes = ap (λ (n : NodesLeft). n.nodes) c.after-nodes.ensures;
     }
 

@@ -3,17 +3,14 @@ use Rattle.std.proofs.Common.{◌≡◌, length, ap, ◌∙◌, arith}
 use Rattle.tree_lines.specs.Following.{nodes_before}
 use Rattle.sgf_lines.specs.inner.Scripting.{script_ended, script_of}
 use Rattle.sgf_lines.specs.inner.Views.{built_text}
-use Rattle.sgf_lines.proofs.Keeping.{judgement_kept, taken_kept}
+use Rattle.sgf_lines.specs.inner.Keeping.{HoldsLine}
+use Rattle.sgf_lines.proofs.Keeping.{held_part}
 use Rattle.sgf_lines.proofs.RunRecords.{made_script, some_line}
 use Rattle.tree_lines.proofs.SequenceCursors.{some_end}
 use Rattle.sgf_lines.proofs.form.gtp.GtpFormLineKeeper.follow.Goals as goal
 
-pub judge_line-requires-clause-judged : goal.judge_line-requires-clause-judged
-judge_line-requires-clause-judged c = judgement_kept _ c.args.cursor.now c.args.held c.requires.held c.args.self.now.judge.judgement (λ old h. h.0)
-
-pub judge_line-requires-clause-told : goal.judge_line-requires-clause-told
-judge_line-requires-clause-told c =
-    taken_kept _ c.args.cursor.now c.args.held c.requires.held (λ kind taken. c.args.self.now.script ≡ script_ended (script_of kind taken)) (λ old h. h.1)
+pub judge_line-requires-clause-held : goal.judge_line-requires-clause-held
+judge_line-requires-clause-held c = held_part _ (HoldsLine (λ kind taken. c.args.self.now.script ≡ script_ended (script_of kind taken)) c.args.self.now.judge.judgement) c.args.cursor.now c.args.held (λ old h. (h.0, h.1)) c.requires.held
 
 pub returns-clause-holds : goal.returns-clause-holds
 returns-clause-holds c =

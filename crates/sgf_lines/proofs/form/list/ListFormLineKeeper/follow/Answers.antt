@@ -2,16 +2,14 @@
 use Rattle.std.proofs.Common.{◌<◌, length, arith}
 use Rattle.tree_lines.specs.Following.{nodes_before}
 use Rattle.sgf_lines.specs.inner.Views.{built_text}
-use Rattle.sgf_lines.proofs.Keeping.{judgement_kept, taken_kept}
+use Rattle.sgf_lines.specs.inner.Keeping.{HoldsLine}
+use Rattle.sgf_lines.proofs.Keeping.{held_part}
 use Rattle.sgf_lines.proofs.RunRecords.{made_row, some_line}
 use Rattle.tree_lines.proofs.SequenceCursors.{some_end}
 use Rattle.sgf_lines.proofs.form.list.ListFormLineKeeper.follow.Goals as goal
 
-pub judge_line-requires-clause-judged : goal.judge_line-requires-clause-judged
-judge_line-requires-clause-judged c = judgement_kept _ c.args.cursor.now c.args.held c.requires.held c.args.self.now.judge.judgement (λ old h. h.0)
-
-pub judge_line-requires-clause-told : goal.judge_line-requires-clause-told
-judge_line-requires-clause-told c = taken_kept _ c.args.cursor.now c.args.held c.requires.held (λ kind taken. Unit {0}) (λ old h. tt)
+pub judge_line-requires-clause-held : goal.judge_line-requires-clause-held
+judge_line-requires-clause-held c = held_part _ (HoldsLine (λ kind taken. Unit {0}) c.args.self.now.judge.judgement) c.args.cursor.now c.args.held (λ old h. (h.0, tt)) c.requires.held
 
 pub returns-clause-holds : goal.returns-clause-holds
 returns-clause-holds c =
