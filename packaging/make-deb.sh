@@ -29,6 +29,11 @@ documents=$stage/usr/share/doc/$program
 mkdir -p "$documents"
 cp -R README.md CHANGELOG.md docs examples "$documents"
 ln -s ../../sgfsplit "$documents/recipes"
+mkdir "$documents/include" "$documents/python"
+ln -s ../../../../include/sgf_lines.h "$documents/include"
+ln -s ../../../../lib/python3/dist-packages/sgflines.py "$documents/python"
+# The documents name what the package doesn't have without a link to it.
+sed -Ei 's#\[([^]]+)\]\((\.\./)?(CONTRIBUTING\.md|crates/|tests/)[^)]*\)#\1#g' "$documents"/*.md "$documents"/docs/*.md
 sed "s/^sgfsplit (/$program (/" packaging/changelog | gzip -9n > "$documents/changelog.gz"
 cp packaging/copyright "$documents/copyright"
 chmod -R u=rwX,go=rX "$stage"

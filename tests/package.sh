@@ -37,6 +37,7 @@ if [ "$(id -u)" = 0 ] && chroot "$root" /usr/bin/sgfsplit --help > /dev/null 2>&
 "$SGFSPLIT" split --form sgf < "$top/examples/corner.sgf" > want
 same want got
 if command -v python3 > /dev/null; then
+    python3 "$top/tests/links.py" "$root"/usr/share/doc/sgfsplit/{,docs/}*.md > linked || failed "$(cat linked)"
     (cd "$root/usr/share/doc/sgfsplit" && env -i LC_ALL=C PATH="$root/usr/bin:/usr/bin:/bin" python3 "$top/tests/examples.py" README.md) > ran || failed "$(cat ran)"
     "$SGFSPLIT" count "$top/examples/corner.sgf" > want
     PYTHONPATH=$root/usr/lib/python3/dist-packages PYTHONDONTWRITEBYTECODE=1 env -u SGFLINES python3 -c '
