@@ -1,7 +1,7 @@
 -- The table by which colourings are looked up.
-use Rattle.std.proofs.Common.{◌≡◌, ℕ, ◌+◌, ◌*◌, ◌<◌, ◌≤◌, ◌^◌, bit_xor, Bool, false, if◌then◌else◌, List, [], ◌∷◌, ◌++◌, Option, None, Some, IfSome, length, length-append, get_or, reverse, Contains, inl, inr, refl, sym, ap, subst, ◌∙◌, arith}
+use Rattle.std.proofs.Common.{◌≡◌, ℕ, ◌+◌, ◌*◌, ◌<◌, ◌≤◌, ◌^◌, bit_xor, Bool, true, false, if◌then◌else◌, List, [], ◌∷◌, ◌++◌, Option, None, Some, IfSome, length, length-append, get_or, reverse, Contains, inl, inr, refl, sym, ap, subst, ◌∙◌, arith}
 use Rattle.std.specs.Int.{bit_at}
-use Rattle.std.proofs.lemmas.Bool.{eq-eqb, ne_eqb}
+use Rattle.std.proofs.lemmas.Bool.{cases_Bool, eq-eqb, ne_eqb}
 use Rattle.std.proofs.lemmas.List.{reverse-append}
 use Rattle.go_board.specs.declared.past.print_past.key.TheConstants.{WIDTH}
 use Rattle.go_board.specs.declared.past.print_past.table.Gap.{Gap}
@@ -12,14 +12,13 @@ use Rattle.board_points.specs.declared.points.Point.{Point}
 use Rattle.go_board.specs.Clearing.{play}
 use Rattle.go_board.specs.Past.{Held, PastColourings, all_of, newest_grid, present_stretch, stretch_of, with_next}
 use Rattle.go_board.specs.inner.Changes.{IsNumber}
-use Rattle.go_board.specs.inner.Hash.{hash_of}
-use Rattle.go_board.specs.inner.Key.{key_bits, start_of, since, keys_of}
+use Rattle.go_board.specs.inner.Key.{hash_in_key, key_bits, start_of, since, keys_of}
 use Rattle.go_board.specs.inner.Print.{print_of, prints_of}
 use Rattle.board_points.specs.Rows.{has_bit}
-use Rattle.go_board.specs.inner.Table.{HasRoomForNext, IsAsleepTable, IsAwakeTable, IsGap, IsPrintOfNext, IsTable}
+use Rattle.go_board.specs.inner.Table.{HasRoomForNext, IsAsleepTable, IsAwakeTable, IsGap, IsPrintOfNext, IsTable, most_to_link}
 use Rattle.key_trie.specs.declared.trie.Trie.{Trie}
 use Rattle.key_trie.specs.Key.{Agree}
-use Rattle.key_trie.specs.Trie.{nodes_of, item_count, room_of, IsTrie, IsNearest, IsParting}
+use Rattle.key_trie.specs.Trie.{nodes_of, item_count, room_of, IsTrie, IsNearest, IsOpening, IsParting}
 use Rattle.go_board.proofs.FilterLemmas.{filter_any, filter_more}
 use Rattle.go_board.proofs.NumberLemmas.{since-newest, since-older, at-newest, at-older, cases-number, start-since, start-before}
 pub use Rattle.go_board.proofs.NumberLemmas.{number_there, side-number, has_number, has_colouring}
@@ -31,42 +30,42 @@ use Rattle.key_trie.proofs.TrieLemmas.{agree_self, agree_less, parts_as, trie_sa
 
 -- Keys of numbers.
 
-keys-newest : (x : Held) (xs : List Held) (number : ℕ) → number ≡ length xs → keys_of (x ∷ xs) number ≡ key_bits (start_of (x ∷ xs)) (print_of x.colouring) (hash_of x.colouring) x.colouring
-keys-newest x xs number e = ap (λ (t : Bool). if t then key_bits (start_of (x ∷ xs)) (print_of x.colouring) (hash_of x.colouring) x.colouring else keys_of xs number) (eq-eqb number (length xs) e)
+keys-newest : (hashed : Bool) (x : Held) (xs : List Held) (number : ℕ) → number ≡ length xs → keys_of hashed (x ∷ xs) number ≡ key_bits (start_of (x ∷ xs)) (print_of x.colouring) (hash_in_key hashed x.colouring) x.colouring
+keys-newest hashed x xs number e = ap (λ (t : Bool). if t then key_bits (start_of (x ∷ xs)) (print_of x.colouring) (hash_in_key hashed x.colouring) x.colouring else keys_of hashed xs number) (eq-eqb number (length xs) e)
 
-pub keys-older : (x : Held) (xs : List Held) (number : ℕ) → number < length xs → keys_of (x ∷ xs) number ≡ keys_of xs number
-keys-older x xs number h = ap (λ (t : Bool). if t then key_bits (start_of (x ∷ xs)) (print_of x.colouring) (hash_of x.colouring) x.colouring else keys_of xs number) (ne_eqb number (length xs) (λ e. omega (arith, e, h)))
+pub keys-older : (hashed : Bool) (x : Held) (xs : List Held) (number : ℕ) → number < length xs → keys_of hashed (x ∷ xs) number ≡ keys_of hashed xs number
+keys-older hashed x xs number h = ap (λ (t : Bool). if t then key_bits (start_of (x ∷ xs)) (print_of x.colouring) (hash_in_key hashed x.colouring) x.colouring else keys_of hashed xs number) (ne_eqb number (length xs) (λ e. omega (arith, e, h)))
 
-key_of_number : (held : List Held) (number : ℕ) (g : Grid) → number < length held → IsNumber held number g → keys_of held number ≡ key_bits (start_of (since number held)) (print_of g) (hash_of g) g
-key_of_number [] number g low is = absurd (omega (arith, low))
-key_of_number (x ∷ xs) number g low is = elim (cases-number x xs number g low is) [
+key_of_number : (hashed : Bool) (held : List Held) (number : ℕ) (g : Grid) → number < length held → IsNumber held number g → keys_of hashed held number ≡ key_bits (start_of (since number held)) (print_of g) (hash_in_key hashed g) g
+key_of_number hashed [] number g low is = absurd (omega (arith, low))
+key_of_number hashed (x ∷ xs) number g low is = elim (cases-number x xs number g low is) [
   | inl newest ↦
-      keys-newest x xs number newest.0
-      ∙ ap (λ (y : Grid). key_bits (start_of (x ∷ xs)) (print_of y) (hash_of y) y) newest.1
-      ∙ ap (λ n. key_bits n (print_of g) (hash_of g) g) (sym (ap (λ n. start_of (since n (x ∷ xs))) newest.0 ∙ ap start_of (since-newest x xs)))
+      keys-newest hashed x xs number newest.0
+      ∙ ap (λ (y : Grid). key_bits (start_of (x ∷ xs)) (print_of y) (hash_in_key hashed y) y) newest.1
+      ∙ ap (λ n. key_bits n (print_of g) (hash_in_key hashed g) g) (sym (ap (λ n. start_of (since n (x ∷ xs))) newest.0 ∙ ap start_of (since-newest x xs)))
   | inr older ↦
-      keys-older x xs number older.0 ∙ key_of_number xs number g older.0 older.1
-      ∙ ap (λ n. key_bits n (print_of g) (hash_of g) g) (sym (ap start_of (since-older number x xs older.0)))
+      keys-older hashed x xs number older.0 ∙ key_of_number hashed xs number g older.0 older.1
+      ∙ ap (λ n. key_bits n (print_of g) (hash_in_key hashed g) g) (sym (ap start_of (since-older number x xs older.0)))
 ]
 
 -- the first bits of a number's key are those of its print
-print_at : (held : List Held) (number : ℕ) (g : Grid) → number < length held → IsNumber held number g → (place : ℕ) → place < 64 → keys_of held number place ≡ has_bit (print_of g) place
-print_at held number g low at place h =
-    ap (λ (x : ℕ → Bool). x place) (key_of_number held number g low at) ∙ print_bit (start_of (since number held)) (print_of g) (hash_of g) g place h
+print_at : (hashed : Bool) (held : List Held) (number : ℕ) (g : Grid) → number < length held → IsNumber held number g → (place : ℕ) → place < 64 → keys_of hashed held number place ≡ has_bit (print_of g) place
+print_at hashed held number g low at place h =
+    ap (λ (x : ℕ → Bool). x place) (key_of_number hashed held number g low at) ∙ print_bit (start_of (since number held)) (print_of g) (hash_in_key hashed g) g place h
 
-pub keys-print : (next : Held) (held : List Held) (print place : ℕ) → print_of next.colouring ≡ print → place < 64 → keys_of (next ∷ held) (length held) place ≡ has_bit print place
-keys-print next held print place is h = print_at (next ∷ held) (length held) next.colouring (omega arith) (at-newest next held) place h ∙ ap (λ m. has_bit m place) is
+pub keys-print : (hashed : Bool) (next : Held) (held : List Held) (print place : ℕ) → print_of next.colouring ≡ print → place < 64 → keys_of hashed (next ∷ held) (length held) place ≡ has_bit print place
+keys-print hashed next held print place is h = print_at hashed (next ∷ held) (length held) next.colouring (omega arith) (at-newest next held) place h ∙ ap (λ m. has_bit m place) is
 
 -- the key of a colouring that goes on with the present stretch
-pub keys-next : (held : List Held) (g : Grid) → keys_of (record { colouring = g; begins = false } ∷ held) (length held) ≡ key_bits (start_of held) (print_of g) (hash_of g) g
-keys-next held g = keys-newest (record { colouring = g; begins = false }) held (length held) refl
+pub keys-next : (hashed : Bool) (held : List Held) (g : Grid) → keys_of hashed (record { colouring = g; begins = false } ∷ held) (length held) ≡ key_bits (start_of held) (print_of g) (hash_in_key hashed g) g
+keys-next hashed held g = keys-newest hashed (record { colouring = g; begins = false }) held (length held) refl
 
 -- with one colouring more, and with one less, the others have the same keys
-pub linked_before : (next : Held) (held : List Held) (trie : Trie) → item_count trie ≤ length held → IsTrie WIDTH (keys_of held) trie → IsTrie WIDTH (keys_of (next ∷ held)) trie
-linked_before next held trie few is = trie_same WIDTH (item_count trie) (keys_of held) (keys_of (next ∷ held)) (nodes_of trie) (λ i h. sym (keys-older next held i (omega (arith, h, few)))) is
+pub linked_before : (hashed : Bool) (next : Held) (held : List Held) (trie : Trie) → item_count trie ≤ length held → IsTrie WIDTH (keys_of hashed held) trie → IsTrie WIDTH (keys_of hashed (next ∷ held)) trie
+linked_before hashed next held trie few is = trie_same WIDTH (item_count trie) (keys_of hashed held) (keys_of hashed (next ∷ held)) (nodes_of trie) (λ i h. sym (keys-older hashed next held i (omega (arith, h, few)))) is
 
-pub linked_after : (newest : Held) (older : List Held) (trie : Trie) → item_count trie ≤ length older → IsTrie WIDTH (keys_of (newest ∷ older)) trie → IsTrie WIDTH (keys_of older) trie
-linked_after newest older trie few is = trie_same WIDTH (item_count trie) (keys_of (newest ∷ older)) (keys_of older) (nodes_of trie) (λ i h. keys-older newest older i (omega (arith, h, few))) is
+pub linked_after : (hashed : Bool) (newest : Held) (older : List Held) (trie : Trie) → item_count trie ≤ length older → IsTrie WIDTH (keys_of hashed (newest ∷ older)) trie → IsTrie WIDTH (keys_of hashed older) trie
+linked_after hashed newest older trie few is = trie_same WIDTH (item_count trie) (keys_of hashed (newest ∷ older)) (keys_of hashed older) (nodes_of trie) (λ i h. keys-older hashed newest older i (omega (arith, h, few))) is
 
 -- What a table of these colourings tells.
 module _ (held : List Held) (table : Table) (is : IsAwakeTable held table) where
@@ -79,47 +78,47 @@ module _ (held : List Held) (table : Table) (is : IsAwakeTable held table) where
 
   -- the key that is made for a number: its front is right, and if it is made from the colouring, so is the rest
   pub key_made : (number start print hash : ℕ) (any : Grid) → number < length held → start ≡ start_of (since number held) → print ≡ get_or table.prints.items number 0
-      → Agree (key_bits start print hash any) (keys_of held number) 128 × (IsNumber held number any → hash ≡ hash_of any → key_bits start print hash any ≡ keys_of held number)
+      → Agree (key_bits start print hash any) (keys_of table.hashed held number) 128 × (IsNumber held number any → hash ≡ hash_in_key table.hashed any → key_bits start print hash any ≡ keys_of table.hashed held number)
   key_made number start print hash any low starts printed =
       let there = number_there held number low in
-      let key : (g : Grid) → IsNumber held number g → key_bits start print (hash_of g) g ≡ keys_of held number = λ g at.
-      ap (λ n. key_bits n print (hash_of g) g) starts ∙ ap (λ n. key_bits (start_of (since number held)) n (hash_of g) g) (printed ∙ print_there number g low at) ∙ sym (key_of_number held number g low at) in (
-        subst (λ x. Agree (key_bits start print hash any) x 128) (key there.0 there.1) (front_agrees start start print print hash (hash_of there.0) any there.0 refl refl),
+      let key : (g : Grid) → IsNumber held number g → key_bits start print (hash_in_key table.hashed g) g ≡ keys_of table.hashed held number = λ g at.
+      ap (λ n. key_bits n print (hash_in_key table.hashed g) g) starts ∙ ap (λ n. key_bits (start_of (since number held)) n (hash_in_key table.hashed g) g) (printed ∙ print_there number g low at) ∙ sym (key_of_number table.hashed held number g low at) in (
+        subst (λ x. Agree (key_bits start print hash any) x 128) (key there.0 there.1) (front_agrees start start print print hash (hash_in_key table.hashed there.0) any there.0 refl refl),
         λ at hashed. ap (λ n. key_bits start print n any) hashed ∙ key any at,
       )
 
   -- if a number's key is that of a colouring that goes on with the present stretch, the stretch has it
   pub repeats : (start print hash near : ℕ) (grid g : Grid) → start ≡ start_of held → start < 2 ^ 64 → print ≡ print_of grid → near < length held → IsNumber held near g
       → g.side ≡ grid.side → grid.side ≤ 52 → length g.cells ≡ g.side * g.side → length grid.cells ≡ grid.side * grid.side
-      → Agree (key_bits start print hash grid) (keys_of held near) WIDTH → Contains (stretch_of held) grid
+      → Agree (key_bits start print hash grid) (keys_of table.hashed held near) WIDTH → Contains (stretch_of held) grid
   repeats start print hash near grid g starts small printed near_in at side few cells cells' agree =
-      let same : Agree (key_bits start print hash grid) (key_bits (start_of (since near held)) (print_of g) (hash_of g) g) WIDTH =
-      subst (λ x. Agree (key_bits start print hash grid) x WIDTH) (key_of_number held near g near_in at) agree in
+      let same : Agree (key_bits start print hash grid) (key_bits (start_of (since near held)) (print_of g) (hash_in_key table.hashed g) g) WIDTH =
+      subst (λ x. Agree (key_bits start print hash grid) x WIDTH) (key_of_number table.hashed held near g near_in at) agree in
       let before = start-before held near near_in in
-      let front = front_same start (start_of (since near held)) print (print_of g) hash (hash_of g) grid g small (omega (arith, before, near_in, tabled, is.room, is.most))
+      let front = front_same start (start_of (since near held)) print (print_of g) hash (hash_in_key table.hashed g) grid g small (omega (arith, before, near_in, tabled, is.room, is.most))
       (subst (λ m. m < 2 ^ 64) (sym printed) (print_small grid)) (print_small g) (agree_less 128 (omega arith) same) in
-      let whole = whole_same start (start_of (since near held)) print (print_of g) hash (hash_of g) grid g (sym side) few cells' cells same in
+      let whole = whole_same start (start_of (since near held)) print (print_of g) hash (hash_in_key table.hashed g) grid g (sym side) few cells' cells same in
       has_colouring held near grid (omega (arith, before, front.0, starts)) near_in (at ∙ ap (λ (x : Grid). Some x) (sym whole))
 
   -- Where the next colouring comes in, if its print parts it from the item that a look-up for the print finds.
-  pub gap_parts : (next : Held) (print near place : ℕ) (any : Grid) (key : ℕ → Bool) → print_of next.colouring ≡ print → item_count table.trie ≡ length held → key ≡ key_bits 0 print 0 any → IsNearest (keys_of (next ∷ held)) table.trie key 64 near → place < 64
+  pub gap_parts : (next : Held) (print near place : ℕ) (any : Grid) (key : ℕ → Bool) → print_of next.colouring ≡ print → item_count table.trie ≡ length held → key ≡ key_bits 0 print 0 any → IsNearest (keys_of table.hashed (next ∷ held)) table.trie key 64 near → place < 64
       → ((p : ℕ) → p < place → bit_at (bit_xor print (get_or table.prints.items near 0)) p ≡ 0) → bit_at (bit_xor print (get_or table.prints.items near 0)) place ≡ 1
-      → Agree key (keys_of (next ∷ held) (length held)) (place + 1) × IsParting (item_count table.trie) (keys_of (next ∷ held)) (keys_of (next ∷ held) (length held)) near place
+      → Agree key (keys_of table.hashed (next ∷ held) (length held)) (place + 1) × IsParting (item_count table.trie) (keys_of table.hashed (next ∷ held)) (keys_of table.hashed (next ∷ held) (length held)) near place
   gap_parts next print near place any key is_print all is_key n low same differ =
       let other = get_or table.prints.items near 0 in
       let near_in : near < length held = omega (arith, n.there, all) in
       let there = number_there held near near_in in
       let key_print : (p : ℕ) → p < 64 → key p ≡ has_bit print p = λ p h. ap (λ (x : ℕ → Bool). x p) is_key ∙ print_bit 0 print 0 any p h in
-      let near_print : (p : ℕ) → p < 64 → keys_of (next ∷ held) near p ≡ has_bit other p = λ p h.
-      print_at (next ∷ held) near there.0 (omega (arith, near_in)) (at-older next held near_in there.1) p h ∙ ap (λ m. has_bit m p) (sym (print_there near there.0 near_in there.1)) in
-      parts_as n (keys_of (next ∷ held) (length held)) (keys_of (next ∷ held) near) place low
-      (record { each = λ p h. key_print p h ∙ sym (keys-print next held print p is_print h) }) (agree_self (keys_of (next ∷ held) near) 64)
+      let near_print : (p : ℕ) → p < 64 → keys_of table.hashed (next ∷ held) near p ≡ has_bit other p = λ p h.
+      print_at table.hashed (next ∷ held) near there.0 (omega (arith, near_in)) (at-older next held near_in there.1) p h ∙ ap (λ m. has_bit m p) (sym (print_there near there.0 near_in there.1)) in
+      parts_as n (keys_of table.hashed (next ∷ held) (length held)) (keys_of table.hashed (next ∷ held) near) place low
+      (record { each = λ p h. key_print p h ∙ sym (keys-print table.hashed next held print p is_print h) }) (agree_self (keys_of table.hashed (next ∷ held) near) 64)
       (record { each = λ p h. key_print p (omega (arith, h, low)) ∙ same_bit print other p (same p h) ∙ sym (near_print p (omega (arith, h, low))) })
       (λ e. other_bits print other place differ (sym (key_print place low) ∙ e ∙ near_print place low))
 
 -- the same prints, and a trie of as many colourings or of more
 pub tabled_with : (held : List Held) (table after : Table) → IsAwakeTable held table → after.prints.items ≡ table.prints.items → after.filter ≡ table.filter
-    → length table.prints.items ≤ room_of after.trie → room_of after.trie < 2 ^ 32 → item_count after.trie ≤ length table.prints.items → IsTrie WIDTH (keys_of held) after.trie → IsAwakeTable held after
+    → length table.prints.items ≤ room_of after.trie → room_of after.trie < 2 ^ 32 → item_count after.trie ≤ length table.prints.items → IsTrie WIDTH (keys_of after.hashed held) after.trie → IsAwakeTable held after
 tabled_with held table after is prints filter room most few trie = record {
   printed = rw prints is.printed;
   few = rw prints few;
@@ -129,9 +128,20 @@ tabled_with held table after is prints filter room most few trie = record {
   filtered = rw (prints, filter) is.filtered;
 }
 
+-- one colouring more is in the trie, and keys stay as they are
+pub one_linked : (old new : Table) → new.prints.items ≡ old.prints.items → new.hashed ≡ old.hashed → item_count new.trie ≡ item_count old.trie + 1 → item_count old.trie < length old.prints.items → most_to_link new < most_to_link old
+one_linked old new prints hashed next more = elim (cases_Bool old.hashed) [
+  | inl on ↦ rw (prints, hashed, on) (omega (arith, next, more))
+  | inr off ↦ rw (prints, hashed, off) (omega (arith, next, more))
+]
+
+-- keys get hashes, and no colouring is in the trie
+pub all_anew : (old new : Table) → new.prints.items ≡ old.prints.items → old.hashed ≡ false → new.hashed ≡ true → most_to_link new < most_to_link old
+all_anew old new prints off on = rw (prints, off, on) (omega arith)
+
 -- one colouring more
 pub tabled_more : (held : List Held) (table after : Table) (next : Held) (print : ℕ) → IsAwakeTable held table → print ≡ print_of next.colouring → after.prints.items ≡ table.prints.items ++ print ∷ [] → after.filter ≡ table.filter
-    → length table.prints.items < room_of after.trie → room_of after.trie < 2 ^ 32 → item_count after.trie ≤ length table.prints.items + 1 → IsTrie WIDTH (keys_of (next ∷ held)) after.trie → IsAwakeTable (next ∷ held) after
+    → length table.prints.items < room_of after.trie → room_of after.trie < 2 ^ 32 → item_count after.trie ≤ length table.prints.items + 1 → IsTrie WIDTH (keys_of after.hashed (next ∷ held)) after.trie → IsAwakeTable (next ∷ held) after
 tabled_more held table after next print is printed pushed filter room most few trie =
     let count : length after.prints.items ≡ length table.prints.items + 1 = ap (λ (xs : List ℕ). length xs) pushed ∙ length-append table.prints.items (print ∷ []) in
     record {
@@ -171,26 +181,31 @@ printed_back prints left last newest older parts printed =
     cc
 
 -- if a colouring that goes on with the present stretch has a gap, the stretch doesn't have it
-pub gap_lacks : (held : List Held) (trie : Trie) (g : Grid) (gap : Gap) → IsGap held trie (record { colouring = g; begins = false }) gap → ¬ Contains (stretch_of held) g
-gap_lacks held trie g gap is has =
+pub gap_lacks : (held : List Held) (table : Table) (g : Grid) (gap : Gap) → IsGap held table (record { colouring = g; begins = false }) gap → ¬ Contains (stretch_of held) g
+gap_lacks held table g gap is has =
     let h = has_number held g has in
     let next : Held = record { colouring = g; begins = false } in
-    let same : keys_of (next ∷ held) h.0 ≡ keys_of (next ∷ held) (length held) =
-    keys-older next held h.0 h.1 ∙ key_of_number held h.0 g h.1 h.3
-    ∙ ap (λ n. key_bits n (print_of g) (hash_of g) g) (start-since held h.0 h.2 h.1)
-    ∙ sym (keys-next held g) in
-    is.opens.part.best h.0 (omega (arith, is.all, h.1)) (subst (λ x. Agree (keys_of (next ∷ held) h.0) x (gap.place + 1)) same (agree_self (keys_of (next ∷ held) h.0) (gap.place + 1)))
+    let same : keys_of table.hashed (next ∷ held) h.0 ≡ keys_of table.hashed (next ∷ held) (length held) =
+    keys-older table.hashed next held h.0 h.1 ∙ key_of_number table.hashed held h.0 g h.1 h.3
+    ∙ ap (λ n. key_bits n (print_of g) (hash_in_key table.hashed g) g) (start-since held h.0 h.2 h.1)
+    ∙ sym (keys-next table.hashed held g) in
+    is.opens.part.best h.0 (omega (arith, is.all, h.1)) (subst (λ x. Agree (keys_of table.hashed (next ∷ held) h.0) x (gap.place + 1)) same (agree_self (keys_of table.hashed (next ∷ held) h.0) (gap.place + 1)))
 
 -- so a stone that makes it brings no colouring back
-pub gap_never : (was past : PastColourings) (k : Colour) (p : Point) (trie : Trie) (gap : Gap) → was ≡ past → IsGap (all_of was) trie (with_next was (play (newest_grid was) k p) false).newest gap
+pub gap_never : (was past : PastColourings) (k : Colour) (p : Point) (table : Table) (gap : Gap) → was ≡ past → IsGap (all_of was) table (with_next was (play (newest_grid was) k p) false).newest gap
     → ¬ Contains (present_stretch past) (play (newest_grid past) k p)
-gap_never was past k p trie gap same is =
-    subst (λ (x : PastColourings). ¬ Contains (present_stretch x) (play (newest_grid x) k p)) same (gap_lacks (all_of was) trie (play (newest_grid was) k p) gap is)
+gap_never was past k p table gap same is =
+    subst (λ (x : PastColourings). ¬ Contains (present_stretch x) (play (newest_grid x) k p)) same (gap_lacks (all_of was) table (play (newest_grid was) k p) gap is)
 
--- with the same nodes, a gap is at the same slot
-pub gap_same : (held : List Held) (one other : Trie) (next : Held) (gap : Option Gap) → nodes_of other ≡ nodes_of one → IfSome gap (IsGap held one next) → IfSome gap (IsGap held other next)
-gap_same held one other next None same is = is
-gap_same held one other next (Some gap) same is = record { all = rw same is.all; within = is.within; opens = opening_same same is.opens; bit = is.bit }
+-- with the same nodes and keys, a gap is at the same slot
+pub gap_same : (held : List Held) (one other : Table) (next : Held) (gap : Option Gap) → nodes_of other.trie ≡ nodes_of one.trie → other.hashed ≡ one.hashed → IfSome gap (IsGap held one next) → IfSome gap (IsGap held other next)
+gap_same held one other next None same keys is = is
+gap_same held one other next (Some gap) same keys is = record {
+  all = rw same is.all;
+  within = is.within;
+  opens = subst (λ hashed. IsOpening (keys_of hashed (next ∷ held)) other.trie (keys_of hashed (next ∷ held) (length held)) gap.slot gap.place) (sym keys) (opening_same same is.opens);
+  bit = subst (λ hashed. keys_of hashed (next ∷ held) (length held) gap.place ≡ gap.bit) (sym keys) is.bit;
+}
 
 -- A call that changes the room alone leaves a table of the same colourings.
 module _ (held : List Held) (old new : Table) (asleep : IsAsleepTable held old → IsAsleepTable held new) (awake : IsAwakeTable held old → IsAwakeTable held new) where

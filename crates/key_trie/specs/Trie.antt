@@ -130,6 +130,23 @@ pub record IsWayTo (keys : ℕ → ℕ → Bool) (trie : Trie) (key : ℕ → Bo
   pub way : IsOnWay (item_count trie) keys (depth_of (nodes_of trie)) key end slot.node slot.side
   pub stop : StopsBefore trie slot end
 
+-- Where a walk by the bits of `key` stands after so many steps: the depth of the node that it left, and what it comes to.
+abbrev pub after_steps : List Node → (ℕ → Bool) → ℕ → ℕ × ℕ
+after_steps nodes key zero = (0, kid_of nodes 0 false)
+after_steps nodes key (suc steps) =
+    let below : ℕ = (after_steps nodes key steps).1 in
+    (depth_of nodes below, kid_of nodes below (key (depth_of nodes below - 1)))
+
+-- after so many steps, the walk passes one more node, before the place `end`
+abbrev pub GoesOn : List Node → (ℕ → Bool) → ℕ → ℕ → Type 0
+GoesOn nodes key end steps =
+    let here : ℕ × ℕ = after_steps nodes key steps in
+    (here.0 < depth_of nodes here.1) × (depth_of nodes here.1 ≤ end)
+
+-- a walk by the bits of `key` passes at least so many nodes before the place `end`
+abbrev pub Passes : Trie → (ℕ → Bool) → ℕ → ℕ → Type 0
+Passes trie key end count = (steps : ℕ) → steps < count → GoesOn (nodes_of trie) key end steps
+
 -- before the place `end`, an item is as a key at least as far as any other item is
 pub record IsNearest (keys : ℕ → ℕ → Bool) (trie : Trie) (key : ℕ → Bool) (end near : ℕ) : Type 0 where
   pub there : near < item_count trie

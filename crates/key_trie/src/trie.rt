@@ -1,9 +1,9 @@
 //! The trie: walks down it, and one item more or less.
 
-ghost use Rattle.std.specs.Prelude.{◌≡◌, ℕ, ◌+◌, ◌-◌, ◌*◌, ◌<◌, ◌≤◌, ◌^◌, min, Bool, length, IfOk, MatchOption, OnOk, OnErr};
+ghost use Rattle.std.specs.Prelude.{◌≡◌, ℕ, ◌+◌, ◌-◌, ◌*◌, ◌<◌, ◌≤◌, ◌^◌, min, ◌↔◌, Bool, length, IsTrue, IfOk, MatchOption, OnOk, OnErr};
 ghost use Rattle.std.specs.Vec.{vec_capacity};
 ghost use Rattle.key_trie.specs.Key.{Agree};
-ghost use Rattle.key_trie.specs.Trie.{nodes_of, item_count, room_of, kid_of, IsIn, kid_at, HasRoom, IsTrie, IsWayTo, IsNearest, IsParting, IsOpening, with_named, without_newest};
+ghost use Rattle.key_trie.specs.Trie.{nodes_of, item_count, room_of, kid_of, IsIn, kid_at, HasRoom, IsTrie, IsWayTo, Passes, IsNearest, IsParting, IsOpening, with_named, without_newest};
 
 use crate::key::{Key, MAX_WIDTH};
 use crate::node::{Node, lone_node, parted_node};
@@ -112,6 +112,36 @@ impl Trie {
             deeper = u32::from(nodes[below as usize].depth);
         }
         slot
+    }
+
+    /// Whether the walk by the bits of a key passes at least `count` nodes before the place `end`. The look takes at most `count` steps.
+    pub fn passes<K: Key>(&self, key: &K, end: u32, count: u32) -> bool
+        requires trie { (width : ℕ) × (keys : ℕ → ℕ → Bool) × IsTrie width keys self.now }
+        requires some { 0 < item_count self.now }
+        ensures { IsTrue result ↔ Passes self.now (K.bits key.now) end count }
+    {
+        let nodes = self.nodes.as_slice();
+        let mut depth: u32 = 0;
+        let mut below = kid(
+            nodes,
+            Slot {
+                node: 0,
+                side: false,
+            },
+        );
+        'down: for _ in 0..count {
+            let deeper = u32::from(nodes[below as usize].depth);
+            if deeper <= depth || deeper > end {
+                return false;
+            }
+            let slot = Slot {
+                node: below,
+                side: key.bit(deeper - 1),
+            };
+            depth = deeper;
+            below = kid(nodes, slot);
+        }
+        true
     }
 
     /// The slot where an item comes in that parts at a place. Up to that place, the item has the bits of `key`; `from` is where the walk by

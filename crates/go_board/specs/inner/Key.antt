@@ -45,10 +45,14 @@ since number held = drop (length held - 1 - number) held
 abbrev pub oldest : ℕ → List Held → List Held
 oldest count held = drop (length held - count) held
 
--- the key of each past colouring, by its number, counted from 0 at the oldest
-abbrev pub keys_of : List Held → ℕ → ℕ → Bool
-keys_of [] number = λ place. false
-keys_of (newest ∷ older) number =
+-- what stands in a key for the hash of its colouring: the hash, or 0 if keys have no hashes
+abbrev pub hash_in_key : Bool → Grid → ℕ
+hash_in_key hashed grid = if hashed then hash_of grid else 0
+
+-- the key of each past colouring, by its number, counted from 0 at the oldest; `hashed` says whether keys have hashes
+abbrev pub keys_of : Bool → List Held → ℕ → ℕ → Bool
+keys_of hashed [] number = λ place. false
+keys_of hashed (newest ∷ older) number =
     if number == length older
-    then key_bits (start_of (newest ∷ older)) (print_of newest.colouring) (hash_of newest.colouring) newest.colouring
-    else keys_of older number
+    then key_bits (start_of (newest ∷ older)) (print_of newest.colouring) (hash_in_key hashed newest.colouring) newest.colouring
+    else keys_of hashed older number

@@ -1,5 +1,5 @@
 -- The table by which past colourings are looked up: their prints, and a trie of the keys of the oldest ones.
-use Rattle.std.specs.Prelude.{◌≡◌, ◌⊎◌, ℕ, ◌+◌, ◌<◌, ◌≤◌, ◌^◌, List, [], ◌∷◌, Option, IfSome, IfNone, length, reverse}
+use Rattle.std.specs.Prelude.{◌≡◌, ◌⊎◌, ℕ, ◌+◌, ◌-◌, ◌<◌, ◌≤◌, ◌^◌, if◌then◌else◌, List, [], ◌∷◌, Option, IfSome, IfNone, length, reverse}
 use Rattle.std.specs.Vec.{vec_capacity}
 use Rattle.go_board.specs.declared.past.print_past.table.Gap.{Gap}
 use Rattle.go_board.specs.declared.past.print_past.key.TheConstants.{WIDTH}
@@ -16,7 +16,7 @@ use Rattle.key_trie.specs.Trie.{nodes_of, item_count, room_of, IsTrie, IsOpening
 pub record IsAwakeTable (held : List Held) (table : Table) : Type 0 where
   pub printed : reverse table.prints.items ≡ prints_of held
   pub few : item_count table.trie ≤ length table.prints.items
-  pub linked : IsTrie WIDTH (keys_of held) table.trie
+  pub linked : IsTrie WIDTH (keys_of table.hashed held) table.trie
   pub room : length table.prints.items ≤ room_of table.trie
   pub most : room_of table.trie < 2 ^ 32
   pub filtered : IsFilter table.prints.items table.filter
@@ -49,15 +49,21 @@ pub record HasUnlinked (held : List Held) (now : Table) : Type 0 where
   pub table : IsAwakeTable held now
   pub more : item_count now.trie < length now.prints.items
 
--- the oldest colouring that wasn't in the trie is put into it, and the prints stay
+-- how many colourings there are still to be put into the trie at most: once more all, as long as keys have no hashes
+abbrev pub most_to_link : Table → ℕ
+most_to_link table =
+    let left : ℕ = length table.prints.items - item_count table.trie in
+    if table.hashed then left else length table.prints.items + 1 + left
+
+-- there is less to be put into the trie, and the prints stay
 pub record LinksNext (held : List Held) (old new : Table) : Type 0 where
   pub table : IsAwakeTable held new
-  pub next : item_count new.trie ≡ item_count old.trie + 1
+  pub fewer : most_to_link new < most_to_link old
   pub prints : new.prints.items ≡ old.prints.items
 
--- where the next colouring comes into a trie that has all of these
-pub record IsGap (held : List Held) (trie : Trie) (next : Held) (gap : Gap) : Type 0 where
-  pub all : item_count trie ≡ length held
+-- where the next colouring comes into the trie of a table, which has all of these
+pub record IsGap (held : List Held) (table : Table) (next : Held) (gap : Gap) : Type 0 where
+  pub all : item_count table.trie ≡ length held
   pub within : gap.place < WIDTH
-  pub opens : IsOpening (keys_of (next ∷ held)) trie (keys_of (next ∷ held) (length held)) gap.slot gap.place
-  pub bit : keys_of (next ∷ held) (length held) gap.place ≡ gap.bit
+  pub opens : IsOpening (keys_of table.hashed (next ∷ held)) table.trie (keys_of table.hashed (next ∷ held) (length held)) gap.slot gap.place
+  pub bit : keys_of table.hashed (next ∷ held) (length held) gap.place ≡ gap.bit

@@ -432,7 +432,7 @@ fn add_stone(
     requires fresh { IsTrue fresh → IsFreshStone (with_next colourings.old (play (newest_grid colourings.old) colour point) false) point }
     requires print { IsPrintOfNext (all_of colourings.old) table.old
         (with_next colourings.old (play (newest_grid colourings.old) colour point) false).newest print }
-    requires gap { IfSome gap (IsGap (all_of colourings.old) table.old.trie
+    requires gap { IfSome gap (IsGap (all_of colourings.old) table.old
         (with_next colourings.old (play (newest_grid colourings.old) colour point) false).newest) }
     ensures ok { OnOk result (colourings.new ≡ with_next colourings.old (play (newest_grid colourings.old) colour point) false) }
     ensures err { OnErr result (colourings.new ≡ colourings.old) }
@@ -464,7 +464,7 @@ fn gap_of_stone(
     requires one_side { HaveSide (newest_grid colourings.now).side colourings.now }
     requires stone { IsPrintedMove (newest_grid colourings.now) colour point taken.now print }
     ensures table { IsAwakeTable (all_of colourings.now) table.new }
-    ensures gap { IfSome result (IsGap (all_of colourings.now) table.new.trie
+    ensures gap { IfSome result (IsGap (all_of colourings.now) table.new
         (with_next colourings.now (play (newest_grid colourings.now) colour point) false).newest) }
     ensures has { IfNone result (Contains (present_stretch colourings.now) (play (newest_grid colourings.now) colour point)) }
 {

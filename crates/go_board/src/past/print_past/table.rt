@@ -24,8 +24,7 @@ ghost use Rattle.std.specs.Prelude.{◌≡◌, ◌↔◌, ◌+◌, ◌<◌, ◌�
 ghost use Rattle.go_board.specs.Grid.{Grid};
 ghost use Rattle.go_board.specs.Past.{Held, all_of, present_stretch, stretch_of, with_next, HaveSide};
 ghost use Rattle.go_board.specs.inner.Changes.{IsNumber};
-ghost use Rattle.go_board.specs.inner.Hash.{hash_of};
-ghost use Rattle.go_board.specs.inner.Key.{bits_of, keys_of};
+ghost use Rattle.go_board.specs.inner.Key.{bits_of, hash_in_key, keys_of};
 ghost use Rattle.go_board.specs.inner.Print.{print_of};
 ghost use Rattle.go_board.specs.inner.Table.{HasRoomForNext, HasUnlinked, IsAsleepTable, IsAwakeTable, IsGap, IsPrintOfNext, IsTable, LinksNext};
 ghost use Rattle.key_trie.specs.Key.{Agree};
@@ -48,6 +47,10 @@ const FIRST_ROOM: usize = 256;
 /// that one out takes one step. Without this look, fights take 1.3 times as long (the workload `awkward` of docs/PERF.md).
 const NEAR: usize = 2;
 
+/// The most nodes that a walk passes before keys get hashes: 64 in the print, 26 in the start of the stretch, and some on the board. No game
+/// that wasn't made for it comes near.
+const MOST_PASSED: u32 = 128;
+
 /// The prints of colourings, oldest first, and a trie of their keys. Most colourings are never looked up, and no look-up comes before
 /// they are taken back. So a colouring is put into the trie only when a look-up comes. There is always room for all of them, so this
 /// takes no memory.
@@ -59,6 +62,8 @@ pub(crate) struct Table {
     trie: Trie,
     /// A filter of the prints.
     filter: Filter,
+    /// Whether keys have hashes.
+    hashed: bool,
 }
 
 /// Where a colouring comes into the trie.
@@ -80,6 +85,7 @@ impl Table {
             prints: Vec::with_capacity(alloc, FIRST_ROOM)?,
             trie: Trie::new(alloc)?,
             filter: Filter::new(),
+            hashed: false,
         })
     }
 
@@ -121,6 +127,7 @@ impl Table {
         ensures asleep { (held : List Held) → IsAsleepTable held self.old → IsAsleepTable held self.new }
         ensures awake { (held : List Held) → IsAwakeTable held self.old → IsAwakeTable held self.new }
         ensures trie { nodes_of self.new.trie ≡ nodes_of self.old.trie }
+        ensures hashed { self.new.hashed ≡ self.old.hashed }
         ensures ok { (held : List Held) → count ≡ length held → OnOk result (HasRoomForNext held self.new) }
     {
         if count >= self.trie.room() {
@@ -137,8 +144,8 @@ impl Table {
     #[inline(always)]
     pub(crate) fn push(&mut self, print: Option<u64>, gap: Option<Gap>)
         requires table { (held : List Held) × (next : Held) × IsPrintOfNext held self.old next print
-            × IfSome gap (IsGap held self.old.trie next) × HasRoomForNext held self.old }
-        ensures { (held : List Held) (next : Held) → IsPrintOfNext held self.old next print → IfSome gap (IsGap held self.old.trie next)
+            × IfSome gap (IsGap held self.old next) × HasRoomForNext held self.old }
+        ensures { (held : List Held) (next : Held) → IsPrintOfNext held self.old next print → IfSome gap (IsGap held self.old next)
             → HasRoomForNext held self.old → IsTable (next ∷ held) self.new }
     {
         let Some(print) = print else {
@@ -174,6 +181,7 @@ impl Table {
         self.trie.clear();
         self.prints.clear();
         self.filter.go_back(0);
+        self.hashed = false;
     }
 
     /// The newest colouring with this print, if it is one of the last `NEAR` and not before `start`.
@@ -205,7 +213,7 @@ impl Table {
         ensures table { IsAwakeTable (all_of colourings.now) self.new }
         ensures all { item_count self.new.trie ≡ length self.new.prints.items }
         ensures gap { IfSome result (λ gap. (next : Held) → print_of next.colouring ≡ print
-            → IsGap (all_of colourings.now) self.new.trie next gap) }
+            → IsGap (all_of colourings.now) self.new next gap) }
     {
         self.link(colourings);
         let key = ColouringKey::new(0, print, 0, colourings.newest());
@@ -234,7 +242,7 @@ impl Table {
         requires side { HaveSide board.now.side colourings.now }
         requires print { print ≡ print_of board.now }
         ensures table { IsAwakeTable (all_of colourings.now) self.new }
-        ensures gap { IfSome result (IsGap (all_of colourings.now) self.new.trie (with_next colourings.now board.now false).newest) }
+        ensures gap { IfSome result (IsGap (all_of colourings.now) self.new (with_next colourings.now board.now false).newest) }
         ensures has { IfNone result (Contains (present_stretch colourings.now) board.now) }
     {
         if let Some(gap) = self.gap(colourings, print) {
@@ -243,28 +251,30 @@ impl Table {
         self.gap_by_board(colourings, board, print)
     }
 
-    /// The same, by all bits of the key: first its hash is worked out. The trie must have all colourings. A run asks this last, if nothing
-    /// before decides positional superko.
+    /// The same, by all bits of the key. The trie must have all colourings. A run asks this last, if nothing before decides positional superko.
     pub(crate) fn gap_by_board(
-        &self,
+        &mut self,
         colourings: &Colourings,
         board: &Board,
         print: u64,
     ) -> Option<Gap>
-        requires table { IsAwakeTable (all_of colourings.now) self.now }
-        requires all { item_count self.now.trie ≡ length self.now.prints.items }
+        requires table { IsAwakeTable (all_of colourings.now) self.old }
+        requires all { item_count self.old.trie ≡ length self.old.prints.items }
         requires side { HaveSide board.now.side colourings.now }
         requires print { print ≡ print_of board.now }
-        ensures gap { IfSome result (IsGap (all_of colourings.now) self.now.trie (with_next colourings.now board.now false).newest) }
+        ensures table { IsAwakeTable (all_of colourings.now) self.new }
+        ensures gap { IfSome result (IsGap (all_of colourings.now) self.new (with_next colourings.now board.now false).newest) }
         ensures has { IfNone result (Contains (present_stretch colourings.now) board.now) }
     {
-        let key = ColouringKey::new(colourings.stretch_start(), print, hash_of(board), board);
+        self.hash_if_deep(colourings, board, print);
+        let hash = self.hash_in_key(board);
+        let key = ColouringKey::new(colourings.stretch_start(), print, hash, board);
         let from = self.trie.descend(&key, WIDTH);
         let near = self.trie.kid(from) as usize;
         let past = colourings.board_at(near);
         past.has_all_cells();
         board.has_all_cells();
-        let past_key = self.key_of(colourings, near, hash_of(&past), &past);
+        let past_key = self.key_of(colourings, near, self.hash_in_key(&past), &past);
         match first_difference(&key, &past_key, WIDTH / WORD) {
             Some(place) => Some(Gap {
                 slot: self.trie.opening(&key, from, place),
@@ -273,6 +283,47 @@ impl Table {
             }),
             None => None,
         }
+    }
+
+    /// Lets keys have hashes if a walk by the key of a board passes more nodes than it should. All colourings are put into the trie anew then.
+    fn hash_if_deep(&mut self, colourings: &Colourings, board: &Board, print: u64)
+        requires table { IsAwakeTable (all_of colourings.now) self.old }
+        requires all { item_count self.old.trie ≡ length self.old.prints.items }
+        ensures table { IsAwakeTable (all_of colourings.now) self.new }
+        ensures all { item_count self.new.trie ≡ length self.new.prints.items }
+    {
+        let key = ColouringKey::new(colourings.stretch_start(), print, 0, board);
+        if self.is_deep(&key) {
+            self.begin_anew();
+            self.link(colourings);
+        }
+    }
+
+    /// Whether keys have no hashes yet, and a walk by this key passes more nodes than it should.
+    fn is_deep(&self, key: &ColouringKey<'_>) -> bool
+        requires trie { (held : List Held) × IsAwakeTable held self.now }
+        requires some { 0 < item_count self.now.trie }
+        ensures { IsTrue result → IsFalse self.now.hashed }
+    {
+        !self.hashed && self.trie.passes(key, WIDTH, MOST_PASSED)
+    }
+
+    /// Lets keys have hashes, and takes all colourings out of the trie.
+    fn begin_anew(&mut self)
+        requires { (held : List Held) × IsAwakeTable held self.old }
+        ensures table { (held : List Held) → IsAwakeTable held self.old → IsAwakeTable held self.new }
+        ensures hashed { IsTrue self.new.hashed }
+        ensures prints { self.new.prints.items ≡ self.old.prints.items }
+    {
+        self.trie.clear();
+        self.hashed = true;
+    }
+
+    /// What stands in a key for the hash of a board: 0 if keys have no hashes.
+    fn hash_in_key(&self, board: &Board) -> u64
+        ensures { result ≡ hash_in_key self.now.hashed board.now }
+    {
+        if self.hashed { hash_of(board) } else { 0 }
     }
 
     /// Whether the present stretch has this colouring; `print` is its print. All that may have the print are compared one by one: this
@@ -309,9 +360,9 @@ impl Table {
     ) -> ColouringKey<'a>
         requires table { IsAwakeTable (all_of colourings.now) self.now }
         requires number { number < length (all_of colourings.now) }
-        ensures front { Agree (bits_of result) (keys_of (all_of colourings.now) number) FRONT }
-        ensures whole { IsNumber (all_of colourings.now) number board.now → hash ≡ hash_of board.now
-            → bits_of result ≡ keys_of (all_of colourings.now) number }
+        ensures front { Agree (bits_of result) (keys_of self.now.hashed (all_of colourings.now) number) FRONT }
+        ensures whole { IsNumber (all_of colourings.now) number board.now → hash ≡ hash_in_key self.now.hashed board.now
+            → bits_of result ≡ keys_of self.now.hashed (all_of colourings.now) number }
     {
         ColouringKey::new(
             colourings.start_at(number),
@@ -333,7 +384,7 @@ impl Table {
         }
     }
 
-    /// Puts the oldest colouring that isn't there yet into the trie.
+    /// Puts the oldest colouring that isn't there yet into the trie, or takes all out and lets keys have hashes.
     fn link_next(&mut self, colourings: &Colourings)
         requires unlinked { HasUnlinked (all_of colourings.now) self.old }
         ensures { LinksNext (all_of colourings.now) self.old self.new }
@@ -352,7 +403,7 @@ impl Table {
         }
     }
 
-    /// The same, by all bits of the keys: first their hashes are worked out.
+    /// The same, by all bits of the keys.
     fn link_by_board(&mut self, colourings: &Colourings)
         requires unlinked { HasUnlinked (all_of colourings.now) self.old }
         requires some { 0 < item_count self.old.trie }
@@ -360,10 +411,14 @@ impl Table {
     {
         let next = self.trie.len();
         let board = colourings.board_at(next);
-        let key = self.key_of(colourings, next, hash_of(&board), &board);
+        let key = self.key_of(colourings, next, self.hash_in_key(&board), &board);
+        if self.is_deep(&key) {
+            self.begin_anew();
+            return;
+        }
         let near = self.trie.nearest(&key, WIDTH);
         let past = colourings.board_at(near);
-        let other = self.key_of(colourings, near, hash_of(&past), &past);
+        let other = self.key_of(colourings, near, self.hash_in_key(&past), &past);
         match first_difference(&key, &other, WIDTH / WORD) {
             Some(place) => self.trie.part(&key, place),
             None => self.trie.repeat(),

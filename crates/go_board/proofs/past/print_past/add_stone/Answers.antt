@@ -29,7 +29,7 @@ returns-clause-table c =
     rw c.in_ok-add_stone.ensures.ok
     (c.push.ensures held next
     (print_same held c.args.table.now c.reserve-2.new.self (c.reserve-2.ensures.asleep held) (c.reserve-2.ensures.awake held) next c.args.print c.requires.print)
-    (gap_same held c.args.table.now.trie c.reserve-2.new.self.trie next c.args.gap c.reserve-2.ensures.trie c.requires.gap)
+    (gap_same held c.args.table.now c.reserve-2.new.self next c.args.gap c.reserve-2.ensures.trie c.reserve-2.ensures.hashed c.requires.gap)
     (c.in_ok-reserve-2.ensures.ok held c.len-number.ensures))
 
 pub add_stone-requires-clause-few : goal.add_stone-requires-clause-few
@@ -45,7 +45,7 @@ push-requires c =
         held,
         next,
         print_same held c.args.table.now c.reserve-2.new.self (c.reserve-2.ensures.asleep held) (c.reserve-2.ensures.awake held) next c.args.print c.requires.print,
-        gap_same held c.args.table.now.trie c.reserve-2.new.self.trie next c.args.gap c.reserve-2.ensures.trie c.requires.gap,
+        gap_same held c.args.table.now c.reserve-2.new.self next c.args.gap c.reserve-2.ensures.trie c.reserve-2.ensures.hashed c.requires.gap,
         c.in_ok-reserve-2.ensures.ok held c.len-number.ensures,
       );
     }

@@ -17,7 +17,7 @@ made c = c.put.ensures ∙ ap (λ (g : Grid). play g c.args.colour c.args.point)
 pub returns-clause-gap : goal.returns-clause-gap
 returns-clause-gap c =
     let was = c.args.colourings.now in
-    subst (λ (g : Grid). IfSome c.gap_by_board.result (IsGap (all_of was) c.gap.new.self.trie (with_next was g false).newest)) (made (goal.at.returns-clause-gap c).After-gap_by_board) c.gap_by_board.ensures.gap
+    subst (λ (g : Grid). IfSome c.gap_by_board.result (IsGap (all_of was) c.gap_by_board.new.self (with_next was g false).newest)) (made (goal.at.returns-clause-gap c).After-gap_by_board) c.gap_by_board.ensures.gap
 
 pub returns-clause-has : goal.returns-clause-has
 returns-clause-has c =

@@ -8,7 +8,7 @@ use Rattle.go_board.specs.Clearing.{play}
 use Rattle.go_board.specs.Past.{PastColourings, all_of, newest_grid, present_stretch, with_next}
 use Rattle.go_board.specs.inner.Print.{print_of}
 use Rattle.go_board.specs.inner.Table.{IsAwakeTable, IsGap}
-use Rattle.key_trie.specs.declared.trie.Trie.{Trie}
+use Rattle.go_board.specs.declared.past.print_past.table.Table.{Table}
 use Rattle.go_board.proofs.RepeatLemmas.{played_new, played_refused}
 use Rattle.go_board.proofs.TableLemmas.{gap_never}
 use Rattle.go_board.proofs.past.print_past.PrintPast.play_by_print.Goals as goal
@@ -24,10 +24,10 @@ pub gap_of_stone-gap-requires-clause-table : goal.gap_of_stone-gap-requires-clau
 gap_of_stone-gap-requires-clause-table c = c.may_have.ensures.table (all_of c.self.inside.colourings) c.wake.ensures
 
 -- a stone whose colouring has a gap brings no colouring back
-gap_some : (was past : PastColourings) (k : Colour) (p : Point) (trie : Trie) (gap : Option Gap) → was ≡ past → IsSome gap → IfSome gap (IsGap (all_of was) trie (with_next was (play (newest_grid was) k p) false).newest)
+gap_some : (was past : PastColourings) (k : Colour) (p : Point) (table : Table) (gap : Option Gap) → was ≡ past → IsSome gap → IfSome gap (IsGap (all_of was) table (with_next was (play (newest_grid was) k p) false).newest)
     → ¬ Contains (present_stretch past) (play (newest_grid past) k p)
-gap_some was past k p trie None same some is = absurd (false≢true some)
-gap_some was past k p trie (Some gap) same some is = gap_never was past k p trie gap same is
+gap_some was past k p table None same some is = absurd (false≢true some)
+gap_some was past k p table (Some gap) same some is = gap_never was past k p table gap same is
 
 module _ (c : Joined-may_have) where
   -- the colourings stay, and the table is awake
@@ -43,7 +43,7 @@ module _ (c : Joined-may_have) where
     | else-may_have w ↦ rw w.self-inside-is (c.may_have.ensures.table (all_of c.self.inside.colourings) c.wake.ensures)
   ]
 
-  pub gapped : IfSome c.if-may_have.gap (IsGap (all_of c.if-may_have.self-inside.colourings) c.if-may_have.self-inside.table.trie
+  pub gapped : IfSome c.if-may_have.gap (IsGap (all_of c.if-may_have.self-inside.colourings) c.if-may_have.self-inside.table
       (with_next c.if-may_have.self-inside.colourings (play (newest_grid c.if-may_have.self-inside.colourings) c.args.colour c.args.point) false).newest)
   gapped = elim c.if-may_have.branch [
     | then-may_have+else-has_near+else-is_none w ↦ rw (w.self-inside-is, w.gap-is) w.gap_of_stone-gap.ensures.gap
@@ -59,7 +59,7 @@ module _ (c : Joined-may_have) where
       let inside = c.self.inside.colourings in
       elim c.if-may_have.branch [
         | then-may_have+else-has_near+else-is_none w ↦
-            gap_some inside c.args.self.now c.args.colour c.args.point w.gap_of_stone-gap.new.table.trie w.gap_of_stone-gap.result c.self.view_is
+            gap_some inside c.args.self.now c.args.colour c.args.point w.gap_of_stone-gap.new.table w.gap_of_stone-gap.result c.self.view_is
             (w.is_none.ensures ∙ ap not w.if-is_none.false) w.gap_of_stone-gap.ensures.gap has
         | else-may_have w ↦
             let there = subst (λ (past : PastColourings). Contains (present_stretch past) (play (newest_grid past) c.args.colour c.args.point)) (sym c.self.view_is) has in

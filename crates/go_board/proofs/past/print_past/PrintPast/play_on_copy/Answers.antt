@@ -21,12 +21,12 @@ module _ (c : After-gap_of) where
       ∙ ap (λ (g : Grid). play g c.args.colour c.args.point) (c.copy-made.ensures ∙ c.newest.ensures ∙ ap (λ (past : PastColourings). newest_grid past) (sym c.self.view_is))
 
   -- the stone brings no colouring back
-  pub never : (gap : Gap) → IsGap (all_of c.self.inside.colourings) c.gap_of.new.self.trie (with_next c.self.inside.colourings c.restore.new.self false).newest gap
+  pub never : (gap : Gap) → IsGap (all_of c.self.inside.colourings) c.gap_of.new.self (with_next c.self.inside.colourings c.restore.new.self false).newest gap
       → ¬ Contains (present_stretch c.self.inside.colourings) (play (newest_grid c.self.inside.colourings) c.args.colour c.args.point)
   never gap is =
       let was = c.self.inside.colourings in
-      gap_lacks (all_of was) c.gap_of.new.self.trie (play (newest_grid was) c.args.colour c.args.point) gap
-      (subst (λ (g : Grid). IsGap (all_of was) c.gap_of.new.self.trie (with_next was g false).newest gap) made is)
+      gap_lacks (all_of was) c.gap_of.new.self (play (newest_grid was) c.args.colour c.args.point) gap
+      (subst (λ (g : Grid). IsGap (all_of was) c.gap_of.new.self (with_next was g false).newest gap) made is)
 
 pub returns-in_err-add : goal.returns-in_err-add
 returns-in_err-add c =

@@ -23,9 +23,9 @@ returns-clause-gap c =
     let key = bits_of c.new-key.result in
     let from = c.descend-from.result in
     let near = kid_at trie from in
-    let linked : (next : Held) → IsTrie WIDTH (keys_of (next ∷ held)) trie = λ next. linked_before next held trie (omega (arith, count)) is.linked in
-    let walk : (next : Held) → IsWayTo (keys_of (next ∷ held)) trie key 64 from = λ next. c.descend-from.ensures.way WIDTH (keys_of (next ∷ held)) (linked next) in
-    let found : (next : Held) → IsNearest (keys_of (next ∷ held)) trie key 64 near = λ next. way_nearest WIDTH (keys_of (next ∷ held)) trie (linked next) from (walk next) (omega arith) in
+    let linked : (next : Held) → IsTrie WIDTH (keys_of t.hashed (next ∷ held)) trie = λ next. linked_before t.hashed next held trie (omega (arith, count)) is.linked in
+    let walk : (next : Held) → IsWayTo (keys_of t.hashed (next ∷ held)) trie key 64 from = λ next. c.descend-from.ensures.way WIDTH (keys_of t.hashed (next ∷ held)) (linked next) in
+    let found : (next : Held) → IsNearest (keys_of t.hashed (next ∷ held)) trie key 64 near = λ next. way_nearest WIDTH (keys_of t.hashed (next ∷ held)) trie (linked next) from (walk next) (omega arith) in
     let low : near < item_count trie = (found (record { colouring = c.newest.result.now; begins = false })).there in
     let there = number_there held near (omega (arith, low, count)) in
     let item : c.kid.result ≡ near = c.kid.ensures in
@@ -43,7 +43,7 @@ returns-clause-gap c =
     record {
       all = count;
       within = omega (arith, lowest.0);
-      opens = c.opening.ensures.opening WIDTH (keys_of (next ∷ held)) (keys_of (next ∷ held) (length held)) 64 (linked next) (walk next) lowest.0 parts.0 parts.1;
+      opens = c.opening.ensures.opening WIDTH (keys_of t.hashed (next ∷ held)) (keys_of t.hashed (next ∷ held) (length held)) 64 (linked next) (walk next) lowest.0 parts.0 parts.1;
       bit = sym (c.bit.ensures ∙ parts.0.each place (omega arith));
     }
 
@@ -53,7 +53,7 @@ descend-from-requires-clause-some c = omega (arith, c.link.ensures.all, tabled (
 
 pub index-requires : goal.index-requires
 index-requires c =
-    let keys = keys_of (all_of c.args.colourings.now) in
+    let keys = keys_of c.link.new.self.hashed (all_of c.args.colourings.now) in
     let linked = c.link.ensures.table.linked in
     let near = way_nearest WIDTH keys c.link.new.self.trie linked c.descend-from.result (c.descend-from.ensures.way WIDTH keys linked) (omega arith) in
     omega (arith, c.kid.ensures, c.link.ensures.all, near.there)

@@ -15,24 +15,24 @@ module _ (c : After-key_of-past_key) where
   next = record { colouring = c.args.board.now; begins = false }
 
   abbrev pub keys : ℕ → ℕ → Bool
-  keys = keys_of (next ∷ all_of c.args.colourings.now)
+  keys = keys_of c.hash_if_deep.new.self.hashed (next ∷ all_of c.args.colourings.now)
 
-  pub count : item_count c.args.self.now.trie ≡ length (all_of c.args.colourings.now)
-  count = c.requires.all ∙ tabled (all_of c.args.colourings.now) c.args.self.now c.requires.table
+  pub count : item_count c.hash_if_deep.new.self.trie ≡ length (all_of c.args.colourings.now)
+  count = c.hash_if_deep.ensures.all ∙ tabled (all_of c.args.colourings.now) c.hash_if_deep.new.self c.hash_if_deep.ensures.table
 
-  pub linked : IsTrie WIDTH keys c.args.self.now.trie
-  linked = linked_before next (all_of c.args.colourings.now) c.args.self.now.trie (omega (arith, count)) c.requires.table.linked
+  pub linked : IsTrie WIDTH keys c.hash_if_deep.new.self.trie
+  linked = linked_before c.hash_if_deep.new.self.hashed next (all_of c.args.colourings.now) c.hash_if_deep.new.self.trie (omega (arith, count)) c.hash_if_deep.ensures.table.linked
 
-  pub walk : IsWayTo keys c.args.self.now.trie (bits_of c.new-key.result) WIDTH c.descend-from.result
+  pub walk : IsWayTo keys c.hash_if_deep.new.self.trie (bits_of c.new-key.result) WIDTH c.descend-from.result
   walk = c.descend-from.ensures.way WIDTH keys linked
 
-  pub found : IsNearest keys c.args.self.now.trie (bits_of c.new-key.result) WIDTH (kid_at c.args.self.now.trie c.descend-from.result)
-  found = way_nearest WIDTH keys c.args.self.now.trie linked c.descend-from.result walk (omega arith)
+  pub found : IsNearest keys c.hash_if_deep.new.self.trie (bits_of c.new-key.result) WIDTH (kid_at c.hash_if_deep.new.self.trie c.descend-from.result)
+  found = way_nearest WIDTH keys c.hash_if_deep.new.self.trie linked c.descend-from.result walk (omega arith)
 
-  pub near_is : c.kid-near.result ≡ kid_at c.args.self.now.trie c.descend-from.result
+  pub near_is : c.kid-near.result ≡ kid_at c.hash_if_deep.new.self.trie c.descend-from.result
   near_is = c.kid-near.ensures
 
-  pub near_in : kid_at c.args.self.now.trie c.descend-from.result < length (all_of c.args.colourings.now)
+  pub near_in : kid_at c.hash_if_deep.new.self.trie c.descend-from.result < length (all_of c.args.colourings.now)
   near_in = omega (arith, found.there, count)
 
   -- the key that is walked by is that of the colouring
@@ -41,19 +41,19 @@ module _ (c : After-key_of-past_key) where
       let held = all_of c.args.colourings.now in
       let board = c.args.board.now in
       c.new-key.ensures
-      ∙ ap (λ n. key_bits n c.args.print c.hash_of.result board) c.stretch_start.ensures.start
-      ∙ ap (λ n. key_bits (start_of held) n c.hash_of.result board) c.requires.print
-      ∙ ap (λ n. key_bits (start_of held) (print_of board) n board) c.hash_of.ensures
-      ∙ sym (keys-next held board)
+      ∙ ap (λ n. key_bits n c.args.print c.hash_in_key-hash.result board) c.stretch_start.ensures.start
+      ∙ ap (λ n. key_bits (start_of held) n c.hash_in_key-hash.result board) c.requires.print
+      ∙ ap (λ n. key_bits (start_of held) (print_of board) n board) c.hash_in_key-hash.ensures
+      ∙ sym (keys-next c.hash_if_deep.new.self.hashed held board)
 
   -- and the other is that of the colouring at the end of the walk
-  pub other : bits_of c.key_of-past_key.result ≡ keys_of (all_of c.args.colourings.now) (kid_at c.args.self.now.trie c.descend-from.result)
-  other = c.key_of-past_key.ensures.whole c.board_at-past.ensures c.hash_of-2.ensures ∙ ap (λ n. keys_of (all_of c.args.colourings.now) n) near_is
+  pub other : bits_of c.key_of-past_key.result ≡ keys_of c.hash_if_deep.new.self.hashed (all_of c.args.colourings.now) (kid_at c.hash_if_deep.new.self.trie c.descend-from.result)
+  other = c.key_of-past_key.ensures.whole c.board_at-past.ensures c.hash_in_key.ensures ∙ ap (λ n. keys_of c.hash_if_deep.new.self.hashed (all_of c.args.colourings.now) n) near_is
 
 pub returns-in-Some-clause-gap : goal.returns-in-Some-clause-gap
 returns-in-Some-clause-gap c =
     let w = (goal.at.returns-in-Some-clause-gap c).After-key_of-past_key in
-    let t = c.args.self.now in
+    let t = c.hash_if_deep.new.self in
     let held = all_of c.args.colourings.now in
     let near = kid_at t.trie c.descend-from.result in
     let bits = keys w (length held) in
@@ -61,7 +61,7 @@ returns-in-Some-clause-gap c =
     let place = c.in-Some.place in
     let parts = parts_as (found w) bits (bits_of c.key_of-past_key.result) place apart.0
     (subst (λ x. Agree (bits_of c.new-key.result) x WIDTH) (own w) (agree_self (bits_of c.new-key.result) WIDTH))
-    (subst (λ x. Agree (bits_of c.key_of-past_key.result) x WIDTH) (other w ∙ sym (keys-older (next w) held near (near_in w))) (agree_self (bits_of c.key_of-past_key.result) WIDTH))
+    (subst (λ x. Agree (bits_of c.key_of-past_key.result) x WIDTH) (other w ∙ sym (keys-older c.hash_if_deep.new.self.hashed (next w) held near (near_in w))) (agree_self (bits_of c.key_of-past_key.result) WIDTH))
     apart.1 apart.2 in
     record {
       all = count w;
@@ -73,15 +73,15 @@ returns-in-Some-clause-gap c =
 pub returns-in-None-clause-has : goal.returns-in-None-clause-has
 returns-in-None-clause-has c =
     let w = (goal.at.returns-in-None-clause-has c).After-key_of-past_key in
-    let t = c.args.self.now in
+    let t = c.hash_if_deep.new.self in
     let held = all_of c.args.colourings.now in
-    let is = c.requires.table in
+    let is = c.hash_if_deep.ensures.table in
     let board = c.args.board.now in
     let start = c.stretch_start in
     let past = c.board_at-past in
     let near : c.kid-near.result < length held = omega (arith, near_is w, near_in w) in
     let side = side-number board.side held c.requires.side c.kid-near.result past.result near past.ensures in
-    repeats held t is start.result c.args.print c.hash_of.result c.kid-near.result board past.result start.ensures.start (omega (arith, start.ensures.below, tabled held t is, is.room, is.most))
+    repeats held t is start.result c.args.print c.hash_in_key-hash.result c.kid-near.result board past.result start.ensures.start (omega (arith, start.ensures.below, tabled held t is, is.room, is.most))
     c.requires.print near past.ensures side c.has_all_cells-2.ensures.few c.has_all_cells.ensures.all c.has_all_cells-2.ensures.all
-    (subst (λ x. Agree x (keys_of held c.kid-near.result) WIDTH) c.new-key.ensures
-    (subst (λ x. Agree (bits_of c.new-key.result) x WIDTH) (c.key_of-past_key.ensures.whole past.ensures c.hash_of-2.ensures) c.in-None.ensures))
+    (subst (λ x. Agree x (keys_of t.hashed held c.kid-near.result) WIDTH) c.new-key.ensures
+    (subst (λ x. Agree (bits_of c.new-key.result) x WIDTH) (c.key_of-past_key.ensures.whole past.ensures c.hash_in_key.ensures) c.in-None.ensures))

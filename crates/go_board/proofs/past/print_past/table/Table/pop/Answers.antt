@@ -43,13 +43,13 @@ returns c = λ newest older any.
           (rw filter (subst (λ (xs : List ℕ). IsFilter xs t.filter) parts is.filtered)),
     )
     in
-    let table_of : (after.prints.items ≡ t.prints.items) → (after.filter ≡ t.filter) → (room_of after.trie ≡ room_of t.trie) → (item_count after.trie ≤ length older) → IsTrie WIDTH (keys_of (newest ∷ older)) after.trie
-    → IsAwakeTable older (record { prints = c.pop.new.self; trie = after.trie; filter = c.go_back.new.self }) = λ same filter room few linked.
+    let table_of : (after.prints.items ≡ t.prints.items) → (after.filter ≡ t.filter) → (room_of after.trie ≡ room_of t.trie) → (after.hashed ≡ t.hashed) → (item_count after.trie ≤ length older) → IsTrie WIDTH (keys_of t.hashed (newest ∷ older)) after.trie
+    → IsAwakeTable older (record { prints = c.pop.new.self; trie = after.trie; filter = c.go_back.new.self; hashed = after.hashed }) = λ same filter room hashed few linked.
     let print = popped same filter in
     record {
       printed = print.0;
       few = omega (arith, print.1, few);
-      linked = linked_after newest older after.trie few linked;
+      linked = subst (λ h. IsTrie WIDTH (keys_of h older) after.trie) (sym hashed) (linked_after t.hashed newest older after.trie few linked);
       room = omega (arith, room, is.room, print.1, all);
       most = omega (arith, room, is.most);
       filtered = print.2;
@@ -58,12 +58,12 @@ returns c = λ newest older any.
     inr (elim c.if-len.branch [
       | then-len w ↦
           let trie : after.trie ≡ w.take_back.new.self = ap (λ (x : Table). x.trie) w.self-is in
-          table_of (ap (λ (x : Table). x.prints.items) w.self-is) (ap (λ (x : Table). x.filter) w.self-is) (ap room_of trie ∙ w.take_back.ensures.room)
+          table_of (ap (λ (x : Table). x.prints.items) w.self-is) (ap (λ (x : Table). x.filter) w.self-is) (ap room_of trie ∙ w.take_back.ensures.room) (ap (λ (x : Table). x.hashed) w.self-is)
           (omega (arith, ap item_count trie, w.take_back.ensures.fewer, w.if-len.true, c.len.ensures, c.len-2.ensures, t.prints.ok.0, all))
-          (subst (λ (x : Trie). IsTrie WIDTH (keys_of (newest ∷ older)) x) (sym trie) (w.take_back.ensures.trie WIDTH (keys_of (newest ∷ older)) is.linked))
+          (subst (λ (x : Trie). IsTrie WIDTH (keys_of t.hashed (newest ∷ older)) x) (sym trie) (w.take_back.ensures.trie WIDTH (keys_of t.hashed (newest ∷ older)) is.linked))
       | else-len w ↦
           let trie : after.trie ≡ t.trie = ap (λ (x : Table). x.trie) w.self-is in
-          table_of (ap (λ (x : Table). x.prints.items) w.self-is) (ap (λ (x : Table). x.filter) w.self-is) (ap room_of trie)
+          table_of (ap (λ (x : Table). x.prints.items) w.self-is) (ap (λ (x : Table). x.filter) w.self-is) (ap room_of trie) (ap (λ (x : Table). x.hashed) w.self-is)
           (omega (arith, ap item_count trie, w.if-len.false, c.len.ensures, c.len-2.ensures, t.prints.ok.0, all, is.few))
-          (subst (λ (x : Trie). IsTrie WIDTH (keys_of (newest ∷ older)) x) (sym trie) is.linked)
+          (subst (λ (x : Trie). IsTrie WIDTH (keys_of t.hashed (newest ∷ older)) x) (sym trie) is.linked)
     ])

@@ -16,7 +16,7 @@ returns-in_default-gap c = λ held next given some room.
     let awake = rw c.in-Some.is at given.awake in
     let is = awake.0 in
     inr (tabled_more held t (record t { prints = c.push_reserved.new.self }) next c.in-Some.print is awake.1 c.push_reserved.ensures.items refl (omega (arith, room.trie, tabled held t is)) is.most (omega (arith, is.few))
-    (linked_before next held t.trie (omega (arith, is.few, tabled held t is)) is.linked))
+    (linked_before t.hashed next held t.trie (omega (arith, is.few, tabled held t is)) is.linked))
 
 pub returns : goal.returns
 returns c = λ held next given some room.
@@ -24,9 +24,9 @@ returns c = λ held next given some room.
     let awake = rw c.in-Some.is at given.awake in
     let is = awake.0 in
     let gap = rw c.in-Some-gap.is at some in
-    let keys = keys_of (next ∷ held) in
+    let keys = keys_of t.hashed (next ∷ held) in
     let after : Table = record t { prints = c.push_reserved.new.self; trie = c.insert.new.self } in
-    let trie = c.insert.ensures.trie WIDTH keys (linked_before next held t.trie (omega (arith, gap.all)) is.linked) gap.within (subst (λ m. IsOpening keys t.trie (keys m) c.in-Some-gap.gap.slot c.in-Some-gap.gap.place) (sym gap.all) gap.opens)
+    let trie = c.insert.ensures.trie WIDTH keys (linked_before t.hashed next held t.trie (omega (arith, gap.all)) is.linked) gap.within (subst (λ m. IsOpening keys t.trie (keys m) c.in-Some-gap.gap.slot c.in-Some-gap.gap.place) (sym gap.all) gap.opens)
     (subst (λ m. keys m c.in-Some-gap.gap.place ≡ c.in-Some-gap.gap.bit) (sym gap.all) gap.bit) in
     inr (tabled_more held t after next c.in-Some.print is awake.1 c.push_reserved.ensures.items refl (omega (arith, room.trie, c.insert.ensures.room, tabled held t is)) (omega (arith, is.most, c.insert.ensures.room))
     (omega (arith, c.insert.ensures.more, gap.all, tabled held t is)) trie)
