@@ -53,6 +53,19 @@ module _ (start start' print print' hash hash' : ℕ) (grid grid' : Grid) where
     ];
   }
 
+-- the words before those of the board
+pub head_agrees : (start print hash : ℕ) (grid grid' : Grid) → Agree (key_bits start print hash grid) (key_bits start print hash grid') 192
+head_agrees start print hash grid grid' = record {
+  each = λ p h. elim (cases_lt p 128) [
+    | inl low ↦ (front_agrees start start print print hash hash grid grid' refl refl).each p low
+    | inr high ↦
+        let col = p - 128 in
+        let low : col < 64 = omega (arith, h, high) in
+        let at : 64 * 2 + col ≡ p = omega (arith, high) in
+        subst (λ m. key_bits start print hash grid m ≡ key_bits start print hash grid' m) at (key_at start print hash grid 2 col low ∙ sym (key_at start print hash grid' 2 col low))
+  ];
+}
+
 -- The whole of a key.
 
 stone-on : (grid : Grid) (stone : Cell) (row col : ℕ) → row < grid.side → col < grid.side → has_stone grid stone row col ≡ same_cell (cell_at grid (record { col = col; row = row })) stone

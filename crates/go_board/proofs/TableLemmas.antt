@@ -3,6 +3,7 @@ use Rattle.std.proofs.Common.{◌≡◌, ℕ, ◌+◌, ◌*◌, ◌<◌, ◌≤�
 use Rattle.std.specs.Int.{bit_at}
 use Rattle.std.proofs.lemmas.Bool.{cases_Bool, eq-eqb, ne_eqb}
 use Rattle.std.proofs.lemmas.List.{reverse-append}
+use Rattle.std.proofs.lemmas.Option.{same_Some}
 use Rattle.go_board.specs.declared.past.print_past.key.TheConstants.{WIDTH}
 use Rattle.go_board.specs.declared.past.print_past.table.Gap.{Gap}
 use Rattle.go_board.specs.declared.past.print_past.table.Table.{Table}
@@ -12,17 +13,19 @@ use Rattle.board_points.specs.declared.points.Point.{Point}
 use Rattle.go_board.specs.Clearing.{play}
 use Rattle.go_board.specs.Past.{Held, PastColourings, all_of, newest_grid, present_stretch, stretch_of, with_next}
 use Rattle.go_board.specs.inner.Changes.{IsNumber}
+use Rattle.go_board.specs.declared.past.print_past.hashes.Hashes.{Hashes}
+use Rattle.go_board.specs.inner.Hash.{hash_of, HasHashes}
 use Rattle.go_board.specs.inner.Key.{hash_in_key, key_bits, start_of, since, keys_of}
 use Rattle.go_board.specs.inner.Print.{print_of, prints_of}
 use Rattle.board_points.specs.Rows.{has_bit}
-use Rattle.go_board.specs.inner.Table.{HasRoomForNext, IsAsleepTable, IsAwakeTable, IsGap, IsPrintOfNext, IsTable, most_to_link}
+use Rattle.go_board.specs.inner.Table.{HasRoomForNext, IsAsleepTable, IsAwakeTable, IsGap, IsPrintOfNext, IsTable, LinksNext, SameButHashes, most_to_link}
 use Rattle.key_trie.specs.declared.trie.Trie.{Trie}
 use Rattle.key_trie.specs.Key.{Agree}
 use Rattle.key_trie.specs.Trie.{nodes_of, item_count, room_of, IsTrie, IsNearest, IsOpening, IsParting}
 use Rattle.go_board.proofs.FilterLemmas.{filter_any, filter_more}
 use Rattle.go_board.proofs.NumberLemmas.{since-newest, since-older, at-newest, at-older, cases-number, start-since, start-before}
 pub use Rattle.go_board.proofs.NumberLemmas.{number_there, side-number, has_number, has_colouring}
-use Rattle.go_board.proofs.KeyLemmas.{print_bit, front_same, front_agrees, whole_same}
+use Rattle.go_board.proofs.KeyLemmas.{print_bit, front_same, front_agrees, head_agrees, whole_same}
 use Rattle.go_board.proofs.PrintLemmas.{print_small}
 use Rattle.go_board.proofs.PrintPastLemmas.{same_length, print-number}
 use Rattle.key_trie.proofs.KeyLemmas.{same_bit, other_bits}
@@ -87,6 +90,14 @@ module _ (held : List Held) (table : Table) (is : IsAwakeTable held table) where
         λ at hashed. ap (λ n. key_bits start print n any) hashed ∙ key any at,
       )
 
+  -- if it is made with the number's hash, its head is right
+  pub head_made : (number start print hash : ℕ) (any : Grid) → number < length held → start ≡ start_of (since number held) → print ≡ get_or table.prints.items number 0
+      → ((g : Grid) → IsNumber held number g → hash ≡ hash_in_key table.hashed g) → Agree (key_bits start print hash any) (keys_of table.hashed held number) 192
+  head_made number start print hash any low starts printed is_hash =
+      let there = number_there held number low in
+      let right = key_made number start print hash there.0 low starts printed in
+      subst (λ x. Agree (key_bits start print hash any) x 192) (right.1 there.1 (is_hash there.0 there.1)) (head_agrees start print hash any there.0)
+
   -- if a number's key is that of a colouring that goes on with the present stretch, the stretch has it
   pub repeats : (start print hash near : ℕ) (grid g : Grid) → start ≡ start_of held → start < 2 ^ 64 → print ≡ print_of grid → near < length held → IsNumber held near g
       → g.side ≡ grid.side → grid.side ≤ 52 → length g.cells ≡ g.side * g.side → length grid.cells ≡ grid.side * grid.side
@@ -117,15 +128,16 @@ module _ (held : List Held) (table : Table) (is : IsAwakeTable held table) where
       (λ e. other_bits print other place differ (sym (key_print place low) ∙ e ∙ near_print place low))
 
 -- the same prints, and a trie of as many colourings or of more
-pub tabled_with : (held : List Held) (table after : Table) → IsAwakeTable held table → after.prints.items ≡ table.prints.items → after.filter ≡ table.filter
+pub tabled_with : (held : List Held) (table after : Table) → IsAwakeTable held table → after.prints.items ≡ table.prints.items → after.filter ≡ table.filter → after.hashes ≡ table.hashes
     → length table.prints.items ≤ room_of after.trie → room_of after.trie < 2 ^ 32 → item_count after.trie ≤ length table.prints.items → IsTrie WIDTH (keys_of after.hashed held) after.trie → IsAwakeTable held after
-tabled_with held table after is prints filter room most few trie = record {
+tabled_with held table after is prints filter hashes room most few trie = record {
   printed = rw prints is.printed;
   few = rw prints few;
   linked = trie;
   room = rw prints room;
   most = most;
   filtered = rw (prints, filter) is.filtered;
+  kept = rw hashes is.kept;
 }
 
 -- one colouring more is in the trie, and keys stay as they are
@@ -139,10 +151,56 @@ one_linked old new prints hashed next more = elim (cases_Bool old.hashed) [
 pub all_anew : (old new : Table) → new.prints.items ≡ old.prints.items → old.hashed ≡ false → new.hashed ≡ true → most_to_link new < most_to_link old
 all_anew old new prints off on = rw (prints, off, on) (omega arith)
 
+-- the hashes that are kept are right once there is one colouring more
+pub hashes_more : (next : Held) (held : List Held) (hashes : Hashes) → HasHashes held hashes → HasHashes (next ∷ held) hashes
+hashes_more next held hashes is = record {
+  few = omega (arith, is.few);
+  right = λ number g low at some. elim (cases-number next held number g (omega (arith, low, is.few)) at) [
+    | inl newest ↦ absurd (omega (arith, newest.0, low, is.few))
+    | inr older ↦ is.right number g low older.1 some
+  ];
+}
+
+pub same_both : (one two three : Table) → SameButHashes one two → SameButHashes two three → SameButHashes one three
+same_both one two three a b = record { trie = b.trie ∙ a.trie; prints = b.prints ∙ a.prints; hashed = b.hashed ∙ a.hashed }
+
+-- one colouring more is in the trie of a table whose hashes alone differ from those of another one
+pub links_with : (held : List Held) (old now : Table) (trie : Trie) → IsAwakeTable held now → SameButHashes old now → item_count old.trie < length old.prints.items
+    → room_of trie ≡ room_of now.trie → item_count trie ≡ item_count now.trie + 1 → IsTrie WIDTH (keys_of old.hashed held) trie → LinksNext held old (record now { trie = trie })
+links_with held old now trie is same more room next linked =
+    let count : item_count trie ≡ item_count old.trie + 1 = next ∙ ap (λ (x : Trie). item_count x + 1) same.trie in
+    let prints : length now.prints.items ≡ length old.prints.items = ap (λ (xs : List ℕ). length xs) same.prints in
+    record {
+      table = tabled_with held now (record now { trie = trie }) is refl refl refl (omega (arith, is.room, room)) (omega (arith, is.most, room)) (omega (arith, count, more, prints))
+          (subst (λ (h : Bool). IsTrie WIDTH (keys_of h held) trie) (sym same.hashed) linked);
+      fewer = one_linked old (record now { trie = trie }) same.prints same.hashed count more;
+      prints = same.prints;
+    }
+
+-- other hashes that are right may be kept
+pub with_hashes : (held : List Held) (table : Table) (hashes : Hashes) → IsAwakeTable held table → HasHashes held hashes → IsAwakeTable held (record table { hashes = hashes })
+with_hashes held table hashes is kept = record {
+  printed = is.printed;
+  few = is.few;
+  linked = is.linked;
+  room = is.room;
+  most = is.most;
+  filtered = is.filtered;
+  kept = kept;
+}
+
+-- a number has one colouring, and so one hash
+pub at_number : (held : List Held) (number : ℕ) (one other : Grid) → IsNumber held number one → IsNumber held number other → hash_of one ≡ hash_of other
+at_number held number one other at too = ap hash_of (same_Some one other (sym at ∙ too))
+
+-- if keys have hashes, the hash stands in the key
+pub in_key : (hashed : Bool) (grid : Grid) → hashed ≡ true → hash_of grid ≡ hash_in_key hashed grid
+in_key hashed grid on = ap (λ (t : Bool). if t then hash_of grid else 0) (sym on)
+
 -- one colouring more
 pub tabled_more : (held : List Held) (table after : Table) (next : Held) (print : ℕ) → IsAwakeTable held table → print ≡ print_of next.colouring → after.prints.items ≡ table.prints.items ++ print ∷ [] → after.filter ≡ table.filter
-    → length table.prints.items < room_of after.trie → room_of after.trie < 2 ^ 32 → item_count after.trie ≤ length table.prints.items + 1 → IsTrie WIDTH (keys_of after.hashed (next ∷ held)) after.trie → IsAwakeTable (next ∷ held) after
-tabled_more held table after next print is printed pushed filter room most few trie =
+    → length table.prints.items < room_of after.trie → room_of after.trie < 2 ^ 32 → item_count after.trie ≤ length table.prints.items + 1 → IsTrie WIDTH (keys_of after.hashed (next ∷ held)) after.trie → HasHashes (next ∷ held) after.hashes → IsAwakeTable (next ∷ held) after
+tabled_more held table after next print is printed pushed filter room most few trie kept =
     let count : length after.prints.items ≡ length table.prints.items + 1 = ap (λ (xs : List ℕ). length xs) pushed ∙ length-append table.prints.items (print ∷ []) in
     record {
       printed = ap (λ (xs : List ℕ). reverse xs) pushed ∙ reverse-append table.prints.items (print ∷ [])
@@ -152,6 +210,7 @@ tabled_more held table after next print is printed pushed filter room most few t
       room = omega (arith, count, room);
       most = most;
       filtered = rw (pushed, filter) (filter_more table.prints.items print table.filter is.filtered);
+      kept = kept;
     }
 
 -- the same while the table sleeps
@@ -163,6 +222,7 @@ asleep_more held table next is room = record {
   prints_room = omega (arith, room.prints);
   most = is.most;
   filtered = is.filtered;
+  kept = is.kept;
 }
 
 pub asleep_less : (table : Table) (newest : Held) (older : List Held) → IsAsleepTable (newest ∷ older) table → IsAsleepTable older table
@@ -173,6 +233,7 @@ asleep_less table newest older is = record {
   prints_room = omega (arith, is.prints_room);
   most = is.most;
   filtered = is.filtered;
+  kept = is.kept;
 }
 
 pub printed_back : (prints left : List ℕ) (last : ℕ) (newest : Held) (older : List Held) → prints ≡ left ++ last ∷ [] → reverse prints ≡ prints_of (newest ∷ older) → reverse left ≡ prints_of older
@@ -205,6 +266,7 @@ gap_same held one other next (Some gap) same keys is = record {
   within = is.within;
   opens = subst (λ hashed. IsOpening (keys_of hashed (next ∷ held)) other.trie (keys_of hashed (next ∷ held) (length held)) gap.slot gap.place) (sym keys) (opening_same same is.opens);
   bit = subst (λ hashed. keys_of hashed (next ∷ held) (length held) gap.place ≡ gap.bit) (sym keys) is.bit;
+  hash = is.hash;
 }
 
 -- A call that changes the room alone leaves a table of the same colourings.
@@ -228,8 +290,8 @@ sleeps held table (inl is) none some = is
 sleeps held table (inr is) none some = absurd (omega (arith, none, some, tabled held table is))
 
 -- a table that got its prints
-pub awoken : (held : List Held) (old new : Table) → IsAsleepTable held old → reverse new.prints.items ≡ prints_of held → new.trie ≡ old.trie → new.filter ≡ old.filter → IsAwakeTable held new
-awoken held old new is printed trie filter =
+pub awoken : (held : List Held) (old new : Table) → IsAsleepTable held old → reverse new.prints.items ≡ prints_of held → new.trie ≡ old.trie → new.filter ≡ old.filter → new.hashes ≡ old.hashes → IsAwakeTable held new
+awoken held old new is printed trie filter hashes =
     let none : item_count new.trie ≡ 0 = ap item_count trie ∙ ap length is.no_items in
     record {
       printed = printed;
@@ -238,6 +300,7 @@ awoken held old new is printed trie filter =
       room = omega (arith, ap room_of trie, is.room, same_length held new.prints.items printed);
       most = omega (arith, ap room_of trie, is.most);
       filtered = rw filter (filter_any new.prints.items old.filter is.filtered);
+      kept = rw hashes (is.kept held);
     }
 
 -- a table with prints is awake

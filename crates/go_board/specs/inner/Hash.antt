@@ -1,11 +1,14 @@
 -- The hash of a colouring: 64 bits of the SHA-512 of its rows.
-use Rattle.std.specs.Prelude.{ℕ, zero, suc, ◌+◌, ◌*◌, Bool, if◌then◌else◌, List, [], ◌++◌, take}
+use Rattle.std.specs.Prelude.{◌≡◌, ◌≢◌, ℕ, zero, suc, ◌+◌, ◌*◌, ◌<◌, ◌≤◌, Bool, if◌then◌else◌, List, [], ◌++◌, take, length, slice_index}
 use Rattle.std.specs.Int.{w64, div_ceil, from_be_bytes, to_le_bytes}
 use Rattle.sha2.specs.Sha512.{sha512}
 use Rattle.go_board.specs.declared.stones.Cell.{Cell}
 use Rattle.go_board.specs.declared.stones.Cell.TheVariants.{Black, White}
 use Rattle.go_board.specs.Colour.{same_cell}
 use Rattle.go_board.specs.Grid.{Grid, cell_at}
+use Rattle.go_board.specs.Past.{Held}
+use Rattle.go_board.specs.declared.past.print_past.hashes.Hashes.{Hashes}
+use Rattle.go_board.specs.inner.Changes.{IsNumber}
 
 -- the number that has so many bits, the lowest one first
 abbrev pub number_of : ℕ → (ℕ → Bool) → ℕ
@@ -29,3 +32,9 @@ rows_bytes grid (suc row) =
 -- the hash: the first eight bytes of the digest of all rows, as a number
 unfoldable pub hash_of : Grid → ℕ
 hash_of grid = from_be_bytes w64 (sha512 (rows_bytes grid grid.side))
+
+-- each hash that is kept, by the number of its colouring, is that of the colouring; 0 says that none is kept
+pub record HasHashes (held : List Held) (hashes : Hashes) : Type 0 where
+  pub few : length hashes.known.items ≤ length held
+  pub right : (number : ℕ) (grid : Grid) → number < length hashes.known.items → IsNumber held number grid
+      → slice_index hashes.known.items number ≢ 0 → slice_index hashes.known.items number ≡ hash_of grid

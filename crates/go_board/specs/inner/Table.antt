@@ -1,14 +1,15 @@
 -- The table by which past colourings are looked up: their prints, and a trie of the keys of the oldest ones.
-use Rattle.std.specs.Prelude.{◌≡◌, ◌⊎◌, ℕ, ◌+◌, ◌-◌, ◌<◌, ◌≤◌, ◌^◌, if◌then◌else◌, List, [], ◌∷◌, Option, IfSome, IfNone, length, reverse}
+use Rattle.std.specs.Prelude.{◌≡◌, ◌≢◌, ◌⊎◌, ℕ, ◌+◌, ◌-◌, ◌<◌, ◌≤◌, ◌^◌, if◌then◌else◌, List, [], ◌∷◌, Bool, Option, IfSome, IfNone, MatchOption, length, reverse}
 use Rattle.std.specs.Vec.{vec_capacity}
 use Rattle.go_board.specs.declared.past.print_past.table.Gap.{Gap}
 use Rattle.go_board.specs.declared.past.print_past.key.TheConstants.{WIDTH}
 use Rattle.go_board.specs.declared.past.print_past.table.Table.{Table}
 use Rattle.go_board.specs.Past.{Held}
 use Rattle.go_board.specs.inner.Filter.{IsFilter}
+use Rattle.go_board.specs.inner.Hash.{hash_of, HasHashes}
 use Rattle.go_board.specs.inner.Key.{keys_of}
 use Rattle.go_board.specs.inner.Print.{print_of, prints_of}
-use Rattle.key_trie.specs.declared.trie.Trie.{Trie}
+use Rattle.key_trie.specs.Key.{Agree}
 use Rattle.key_trie.specs.Trie.{nodes_of, item_count, room_of, IsTrie, IsOpening}
 
 -- The table of these colourings, newest first, if it is awake: it has their prints. The trie has as many of the oldest ones as it has
@@ -20,6 +21,7 @@ pub record IsAwakeTable (held : List Held) (table : Table) : Type 0 where
   pub room : length table.prints.items ≤ room_of table.trie
   pub most : room_of table.trie < 2 ^ 32
   pub filtered : IsFilter table.prints.items table.filter
+  pub kept : HasHashes held table.hashes
 
 -- the table of these colourings, if it sleeps: it has no prints and no items, but room for all
 pub record IsAsleepTable (held : List Held) (table : Table) : Type 0 where
@@ -29,6 +31,7 @@ pub record IsAsleepTable (held : List Held) (table : Table) : Type 0 where
   pub prints_room : length held ≤ vec_capacity table.prints
   pub most : room_of table.trie < 2 ^ 32
   pub filtered : IsFilter [] table.filter
+  pub kept : (any : List Held) → HasHashes any table.hashes
 
 -- the table of these colourings
 abbrev pub IsTable : List Held → Table → Type 0
@@ -43,6 +46,16 @@ pub record HasRoomForNext (held : List Held) (table : Table) : Type 0 where
 pub record IsPrintOfNext (held : List Held) (table : Table) (next : Held) (print : Option ℕ) : Type 0 where
   pub awake : IfSome print (λ number. IsAwakeTable held table × (number ≡ print_of next.colouring))
   pub asleep : IfNone print (IsAsleepTable held table)
+
+-- the tables are the same but for the hashes that are kept
+pub record SameButHashes (old new : Table) : Type 0 where
+  pub trie : new.trie ≡ old.trie
+  pub prints : new.prints.items ≡ old.prints.items
+  pub hashed : new.hashed ≡ old.hashed
+
+-- the first place where two keys differ
+abbrev pub IsFirstApart : (ℕ → Bool) → (ℕ → Bool) → Option ℕ → Type 0
+IsFirstApart one other place = MatchOption place (Agree one other WIDTH) (λ place. (place < WIDTH) × Agree one other place × (one place ≢ other place))
 
 -- the trie doesn't have all of these colourings yet
 pub record HasUnlinked (held : List Held) (now : Table) : Type 0 where
@@ -67,3 +80,4 @@ pub record IsGap (held : List Held) (table : Table) (next : Held) (gap : Gap) : 
   pub within : gap.place < WIDTH
   pub opens : IsOpening (keys_of table.hashed (next ∷ held)) table.trie (keys_of table.hashed (next ∷ held) (length held)) gap.slot gap.place
   pub bit : keys_of table.hashed (next ∷ held) (length held) gap.place ≡ gap.bit
+  pub hash : gap.hash ≢ 0 → gap.hash ≡ hash_of next.colouring

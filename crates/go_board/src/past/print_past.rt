@@ -12,7 +12,7 @@
 //! | `print`, `powers`, `bytes` | the print of a colouring, a number in base 31; the numbers that it is made from |
 //! | `table` | how a past colouring is looked up if the newest ones don't tell, and what that costs |
 //! | `filter` | a filter of prints, which answers most look-ups by print |
-//! | `key`, `hash` | a colouring as a key, which is a string of bits; a hash that is part of it. The crate `key_trie` has the trie of keys |
+//! | `key`, `hash`, `hashes` | a colouring as a key, which is a string of bits; a hash that is part of it; those that are kept. The crate `key_trie` has the trie of keys |
 
 mod bytes;
 mod changes;
@@ -20,6 +20,7 @@ mod colourings;
 mod emptied;
 mod filter;
 mod hash;
+mod hashes;
 mod key;
 mod powers;
 mod print;
@@ -56,8 +57,8 @@ use std::marker::Model;
 
 /// A past that keeps the newest colouring whole. Of each older one it keeps what leads back to it. A colouring is looked up only in the
 /// present stretch, and only if a stone may repeat one. At first it is looked for among the newest colourings. Once these haven't told in a
-/// game, it is looked up by its print, a 64-bit number made from what stands on all its points. If two prints are equal, hashes are worked
-/// out, and all points are compared.
+/// game, it is looked up by its print, a 64-bit number made from what stands on all its points. If two prints are equal, all points are
+/// compared, or hashes, if very many colourings have that print.
 ///
 /// A colouring that only adds one stone to the one before it takes 12 bytes. Room for its print and for a node of the trie, 24 bytes, is
 /// kept beside.

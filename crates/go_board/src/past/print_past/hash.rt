@@ -1,8 +1,8 @@
 //! The hash of a board: 64 bits of the SHA-512 of its rows. It tells colourings apart that have one print and one stretch.
 //!
 //! A print is a sum, so whoever writes a record can make many colourings with one print that part from one another at as many places of
-//! the board. Nobody can do that with this hash. It takes far longer to work out than a print, so it stands behind the print in a key,
-//! and is worked out only once prints don't tell.
+//! the board. Nobody can do that with this hash. It takes far longer to work out than a print. So it stands behind the print in a key,
+//! and keys have it only once a walk by a key without it got long (`table`).
 
 ghost use Rattle.std.specs.Prelude.{◌≡◌, ◌≤◌, ◌++◌, ℕ, List};
 ghost use Rattle.std.specs.Int.{w64, from_be_bytes};

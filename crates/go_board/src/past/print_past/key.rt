@@ -1,6 +1,6 @@
 //! What a colouring is looked up by in a trie, as a string of bits: first its print, then the number of the first colouring of its stretch,
-//! then its hash, then what stands on each row. So colourings with another print, and those of other stretches, part from it at the first
-//! bits, and those with its print and its stretch at bits that nobody can choose.
+//! then its hash, if keys have hashes, then what stands on each row. So colourings with another print, and those of other stretches, part
+//! from it at the first bits. With hashes, those with its print and its stretch part from it at bits that nobody can choose.
 
 ghost use Rattle.std.specs.Prelude.{◌≡◌};
 ghost use Rattle.go_board.specs.inner.Key.{key_bits, bits_of};
@@ -17,8 +17,11 @@ pub(crate) const WORD: u32 = 64;
 /// The bits that are known without the board: the print, and the start of the stretch.
 pub(crate) const FRONT: u32 = 2 * WORD;
 
-/// All bits of a key: behind the front there is the hash, and a row of the largest board has a word for Black and one for White.
-pub(crate) const WIDTH: u32 = FRONT + WORD + 2 * WORD * MAX_ROWS as u32;
+/// The bits before those of the board: the front, and the hash.
+pub(crate) const HEAD: u32 = FRONT + WORD;
+
+/// All bits of a key: behind the head, a row of the largest board has a word for Black and one for White.
+pub(crate) const WIDTH: u32 = HEAD + 2 * WORD * MAX_ROWS as u32;
 
 /// The key of a colouring.
 #[derive(Drop)]

@@ -2,16 +2,19 @@
 //!
 //! A look-up walks down a trie of keys (see `key`, and the crate `key_trie`) by the bits of the colouring that is looked up. It ends at one
 //! past colouring, and compares with that one alone: first by the print (`gap`). Only if a past colouring has the print, another walk goes on
-//! by the start of the stretch and the hash, and the two keys are compared to their ends (`gap_by_board`). So a look-up costs at most four
-//! walks, two hashes, and one past colouring worked out, whatever was played before. It also tells where the new colouring comes in.
+//! by the start of the stretch and the rows, and the two keys are compared to their ends (`gap_by_board`). So a look-up costs at most four
+//! walks, and one past colouring worked out, whatever was played before. It also tells where the new colouring comes in.
 //! To put a colouring into the trie that wasn't looked up costs at most two colourings worked out, its own and that at the end of its walk,
-//! and their hashes, and this only if they have the same print and the same stretch. To take one out is one step.
+//! and this only if they have the same print and the same stretch. To take one out is one step.
 //!
 //! A walk passes a node at each place of the key where past colourings part from the one that is looked up. It passes at most 64 in the
-//! print, and 26 in the start of the stretch: that is below 2^26, since no input has more bytes. Colourings of one print and one stretch part
-//! in the hash, which nobody can choose: to have them part at one bit more, one has to try twice as many boards. So a walk passes some 50
-//! nodes there at most, after 2^50 boards tried. It goes on into the rows only if two hashes are equal. No proof rests on that.
-//! So no walk gets longer with more colourings, or with more of them that have one print.
+//! print, and 26 in the start of the stretch: that is below 2^26, since no input has more bytes. On the board it passes hardly any, unless
+//! someone makes very many colourings of one print and one stretch, each of which parts from the others at another point. Once a walk
+//! passes more than `MOST_PASSED` nodes, keys have hashes, for the rest of the game: all colourings are put into the trie anew, and those of
+//! one print and one stretch part in the hash, which nobody can choose. To have them part at one bit more, one has to try twice as many
+//! boards. So a walk passes some 50 nodes there at most, after 2^50 boards tried, and goes on into the rows only if two hashes are equal.
+//! No proof rests on that. A hash is worked out once for each colouring, and for each look-up (`hashes`). So no walk gets longer with more
+//! colourings, or with more of them that have one print.
 //!
 //! This is so once `link` has put all colourings into the trie. `gap` calls it first: the past asks `gap` for a stone that `may_have`
 //! doesn't answer (see `filter`). `has` asks no trie: it compares one by one.
@@ -20,13 +23,13 @@
 //! and a stone costs no more here than the test that there is room. `wake` works the prints out, once a game, one for each colouring; from
 //! then on the table has those of all colourings.
 
-ghost use Rattle.std.specs.Prelude.{◌≡◌, ◌↔◌, ◌+◌, ◌<◌, ◌≤◌, [], ◌∷◌, List, length, false, slice_index, IsTrue, IsFalse, IfNone, IfSome, IfOk, OnOk, Contains};
+ghost use Rattle.std.specs.Prelude.{◌≡◌, ◌↔◌, ◌+◌, ◌*◌, ◌<◌, ◌≤◌, [], ◌∷◌, List, length, false, slice_index, IsTrue, IsFalse, IfNone, IfSome, IfOk, OnOk, Contains};
 ghost use Rattle.go_board.specs.Grid.{Grid};
 ghost use Rattle.go_board.specs.Past.{Held, all_of, present_stretch, stretch_of, with_next, HaveSide};
 ghost use Rattle.go_board.specs.inner.Changes.{IsNumber};
 ghost use Rattle.go_board.specs.inner.Key.{bits_of, hash_in_key, keys_of};
 ghost use Rattle.go_board.specs.inner.Print.{print_of};
-ghost use Rattle.go_board.specs.inner.Table.{HasRoomForNext, HasUnlinked, IsAsleepTable, IsAwakeTable, IsGap, IsPrintOfNext, IsTable, LinksNext};
+ghost use Rattle.go_board.specs.inner.Table.{HasRoomForNext, HasUnlinked, IsAsleepTable, IsAwakeTable, IsGap, IsFirstApart, IsPrintOfNext, IsTable, LinksNext, SameButHashes};
 ghost use Rattle.key_trie.specs.Key.{Agree};
 ghost use Rattle.key_trie.specs.Trie.{item_count, nodes_of};
 
@@ -35,7 +38,8 @@ use crate::fault::MemoryFault;
 use crate::past::print_past::colourings::Colourings;
 use crate::past::print_past::filter::Filter;
 use crate::past::print_past::hash::hash_of;
-use crate::past::print_past::key::{ColouringKey, FRONT, WIDTH, WORD};
+use crate::past::print_past::hashes::Hashes;
+use crate::past::print_past::key::{ColouringKey, FRONT, HEAD, WIDTH, WORD};
 use board_points::columns::has_column;
 use key_trie::{Key, Slot, Trie, first_difference};
 use std::alloc::Global;
@@ -64,6 +68,8 @@ pub(crate) struct Table {
     filter: Filter,
     /// Whether keys have hashes.
     hashed: bool,
+    /// The hashes that were worked out.
+    hashes: Hashes,
 }
 
 /// Where a colouring comes into the trie.
@@ -74,6 +80,8 @@ pub(crate) struct Gap {
     place: u32,
     /// That bit.
     bit: bool,
+    /// The colouring's hash; 0 if it wasn't worked out.
+    hash: u64,
 }
 
 impl Table {
@@ -86,6 +94,7 @@ impl Table {
             trie: Trie::new(alloc)?,
             filter: Filter::new(),
             hashed: false,
+            hashes: Hashes::new(alloc),
         })
     }
 
@@ -156,6 +165,7 @@ impl Table {
             return;
         };
         self.trie.insert(gap.slot, gap.place, gap.bit);
+        self.hashes.keep(self.prints.len() - 1, gap.hash);
     }
 
     /// Takes back the newest colouring.
@@ -171,6 +181,7 @@ impl Table {
         }
         let _ = self.prints.pop();
         self.filter.go_back(self.prints.len());
+        self.hashes.go_back(self.prints.len());
     }
 
     /// Replaces all colourings by one. The table sleeps then.
@@ -182,6 +193,7 @@ impl Table {
         self.prints.clear();
         self.filter.go_back(0);
         self.hashed = false;
+        self.hashes.clear();
     }
 
     /// The newest colouring with this print, if it is one of the last `NEAR` and not before `start`.
@@ -227,6 +239,7 @@ impl Table {
             slot: self.trie.opening(&key, from, place),
             place,
             bit: key.bit(place),
+            hash: 0,
         })
     }
 
@@ -267,22 +280,67 @@ impl Table {
         ensures has { IfNone result (Contains (present_stretch colourings.now) board.now) }
     {
         self.hash_if_deep(colourings, board, print);
+        board.has_all_cells();
         let hash = self.hash_in_key(board);
         let key = ColouringKey::new(colourings.stretch_start(), print, hash, board);
         let from = self.trie.descend(&key, WIDTH);
         let near = self.trie.kid(from) as usize;
-        let past = colourings.board_at(near);
-        past.has_all_cells();
-        board.has_all_cells();
-        let past_key = self.key_of(colourings, near, self.hash_in_key(&past), &past);
-        match first_difference(&key, &past_key, WIDTH / WORD) {
+        match self.first_apart(colourings, &key, near) {
             Some(place) => Some(Gap {
                 slot: self.trie.opening(&key, from, place),
                 place,
                 bit: key.bit(place),
+                hash,
             }),
             None => None,
         }
+    }
+
+    /// The first place where a key differs from that of the colouring with this number. The colouring is worked out only if the keys don't differ
+    /// before.
+    fn first_apart(
+        &mut self,
+        colourings: &Colourings,
+        key: &ColouringKey<'_>,
+        number: usize,
+    ) -> Option<u32>
+        requires table { IsAwakeTable (all_of colourings.now) self.old }
+        requires number { number < length (all_of colourings.now) }
+        ensures table { IsAwakeTable (all_of colourings.now) self.new }
+        ensures rest { SameButHashes self.old self.new }
+        ensures apart { IsFirstApart (bits_of key.now) (keys_of self.old.hashed (all_of colourings.now) number) result }
+        ensures cells { IfNone result ((grid : Grid) × IsNumber (all_of colourings.now) number grid
+            × (length grid.cells ≡ grid.side * grid.side)) }
+    {
+        let hash = self.take_hash(colourings, number);
+        let head = self.key_of(colourings, number, hash, colourings.newest());
+        let place = first_difference(key, &head, HEAD / WORD);
+        if place.is_some() {
+            return place;
+        }
+        let past = colourings.board_at(number);
+        past.has_all_cells();
+        let whole = self.key_of(colourings, number, hash, &past);
+        first_difference(key, &whole, WIDTH / WORD)
+    }
+
+    /// What stands for its hash in the key of the colouring with this number. A hash that is worked out is kept.
+    fn take_hash(&mut self, colourings: &Colourings, number: usize) -> u64
+        requires table { IsAwakeTable (all_of colourings.now) self.old }
+        requires number { number < length (all_of colourings.now) }
+        ensures table { IsAwakeTable (all_of colourings.now) self.new }
+        ensures rest { SameButHashes self.old self.new }
+        ensures hash { (grid : Grid) → IsNumber (all_of colourings.now) number grid → result ≡ hash_in_key self.old.hashed grid }
+    {
+        if !self.hashed {
+            return 0;
+        }
+        if let Some(hash) = self.hashes.get(number) {
+            return hash;
+        }
+        let hash = hash_of(&colourings.board_at(number));
+        self.hashes.keep(number, hash);
+        hash
     }
 
     /// Lets keys have hashes if a walk by the key of a board passes more nodes than it should. All colourings are put into the trie anew then.
@@ -361,6 +419,8 @@ impl Table {
         requires table { IsAwakeTable (all_of colourings.now) self.now }
         requires number { number < length (all_of colourings.now) }
         ensures front { Agree (bits_of result) (keys_of self.now.hashed (all_of colourings.now) number) FRONT }
+        ensures head { ((grid : Grid) → IsNumber (all_of colourings.now) number grid → hash ≡ hash_in_key self.now.hashed grid)
+            → Agree (bits_of result) (keys_of self.now.hashed (all_of colourings.now) number) HEAD }
         ensures whole { IsNumber (all_of colourings.now) number board.now → hash ≡ hash_in_key self.now.hashed board.now
             → bits_of result ≡ keys_of self.now.hashed (all_of colourings.now) number }
     {
@@ -411,15 +471,14 @@ impl Table {
     {
         let next = self.trie.len();
         let board = colourings.board_at(next);
-        let key = self.key_of(colourings, next, self.hash_in_key(&board), &board);
+        let hash = self.take_hash(colourings, next);
+        let key = self.key_of(colourings, next, hash, &board);
         if self.is_deep(&key) {
             self.begin_anew();
             return;
         }
         let near = self.trie.nearest(&key, WIDTH);
-        let past = colourings.board_at(near);
-        let other = self.key_of(colourings, near, self.hash_in_key(&past), &past);
-        match first_difference(&key, &other, WIDTH / WORD) {
+        match self.first_apart(colourings, &key, near) {
             Some(place) => self.trie.part(&key, place),
             None => self.trie.repeat(),
         }

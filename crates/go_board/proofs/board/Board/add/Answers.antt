@@ -6,7 +6,6 @@ use Rattle.board_points.specs.Point.{IsOn}
 use Rattle.board_points.specs.Rows.{has_bit}
 use Rattle.go_board.specs.declared.stones.Cell.{Cell}
 use Rattle.go_board.specs.declared.stones.Cell.TheVariants.{Black, White}
-use Rattle.go_board.specs.Colour.{stone_of}
 use Rattle.go_board.specs.Grid.{Grid, cell_at, with_cell}
 use Rattle.go_board.specs.inner.Regions.{AreStones, grid_with}
 use Rattle.go_board.proofs.StoneRowsLemmas.{black_added, white_added}

@@ -1,4 +1,4 @@
-use Rattle.std.proofs.Common.{◌≡◌, ◌<◌, ◌^◌, ◌∷◌, false, bit_xor, w64, inl, inr, length, get_or, ap, subst, sym, ◌∙◌, arith}
+use Rattle.std.proofs.Common.{◌≡◌, ◌<◌, ◌^◌, ◌∷◌, false, bit_xor, w64, inl, inr, length, get_or, refl, ap, subst, sym, ◌∙◌, arith}
 use Rattle.std.specs.Int.{bit_at, trailing_zeros}
 use Rattle.std.proofs.Math.Facts.{Fits-lt-pow, Fits-xor, Fits-of_lt}
 use Rattle.std.proofs.lemmas.Bool.{cases_lt}
@@ -45,6 +45,7 @@ returns-clause-gap c =
       within = omega (arith, lowest.0);
       opens = c.opening.ensures.opening WIDTH (keys_of t.hashed (next ∷ held)) (keys_of t.hashed (next ∷ held) (length held)) 64 (linked next) (walk next) lowest.0 parts.0 parts.1;
       bit = sym (c.bit.ensures ∙ parts.0.each place (omega arith));
+      hash = λ some. absurd (some refl);
     }
 
 -- these two are only there for speed

@@ -1,38 +1,48 @@
-use Rattle.std.proofs.Common.{◌≡◌, ℕ, Bool, false, ◌<◌, ◌∷◌, length, ap, subst, sym, ◌∙◌, arith}
+use Rattle.std.proofs.Common.{◌≡◌, ◌≢◌, ℕ, Bool, true, false, ◌<◌, ◌∷◌, length, ap, subst, sym, ◌∙◌, arith}
 use Rattle.go_board.specs.declared.past.print_past.key.TheConstants.{WIDTH}
+use Rattle.go_board.specs.Grid.{Grid}
 use Rattle.go_board.specs.Past.{Held, all_of}
-use Rattle.go_board.specs.inner.Key.{bits_of, key_bits, keys_of, start_of}
+use Rattle.go_board.specs.inner.Hash.{hash_of}
+use Rattle.go_board.specs.inner.Key.{bits_of, hash_in_key, key_bits, keys_of, start_of}
 use Rattle.go_board.specs.inner.Print.{print_of}
+use Rattle.key_trie.specs.declared.trie.Trie.{Trie}
 use Rattle.key_trie.specs.Key.{Agree}
-use Rattle.key_trie.specs.Trie.{item_count, kid_at, IsNearest, IsTrie, IsWayTo}
+use Rattle.key_trie.specs.Trie.{item_count, kid_at, IsNearest, IsOpening, IsTrie, IsWayTo}
 use Rattle.go_board.proofs.TableLemmas.{keys-next, keys-older, linked_before, repeats, side-number, tabled}
 use Rattle.key_trie.proofs.TrieLemmas.{agree_self, parts_as, way_nearest}
 use Rattle.go_board.proofs.past.print_past.table.Table.gap_by_board.Goals as goal
-use Rattle.go_board.proofs.past.print_past.table.Table.gap_by_board.Goals.{After-key_of-past_key}
+use Rattle.go_board.proofs.past.print_past.table.Table.gap_by_board.Goals.{After-first_apart}
 
-module _ (c : After-key_of-past_key) where
+module _ (c : After-first_apart) where
   abbrev pub next : Held
   next = record { colouring = c.args.board.now; begins = false }
 
   abbrev pub keys : ℕ → ℕ → Bool
   keys = keys_of c.hash_if_deep.new.self.hashed (next ∷ all_of c.args.colourings.now)
 
-  pub count : item_count c.hash_if_deep.new.self.trie ≡ length (all_of c.args.colourings.now)
-  count = c.hash_if_deep.ensures.all ∙ tabled (all_of c.args.colourings.now) c.hash_if_deep.new.self c.hash_if_deep.ensures.table
+  pub before : item_count c.hash_if_deep.new.self.trie ≡ length (all_of c.args.colourings.now)
+  before = c.hash_if_deep.ensures.all ∙ tabled (all_of c.args.colourings.now) c.hash_if_deep.new.self c.hash_if_deep.ensures.table
 
-  pub linked : IsTrie WIDTH keys c.hash_if_deep.new.self.trie
-  linked = linked_before c.hash_if_deep.new.self.hashed next (all_of c.args.colourings.now) c.hash_if_deep.new.self.trie (omega (arith, count)) c.hash_if_deep.ensures.table.linked
+  pub count : item_count c.first_apart.new.self.trie ≡ length (all_of c.args.colourings.now)
+  count = ap item_count c.first_apart.ensures.rest.trie ∙ before
 
-  pub walk : IsWayTo keys c.hash_if_deep.new.self.trie (bits_of c.new-key.result) WIDTH c.descend-from.result
-  walk = c.descend-from.ensures.way WIDTH keys linked
+  pub linked : IsTrie WIDTH keys c.first_apart.new.self.trie
+  linked =
+      subst (λ (x : Trie). IsTrie WIDTH keys x) (sym c.first_apart.ensures.rest.trie)
+      (linked_before c.hash_if_deep.new.self.hashed next (all_of c.args.colourings.now) c.hash_if_deep.new.self.trie (omega (arith, before)) c.hash_if_deep.ensures.table.linked)
 
-  pub found : IsNearest keys c.hash_if_deep.new.self.trie (bits_of c.new-key.result) WIDTH (kid_at c.hash_if_deep.new.self.trie c.descend-from.result)
-  found = way_nearest WIDTH keys c.hash_if_deep.new.self.trie linked c.descend-from.result walk (omega arith)
+  pub walk : IsWayTo keys c.first_apart.new.self.trie (bits_of c.new-key.result) WIDTH c.descend-from.result
+  walk =
+      subst (λ (x : Trie). IsWayTo keys x (bits_of c.new-key.result) WIDTH c.descend-from.result) (sym c.first_apart.ensures.rest.trie)
+      (c.descend-from.ensures.way WIDTH keys (subst (λ (x : Trie). IsTrie WIDTH keys x) c.first_apart.ensures.rest.trie linked))
 
-  pub near_is : c.kid-near.result ≡ kid_at c.hash_if_deep.new.self.trie c.descend-from.result
-  near_is = c.kid-near.ensures
+  pub found : IsNearest keys c.first_apart.new.self.trie (bits_of c.new-key.result) WIDTH (kid_at c.first_apart.new.self.trie c.descend-from.result)
+  found = way_nearest WIDTH keys c.first_apart.new.self.trie linked c.descend-from.result walk (omega arith)
 
-  pub near_in : kid_at c.hash_if_deep.new.self.trie c.descend-from.result < length (all_of c.args.colourings.now)
+  pub near_is : c.kid-near.result ≡ kid_at c.first_apart.new.self.trie c.descend-from.result
+  near_is = c.kid-near.ensures ∙ ap (λ (x : Trie). kid_at x c.descend-from.result) (sym c.first_apart.ensures.rest.trie)
+
+  pub near_in : kid_at c.first_apart.new.self.trie c.descend-from.result < length (all_of c.args.colourings.now)
   near_in = omega (arith, found.there, count)
 
   -- the key that is walked by is that of the colouring
@@ -46,42 +56,46 @@ module _ (c : After-key_of-past_key) where
       ∙ ap (λ n. key_bits (start_of held) (print_of board) n board) c.hash_in_key-hash.ensures
       ∙ sym (keys-next c.hash_if_deep.new.self.hashed held board)
 
-  -- and the other is that of the colouring at the end of the walk
-  pub other : bits_of c.key_of-past_key.result ≡ keys_of c.hash_if_deep.new.self.hashed (all_of c.args.colourings.now) (kid_at c.hash_if_deep.new.self.trie c.descend-from.result)
-  other = c.key_of-past_key.ensures.whole c.board_at-past.ensures c.hash_in_key.ensures ∙ ap (λ n. keys_of c.hash_if_deep.new.self.hashed (all_of c.args.colourings.now) n) near_is
+-- a hash that isn't 0 was worked out
+worked_out : (hashed : Bool) (grid : Grid) (hash : ℕ) → hash ≡ hash_in_key hashed grid → hash ≢ 0 → hash ≡ hash_of grid
+worked_out true grid hash is some = is
+worked_out false grid hash is some = absurd (some is)
 
 pub returns-in-Some-clause-gap : goal.returns-in-Some-clause-gap
 returns-in-Some-clause-gap c =
-    let w = (goal.at.returns-in-Some-clause-gap c).After-key_of-past_key in
-    let t = c.hash_if_deep.new.self in
+    let w = (goal.at.returns-in-Some-clause-gap c).After-first_apart in
+    let t = c.first_apart.new.self in
     let held = all_of c.args.colourings.now in
     let near = kid_at t.trie c.descend-from.result in
     let bits = keys w (length held) in
-    let apart = c.in-Some.ensures in
+    let apart = c.in-Some.ensures.apart in
     let place = c.in-Some.place in
-    let parts = parts_as (found w) bits (bits_of c.key_of-past_key.result) place apart.0
+    let hashed = sym c.first_apart.ensures.rest.hashed in
+    let other = ap (λ n. keys_of c.hash_if_deep.new.self.hashed held n) (near_is w) ∙ sym (keys-older c.hash_if_deep.new.self.hashed (next w) held near (near_in w)) in
+    let parts = parts_as (found w) bits (keys_of c.hash_if_deep.new.self.hashed held c.kid-near.result) place apart.0
     (subst (λ x. Agree (bits_of c.new-key.result) x WIDTH) (own w) (agree_self (bits_of c.new-key.result) WIDTH))
-    (subst (λ x. Agree (bits_of c.key_of-past_key.result) x WIDTH) (other w ∙ sym (keys-older c.hash_if_deep.new.self.hashed (next w) held near (near_in w))) (agree_self (bits_of c.key_of-past_key.result) WIDTH))
+    (subst (λ x. Agree (keys_of c.hash_if_deep.new.self.hashed held c.kid-near.result) x WIDTH) other (agree_self (keys_of c.hash_if_deep.new.self.hashed held c.kid-near.result) WIDTH))
     apart.1 apart.2 in
     record {
       all = count w;
       within = apart.0;
-      opens = c.opening.ensures.opening WIDTH (keys w) bits WIDTH (linked w) (walk w) apart.0 parts.0 parts.1;
-      bit = sym (c.bit.ensures ∙ ap (λ (x : ℕ → Bool). x place) (own w));
+      opens = subst (λ (h : Bool). IsOpening (keys_of h (next w ∷ held)) t.trie (keys_of h (next w ∷ held) (length held)) c.opening.result place) hashed
+          (c.opening.ensures.opening WIDTH (keys w) bits WIDTH (linked w) (walk w) apart.0 parts.0 parts.1);
+      bit = subst (λ (h : Bool). keys_of h (next w ∷ held) (length held) place ≡ c.bit.result) hashed (sym (c.bit.ensures ∙ ap (λ (x : ℕ → Bool). x place) (own w)));
+      hash = worked_out c.hash_if_deep.new.self.hashed c.args.board.now c.hash_in_key-hash.result c.hash_in_key-hash.ensures;
     }
 
 pub returns-in-None-clause-has : goal.returns-in-None-clause-has
 returns-in-None-clause-has c =
-    let w = (goal.at.returns-in-None-clause-has c).After-key_of-past_key in
+    let w = (goal.at.returns-in-None-clause-has c).After-first_apart in
     let t = c.hash_if_deep.new.self in
     let held = all_of c.args.colourings.now in
     let is = c.hash_if_deep.ensures.table in
     let board = c.args.board.now in
     let start = c.stretch_start in
-    let past = c.board_at-past in
+    let past = c.in-None.ensures.cells in
     let near : c.kid-near.result < length held = omega (arith, near_is w, near_in w) in
-    let side = side-number board.side held c.requires.side c.kid-near.result past.result near past.ensures in
-    repeats held t is start.result c.args.print c.hash_in_key-hash.result c.kid-near.result board past.result start.ensures.start (omega (arith, start.ensures.below, tabled held t is, is.room, is.most))
-    c.requires.print near past.ensures side c.has_all_cells-2.ensures.few c.has_all_cells.ensures.all c.has_all_cells-2.ensures.all
-    (subst (λ x. Agree x (keys_of t.hashed held c.kid-near.result) WIDTH) c.new-key.ensures
-    (subst (λ x. Agree (bits_of c.new-key.result) x WIDTH) (c.key_of-past_key.ensures.whole past.ensures c.hash_in_key.ensures) c.in-None.ensures))
+    let side = side-number board.side held c.requires.side c.kid-near.result past.0 near past.1 in
+    repeats held t is start.result c.args.print c.hash_in_key-hash.result c.kid-near.result board past.0 start.ensures.start (omega (arith, start.ensures.below, tabled held t is, is.room, is.most))
+    c.requires.print near past.1 side c.has_all_cells.ensures.few past.2 c.has_all_cells.ensures.all
+    (subst (λ x. Agree x (keys_of t.hashed held c.kid-near.result) WIDTH) c.new-key.ensures c.in-None.ensures.apart)

@@ -1,75 +1,71 @@
-use Rattle.std.proofs.Common.{ℕ, List, refl, subst, arith}
+use Rattle.std.proofs.Common.{◌≡◌, ℕ, Bool, ap, sym, subst, ◌∙◌, arith}
 use Rattle.go_board.specs.declared.past.print_past.key.TheConstants.{WIDTH}
 use Rattle.go_board.specs.Past.{all_of}
-use Rattle.go_board.specs.inner.Key.{bits_of, keys_of}
+use Rattle.go_board.specs.inner.Key.{bits_of, hash_in_key, keys_of}
+use Rattle.go_board.specs.inner.Table.{SameButHashes}
+use Rattle.key_trie.specs.declared.trie.Trie.{Trie}
 use Rattle.key_trie.specs.Key.{Agree}
-use Rattle.key_trie.specs.Trie.{item_count, IsNearest}
-use Rattle.go_board.proofs.TableLemmas.{all_anew, one_linked, tabled, tabled_with}
+use Rattle.key_trie.specs.Trie.{item_count, IsNearest, IsTrie}
+use Rattle.go_board.proofs.TableLemmas.{all_anew, links_with, same_both, tabled}
 use Rattle.key_trie.proofs.TrieLemmas.{agree_back, agree_on, agree_self, parts_as}
 use Rattle.go_board.proofs.past.print_past.table.Table.link_by_board.Goals as goal
-use Rattle.go_board.proofs.past.print_past.table.Table.link_by_board.Goals.{After-key_of-other}
+use Rattle.go_board.proofs.past.print_past.table.Table.link_by_board.Goals.{After-first_apart}
 
--- the nearest colouring in the trie, and the bits of its key and of the next one's
-module _ (c : After-key_of-other) where
-  pub nearest_is : IsNearest (keys_of c.args.self.now.hashed (all_of c.args.colourings.now)) c.args.self.now.trie (bits_of c.key_of-key.result) WIDTH c.nearest-near.result
-  nearest_is = c.nearest-near.ensures.nearest WIDTH (keys_of c.args.self.now.hashed (all_of c.args.colourings.now)) c.requires.unlinked.table.linked (omega arith)
+module _ (c : After-first_apart) where
+  abbrev pub keys : ℕ → ℕ → Bool
+  keys = keys_of c.take_hash-hash.new.self.hashed (all_of c.args.colourings.now)
 
-  pub own : Agree (bits_of c.key_of-key.result) (keys_of c.args.self.now.hashed (all_of c.args.colourings.now) (item_count c.args.self.now.trie)) WIDTH
+  pub same : SameButHashes c.args.self.now c.first_apart.new.self
+  same = same_both c.args.self.now c.take_hash-hash.new.self c.first_apart.new.self c.take_hash-hash.ensures.rest c.first_apart.ensures.rest
+
+  pub linked : IsTrie WIDTH keys c.first_apart.new.self.trie
+  linked = subst (λ (x : Trie). IsTrie WIDTH keys x) (sym c.first_apart.ensures.rest.trie) c.take_hash-hash.ensures.table.linked
+
+  -- the nearest colouring in the trie
+  pub nearest_is : IsNearest keys c.first_apart.new.self.trie (bits_of c.key_of-key.result) WIDTH c.nearest-near.result
+  nearest_is =
+      subst (λ (x : Trie). IsNearest keys x (bits_of c.key_of-key.result) WIDTH c.nearest-near.result) (sym c.first_apart.ensures.rest.trie)
+      (c.nearest-near.ensures.nearest WIDTH keys c.take_hash-hash.ensures.table.linked (omega arith))
+
+  -- the bits of the next colouring's key
+  pub own : Agree (bits_of c.key_of-key.result) (keys (item_count c.first_apart.new.self.trie)) WIDTH
   own =
-      let same = rw c.len-next.ensures at (c.key_of-key.ensures.whole c.board_at-board.ensures c.hash_in_key.ensures) in
-      subst (λ x. Agree (bits_of c.key_of-key.result) x WIDTH) same (agree_self (bits_of c.key_of-key.result) WIDTH)
-
-  pub other : Agree (bits_of c.key_of-other.result) (keys_of c.args.self.now.hashed (all_of c.args.colourings.now) c.nearest-near.result) WIDTH
-  other = subst (λ x. Agree (bits_of c.key_of-other.result) x WIDTH) (c.key_of-other.ensures.whole c.board_at-past.ensures c.hash_in_key-2.ensures) (agree_self (bits_of c.key_of-other.result) WIDTH)
+      let hash : c.take_hash-hash.result ≡ hash_in_key c.take_hash-hash.new.self.hashed c.board_at-board.result =
+      c.take_hash-hash.ensures.hash c.board_at-board.result c.board_at-board.ensures ∙ ap (λ (h : Bool). hash_in_key h c.board_at-board.result) (sym c.take_hash-hash.ensures.rest.hashed) in
+      let number : c.len-next.result ≡ item_count c.first_apart.new.self.trie = c.len-next.ensures ∙ ap (λ (x : Trie). item_count x) (sym same.trie) in
+      let whole : bits_of c.key_of-key.result ≡ keys c.len-next.result = c.key_of-key.ensures.whole c.board_at-board.ensures hash in
+      subst (λ n. Agree (bits_of c.key_of-key.result) (keys n) WIDTH) number (subst (λ x. Agree (bits_of c.key_of-key.result) x WIDTH) whole (agree_self (bits_of c.key_of-key.result) WIDTH))
 
 pub returns-in-Some : goal.returns-in-Some
 returns-in-Some c =
-    let t = c.args.self.now in
+    let w = (goal.at.returns-in-Some c).After-first_apart in
     let held = all_of c.args.colourings.now in
-    let is = c.requires.unlinked.table in
-    let keys = keys_of t.hashed held in
-    let w = (goal.at.returns-in-Some c).After-key_of-other in
-    let apart = c.in-Some.ensures in
-    let parts = parts_as (nearest_is w) (keys (item_count t.trie)) _ c.in-Some.place apart.0 (own w) (other w) apart.1 apart.2 in
-    record {
-      table = tabled_with held t (record t { trie = c.part.new.self }) is refl refl (omega (arith, is.room, c.part.ensures.room)) (omega (arith, is.most, c.part.ensures.room)) (omega (arith, c.part.ensures.more, c.requires.unlinked.more))
-          (c.part.ensures.trie WIDTH keys c.nearest-near.result is.linked (omega (arith, apart.0)) parts.0 parts.1);
-      fewer = one_linked t (record t { trie = c.part.new.self }) refl refl c.part.ensures.more c.requires.unlinked.more;
-      prints = refl {A = List ℕ};
-    }
+    let now = c.first_apart.new.self in
+    let apart = c.in-Some.ensures.apart in
+    let near = c.nearest-near.result in
+    let parts = parts_as (nearest_is w) (keys w (item_count now.trie)) (keys w near) c.in-Some.place apart.0 (own w) (agree_self (keys w near) WIDTH) apart.1 apart.2 in
+    links_with held c.args.self.now now c.part.new.self c.first_apart.ensures.table (same w) c.requires.unlinked.more c.part.ensures.room c.part.ensures.more
+    (subst (λ (h : Bool). IsTrie WIDTH (keys_of h held) c.part.new.self) c.take_hash-hash.ensures.rest.hashed
+    (c.part.ensures.trie WIDTH (keys w) near (linked w) apart.0 parts.0 parts.1))
 
 pub returns-in-None : goal.returns-in-None
 returns-in-None c =
-    let t = c.args.self.now in
+    let w = (goal.at.returns-in-None c).After-first_apart in
     let held = all_of c.args.colourings.now in
-    let is = c.requires.unlinked.table in
-    let w = (goal.at.returns-in-None c).After-key_of-other in
+    links_with held c.args.self.now c.first_apart.new.self c.repeat.new.self c.first_apart.ensures.table (same w) c.requires.unlinked.more c.repeat.ensures.room c.repeat.ensures.more
+    (subst (λ (h : Bool). IsTrie WIDTH (keys_of h held) c.repeat.new.self) c.take_hash-hash.ensures.rest.hashed
+    (c.repeat.ensures.trie WIDTH (keys w) c.nearest-near.result (linked w) (nearest_is w).there (agree_on (agree_back c.in-None.ensures.apart) (own w))))
+
+pub returns-then-is_deep : goal.returns-then-is_deep
+returns-then-is_deep c =
+    let t = c.take_hash-hash.new.self in
+    let rest = c.take_hash-hash.ensures.rest in
     record {
-      table = tabled_with held t (record t { trie = c.repeat.new.self }) is refl refl (omega (arith, is.room, c.repeat.ensures.room)) (omega (arith, is.most, c.repeat.ensures.room)) (omega (arith, c.repeat.ensures.more, c.requires.unlinked.more))
-          (c.repeat.ensures.trie WIDTH (keys_of t.hashed held) c.nearest-near.result is.linked (nearest_is w).there (agree_on (agree_back (other w)) (agree_on (agree_back c.in-None.ensures) (own w))));
-      fewer = one_linked t (record t { trie = c.repeat.new.self }) refl refl c.repeat.ensures.more c.requires.unlinked.more;
-      prints = refl {A = List ℕ};
+      table = c.begin_anew.ensures.table (all_of c.args.colourings.now) c.take_hash-hash.ensures.table;
+      fewer = all_anew c.args.self.now c.begin_anew.new.self (c.begin_anew.ensures.prints ∙ rest.prints) (sym rest.hashed ∙ c.is_deep.ensures c.if-is_deep.true) c.begin_anew.ensures.hashed;
+      prints = c.begin_anew.ensures.prints ∙ rest.prints;
     }
 
 -- these four are only there for speed
 pub board_at-board-requires : goal.board_at-board-requires
 board_at-board-requires c = omega (arith, c.len-next.ensures, c.requires.unlinked.more, tabled (all_of c.args.colourings.now) c.args.self.now c.requires.unlinked.table)
-
-pub key_of-key-requires-clause-number : goal.key_of-key-requires-clause-number
-key_of-key-requires-clause-number c =
-    omega (arith, c.len-next.ensures, c.requires.unlinked.more, tabled (all_of c.args.colourings.now) c.args.self.now c.requires.unlinked.table)
-
-pub board_at-past-requires : goal.board_at-past-requires
-board_at-past-requires c =
-    omega (arith, c.nearest-near.ensures.there, c.requires.unlinked.more, tabled (all_of c.args.colourings.now) c.args.self.now c.requires.unlinked.table)
-
-pub key_of-other-requires-clause-number : goal.key_of-other-requires-clause-number
-key_of-other-requires-clause-number c =
-    omega (arith, c.nearest-near.ensures.there, c.requires.unlinked.more, tabled (all_of c.args.colourings.now) c.args.self.now c.requires.unlinked.table)
-
-pub returns-then-is_deep : goal.returns-then-is_deep
-returns-then-is_deep c = record {
-  table = c.begin_anew.ensures.table (all_of c.args.colourings.now) c.requires.unlinked.table;
-  fewer = all_anew c.args.self.now c.begin_anew.new.self c.begin_anew.ensures.prints (c.is_deep.ensures c.if-is_deep.true) c.begin_anew.ensures.hashed;
-  prints = c.begin_anew.ensures.prints;
-}

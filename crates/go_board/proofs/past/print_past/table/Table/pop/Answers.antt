@@ -43,8 +43,8 @@ returns c = λ newest older any.
           (rw filter (subst (λ (xs : List ℕ). IsFilter xs t.filter) parts is.filtered)),
     )
     in
-    let table_of : (after.prints.items ≡ t.prints.items) → (after.filter ≡ t.filter) → (room_of after.trie ≡ room_of t.trie) → (after.hashed ≡ t.hashed) → (item_count after.trie ≤ length older) → IsTrie WIDTH (keys_of t.hashed (newest ∷ older)) after.trie
-    → IsAwakeTable older (record { prints = c.pop.new.self; trie = after.trie; filter = c.go_back.new.self; hashed = after.hashed }) = λ same filter room hashed few linked.
+    let table_of : (after.prints.items ≡ t.prints.items) → (after.filter ≡ t.filter) → (room_of after.trie ≡ room_of t.trie) → (after.hashed ≡ t.hashed) → (after.hashes ≡ t.hashes) → (item_count after.trie ≤ length older) → IsTrie WIDTH (keys_of t.hashed (newest ∷ older)) after.trie
+    → IsAwakeTable older (record { prints = c.pop.new.self; trie = after.trie; filter = c.go_back.new.self; hashed = after.hashed; hashes = c.go_back-2.new.self }) = λ same filter room hashed hashes few linked.
     let print = popped same filter in
     record {
       printed = print.0;
@@ -53,17 +53,18 @@ returns c = λ newest older any.
       room = omega (arith, room, is.room, print.1, all);
       most = omega (arith, room, is.most);
       filtered = print.2;
+      kept = c.go_back-2.ensures newest older (rw hashes is.kept) (omega (arith, print.1, c.len-4.ensures, c.pop.new.self.ok.0));
     }
     in
     inr (elim c.if-len.branch [
       | then-len w ↦
           let trie : after.trie ≡ w.take_back.new.self = ap (λ (x : Table). x.trie) w.self-is in
-          table_of (ap (λ (x : Table). x.prints.items) w.self-is) (ap (λ (x : Table). x.filter) w.self-is) (ap room_of trie ∙ w.take_back.ensures.room) (ap (λ (x : Table). x.hashed) w.self-is)
+          table_of (ap (λ (x : Table). x.prints.items) w.self-is) (ap (λ (x : Table). x.filter) w.self-is) (ap room_of trie ∙ w.take_back.ensures.room) (ap (λ (x : Table). x.hashed) w.self-is) (ap (λ (x : Table). x.hashes) w.self-is)
           (omega (arith, ap item_count trie, w.take_back.ensures.fewer, w.if-len.true, c.len.ensures, c.len-2.ensures, t.prints.ok.0, all))
           (subst (λ (x : Trie). IsTrie WIDTH (keys_of t.hashed (newest ∷ older)) x) (sym trie) (w.take_back.ensures.trie WIDTH (keys_of t.hashed (newest ∷ older)) is.linked))
       | else-len w ↦
           let trie : after.trie ≡ t.trie = ap (λ (x : Table). x.trie) w.self-is in
-          table_of (ap (λ (x : Table). x.prints.items) w.self-is) (ap (λ (x : Table). x.filter) w.self-is) (ap room_of trie) (ap (λ (x : Table). x.hashed) w.self-is)
+          table_of (ap (λ (x : Table). x.prints.items) w.self-is) (ap (λ (x : Table). x.filter) w.self-is) (ap room_of trie) (ap (λ (x : Table). x.hashed) w.self-is) (ap (λ (x : Table). x.hashes) w.self-is)
           (omega (arith, ap item_count trie, w.if-len.false, c.len.ensures, c.len-2.ensures, t.prints.ok.0, all, is.few))
           (subst (λ (x : Trie). IsTrie WIDTH (keys_of t.hashed (newest ∷ older)) x) (sym trie) is.linked)
     ])

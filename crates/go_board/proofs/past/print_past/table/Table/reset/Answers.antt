@@ -30,4 +30,5 @@ returns c = λ first.
       prints_room = omega (arith, prints_room, c.clear-2.ensures.capacity);
       most = omega (arith, most, c.clear.ensures.room);
       filtered = c.go_back.ensures [] t.prints.items refl filtered;
+      kept = c.clear-3.ensures;
     })
