@@ -3,7 +3,6 @@ use Rattle.std.proofs.lemmas.Bool.{cases_eq}
 use Rattle.key_trie.specs.declared.node.Node.{Node}
 use Rattle.key_trie.specs.Trie.{IsTrieOf, IsOnWay, GoesOn, after_steps, depth_of, kid_of}
 use Rattle.key_trie.proofs.TrieLemmas.{trie_tree, way_begins, way_goes_on, way_names}
-use Rattle.key_trie.proofs.trie.Trie.passes.Given.{Over}
 use Rattle.key_trie.proofs.trie.Trie.passes.Goals as goal
 
 pub down-init : goal.down-init
@@ -33,7 +32,7 @@ down-preserved g c =
     let is = subst (λ (xs : List Node). (width : ℕ) × (keys : ℕ → ℕ → Bool) × IsTrieOf width (length xs) keys xs) (sym c.as_slice-nodes.ensures.value) c.requires.trie in
     let deeper : c.from-deeper.result ≡ depth_of nodes c.down.below = search rules in
     let next : (width : ℕ) (keys : ℕ → ℕ → Bool) → IsTrieOf width (length nodes) keys nodes
-        → IsOnWay (length nodes) keys (depth_of nodes) key c.args.end c.down.below c.bit.result = λ width keys trie.
+    → IsOnWay (length nodes) keys (depth_of nodes) key c.args.end c.down.below c.bit.result = λ width keys trie.
     way_goes_on (trie_tree _ keys _ trie (omega (arith, old.there_node))) c.down.below c.bit.result (old.way width keys trie) old.named
     (omega (arith, c.if-deeper-depth.false, old.left, deeper)) (omega (arith, c.if-deeper-end.false, deeper))
     (c.bit.ensures ∙ ap (λ n. key (n - 1)) deeper) in
@@ -54,9 +53,10 @@ down-preserved g c =
           ∙ ap (λ n. kid_of nodes n (key (depth_of nodes n - 1))) at);
       passed = λ steps low. elim (cases_eq steps c.down.counter) [
         | inr other ↦ old.passed steps (omega (arith, low, other))
-        | inl same ↦ subst (λ n. GoesOn nodes key c.args.end n) (sym same)
-            (subst (λ n. n < depth_of nodes (after_steps nodes key c.down.counter).1) old.depth
+        | inl same ↦ subst (λ n. GoesOn nodes key c.args.end n) (sym same) (
+          subst (λ n. n < depth_of nodes (after_steps nodes key c.down.counter).1) old.depth
               (subst (λ n. c.down.depth < depth_of nodes n) at (omega (arith, c.if-deeper-depth.false, deeper))),
-             subst (λ n. depth_of nodes n ≤ c.args.end) at (omega (arith, c.if-deeper-end.false, deeper)))
+          subst (λ n. depth_of nodes n ≤ c.args.end) at (omega (arith, c.if-deeper-end.false, deeper)),
+        )
       ];
     }
