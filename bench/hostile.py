@@ -310,6 +310,43 @@ def long_walks(size):
     return repeated(max(size, len(front) + len(unit) + 1), front, unit, ")")
 
 
+# Stones in holes of two points, 6 holes in each of 8 rows: 1 says that the left point of a hole has a stone, 2 the right one. The holes are 3
+# points and 2 rows apart. The stones' codes times powers of 31 add up to 0 modulo 2^64, wherever on the board of 52 they stand together.
+SHIFTING = "210100 010222 221221 100222 000012 111122 100011 211100".split()
+
+
+def shifted(right, down):
+    """The holes of SHIFTING at a place, by column and row, and which of its points has a stone."""
+    return {(col + right, row + down): int(which) - 1 for row, digits in enumerate(SHIFTING) for col, which in enumerate(digits) if which != "0"}
+
+
+def deep(size):
+    """Variations each of whose moves makes a colouring whose print 192 earlier colourings have, each of which parts from it at another point. Black
+    has 17 holes of two points in each of 24 rows. The stones of SHIFTING stand at one place after another. At each, both players turn other holes
+    over, there and back in turn. The variations do this once more, without these stones."""
+    holes = {(col, row): (point(3 * col, 2 * row), point(3 * col + 1, 2 * row)) for row in range(24) for col in range(17)}
+    free = [[holes[col, 23] for col in range(5)], [(point(col, row), point(col + 1, row)) for row in (49, 51) for col in range(0, 9, 3)]]
+    sets = [shifted(right, down) for down in range(16) for right in range(12)]
+    outside = {spot for hole in list(holes.values()) + free[1] for spot in hole} | {"ZV", "ZX"}
+    stones = [{holes[hole][which] for hole, which in sets[0].items()} | {point(col, row) for row in range(48, 52) for col in range(52)} - outside,
+              {point(col, row) for row in range(48) for col in range(52)} - outside]
+    front = "(;SZ[52]" + "".join(f"A{name}" + "".join(f"[{spot}]" for spot in sorted(own)) for name, own in zip("BW", stones)) + "PL[B]"
+    both, filled = [own[step] for step in (0, 1, 0, 2, 0, 1, 0, 3, 0, 1, 0, 2, 0, 1, 0, 4) for own in free], set()
+    moves = []
+    for now, then in zip(sets, sets[1:] + [{}]):
+        moves += [turned(hole, filled) for hole in both] + [""] * (len(moves) % 2)
+        changed = sorted(hole for hole in now.keys() & then.keys() if now[hole] != then[hole])
+        for spot in ([holes[hole][then[hole]] for hole in sorted(then.keys() - now.keys())]
+                     + [holes[hole][1 - now[hole]] for hole in sorted(now.keys() - then.keys()) + changed]
+                     + [holes[hole][then[hole]] for hole in changed]):
+            moves += [spot, ""]
+        moves = moves[:-1] if both[0] in free[0] else moves
+        both.reverse()
+    front += "".join(f";{'BW'[turn % 2]}[{move}]" for turn, move in enumerate(moves))
+    unit = "(" + "".join(f";{'BW'[turn % 2]}[{turned(hole, filled)}]" for turn, hole in enumerate(both)) + ")"
+    return repeated(max(size, len(front) + len(unit) + 1), front, unit, ")")
+
+
 def searches(size):
     """One line of moves on side 52. Black fills a hole of two points in a large white group whose one eye is far away. Every second time this is
     suicide. White counts beside it."""
@@ -469,6 +506,7 @@ INPUTS = {
     "low": ("one line of moves on side 52, of colourings very many of which have the same 36 low bits in their prints", lambda n: equal_prints(n, 8), ["list", "count"]),
     "costly": ("variations whose moves have the prints of colourings that take long to work out", costly, FORMS),
     "walks": ("variations whose moves have the prints of colourings to which a look-up walks through nearly all bits of a print", long_walks, FORMS),
+    "deep": ("variations whose moves have the prints of very many colourings, each of which parts from them at another point", deep, FORMS),
     "restarts": ("setups that fill a board of 52 but for one point, and a suicide there after each",
                  lambda n: repeated(n, "(;SZ[52]", ";AB[aa:ZZ]AE[aa];B[aa]", ")"), ["list", "count"]),
     "searches": ("moves in a hole of two points in a group of 1,973 stones, whose only other liberty is far away", searches, ["list", "count"]),
