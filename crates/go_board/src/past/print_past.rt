@@ -121,6 +121,22 @@ impl Past for PrintPast {
         self.play_in_doubt(colour, point)
     }
 
+    /// Plays most stones. A table that is awake needs prints, so it answers false then.
+    #[inline(always)]
+    fn play_at_once(&mut self, colour: Colour, point: Point) -> bool {
+        if !self.needs_no_room() || self.may_repeat(point, &[]) {
+            return false;
+        }
+        let newest = self.colourings.newest();
+        if !newest.is_settled() || !newest.takes_nothing_at_a_glance(colour, point) {
+            return false;
+        }
+        match self.play_new(colour, point, &[], true) {
+            Ok(played) => played,
+            Err(_) => false,
+        }
+    }
+
     /// The same as the plain one; then the board is settled if that can be.
     fn set_up(&mut self, ops: &[SetupOp]) -> Result<(), MemoryFault> {
         let mut made = self.newest().copy();
@@ -176,6 +192,12 @@ impl PrintPast {
         self.emptied.add(&stones, number as u32);
         self.table.push(print, None);
         Ok(())
+    }
+
+    /// Whether there is room for a stone that takes nothing off, and neither its print nor a row is to be kept.
+    #[inline(always)]
+    fn needs_no_room(&self) -> bool {
+        self.colourings.has_room_for_stone() && self.table.has_room_asleep(self.colourings.len())
     }
 
     /// The same as `play`, on a settled board, for a stone that may capture or be suicide: a glance doesn't rule it out.

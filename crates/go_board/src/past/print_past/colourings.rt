@@ -244,6 +244,12 @@ impl Colourings {
         Ok(())
     }
 
+    /// Whether there is room for a stone that takes nothing off, and the step to it doesn't keep all rows.
+    #[inline(always)]
+    pub(crate) fn has_room_for_stone(&self) -> bool {
+        self.older.len() < self.older.capacity() && !is_full(self.older.len())
+    }
+
     /// What a stone on an empty point takes off, by capture or else by suicide (`Board::find_taken`); None if that is nothing. The rows
     /// are written to `words`, which must be 0.
     pub(crate) fn find_taken<'a>(

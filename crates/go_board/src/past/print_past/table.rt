@@ -129,6 +129,12 @@ impl Table {
         colourings.write_prints(&mut self.prints);
     }
 
+    /// Whether the table sleeps, and has room for one more colouring; `count` is how many there are.
+    #[inline(always)]
+    pub(crate) fn has_room_asleep(&self, count: usize) -> bool {
+        self.prints.is_empty() && count < self.trie.room() && count < self.prints.capacity()
+    }
+
     /// Makes room for one more colouring than these; `count` is how many there are.
     #[inline(always)]
     pub(crate) fn reserve(&mut self, count: usize) -> Result<(), MemoryFault>
