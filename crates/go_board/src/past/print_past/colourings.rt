@@ -244,9 +244,9 @@ impl Colourings {
         Ok(())
     }
 
-    /// Whether there is room for a stone that takes nothing off, and the step to it doesn't keep all rows.
+    /// Whether there is room for one more older colouring, and its step keeps no rows if it only puts a stone.
     #[inline(always)]
-    pub(crate) fn has_room_for_stone(&self) -> bool {
+    pub(crate) fn has_room_for_point(&self) -> bool {
         self.older.len() < self.older.capacity() && !is_full(self.older.len())
     }
 
