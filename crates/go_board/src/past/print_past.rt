@@ -107,18 +107,35 @@ impl Past for PrintPast {
         self.add(board, None, true)
     }
 
-    /// Most stones take nothing off and stand on a point that was never emptied. For these one short look is enough, and no memory is
-    /// needed. The plain way is `Past::play`.
-    #[inline(always)]
+    /// Finds captures and suicide near the stone (`find_taken`), unless a glance shows that there are none. If `play_at_once` would have
+    /// found by a glance alone that it can't play the stone, there is no second glance. A repetition (positional superko) is looked up by
+    /// `play_asked`. The plain ways are `Past::play` and `Board::place`; the second is taken on a board that isn't settled (`play_on_copy`).
     fn play(&mut self, colour: Colour, point: Point) -> Result<bool, MemoryFault> {
         let newest = self.colourings.newest();
-        if !newest.is_settled() || self.needs_more_than_a_point() || self.may_repeat(point, &[]) {
-            return self.play_in_full(colour, point);
+        if !newest.is_settled() {
+            return self.play_on_copy(colour, point);
         }
-        if !newest.takes_nothing_at_a_glance(colour, point) {
-            return self.play_in_doubt(colour, point);
+        let unseen = self.needs_more_than_a_point() || self.may_repeat(point, &[]);
+        if unseen && newest.takes_nothing_at_a_glance(colour, point) {
+            return self.play_taking(colour, point, &[]);
         }
-        self.play_new(colour, point, &[], true)
+        self.play_in_doubt(colour, point)
+    }
+
+    /// Plays most stones. A table that is awake needs prints, so it answers false then.
+    #[inline(always)]
+    fn play_at_once(&mut self, colour: Colour, point: Point) -> bool {
+        if self.needs_more_than_a_point() || self.may_repeat(point, &[]) {
+            return false;
+        }
+        let newest = self.colourings.newest();
+        if !newest.is_settled() || !newest.takes_nothing_at_a_glance(colour, point) {
+            return false;
+        }
+        match self.play_new(colour, point, &[], true) {
+            Ok(played) => played,
+            Err(_) => false,
+        }
     }
 
     /// The same as the plain one; then the board is settled if that can be.
@@ -182,26 +199,6 @@ impl PrintPast {
     #[inline(always)]
     fn needs_more_than_a_point(&self) -> bool {
         !self.colourings.has_room_for_point() || !self.table.has_room_asleep(self.colourings.len())
-    }
-
-    /// The same as `play`, for every stone. Finds captures and suicide near the stone (`find_taken`), unless a glance shows that there are
-    /// none. A repetition (positional superko) is looked up by `play_asked`. On a board that isn't settled the plain way is gone
-    /// (`play_on_copy`).
-    #[inline(never)]
-    fn play_in_full(&mut self, colour: Colour, point: Point) -> Result<bool, MemoryFault>
-        requires one_side { HaveSide (newest_grid self.old).side self.old }
-        requires on_board { IsOn (newest_grid self.old).side point }
-        requires empty { cell_at (newest_grid self.old) point ≡ Empty }
-        ensures { IsPlayed colour point self.old self.new result }
-    {
-        let newest = self.colourings.newest();
-        if !newest.is_settled() {
-            return self.play_on_copy(colour, point);
-        }
-        if newest.takes_nothing_at_a_glance(colour, point) {
-            return self.play_taking(colour, point, &[]);
-        }
-        self.play_in_doubt(colour, point)
     }
 
     /// The same as `play`, on a settled board, for a stone that may capture or be suicide: a glance doesn't rule it out.

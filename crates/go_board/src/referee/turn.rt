@@ -1,7 +1,7 @@
 //! A referee's turns. The past plays the stones (`Past::play`), and doesn't play one that would repeat a colouring made since the last
 //! setup of stones (positional superko).
 
-ghost use Rattle.std.specs.Prelude.{◌≡◌, ◌≢◌, ◌↔◌, if◌then◌else◌, None, Some, IfNone, IfOk, IfSome, IsErrOf, OnOk, OnErr};
+ghost use Rattle.std.specs.Prelude.{◌≡◌, ◌≢◌, ◌↔◌, if◌then◌else◌, None, Some, IfNone, IfOk, IfSome, IsErrOf, IsFalse, IsTrue, OnOk, OnErr};
 ghost use Rattle.go_board.specs.declared.reason.Reason.{Reason};
 ghost use Rattle.go_board.specs.declared.reason.Reason.TheVariants.{Repeat};
 ghost use Rattle.go_board.specs.declared.referee.plays.Play.TheVariants.{Pass, Stone};
@@ -25,6 +25,21 @@ impl<P: Past> Referee<P> {
     // Not inlined: there is one copy of it, and what it calls is inlined there.
     #[inline(never)]
     pub fn turn(&mut self, colour: Colour, play: Play) -> Result<(), TurnFault>
+        requires { IsPlayOn self.old.present.colouring.side play }
+        ensures illegal { (r : Reason) → (IsErrOf result (TurnFault.Illegal r)
+            ↔ (reason_of self.old.present colour play ≡ Some r)) }
+        ensures ok { OnOk result (self.new ≡ followed_by self.old (turned self.old.present colour play)) }
+        ensures err { OnErr result (self.new ≡ self.old) }
+    {
+        if self.take_at_once(colour, play) {
+            return Ok(());
+        }
+        self.turn_in_full(colour, play)
+    }
+
+    /// The same as `turn`, for every turn.
+    #[inline(never)]
+    fn turn_in_full(&mut self, colour: Colour, play: Play) -> Result<(), TurnFault>
         requires { IsPlayOn self.old.present.colouring.side play }
         ensures illegal { (r : Reason) → (IsErrOf result (TurnFault.Illegal r)
             ↔ (reason_of self.old.present colour play ≡ Some r)) }
@@ -63,6 +78,35 @@ impl<P: Past> Referee<P> {
             }
         }
         None
+    }
+
+    /// Takes a turn with a stone, if the past can play it at once (`Past::play_at_once`) and there is room. Returns whether it was taken.
+    /// False says nothing, and then nothing is changed. Most turns are taken here.
+    #[inline(always)]
+    fn take_at_once(&mut self, colour: Colour, play: Play) -> bool
+        requires { IsPlayOn self.old.present.colouring.side play }
+        ensures legal { IsTrue result → reason_of self.old.present colour play ≡ None }
+        ensures taken { IsTrue result → self.new ≡ followed_by self.old (turned self.old.present colour play) }
+        ensures unchanged { IsFalse result → self.new ≡ self.old }
+    {
+        let Play::Stone(point) = play else {
+            return false;
+        };
+        if let Some(_reason) = self.reason_before_repeat(colour, play) {
+            return false;
+        }
+        if self.earlier.len() >= self.earlier.capacity() {
+            return false;
+        }
+        let present = self.present_kept(Call::Stone);
+        if !self.past.play_at_once(colour, point) {
+            return false;
+        }
+        self.earlier.push_reserved(present);
+        self.mover = Mover::only(colour.opponent());
+        self.passes = 0;
+        self.turns += 1;
+        true
     }
 
     /// Takes a pass. Two passes in a row end the game (`over`).

@@ -1,10 +1,12 @@
-use Rattle.std.proofs.Common.{Some, cond, None, ap, ◌∙◌}
-use Rattle.go_board.specs.declared.reason.Reason.TheVariants.{Repeat}
+use Rattle.std.proofs.Common.{◌≡◌, ◌↔◌, Some, IsErrOf, refl, subst}
+use Rattle.go_board.specs.declared.reason.Reason.{Reason}
+use Rattle.go_board.specs.declared.fault.TurnFault.TheVariants.{Illegal}
+use Rattle.go_board.specs.State.{States}
 use Rattle.go_board.specs.Reason.{reason_of}
-use Rattle.go_board.proofs.TurnLemmas.{refused_for}
 use Rattle.go_board.proofs.referee.Referee.turn.Goals as goal
 
-pub returns-then-not-branch-clause-illegal : goal.returns-then-not-branch-clause-illegal
-returns-then-not-branch-clause-illegal g c =
-    let at = ap (reason_of c.args.self.now.present c.args.colour) c.in-Stone.is in
-    refused_for _ Repeat (at ∙ c.in_ok-take_stone-in-Stone.ensures.known ∙ ap (λ b. cond b None (Some Repeat)) c.if-not-branch.true)
+-- the call that took no turn changed nothing
+pub returns-clause-illegal : goal.returns-clause-illegal
+returns-clause-illegal g c = subst
+    (λ (states : States). (r : Reason) → IsErrOf c.turn_in_full.result (Illegal r) ↔ (reason_of states.present c.args.colour c.args.play ≡ Some r))
+    (c.if-take_at_once.ensures.unchanged refl) c.turn_in_full.ensures.illegal

@@ -1,0 +1,10 @@
+use Rattle.std.proofs.Common.{Some, cond, None, ap, ◌∙◌}
+use Rattle.go_board.specs.declared.reason.Reason.TheVariants.{Repeat}
+use Rattle.go_board.specs.Reason.{reason_of}
+use Rattle.go_board.proofs.TurnLemmas.{refused_for}
+use Rattle.go_board.proofs.referee.Referee.turn_in_full.Goals as goal
+
+pub returns-then-not-branch-clause-illegal : goal.returns-then-not-branch-clause-illegal
+returns-then-not-branch-clause-illegal g c =
+    let at = ap (reason_of c.args.self.now.present c.args.colour) c.in-Stone.is in
+    refused_for _ Repeat (at ∙ c.in_ok-take_stone-in-Stone.ensures.known ∙ ap (λ b. cond b None (Some Repeat)) c.if-not-branch.true)
