@@ -79,7 +79,7 @@ impl Call {
 }
 
 /// Who must move. An `Option<Colour>` would take 2 bytes.
-#[derive(Clone, Copy)]
+#[derive(Clone, Copy, PartialEq, Eq)]
 enum Mover {
     Either,
     Black,
@@ -111,11 +111,7 @@ impl Mover {
     fn must_be(self, player: Colour) -> bool
         ensures { result ≡ must_move (player_of self) player }
     {
-        match self {
-            Mover::Either => false,
-            Mover::Black => player == Colour::Black,
-            Mover::White => player == Colour::White,
-        }
+        self == Mover::only(player)
     }
 }
 

@@ -26,7 +26,7 @@ mod powers;
 mod print;
 mod table;
 
-ghost use Rattle.std.specs.Prelude.{◌≡◌, ◌≢◌, ◌<◌, ◌↔◌, false, IsTrue, IfSome, IfNone, OnOk, OnErr, Contains, length, IsFalse};
+ghost use Rattle.std.specs.Prelude.{◌≡◌, ◌≢◌, ◌<◌, ◌↔◌, ◌∷◌, false, IsTrue, IfSome, IfNone, OnOk, OnErr, Contains, length, IsFalse};
 ghost use Rattle.go_board.specs.declared.stones.Cell.TheVariants.{Empty};
 ghost use Rattle.board_points.specs.declared.points.Point.{Point};
 ghost use Rattle.go_board.specs.declared.stones.Colour.{Colour};
@@ -125,11 +125,11 @@ impl Past for PrintPast {
     /// Plays most stones. A table that is awake needs prints, so it answers false then.
     #[inline(always)]
     fn play_at_once(&mut self, colour: Colour, point: Point) -> bool {
-        if self.needs_more_than_a_point() || self.may_repeat(point, &[]) {
+        let newest = self.colourings.newest();
+        if !newest.is_settled() || self.needs_more_than_a_point() || self.may_repeat(point, &[]) {
             return false;
         }
-        let newest = self.colourings.newest();
-        if !newest.is_settled() || !newest.takes_nothing_at_a_glance(colour, point) {
+        if !newest.takes_nothing_at_a_glance(colour, point) {
             return false;
         }
         match self.play_new(colour, point, &[], true) {
@@ -146,10 +146,13 @@ impl Past for PrintPast {
         self.restart(&made)
     }
 
+    /// Most steps put a stone, and no more.
     fn pop(&mut self) {
-        self.table.pop();
-        self.colourings.pop();
-        self.emptied.go_back(self.colourings.len() as u32);
+        if self.table.is_awake() || !self.colourings.newest_adds_point() {
+            self.pop_in_full();
+        } else {
+            self.pop_step();
+        }
     }
 
     fn reset(&mut self, _alloc: Global, board: &Board) -> Result<(), MemoryFault> {
@@ -193,6 +196,26 @@ impl PrintPast {
         self.emptied.add(&stones, number as u32);
         self.table.push(print, None);
         Ok(())
+    }
+
+    /// The same as `pop`, for every step.
+    #[inline(never)]
+    fn pop_in_full(&mut self)
+        requires { 0 < length self.old.older }
+        ensures { self.old.older ≡ self.new.newest ∷ self.new.older }
+    {
+        self.pop_step();
+    }
+
+    /// The same as `pop`. The compiler drops what the place of a call doesn't need.
+    #[inline(always)]
+    fn pop_step(&mut self)
+        requires { 0 < length self.old.older }
+        ensures { self.old.older ≡ self.new.newest ∷ self.new.older }
+    {
+        self.table.pop();
+        self.colourings.pop();
+        self.emptied.go_back(self.colourings.len() as u32);
     }
 
     /// Whether a stone that takes nothing off needs memory, or has its print or a row kept. If not, its point alone is kept.
@@ -245,7 +268,7 @@ impl PrintPast {
             → IsFalse result → IsFreshStone (with_next self.now (play (newest_grid self.now) colour point) false) point }
     {
         self.colourings.newest().has_all_cells();
-        has_point(&self.emptied.rows, point) | has_point(taken, point)
+        board_points::rows::has_point(&self.emptied.rows, point) | has_point(taken, point)
     }
 
     /// The same as `play_taking`, for a stone that may bring a colouring back. Decides by positional superko whether the stone may be played.

@@ -31,10 +31,10 @@ impl<P: Past> Referee<P> {
         ensures ok { OnOk result (self.new ≡ followed_by self.old (turned self.old.present colour play)) }
         ensures err { OnErr result (self.new ≡ self.old) }
     {
-        if self.take_at_once(colour, play) {
-            return Ok(());
+        if !self.take_at_once(colour, play) {
+            return self.turn_in_full(colour, play);
         }
-        self.turn_in_full(colour, play)
+        Ok(())
     }
 
     /// The same as `turn`, for every turn.

@@ -244,6 +244,14 @@ impl Colourings {
         Ok(())
     }
 
+    /// Whether all that is kept of the newest step is the point of its stone. There must be an older colouring.
+    #[inline(always)]
+    pub(crate) fn newest_adds_point(&self) -> bool
+        requires { 0 < length self.now.older }
+    {
+        self.older[self.older.len() - 1].alone
+    }
+
     /// Whether there is room for one more older colouring, and its step keeps no rows if it only puts a stone.
     #[inline(always)]
     pub(crate) fn has_room_for_point(&self) -> bool {
@@ -308,6 +316,7 @@ impl Colourings {
     }
 
     /// Takes back the newest colouring.
+    #[inline(always)]
     pub(crate) fn pop(&mut self)
         requires { 0 < length self.old.older }
         ensures { self.old.older ≡ self.new.newest ∷ self.new.older }
