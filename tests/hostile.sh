@@ -177,6 +177,15 @@ PROGRAM
 if command -v python3 > /dev/null; then
     small costly 0 '(;B[bf];W[];B[cf])'
     small walks 0 '(;W[eZ];B[];W[dZ])'
+    small deep 0 '(;B[aU];W[];B[bU])'
+    # The stones of the last set come back, one after another. So the last one makes a colouring whose print 192 others have.
+    small deep 0 "($(python3 -B - "$top/bench" <<'PROGRAM'
+import sys
+sys.path.insert(0, sys.argv[1])
+from hostile import point, shifted
+print(";W[]".join(f";B[{point(3 * col + which, 2 * row)}]" for (col, row), which in sorted(shifted(11, 15).items())), end="")
+PROGRAM
+    ))"
     small low 12000 ';B[nb]'
     small restarts 1000 ';AE[aa:ZZ]AW[ab][ba];B[aa]'
     for kind in eye19 eye19s eye52 eye52s; do
@@ -197,7 +206,7 @@ if command -v python3 > /dev/null; then
     scored paces '2 1327'
     scored siege '0 2704'
 else
-    skipped=19
+    skipped=21
 fi
 
 echo "$passed passed, $failed failed, $skipped skipped"
