@@ -148,11 +148,14 @@ impl Past for PrintPast {
 
     /// Most steps put a stone, and no more.
     fn pop(&mut self) {
-        if self.table.is_awake() || !self.colourings.newest_adds_point() {
-            self.pop_in_full();
-        } else {
-            self.pop_step();
+        if self.table.is_awake() {
+            return self.pop_in_full();
         }
+        if !self.colourings.pop_point() {
+            return self.pop_in_full();
+        }
+        self.table.pop();
+        self.emptied.go_back(self.colourings.len() as u32);
     }
 
     fn reset(&mut self, _alloc: Global, board: &Board) -> Result<(), MemoryFault> {
@@ -201,15 +204,6 @@ impl PrintPast {
     /// The same as `pop`, for every step.
     #[inline(never)]
     fn pop_in_full(&mut self)
-        requires { 0 < length self.old.older }
-        ensures { self.old.older ≡ self.new.newest ∷ self.new.older }
-    {
-        self.pop_step();
-    }
-
-    /// The same as `pop`. The compiler drops what the place of a call doesn't need.
-    #[inline(always)]
-    fn pop_step(&mut self)
         requires { 0 < length self.old.older }
         ensures { self.old.older ≡ self.new.newest ∷ self.new.older }
     {

@@ -1,7 +1,7 @@
 //! Past colourings. The newest is kept whole. Of an older one, only what leads back to it from the colouring after it is kept: mostly the
 //! point of a stone.
 
-ghost use Rattle.std.specs.Prelude.{◌≡◌, ◌+◌, ◌-◌, ◌*◌, ◌^◌, ◌<◌, ◌≤◌, ◌↔◌, ◌∷◌, [], false, IsTrue, IfOk, IfSome, Contains, MatchOption, OnOk, OnErr, length, replicate, ◌==◌, reverse};
+ghost use Rattle.std.specs.Prelude.{◌≡◌, ◌+◌, ◌-◌, ◌*◌, ◌^◌, ◌<◌, ◌≤◌, ◌↔◌, ◌∷◌, [], false, IsFalse, IsTrue, IfOk, IfSome, Contains, MatchOption, OnOk, OnErr, length, replicate, ◌==◌, reverse};
 ghost use Rattle.std.specs.Vec.{vec_capacity};
 ghost use Rattle.go_board.specs.Clearing.{play};
 ghost use Rattle.go_board.specs.Past.{all_of, newest_grid, only, present_stretch, with_next, PastColourings};
@@ -244,14 +244,6 @@ impl Colourings {
         Ok(())
     }
 
-    /// Whether all that is kept of the newest step is the point of its stone. There must be an older colouring.
-    #[inline(always)]
-    pub(crate) fn newest_adds_point(&self) -> bool
-        requires { 0 < length self.now.older }
-    {
-        self.older[self.older.len() - 1].alone
-    }
-
     /// Whether there is room for one more older colouring, and its step keeps no rows if it only puts a stone.
     #[inline(always)]
     pub(crate) fn has_room_for_point(&self) -> bool {
@@ -316,7 +308,6 @@ impl Colourings {
     }
 
     /// Takes back the newest colouring.
-    #[inline(always)]
     pub(crate) fn pop(&mut self)
         requires { 0 < length self.old.older }
         ensures { self.old.older ≡ self.new.newest ∷ self.new.older }
@@ -327,6 +318,26 @@ impl Colourings {
         self.newest.restore(kept.known.is_settled());
         self.changes.truncate(start);
         self.stretch_start = kept.stretch_start as usize;
+    }
+
+    /// Takes back the newest colouring, if all that is kept of its step is the point of a stone. Returns whether it was taken back. This is
+    /// quicker than `pop`.
+    #[inline(always)]
+    pub(crate) fn pop_point(&mut self) -> bool
+        requires { 0 < length self.old.older }
+        ensures taken { IsTrue result → self.old.older ≡ self.new.newest ∷ self.new.older }
+        ensures unchanged { IsFalse result → self.new ≡ self.old }
+    {
+        let kept = *self.older.last().unwrap();
+        if !kept.alone {
+            return false;
+        }
+        let _ = self.older.pop();
+        self.newest.set(kept.point, Cell::Empty);
+        self.newest.restore(kept.known.is_settled());
+        self.changes.truncate(kept.start as usize);
+        self.stretch_start = kept.stretch_start as usize;
+        true
     }
 
     /// Forgets all colourings, and then holds this one alone, which begins a stretch.

@@ -2,7 +2,7 @@ use Rattle.std.proofs.Common.{◌∷◌, List, subst}
 use Rattle.go_board.specs.Past.{Held, all_of}
 use Rattle.go_board.specs.inner.Emptied.{IsEmptied}
 use Rattle.go_board.specs.inner.Table.{IsTable}
-use Rattle.go_board.proofs.past.print_past.PrintPast.pop_step.Goals as goal
+use Rattle.go_board.proofs.past.print_past.PrintPast.pop_in_full.Goals as goal
 
 pub invariant_of-self : goal.invariant_of-self
 invariant_of-self c =

@@ -1,0 +1,17 @@
+use Rattle.std.proofs.Common.{◌∷◌, List, refl, subst}
+use Rattle.go_board.specs.Past.{Held, all_of}
+use Rattle.go_board.specs.inner.Emptied.{IsEmptied}
+use Rattle.go_board.specs.inner.Table.{IsTable}
+use Rattle.go_board.proofs.past.print_past.PrintPastPast.pop.Goals as goal
+
+pub invariant_of-self-2 : goal.invariant_of-self-2
+invariant_of-self-2 c =
+    let was = c.self.inside in
+    let newest = was.colourings.newest in
+    let left = all_of c.pop_point.new.self in
+    let older = c.if-not-pop_point.ensures.taken refl in
+    let table = c.pop.ensures newest left (subst (λ (held : List Held). IsTable (newest ∷ held) was.table) older c.self.invariant.tabled) in
+    record {
+      tabled = table;
+      emptied_in = c.go_back.ensures newest left (subst (λ (held : List Held). IsEmptied (newest ∷ held) was.emptied) older c.self.invariant.emptied_in) c.len.ensures;
+    }
