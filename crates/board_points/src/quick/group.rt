@@ -7,7 +7,7 @@ ghost use Rattle.board_points.specs.Rows.{is_set, AreOfOneBoard, HasNoPoint, Gro
 ghost use Rattle.board_points.specs.Linked.{AddsAlive, AddsIfShut, IsLinked, HasLiberty, IsLiberty, IsShutIn, IsStone};
 ghost use Rattle.board_points.specs.inner.Joined.{HasOneAlive, IsJoined, IsShutRow};
 
-use crate::columns::with_column;
+use crate::columns::{has_column, with_column};
 use crate::fill::{Direction, fill, widened};
 use crate::liberty::columns_with_liberty;
 use crate::points::Point;
@@ -60,6 +60,7 @@ pub fn add_to_either(
 }
 
 /// Whether a stone of the row of the stone on `from`, linked to it within the row, has a liberty.
+#[inline(never)]
 pub fn lives_in_row(own: &[u64], others: &[u64], from: Point) -> bool
     requires stone { IsStone own.now others.now from }
     ensures { IsTrue result → (stone : Point) × IsLiberty own.now others.now from stone }
@@ -74,9 +75,14 @@ fn row_in_doubt(own: &[u64], others: &[u64], from: Point) -> Option<u64>
     ensures lives { IfNone result ((stone : Point) × IsLiberty own.now others.now from stone) }
     ensures doubt { IfSome result (IsShutRow own.now others.now from) }
 {
-    let joined = joined_in_row(own, from);
     let row = usize::from(from.row);
-    if joined & columns_with_liberty(own, others, row) != 0 {
+    let free = columns_with_liberty(own, others, row);
+    // most stones have a liberty of their own
+    if has_column(free, usize::from(from.col)) {
+        return None;
+    }
+    let joined = joined_in_row(own, from);
+    if joined & free != 0 {
         return None;
     }
     Some(joined)

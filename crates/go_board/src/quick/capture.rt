@@ -15,6 +15,7 @@ ghost use Rattle.board_points.specs.Rows.{is_set, HasNoPoint};
 use crate::board::Board;
 use crate::stones::{Cell, Colour};
 use board_points::Point;
+use board_points::columns::has_column;
 use board_points::quick::group::{add_to_either, fill_if_shut, lives_in_row};
 use board_points::rows::{has_point, no_rows, remove_all};
 
@@ -31,7 +32,7 @@ impl Board {
         ensures unchanged { self.new ≡ self.old }
     {
         self.has_all_cells();
-        self.set(point, colour.stone());
+        self.add(colour, point);
         let mut some = self.find_shut_beside(colour.opponent(), point, taken);
         if !some {
             some = self.find_suicide(colour, point, taken);
@@ -109,6 +110,7 @@ impl Board {
     }
 
     /// Whether a point has a stone of a colour, and no stone in its row shows that it lives.
+    #[inline(always)]
     fn may_be_shut(&self, colour: Colour, point: Point) -> bool
         ensures stone { IsTrue result → IsOn self.now.side point × (cell_at self.now point ≡ stone_of colour) }
         ensures lives { IsFalse result → IsOn self.now.side point → ReachesIfStone self.now colour point }
@@ -185,7 +187,8 @@ impl Board {
     fn has_stone(&self, colour: Colour, point: Point) -> bool
         ensures { IsTrue result ↔ (IsOn self.now.side point × (cell_at self.now point ≡ stone_of colour)) }
     {
-        point.is_on(self.size()) && self.at(point) == colour.stone()
+        point.is_on(self.size())
+            && has_column(self.columns_of(point.row, colour), usize::from(point.col))
     }
 
     /// Puts a stone on an empty point; `taken` is what it takes off. After that every stone reaches empty.

@@ -1,18 +1,19 @@
-use Rattle.std.proofs.Common.{◌^◌, ◌<◌, sym, subst, rules}
+use Rattle.std.proofs.Common.{◌^◌, ◌<◌, IsTrue, sym, subst, rules}
 use Rattle.board_points.specs.Linked.{HasLiberty}
+use Rattle.board_points.specs.Rows.{has_bit}
 use Rattle.board_points.proofs.LinkedLemmas.{common_column, none_lives}
 use Rattle.board_points.proofs.quick.group.row_in_doubt.Goals as goal
 
-pub returns-then-joined-columns_with_liberty-ne0-clause-lives : goal.returns-then-joined-columns_with_liberty-ne0-clause-lives
-returns-then-joined-columns_with_liberty-ne0-clause-lives c =
+pub returns-then-joined-free-ne0-clause-lives : goal.returns-then-joined-free-ne0-clause-lives
+returns-then-joined-free-ne0-clause-lives c =
     let joined = c.joined_in_row-joined in
     let low : joined.result < 2 ^ 64 = search rules in
-    let both = common_column joined.result c.columns_with_liberty.result low c.if-joined-columns_with_liberty-ne0.true in (
+    let both = common_column joined.result c.columns_with_liberty-free.result low c.if-joined-free-ne0.true in (
       record { col = both.0; row = c.args.from.row },
       record {
         own_stone = joined.ensures.within both.0 both.1;
         linked = joined.ensures.linked both.0 both.1;
-        liberty = subst (λ r. HasLiberty c.args.own.now c.args.others.now (record { col = both.0; row = r })) c.from-row.ensures (c.columns_with_liberty.ensures.from both.0 both.2);
+        liberty = subst (λ r. HasLiberty c.args.own.now c.args.others.now (record { col = both.0; row = r })) c.from-row.ensures (c.columns_with_liberty-free.ensures.from both.0 both.2);
       },
     )
 
@@ -23,6 +24,18 @@ returns-clause-doubt c =
     record {
       stone = c.requires.stone;
       linked = joined.ensures;
-      shut = λ col. none_lives c.args.own.now c.args.others.now c.from-row.result joined.result c.columns_with_liberty.result low c.columns_with_liberty.ensures.to
-          c.if-joined-columns_with_liberty-ne0.false (record { col = col; row = c.args.from.row }) (sym c.from-row.ensures);
+      shut = λ col. none_lives c.args.own.now c.args.others.now c.from-row.result joined.result c.columns_with_liberty-free.result low c.columns_with_liberty-free.ensures.to
+          c.if-joined-free-ne0.false (record { col = col; row = c.args.from.row }) (sym c.from-row.ensures);
     }
+
+pub returns-then-has_column-clause-lives : goal.returns-then-has_column-clause-lives
+returns-then-has_column-clause-lives c =
+    let col = c.args.from.col in
+    let set : IsTrue (has_bit c.columns_with_liberty-free.result col) = search rules in (
+      c.args.from,
+      record {
+        own_stone = search rules;
+        linked = λ test closed start. start;
+        liberty = subst (λ r. HasLiberty c.args.own.now c.args.others.now (record { col = col; row = r })) c.from-row.ensures (c.columns_with_liberty-free.ensures.from col set);
+      },
+    )

@@ -12,20 +12,20 @@ use Rattle.go_board.proofs.board.Board.find_taken.Goals as goal
 use Rattle.go_board.proofs.board.Board.find_taken.Goals.{then-not-some, else-not-some}
 
 pub find_shut_beside-some-requires-clause-none : goal.find_shut_beside-some-requires-clause-none
-find_shut_beside-some-requires-clause-none c = record { all = c.requires.none.all ∙ sym (ap (λ (g : Grid). g.side) c.set.ensures); none = c.requires.none.none }
+find_shut_beside-some-requires-clause-none c = record { all = c.requires.none.all ∙ sym (ap (λ (g : Grid). g.side) c.add.ensures); none = c.requires.none.none }
 
-as_before : (c : goal.After-restore-arg-1) → c.set-2.new.self ≡ c.args.self.now
+as_before : (c : goal.After-restore-arg-1) → c.set.new.self ≡ c.args.self.now
 as_before c =
-    c.set-2.ensures ∙ ap (λ h. with_cell h c.args.point Empty) c.set.ensures
-    ∙ taken_away c.args.self.now c.args.point c.stone.result c.requires.stone.on_board c.has_all_cells.ensures.all c.requires.stone.empty
+    c.set.ensures ∙ ap (λ h. with_cell h c.args.point Empty) c.add.ensures
+    ∙ taken_away c.args.self.now c.args.point (stone_of c.args.colour) c.requires.stone.on_board c.has_all_cells.ensures.all c.requires.stone.empty
 
 pub restore-requires : goal.restore-requires
 restore-requires c = λ _. ap has_unreaching (as_before c) ∙ c.requires.stone.settled
 
 pub returns-clause-unchanged : goal.returns-clause-unchanged
 returns-clause-unchanged c =
-    c.restore.ensures ∙ c.set-2.ensures ∙ ap (λ h. with_cell h c.args.point Empty) c.set.ensures
-    ∙ taken_away c.args.self.now c.args.point c.stone.result c.requires.stone.on_board c.has_all_cells.ensures.all c.requires.stone.empty
+    c.restore.ensures ∙ c.set.ensures ∙ ap (λ h. with_cell h c.args.point Empty) c.add.ensures
+    ∙ taken_away c.args.self.now c.args.point (stone_of c.args.colour) c.requires.stone.on_board c.has_all_cells.ensures.all c.requires.stone.empty
 
 pub returns-clause-taken : goal.returns-clause-taken
 returns-clause-taken c = λ is.
@@ -33,7 +33,7 @@ returns-clause-taken c = λ is.
     let k = c.args.colour in
     let p = c.args.point in
     let placed = with_cell g p (stone_of k) in
-    let here : c.set.new.self ≡ placed = c.set.ensures ∙ ap (with_cell g p) c.stone.ensures in
+    let here : c.add.new.self ≡ placed = c.add.ensures in
     let first = c.find_shut_beside-some in
     elim c.if-not-some.branch [
       | then-not-some w ↦
@@ -62,7 +62,7 @@ returns-clause-none c = λ fails.
     let k = c.args.colour in
     let p = c.args.point in
     let placed = with_cell g p (stone_of k) in
-    let here : c.set.new.self ≡ placed = c.set.ensures ∙ ap (with_cell g p) c.stone.ensures in
+    let here : c.add.new.self ≡ placed = c.add.ensures in
     elim c.if-not-some.branch [
       | then-not-some w ↦
           let reach : ReachBeside placed (opponent k) p =
@@ -75,8 +75,7 @@ returns-clause-none c = λ fails.
 pub find_suicide-some-requires : goal.find_suicide-some-requires
 find_suicide-some-requires c = record {
   on_board = search rules;
-  stone = ap (λ (h : Grid). cell_at h c.args.point) c.set.ensures
-      ∙ cell_at-with_cell c.args.self.now c.args.point c.stone.result c.requires.stone.on_board c.has_all_cells.ensures.all
-      ∙ c.stone.ensures;
+  stone = ap (λ (h : Grid). cell_at h c.args.point) c.add.ensures
+      ∙ cell_at-with_cell c.args.self.now c.args.point (stone_of c.args.colour) c.requires.stone.on_board c.has_all_cells.ensures.all;
   all = c.find_shut_beside-some.ensures.all;
 }
