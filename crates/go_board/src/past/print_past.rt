@@ -154,7 +154,7 @@ impl Past for PrintPast {
         if !self.colourings.pop_point() {
             return self.pop_in_full();
         }
-        self.table.pop();
+        // a table that sleeps has nothing of the colouring
         self.emptied.go_back(self.colourings.len() as u32);
     }
 

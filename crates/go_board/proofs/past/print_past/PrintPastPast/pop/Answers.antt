@@ -1,7 +1,8 @@
-use Rattle.std.proofs.Common.{◌∷◌, List, refl, subst}
+use Rattle.std.proofs.Common.{◌∷◌, List, inl, refl, subst}
 use Rattle.go_board.specs.Past.{Held, all_of}
 use Rattle.go_board.specs.inner.Emptied.{IsEmptied}
 use Rattle.go_board.specs.inner.Table.{IsTable}
+use Rattle.go_board.proofs.TableLemmas.{asleep_less}
 use Rattle.go_board.proofs.past.print_past.PrintPastPast.pop.Goals as goal
 
 pub invariant_of-self-2 : goal.invariant_of-self-2
@@ -10,8 +11,8 @@ invariant_of-self-2 c =
     let newest = was.colourings.newest in
     let left = all_of c.pop_point.new.self in
     let older = c.if-not-pop_point.ensures.taken refl in
-    let table = c.pop.ensures newest left (subst (λ (held : List Held). IsTable (newest ∷ held) was.table) older c.self.invariant.tabled) in
+    let held = subst (λ (all : List Held). IsTable (newest ∷ all) was.table) older c.self.invariant.tabled in
     record {
-      tabled = table;
+      tabled = inl (asleep_less was.table newest left (c.if-is_awake.ensures.asleep (newest ∷ left) held refl));
       emptied_in = c.go_back.ensures newest left (subst (λ (held : List Held). IsEmptied (newest ∷ held) was.emptied) older c.self.invariant.emptied_in) c.len.ensures;
     }
