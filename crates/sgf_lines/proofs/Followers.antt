@@ -1,5 +1,5 @@
 -- A follower goes on by a line: the verdict that it gives, and the nodes that it plays for the lines of its streak.
-use Rattle.std.proofs.Common.{◌≡◌, ℕ, ◌+◌, ◌-◌, ◌<◌, ◌≤◌, List, length, take, drop, slice_get, Some, refl, sym, ap, subst, ◌∙◌, arith, rules}
+use Rattle.std.proofs.Common.{◌≡◌, ℕ, ◌+◌, ◌-◌, ◌<◌, ◌≤◌, length, take, drop, slice_get, Some, refl, sym, ap, subst, ◌∙◌, arith, rules}
 use Rattle.std.proofs.lemmas.Grind.{common_steps}
 use Rattle.std.specs.Prelude.{option_map}
 use Rattle.std.proofs.lemmas.List.{take-take}
@@ -15,24 +15,22 @@ use Rattle.sgf_lines.specs.declared.options.Form.TheVariants.{List as list_form}
 use Rattle.sgf_lines.specs.declared.over_lines.Before.{Before}
 use Rattle.sgf_lines.specs.declared.over_lines.Before.TheVariants.{Unheld, Held, Refused}
 use Rattle.sgf_lines.specs.declared.verdict.Verdict.{Verdict}
-use Rattle.tree_lines.specs.Following.{nodes_of, line_before, nodes_before, path_before}
+use Rattle.tree_lines.specs.Following.{nodes_of, line_before, nodes_before}
 use Rattle.sgf_lines.specs.inner.GoingOn.{AreHeld, HasPlays, StandsBy, index_by, next_by}
-use Rattle.sgf_lines.specs.inner.Judging.{Judging}
-use Rattle.sgf_lines.specs.inner.Keeping.{HoldsJudgement}
 use Rattle.sgf_lines.specs.inner.Followers.{state_by, IsStreak, Follows}
 use Rattle.sgf_lines.proofs.Keeping.{line_next}
 use Rattle.tree_lines.proofs.LeafLines.{lines_within}
 use Rattle.sgf_lines.proofs.Pages.{get_dropped, get_taken}
 use Rattle.sgf_lines.proofs.PlayCounts.{page_from, few, adds, shares_by, Shares}
 
-module _ (before : Before) (old : CursorState) (now : Judging) (path : List ℕ) (streak : ℕ) (h : Follows before old now path streak) where
+module _ (before : Before) (old : CursorState) (holds : Type 0) (plays streak : ℕ) (h : Follows before old holds plays streak) where
   streak_within : streak ≤ index_by before old.index
   streak_within = first_of (search rules, grind (arith, common_steps))
 
   abbrev first : ℕ
   first = index_by before old.index - streak
 
-  pub few_played : PlacesRise old.games → now.plays ≤ node_count old.games
+  pub few_played : PlacesRise old.games → plays ≤ node_count old.games
   few_played rise =
       let page = page_from old.games first streak in
       let fewer : length (all_judged_places (take streak page)) ≤ node_count old.games = few old.games rise first streak list_form streak in
@@ -63,9 +61,8 @@ module _ (before : Before) (old : CursorState) (now : Judging) (path : List ℕ)
                 shares_by old.games rise first (streak + 1) streak Held old p.held refl there (λ none. absurd (omega (arith, is.0, none))) (λ _. refl) held
 
         -- it was played from where it leaves the line before it
-        pub follows_on : (judging : Judging) (new_path : List ℕ) → StandsBy Held (nodes_before new) (HoldsJudgement (nodes_before new) judging.judgement × (new_path ≡ path_before new))
-            → judging.plays ≡ now.plays + count → Follows Held new judging new_path (streak + 1)
-        follows_on judging new_path stands plays =
+        pub follows_on : (new_holds : Type 0) (new_plays : ℕ) → StandsBy Held (nodes_before new) new_holds → new_plays ≡ plays + count → Follows Held new new_holds new_plays (streak + 1)
+        follows_on new_holds new_plays stands rises =
             let rest = drop first (lines old.games) in
             let page = take (streak + 1) rest in
             let games = ap (λ (s : CursorState). s.games) moved in
@@ -80,5 +77,5 @@ module _ (before : Before) (old : CursorState) (now : Judging) (path : List ℕ)
             record {
               stands = stands;
               is_streak = (omega arith, omega (arith, streak_within, index));
-              plays_are = rw (games, next, ← whole) (omega (arith, more, ap (λ ls. length (all_judged_places ls)) front, p.count_is, h.plays_are, plays));
+              plays_are = rw (games, next, ← whole) (omega (arith, more, ap (λ ls. length (all_judged_places ls)) front, p.count_is, h.plays_are, rises));
             }

@@ -15,13 +15,13 @@ use Rattle.sgf_lines.specs.JudgedGames.{game_kind, root_properties}
 use Rattle.sgf_lines.specs.Walk.{taken_on}
 use Rattle.sgf_lines.specs.declared.verdict.Verdict.{Verdict}
 use Rattle.sgf_lines.specs.declared.options.Form.{Form}
-use Rattle.sgf_lines.specs.declared.options.Form.TheVariants.{List as list_form, Sgf as sgf_form, Gtp as gtp_form}
+use Rattle.sgf_lines.specs.declared.options.Form.TheVariants.{Sgf as sgf_form, Gtp as gtp_form}
 use Rattle.sgf_lines.specs.inner.Views.{row_of}
 use Rattle.tree_lines.specs.Following.{nodes_of, line_before, nodes_before, line_in, lines_before}
 use Rattle.sgf_lines.specs.inner.Judging.{Judgement, judging, verdict_in}
 use Rattle.sgf_lines.specs.inner.Pieces.{PiecesState}
 use Rattle.sgf_lines.specs.inner.Recording.{whole_record}
-use Rattle.sgf_lines.specs.inner.Scripting.{ScriptState, script_of, script_ended, script_text}
+use Rattle.sgf_lines.specs.inner.Scripting.{ScriptState, script_of, script_text}
 use Rattle.tree_lines.specs.Sequences.{RiseTo, SequencesState, sequences_of}
 use Rattle.sgf_lines.specs.inner.Keeping.{HoldsJudgement, HoldsTaken, IsRecord, judging_front}
 use Rattle.sgf_lines.proofs.Judgements.{judging_verdict}
@@ -43,24 +43,20 @@ module _ (at : CursorState) (own : Line) (before : line_before at ≡ Some own) 
   nodes_are : nodes_before at ≡ own.nodes
   nodes_are = ap nodes_of before
 
-  module _ (v : Verdict) (j : Judgement) (told : v ≡ verdict_in j) (judged : HoldsJudgement (nodes_before at) j) where
-    -- the line's row
-    row_is : row_of own v ≡ list_row own
-    row_is = ap (row_of own) (verdict_is (nodes_before at) j v told judged ∙ ap verdict_of nodes_are)
+  -- the line's row
+  pub row_is : (v : Verdict) → v ≡ verdict_of (nodes_before at) → row_of own v ≡ list_row own
+  row_is v told = ap (row_of own) (told ∙ ap verdict_of nodes_are)
 
-    -- in list form
-    pub made_row : (row : List ℕ) → row ≡ row_of own v ++ codes "\n" → Some row ≡ option_map (record_of list_form) (line_before at)
-    made_row row is = rw before (ap Some (is ∙ ap (λ t. t ++ codes "\n") row_is))
-
-    -- in gtp form: its row as a comment, its commands, and an empty line
-    pub made_script : (row : List ℕ) (script : ScriptState) → HoldsTaken (λ kind taken. script ≡ script_ended (script_of kind taken)) (nodes_before at) → row ≡ comment_row (row_of own v) → Some (row ++ script_text script) ≡ option_map (record_of gtp_form) (line_before at)
-    made_script row script said is =
-        let kind = game_kind (root_properties own.nodes) in
-        let ended : script ≡ script_ended (script_of kind (taken_on kind own.nodes)) =
-        said ∙ ap (λ (ns : List Node). script_ended (script_of (game_kind (root_properties ns)) (taken_on (game_kind (root_properties ns)) ns))) nodes_are in
-        let first : row ≡ comment_row (list_row own) = is ∙ ap comment_row row_is in
-        rw before (ap Some (ap (λ t. t ++ script_text script) first ∙ ap (λ s. comment_row (list_row own) ++ script_text s) ended
-        ∙ ap (λ t. comment_row (list_row own) ++ t) (script_put kind own.nodes) ∙ sym (append_assoc (comment_row (list_row own)) (commands_by kind own.nodes) (codes "\n"))))
+  -- in gtp form: its row as a comment, its commands, and an empty row
+  pub made_script : (v : Verdict) → v ≡ verdict_of (nodes_before at) → (row : List ℕ) → row ≡ comment_row (row_of own v)
+      → (script : ScriptState) → HoldsTaken (λ kind taken. script ≡ script_of kind taken) (nodes_before at) → row ++ (script_text script ++ codes "\n") ≡ record_of gtp_form own
+  made_script v told row is script said =
+      let kind = game_kind (root_properties own.nodes) in
+      let same : script ≡ script_of kind (taken_on kind own.nodes) =
+      said ∙ ap (λ (ns : List Node). script_of (game_kind (root_properties ns)) (taken_on (game_kind (root_properties ns)) ns)) nodes_are in
+      ap (λ t. t ++ (script_text script ++ codes "\n")) (is ∙ ap comment_row (row_is v told))
+      ∙ ap (λ t. comment_row (list_row own) ++ (t ++ codes "\n")) (ap script_text same ∙ script_put kind own.nodes)
+      ∙ sym (append_assoc (comment_row (list_row own)) (commands_by kind own.nodes) (codes "\n"))
 
   -- in sgf form
   pub made_record : (game : PiecesState) (ends : List ℕ) → RiseTo 0 ends (length (nodes_before at)) → game ≡ whole_record (sequences_of ends (nodes_before at))

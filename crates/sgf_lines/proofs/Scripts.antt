@@ -1,7 +1,7 @@
 -- A script goes on by a node, and back to the first ones; and what is put of it.
 use Rattle.std.proofs.Common.{◌≡◌, ℕ, zero, suc, min, List, [], ◌∷◌, ◌++◌, length, take, refl, sym, ap, subst, ◌∙◌, arith, add-one, append-nil, rules}
 use Rattle.std.proofs.lemmas.Grind.{common_steps}
-use Rattle.std.specs.Prelude.{nat_lt, codes, option_copied}
+use Rattle.std.specs.Prelude.{nat_lt, option_copied}
 use Rattle.std.specs.List.{list_any, position_or_len}
 use Rattle.std.proofs.lemmas.Bool.{lt-ltb, le-ltb}
 use Rattle.std.proofs.lemmas.List.{map-append, take-map, length-map}
@@ -17,7 +17,7 @@ use Rattle.sgf_lines.specs.NodeContents.{Move, Stones, moves, stones}
 use Rattle.sgf_lines.specs.Walk.{TakenNode, Walk, taken_on}
 use Rattle.sgf_lines.specs.Script.{comment_rows, setup_commands, move_commands, taken_script, text_rows, comment_text, leaves_unreaching, leaves_unreaching_by, commands_of, commands_by}
 use Rattle.sgf_lines.specs.inner.Judging.{IsEffectBy, IsStepOf, IsStepTaken}
-use Rattle.sgf_lines.specs.inner.Scripting.{effect_script, step_script, is_unreaching, no_script, said_on, script_back, script_ended, script_text, script_along, script_of}
+use Rattle.sgf_lines.specs.inner.Scripting.{effect_script, step_script, is_unreaching, no_script, said_on, script_back, script_text, script_along, script_of}
 use Rattle.sgf_lines.proofs.Recordings.{joined}
 
 -- the pieces before those that can't be said
@@ -45,14 +45,14 @@ along_back : (side n : ℕ) (ts : List TakenNode) → script_back n (script_alon
 along_back side n ts = first_of (search rules, grind (arith, common_steps, add-one, no_script_back, position_front, take-map))
 
 -- what is put of it
-along_text : (side : ℕ) (walked : Walk) → script_text (script_ended (script_along side walked.taken)) ≡ commands_of side walked ++ codes "\n"
+along_text : (side : ℕ) (walked : Walk) → script_text (script_along side walked.taken) ≡ commands_of side walked
 along_text side walked = first_of (search rules, grind (arith, common_steps, any_is, joined, length-map, lt_suc))
 
 -- the script of a game whose root says this
-pub script_put : (kind : GameKind) (nodes : List Node) → script_text (script_ended (script_of kind (taken_on kind nodes))) ≡ commands_by kind nodes ++ codes "\n"
+pub script_put : (kind : GameKind) (nodes : List Node) → script_text (script_of kind (taken_on kind nodes)) ≡ commands_by kind nodes
 script_put kind nodes = first_of (search rules, grind (arith, common_steps, along_text))
 
-pub script_cut : (kind : GameKind) (taken : List TakenNode) (n : ℕ) → script_back n (script_ended (script_of kind taken)) ≡ script_of kind (take n taken)
+pub script_cut : (kind : GameKind) (taken : List TakenNode) (n : ℕ) → script_back n (script_of kind taken) ≡ script_of kind (take n taken)
 script_cut kind taken n = first_of (search rules, grind (arith, common_steps, along_back, no_script_back))
 
 script_more : (kind : GameKind) (taken : List TakenNode) (t : TakenNode) → said_on (script_of kind taken) (leaves_unreaching t) (taken_script t) ≡ script_of kind (taken ++ t ∷ [])

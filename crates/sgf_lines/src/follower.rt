@@ -3,10 +3,8 @@
 ghost use Rattle.std.specs.Prelude.{◌≡◌, ◌<◌, ◌-◌, length, IfOk};
 ghost use Rattle.sgf_lines.specs.Plays.{all_judged_places};
 ghost use Rattle.tree_lines.specs.Following.{nodes_before, path_before};
-ghost use Rattle.sgf_lines.specs.inner.Keeping.{HoldsJudgement};
 
-use crate::judging::judge::Judge;
-use crate::judging::judged::judge_line;
+use crate::judging::judged::Judged;
 use crate::over_lines::{Before, LineKeeper, OverLines};
 use crate::verdict::Verdict;
 use sgf_tree::{MemoryFault, Outline};
@@ -17,14 +15,14 @@ use tree_lines::{Cursor, Front, LineRef, SequenceCursor, line_with, write_path};
 /// Keeps the judgement on a line, and the numbers of its nodes.
 #[derive(Drop)]
 struct JudgedLine {
-    judge: Judge,
+    judged: Judged<()>,
     path: Vec<usize>,
 }
 
 impl LineKeeper for JudgedLine {
-    ghost holds = { λ kept cursor. HoldsJudgement (nodes_before cursor.at) kept.judge.judgement × (kept.path.items ≡ path_before cursor.at) };
+    ghost holds = { λ kept cursor. ⟦<Judged<()> as LineKeeper>⟧.holds kept.judged cursor × (kept.path.items ≡ path_before cursor.at) };
 
-    ghost played = { λ kept. kept.judge.plays };
+    ghost played = { λ kept. kept.judged.judge.plays };
 
     ghost counts = { λ count. count };
 
@@ -32,7 +30,11 @@ impl LineKeeper for JudgedLine {
         let room = cursor.len().saturating_sub(self.path.len());
         self.path.reserve(room)?;
         write_path(cursor, held, &mut self.path);
-        judge_line(cursor, held, &mut self.judge, &mut ())
+        self.judged.follow(cursor, held)
+    }
+
+    fn plays(&self) -> u64 {
+        self.judged.plays()
     }
 }
 
@@ -58,7 +60,7 @@ impl<'c, 'a> Model for Follower<'c, 'a> {
 
     ghost view = { λ f. state_by f.lines.before f.lines.cursor.at f.streak };
 
-    ghost invariant = { λ f. Follows f.lines.before f.lines.cursor.at f.lines.keeper.judge f.lines.keeper.path.items f.streak };
+    ghost invariant = { λ f. Follows f.lines.before f.lines.cursor.at (⟦<JudgedLine as LineKeeper>⟧.holds f.lines.keeper f.lines.cursor) f.lines.keeper.judged.judge.plays f.streak };
 }
 
 impl<'c, 'a> Follower<'c, 'a> {
@@ -78,7 +80,7 @@ impl<'c, 'a> Follower<'c, 'a> {
     {
         let (cursor, path) = cursor.into_parts();
         let keeper = JudgedLine {
-            judge: Judge::new(alloc),
+            judged: Judged::new(alloc, ()),
             path,
         };
         let lines = OverLines {
@@ -100,12 +102,12 @@ impl<'c, 'a> Follower<'c, 'a> {
         match self.lines.next() {
             Ok(true) => {
                 self.streak += 1;
-                Ok(Some(self.lines.keeper.judge.verdict()))
+                Ok(Some(self.lines.keeper.judged.verdict))
             }
             Ok(false) => Ok(None),
             Err(MemoryFault) => {
                 self.streak = 0;
-                self.lines.keeper.judge.count_anew();
+                self.lines.keeper.judged.count_anew();
                 Err(MemoryFault)
             }
         }
@@ -124,6 +126,6 @@ impl<'c, 'a> Follower<'c, 'a> {
     pub fn plays(&self) -> u64
         ensures { result ≡ length (all_judged_places (lines_judged self.now)) }
     {
-        self.lines.keeper.judge.plays()
+        self.lines.keeper.plays()
     }
 }

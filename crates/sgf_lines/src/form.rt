@@ -14,11 +14,11 @@ ghost use Rattle.sgf_lines.specs.RunPlays.{plays_in};
 ghost use Rattle.sgf_lines.specs.declared.options.Form.{Form};
 ghost use Rattle.tree_lines.specs.Following.{line_before};
 ghost use Rattle.byte_streams.specs.Streams.{PutsAll};
-ghost use Rattle.tree_lines.specs.Sequences.{SequencesState};
 
 use crate::over_lines::LineKeeper;
 use byte_streams::{Sink, SinkFault};
 use std::alloc::Global;
+use tree_lines::SequenceCursor;
 
 pub(crate) mod commands;
 pub(crate) mod gtp;
@@ -37,15 +37,12 @@ pub(crate) trait LineForm: LineKeeper {
     fn new(alloc: Global) -> Self
         ensures { Self.played result ≡ 0 };
 
-    /// Puts the record of the line that is kept.
-    fn put<T: Sink>(&self, sink: &mut T) -> Result<(), SinkFault>
+    /// Puts the record of the line before the cursor, which is kept.
+    fn put<T: Sink>(&self, cursor: &SequenceCursor<'_, '_>, sink: &mut T) -> Result<(), SinkFault>
+        requires holds { Self.holds self.now cursor.now }
         requires countable { (T.state sink.old).failures < u64.MAX }
-        ensures { (cursor : SequencesState) (line : Line) → Self.holds self.now cursor → line_before cursor.at ≡ Some line
+        ensures { (line : Line) → line_before cursor.now.at ≡ Some line
             → PutsAll (T.state sink.old) (T.state sink.new) (record_of form line) result };
-
-    /// The number of nodes that were played.
-    fn plays(&self) -> u64
-        ensures { result ≡ Self.played self.now };
 
     // Its judged nodes are played or not, as the form says.
     ghost counts_are: { (count : ℕ) → Self.counts count ≡ plays_in form count };

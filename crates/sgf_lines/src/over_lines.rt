@@ -35,6 +35,10 @@ pub(crate) trait LineKeeper: Drop {
         requires countable { played self.old + length (nodes_before cursor.now.at) < u64.MAX }
         ensures holds { OnOk result (holds self.new cursor.now) }
         ensures plays { PlaysUpTo (played self.old) (played self.new) (counts (fresh_plays (nodes_before cursor.now.at) held.nodes)) result };
+
+    /// The number of nodes that were played.
+    fn plays(&self) -> u64
+        ensures { result ≡ played self.now };
 }
 
 /// What is known of the line before a cursor.

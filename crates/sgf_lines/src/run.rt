@@ -255,7 +255,7 @@ fn write_lines<F: LineForm, T: Sink>(
             Ok(false) => break,
             Err(MemoryFault) => return Err(RunFault::Memory { lines: written }),
         }
-        match lines.keeper.put(sink) {
+        match lines.keeper.put(&lines.cursor, sink) {
             Ok(()) => written += 1,
             Err(SinkFault) => return Err(RunFault::Write { lines: written }),
         }

@@ -1,5 +1,5 @@
 -- A follower's state, from its cursor and from what is known of the line before the cursor.
-use Rattle.std.specs.Prelude.{◌≡◌, ◌<◌, ◌≤◌, ℕ, List, length, refl}
+use Rattle.std.specs.Prelude.{◌≡◌, ◌<◌, ◌≤◌, ℕ, length, refl}
 use Rattle.std.specs.Coded.{Coded, code_by, coded×, coded_ℕ}
 use Rattle.sgf_tree.specs.Tree.{Games}
 use Rattle.sgf_tree.specs.inner.TreeCode.{games_code}
@@ -9,9 +9,7 @@ use Rattle.sgf_lines.specs.Plays.{all_judged_places}
 use Rattle.sgf_lines.specs.declared.over_lines.Before.{Before}
 use Rattle.sgf_lines.specs.declared.over_lines.Before.TheVariants.{Unheld, Held, Refused}
 use Rattle.sgf_lines.specs.inner.GoingOn.{StandsBy, index_by}
-use Rattle.tree_lines.specs.Following.{nodes_before, path_before}
-use Rattle.sgf_lines.specs.inner.Judging.{Judging}
-use Rattle.sgf_lines.specs.inner.Keeping.{HoldsJudgement}
+use Rattle.tree_lines.specs.Following.{nodes_before}
 
 abbrev pub state_by : Before → CursorState → ℕ → FollowerState
 state_by before cursor streak = record { games = cursor.games; index = index_by before cursor.index; streak = streak }
@@ -22,11 +20,11 @@ IsStreak Unheld index streak = streak ≡ 0
 IsStreak Held index streak = (0 < streak) × (streak ≤ index)
 IsStreak Refused index streak = streak ≡ 0
 
--- what a follower holds: the judgement on the line before its cursor, the path of that line, and the plays of its streak
-pub record Follows (before : Before) (cursor : CursorState) (judging : Judging) (path : List ℕ) (streak : ℕ) : Type 0 where
-  pub stands : StandsBy before (nodes_before cursor) (HoldsJudgement (nodes_before cursor) judging.judgement × (path ≡ path_before cursor))
+-- what a follower holds: what its keeper holds of the line before its cursor, and the plays of its streak
+pub record Follows (before : Before) (cursor : CursorState) (holds : Type 0) (plays streak : ℕ) : Type 0 where
+  pub stands : StandsBy before (nodes_before cursor) holds
   pub is_streak : IsStreak before cursor.index streak
-  pub plays_are : judging.plays ≡ length (all_judged_places (lines_judged (state_by before cursor streak)))
+  pub plays_are : plays ≡ length (all_judged_places (lines_judged (state_by before cursor streak)))
 
 -- a follower's state is stored as its parts
 abbrev pub follower_state_code : Coded FollowerState

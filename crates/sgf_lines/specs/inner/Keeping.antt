@@ -1,11 +1,12 @@
 -- What is kept of the line before a cursor: its judgement, its taken nodes, its record. How many nodes are played for it.
-use Rattle.std.specs.Prelude.{◌≡◌, ℕ, ◌+◌, ◌-◌, ◌≤◌, List, length, take, Some, option_map, Result, OnOk}
+use Rattle.std.specs.Prelude.{◌≡◌, ℕ, ◌+◌, ◌-◌, ◌<◌, ◌≤◌, List, length, take, Some, option_map, Result, OnOk}
 use Rattle.sgf_tree.specs.Tree.{Node}
 use Rattle.sgf_lines.specs.JudgedGames.{GameKind, game_kind, root_properties}
 use Rattle.sgf_lines.specs.Record.{record_of}
-use Rattle.sgf_lines.specs.Verdict.{judged_on}
+use Rattle.sgf_lines.specs.Verdict.{judged_on, verdict_of}
 use Rattle.sgf_lines.specs.Walk.{TakenNode, taken_on}
 use Rattle.sgf_lines.specs.declared.options.Form.{Form}
+use Rattle.sgf_lines.specs.declared.verdict.Verdict.{Verdict}
 use Rattle.sgf_lines.specs.inner.Judging.{Judgement, judging}
 use Rattle.tree_lines.specs.Following.{line_before, nodes_before}
 use Rattle.tree_lines.specs.Sequences.{SequencesState}
@@ -28,6 +29,12 @@ HoldsTaken holds nodes = holds (game_kind (root_properties nodes)) (taken_on (ga
 -- the judgement and the taken nodes of the line before a cursor are held
 abbrev pub HoldsLine : (GameKind → List TakenNode → Type 0) → Judgement → SequencesState → Type 0
 HoldsLine holds judgement cursor = HoldsJudgement (nodes_before cursor.at) judgement × HoldsTaken holds (nodes_before cursor.at)
+
+-- and its verdict is held
+pub record HoldsVerdict (holds : GameKind → List TakenNode → Type 0) (judgement : Judgement) (verdict : Verdict) (cursor : SequencesState) : Type 0 where
+  pub some : 0 < length cursor.ends
+  pub line : HoldsLine holds judgement cursor
+  pub verdict_is : verdict ≡ verdict_of (nodes_before cursor.at)
 
 -- a text is the record of the line before a cursor
 abbrev pub IsRecord : Form → SequencesState → List ℕ → Type 0

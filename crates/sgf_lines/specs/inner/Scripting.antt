@@ -1,5 +1,5 @@
 -- The commands of a line, in pieces: first those that begin a game on its board, then those of each node whose step was taken.
-use Rattle.std.specs.Prelude.{ℕ, suc, ◌+◌, ◌==◌, min, Bool, false, nat_lt, if◌then◌else◌, List, [], ◌∷◌, ◌++◌, length, map, codes, option_copied}
+use Rattle.std.specs.Prelude.{ℕ, suc, ◌+◌, ◌==◌, min, Bool, false, nat_lt, if◌then◌else◌, List, [], ◌∷◌, ◌++◌, length, map, option_copied}
 use Rattle.std.specs.List.{concat, position_or_len}
 use Rattle.board_points.specs.declared.vertices.TheConstants.{MAX_VERTEX_SIDE}
 use Rattle.go_board.specs.Clearing.{has_unreaching}
@@ -61,13 +61,9 @@ said_on old unreaching more =
 abbrev pub script_back : ℕ → ScriptState → ScriptState
 script_back count old = record { text = cut (count + 1) old.text; said = min (count + 1) old.said }
 
--- the script with the empty row that ends it
-abbrev pub script_ended : ScriptState → ScriptState
-script_ended old = record { text = pushed old.text (codes "\n"); said = old.said }
-
--- what is written of a script: its whole text; but an empty row alone if some setup leaves a stone without a liberty
+-- what is written of a script: its whole text; but nothing if some setup leaves a stone without a liberty
 abbrev pub script_text : ScriptState → List ℕ
-script_text script = if nat_lt script.said (length script.text.pieces) then codes "\n" else concat script.text.pieces ++ script.text.begun
+script_text script = if nat_lt script.said (length script.text.pieces) then [] else concat script.text.pieces ++ script.text.begun
 
 abbrev pub script_along : ℕ → List TakenNode → ScriptState
 script_along side taken =

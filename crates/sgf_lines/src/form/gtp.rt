@@ -1,45 +1,37 @@
-//! The gtp form: a line's record is its row as a comment, and its script.
+//! The gtp form: a line's record is its row as a comment, its script, and an empty row.
 
-ghost use Rattle.std.specs.Prelude.{◌≡◌, ◌++◌, refl};
+ghost use Rattle.std.specs.Prelude.{refl};
 ghost use Rattle.sgf_lines.specs.declared.options.Form.TheVariants.{Gtp as gtp_form};
-ghost use Rattle.tree_lines.specs.Following.{nodes_before};
-ghost use Rattle.sgf_lines.specs.inner.Keeping.{HoldsJudgement, HoldsTaken, IsRecord};
-ghost use Rattle.sgf_lines.specs.inner.Scripting.{script_ended, script_of, script_text};
-ghost use Rattle.sgf_lines.specs.inner.Views.{built_text};
 
 use crate::form::LineForm;
 use crate::form::script::Script;
 use crate::form::text_row::TextRow;
-use crate::judging::judge::Judge;
-use crate::judging::judged::judge_line;
+use crate::judging::judged::Judged;
 use crate::over_lines::LineKeeper;
 use byte_streams::{Sink, SinkFault, put_all};
 use sgf_tree::MemoryFault;
 use std::alloc::Global;
 use tree_lines::{Front, SequenceCursor};
 
-/// Keeps the judgement on a line and the line's script, and makes the line's row.
+/// Keeps the verdict of a line, and its script.
 #[derive(Drop)]
 pub(crate) struct GtpForm {
-    judge: Judge,
-    script: Script,
-    row: TextRow,
+    judged: Judged<Script>,
 }
 
 impl LineKeeper for GtpForm {
-    ghost holds = { λ kept cursor. HoldsJudgement (nodes_before cursor.at) kept.judge.judgement
-        × HoldsTaken (λ kind taken. kept.script ≡ script_ended (script_of kind taken)) (nodes_before cursor.at)
-        × IsRecord gtp_form cursor (built_text kept.row ++ script_text kept.script) };
+    ghost holds = { λ kept cursor. ⟦<Judged<Script> as LineKeeper>⟧.holds kept.judged cursor };
 
-    ghost played = { λ kept. kept.judge.plays };
+    ghost played = { λ kept. kept.judged.judge.plays };
 
     ghost counts = { λ count. count };
 
     fn follow(&mut self, cursor: &SequenceCursor<'_, '_>, held: Front) -> Result<(), MemoryFault> {
-        judge_line(cursor, held, &mut self.judge, &mut self.script)?;
-        self.script.end()?;
-        self.row.lay_out_comment(cursor, self.judge.verdict());
-        Ok(())
+        self.judged.follow(cursor, held)
+    }
+
+    fn plays(&self) -> u64 {
+        self.judged.plays()
     }
 }
 
@@ -48,19 +40,16 @@ impl LineForm for GtpForm {
 
     fn new(alloc: Global) -> GtpForm {
         GtpForm {
-            judge: Judge::new(alloc),
-            script: Script::new(alloc),
-            row: TextRow::new(),
+            judged: Judged::new(alloc, Script::new(alloc)),
         }
     }
 
-    fn put<T: Sink>(&self, sink: &mut T) -> Result<(), SinkFault> {
-        put_all(self.row.text(), sink)?;
-        put_all(self.script.text(), sink)
-    }
-
-    fn plays(&self) -> u64 {
-        self.judge.plays()
+    fn put<T: Sink>(&self, cursor: &SequenceCursor<'_, '_>, sink: &mut T) -> Result<(), SinkFault> {
+        let mut row = TextRow::new();
+        row.lay_out_comment(cursor, self.judged.verdict);
+        put_all(row.text(), sink)?;
+        put_all(self.judged.keeper.text(), sink)?;
+        put_all(b"\n", sink)
     }
 
     ghost counts_are = { λ count. refl };

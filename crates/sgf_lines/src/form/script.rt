@@ -1,7 +1,7 @@
 //! The script of a line in gtp form.
 
 ghost use Rattle.std.specs.Prelude.{◌≡◌, ◌≤◌, OnOk};
-ghost use Rattle.sgf_lines.specs.inner.Scripting.{is_unreaching, no_script, script_begun, script_ended, script_of, script_text};
+ghost use Rattle.sgf_lines.specs.inner.Scripting.{is_unreaching, no_script, script_begun, script_of, script_text};
 
 use crate::form::pieces::Pieces;
 use crate::judging::judged::StepKeeper;
@@ -59,20 +59,12 @@ impl Script {
         Ok(())
     }
 
-    /// Appends the empty row that ends the script. The script of the next line cuts this row off again.
-    pub(crate) fn end(&mut self) -> Result<(), MemoryFault>
-        ensures { OnOk result (self.new ≡ script_ended self.old) }
-    {
-        self.pieces.push(b"\n")
-    }
-
-    /// The bytes that are written after the line's row: the commands and an empty row, or an empty row alone if the line can't be
-    /// written as commands.
+    /// The commands; none if the line can't be written as commands.
     pub(crate) fn text(&self) -> &[u8]
         ensures { result.now ≡ script_text self.now }
     {
         if self.said < self.pieces.count() {
-            b"\n"
+            b""
         } else {
             self.pieces.text()
         }
@@ -81,8 +73,6 @@ impl Script {
 
 impl StepKeeper for Script {
     ghost tells = { λ script kind taken. script ≡ script_of kind taken };
-
-    ghost keeps = { λ script kind taken. script ≡ script_ended (script_of kind taken) };
 
     fn keep(&mut self, held: usize, board: Option<&Board>) -> Result<(), MemoryFault> {
         if held > 0 {

@@ -38,6 +38,10 @@ impl LineKeeper for SgfForm {
         }
         self.record.push(b")\n")
     }
+
+    fn plays(&self) -> u64 {
+        0
+    }
 }
 
 impl LineForm for SgfForm {
@@ -50,12 +54,8 @@ impl LineForm for SgfForm {
     }
 
     #[tactic(auto, using(crate::proofs::RunRecords::record_is))]
-    fn put<T: Sink>(&self, sink: &mut T) -> Result<(), SinkFault> {
+    fn put<T: Sink>(&self, cursor: &SequenceCursor<'_, '_>, sink: &mut T) -> Result<(), SinkFault> {
         put_all(self.record.text(), sink)
-    }
-
-    fn plays(&self) -> u64 {
-        0
     }
 
     ghost counts_are = { λ count. refl };

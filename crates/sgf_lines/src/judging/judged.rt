@@ -1,4 +1,4 @@
-//! Judging a line from the first node that it doesn't share with the line before it.
+//! Judging line after line, each from the first node that it doesn't share with the line before it.
 
 ghost use Rattle.std.specs.Prelude.{◌≡◌, ◌+◌, ◌<◌, ◌++◌, ◌∷◌, [], List, length, take, option_copied, OnOk};
 ghost use Rattle.tree_lines.specs.Following.{nodes_before};
@@ -7,22 +7,22 @@ ghost use Rattle.sgf_lines.specs.Walk.{TakenNode};
 ghost use Rattle.sgf_lines.specs.inner.Fronts.{HasFront};
 ghost use Rattle.sgf_lines.specs.inner.GoingOn.{IsHeldOf};
 ghost use Rattle.sgf_lines.specs.inner.Judging.{IsStepTaken, begun_game, board_in};
-ghost use Rattle.sgf_lines.specs.inner.Keeping.{HoldsJudgement, HoldsLine, HoldsTaken, PlaysUpTo, fresh_plays};
+ghost use Rattle.sgf_lines.specs.inner.Keeping.{HoldsJudgement, HoldsLine, HoldsTaken, HoldsVerdict, PlaysUpTo, fresh_plays};
 
 use crate::judging::judge::Judge;
 use crate::judging::step::TakenStep;
 use crate::line_nodes::LineNodes;
+use crate::over_lines::LineKeeper;
+use crate::verdict::Verdict;
 use go_board::Board;
 use sgf_tree::MemoryFault;
+use std::alloc::Global;
 use tree_lines::{Front, SequenceCursor};
 
 /// Is told each step that is taken on a line. Most forms need no step: `()` is told them.
-pub(crate) trait StepKeeper {
+pub(crate) trait StepKeeper: Drop {
     // It was told that these nodes were taken, in a game of this kind.
     ghost tells: { Self → GameKind → List TakenNode → Type 0 };
-
-    // It keeps what it was told of these nodes, and maybe an end after it, which `keep` takes off.
-    ghost keeps: { Self → GameKind → List TakenNode → Type 0 };
 
     /// Keeps what it was told of the first `held` nodes. If `held` is 0, begins a line whose game is judged on this board; None if the
     /// game isn't judged.
@@ -30,7 +30,7 @@ pub(crate) trait StepKeeper {
         requires { held < usize.MAX }
         ensures begun { held ≡ 0 → (kind : GameKind) → option_copied board.entry ≡ board_in (begun_game kind)
             → OnOk result (tells self.new kind []) }
-        ensures kept { 0 < held → (kind : GameKind) (taken : List TakenNode) → keeps self.old kind taken
+        ensures kept { 0 < held → (kind : GameKind) (taken : List TakenNode) → tells self.old kind taken
             → OnOk result (tells self.new kind (take held taken)) };
 
     /// Takes the step of one more node; `board` is the board after it.
@@ -44,8 +44,6 @@ pub(crate) trait StepKeeper {
 impl StepKeeper for () {
     ghost tells = { λ _ _ _. Unit {0} };
 
-    ghost keeps = { λ _ _ _. Unit {0} };
-
     fn keep(&mut self, held: usize, board: Option<&Board>) -> Result<(), MemoryFault> {
         Ok(())
     }
@@ -55,16 +53,63 @@ impl StepKeeper for () {
     }
 }
 
+/// Judges line after line. Of the last one it keeps the judgement and the verdict, and its keeper was told the steps.
+#[derive(Drop)]
+pub(crate) struct Judged<K> {
+    judge: Judge,
+    /// `NotGo` before the first line.
+    pub(crate) verdict: Verdict,
+    pub(crate) keeper: K,
+}
+
+impl<K: StepKeeper> Judged<K> {
+    /// No line is judged yet, and the keeper was told nothing.
+    pub(crate) fn new(alloc: Global, keeper: K) -> Judged<K>
+        ensures { result.judge.plays ≡ 0 }
+    {
+        Judged {
+            judge: Judge::new(alloc),
+            verdict: Verdict::NotGo,
+            keeper,
+        }
+    }
+
+    /// Sets the number of nodes that were played to 0.
+    pub(crate) fn count_anew(&mut self)
+        ensures { self.new.judge.plays ≡ 0 }
+    {
+        self.judge.count_anew();
+    }
+}
+
+impl<K: StepKeeper> LineKeeper for Judged<K> {
+    ghost holds = { λ kept cursor. HoldsVerdict (K.tells kept.keeper) kept.judge.judgement kept.verdict cursor };
+
+    ghost played = { λ kept. kept.judge.plays };
+
+    ghost counts = { λ count. count };
+
+    fn follow(&mut self, cursor: &SequenceCursor<'_, '_>, held: Front) -> Result<(), MemoryFault> {
+        judge_line(cursor, held, &mut self.judge, &mut self.keeper)?;
+        self.verdict = self.judge.verdict();
+        Ok(())
+    }
+
+    fn plays(&self) -> u64 {
+        self.judge.plays()
+    }
+}
+
 /// Judges the line before the cursor, and tells its steps. This front of it is judged and told already. An illegal node has no step, so the
 /// keeper is told nothing of it and of the nodes after it. After a refusal of memory nothing is known of the judgement and of what is kept.
-pub(crate) fn judge_line<K: StepKeeper>(
+fn judge_line<K: StepKeeper>(
     cursor: &SequenceCursor<'_, '_>,
     held: Front,
     judge: &mut Judge,
     keeper: &mut K,
 ) -> Result<(), MemoryFault>
     requires front { HasFront cursor.now.ends held }
-    requires held { IsHeldOf (HoldsLine (K.keeps keeper.old) judge.old.judgement) cursor.now held }
+    requires held { IsHeldOf (HoldsLine (K.tells keeper.old) judge.old.judgement) cursor.now held }
     requires countable { judge.old.plays + length (nodes_before cursor.now.at) < u64.MAX }
     ensures judged { OnOk result (HoldsJudgement (nodes_before cursor.now.at) judge.new.judgement) }
     ensures told { OnOk result (HoldsTaken (K.tells keeper.new) (nodes_before cursor.now.at)) }

@@ -7,8 +7,8 @@ ghost use Rattle.sgf_lines.specs.Verdict.{IsVerdictAt, IsVerdictOf, verdict};
 ghost use Rattle.tree_lines.specs.Following.{line_before};
 ghost use Rattle.sgf_lines.specs.Cursor.{IsSeekFault};
 
-use crate::judging::judge::Judge;
-use crate::judging::judged::judge_line;
+use crate::judging::judged::Judged;
+use crate::over_lines::LineKeeper;
 use crate::verdict::Verdict;
 use sgf_tree::{Collection, MemoryFault, Outline};
 use std::alloc::Global;
@@ -42,9 +42,9 @@ fn judge_before(alloc: Global, cursor: &SequenceCursor<'_, '_>) -> Result<Verdic
     let _nodes = cursor.outline().nodes();
     let _sequences = cursor.sequences();
     let _len = cursor.len();
-    let mut judge = Judge::new(alloc);
-    judge_line(cursor, NO_FRONT, &mut judge, &mut ())?;
-    Ok(judge.verdict())
+    let mut judged = Judged::new(alloc, ());
+    judged.follow(cursor, NO_FRONT)?;
+    Ok(judged.verdict)
 }
 
 /// The verdict of the line with this place, the same as `judge` returns. A line's

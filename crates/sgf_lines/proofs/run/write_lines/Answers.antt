@@ -52,7 +52,7 @@ page-preserved g c =
     let new = c.next.new.self in
     let old_sink = g.T.Sink.state c.args.sink.now in
     let put : PutsAll {E = SinkFault} (g.T.Sink.state c.page.sink) (g.T.Sink.state c.put.new.sink) (record_of form (plays g at).1.line) (Ok c.in-Ok.field-0) =
-    rw c.in-Ok.is at (c.put.ensures new.cursor (plays g at).1.line (stands g at).1 (before g at)) in
+    rw c.in-Ok.is at (c.put.ensures (plays g at).1.line (before g at)) in
     record {
       written = one_written form games start c.args.limit old_sink c.page.written c.page.lines.cursor.at (g.T.Sink.state c.page.sink) c.page.invariant.written new.cursor.at (g.T.Sink.state c.put.new.sink)
           (plays g at).1.line (omega (arith, c.page-test.true)) (found g at) (moved g at) put.0 put.1;
@@ -73,7 +73,7 @@ returns-in-Err-put-clause-answer g c =
     let new = c.next.new.self in
     let old_sink = g.T.Sink.state c.args.sink.now in
     let put : PutsAll {A = Unit {0}} (g.T.Sink.state c.page.sink) (g.T.Sink.state c.put.new.sink) (record_of form (plays g at).1.line) (Err c.in-Err-put.field-0) =
-    rw c.in-Err-put.is at (c.put.ensures new.cursor (plays g at).1.line (stands g at).1 (before g at)) in (
+    rw c.in-Err-put.is at (c.put.ensures (plays g at).1.line (before g at)) in (
       cut_short form games start c.args.limit old_sink c.page.written c.page.lines.cursor.at (g.T.Sink.state c.page.sink) c.page.invariant.written (g.T.Sink.state c.put.new.sink)
           (plays g at).1.line put.0 (omega (arith, c.page-test.true)) (found g at) put.1 put.2,
       played_then_cut form g.F.LineKeeper.counts g.met.F.LineForm.counts_are games c.requires.ready.rise start c.args.limit c.page.written c.page.lines.before c.page.lines.cursor.at old_sink

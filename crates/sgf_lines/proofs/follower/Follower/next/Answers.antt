@@ -9,9 +9,8 @@ use Rattle.sgf_lines.specs.Cursor.{advanced}
 use Rattle.sgf_lines.specs.declared.over_lines.Before.TheVariants.{Held}
 use Rattle.tree_lines.specs.Following.{nodes_before, path_before}
 use Rattle.sgf_lines.specs.inner.GoingOn.{PlaysLine, StandsBy, next_by}
-use Rattle.sgf_lines.specs.inner.Keeping.{HoldsJudgement}
+use Rattle.sgf_lines.specs.inner.Keeping.{HoldsVerdict}
 use Rattle.sgf_lines.proofs.Followers.{given, streak_countable, few_played, follows_on}
-use Rattle.sgf_lines.proofs.RunRecords.{verdict_is}
 use Rattle.sgf_lines.proofs.follower.Follower.next.Goals as goal
 use Rattle.sgf_lines.proofs.follower.Follower.next.Goals.{After-nodes-nodes, In-Ok-true}
 
@@ -23,13 +22,13 @@ module _ (c : After-nodes-nodes) where
   nodes = omega (arith, c.nodes-nodes.ensures.count, c.nodes-nodes.ensures.few, ap node_count c.outline.ensures)
 
 module _ (c : In-Ok-true) where
-  plays : PlaysLine {E = MemoryFault} (λ n. n) c.self.inside.lines.before c.self.inside.lines.cursor.at c.self.inside.lines.keeper.judge.plays c.next.new.self.keeper.judge.plays (Ok true)
+  plays : PlaysLine {E = MemoryFault} (λ n. n) c.self.inside.lines.before c.self.inside.lines.cursor.at c.self.inside.lines.keeper.judged.judge.plays c.next.new.self.keeper.judged.judge.plays (Ok true)
   plays = rw c.in-Ok-true.field-0-test at c.in-Ok-true.ensures.plays
 
   came : (c.next.new.self.before ≡ Held) × (c.next.new.self.cursor.at ≡ advanced (next_by c.self.inside.lines.before c.self.inside.lines.cursor.at))
   came = rw c.in-Ok-true.field-0-test at c.in-Ok-true.ensures.moved
 
-  stands : StandsBy Held (nodes_before c.next.new.self.cursor.at) (HoldsJudgement (nodes_before c.next.new.self.cursor.at) c.next.new.self.keeper.judge.judgement × (c.next.new.self.keeper.path.items ≡ path_before c.next.new.self.cursor.at))
+  stands : StandsBy Held (nodes_before c.next.new.self.cursor.at) (HoldsVerdict (λ kind taken. Unit {0}) c.next.new.self.keeper.judged.judge.judgement c.next.new.self.keeper.judged.verdict c.next.new.self.cursor × (c.next.new.self.keeper.path.items ≡ path_before c.next.new.self.cursor.at))
   stands = rw came.0 at c.in-Ok-true.ensures.stands
 
 pub next-requires-clause-countable : goal.next-requires-clause-countable
@@ -40,7 +39,7 @@ overflow_add-self c =
     let at = goal.at.overflow_add-self c in
     let old = c.self.inside.lines in
     let plays = plays at.In-Ok-true in
-    omega (arith, nodes at.After-nodes-nodes, streak_countable old.before old.cursor.at old.keeper.judge old.keeper.path.items c.self.inside.streak c.self.invariant plays.0 plays.1)
+    omega (arith, nodes at.After-nodes-nodes, streak_countable old.before old.cursor.at _ old.keeper.judged.judge.plays c.self.inside.streak c.self.invariant plays.0 plays.1)
 
 pub invariant_of-self : goal.invariant_of-self
 invariant_of-self c =
@@ -49,8 +48,8 @@ invariant_of-self c =
     let new = c.next.new.self in
     let plays = plays at.In-Ok-true in
     let came = came at.In-Ok-true in
-    rw (c.verdict.ensures.unchanged, came.0) (follows_on old.before old.cursor.at old.keeper.judge old.keeper.path.items c.self.inside.streak c.self.invariant plays.0 plays.1 new.cursor.at came.1 (rise at.After-nodes-nodes) new.keeper.judge
-    new.keeper.path.items (stands at.In-Ok-true) plays.2)
+    rw came.0 (follows_on old.before old.cursor.at _ old.keeper.judged.judge.plays c.self.inside.streak c.self.invariant plays.0 plays.1 new.cursor.at came.1 (rise at.After-nodes-nodes) _ new.keeper.judged.judge.plays
+    (stands at.In-Ok-true) plays.2)
 
 pub returns-in-Ok-true-clause-verdict : goal.returns-in-Ok-true-clause-verdict
 returns-in-Ok-true-clause-verdict c =
@@ -58,5 +57,4 @@ returns-in-Ok-true-clause-verdict c =
     let old = c.self.inside.lines in
     let new = c.next.new.self in
     let plays = plays at.In-Ok-true in
-    let told = verdict_is (nodes_before new.cursor.at) new.keeper.judge.judgement c.verdict.result c.verdict.ensures.told (stands at.In-Ok-true).1.0 in
-    given old.before old.cursor.at old.keeper.judge old.keeper.path.items c.self.inside.streak c.self.invariant plays.0 plays.1 new.cursor.at (came at.In-Ok-true).1 c.args.self.now c.self.view_is c.verdict.result told
+    given old.before old.cursor.at _ old.keeper.judged.judge.plays c.self.inside.streak c.self.invariant plays.0 plays.1 new.cursor.at (came at.In-Ok-true).1 c.args.self.now c.self.view_is new.keeper.judged.verdict (stands at.In-Ok-true).1.0.verdict_is

@@ -34,8 +34,8 @@ loop-index-init g c =
     ] in
     record {
       judges = judges_begun nodes held c.args.judge.now.plays judge judged.0 judged.1;
-      told = told_front (g.K.StepKeeper.keeps c.args.keeper.now) (g.K.StepKeeper.tells c.keep.new.self) nodes held judge.judgement judged.0 (rw c.board.ensures at c.in_ok-keep.ensures.begun) c.in_ok-keep.ensures.kept
-          (taken_kept _ c.args.cursor.now c.args.held c.requires.held (g.K.StepKeeper.keeps c.args.keeper.now) (λ old h. h.1));
+      told = told_front (g.K.StepKeeper.tells c.args.keeper.now) (g.K.StepKeeper.tells c.keep.new.self) nodes held judge.judgement judged.0 (rw c.board.ensures at c.in_ok-keep.ensures.begun) c.in_ok-keep.ensures.kept
+          (taken_kept _ c.args.cursor.now c.args.held c.requires.held (g.K.StepKeeper.tells c.args.keeper.now) (λ old h. h.1));
       comes = ap (λ (n : NodesLeft). n.nodes) c.after-nodes.ensures;
     }
 
