@@ -15,6 +15,7 @@ ghost use Rattle.sgf_lines.specs.declared.options.Form.{Form};
 ghost use Rattle.tree_lines.specs.Following.{line_before};
 ghost use Rattle.byte_streams.specs.Streams.{PutsAll};
 
+use crate::form::text_row::TextRow;
 use crate::over_lines::LineKeeper;
 use byte_streams::{Sink, SinkFault};
 use std::alloc::Global;
@@ -37,8 +38,13 @@ pub(crate) trait LineForm: LineKeeper {
     fn new(alloc: Global) -> Self
         ensures { Self.played result ≡ 0 };
 
-    /// Puts the record of the line before the cursor, which is kept.
-    fn put<T: Sink>(&self, cursor: &SequenceCursor<'_, '_>, sink: &mut T) -> Result<(), SinkFault>
+    /// Puts the record of the line before the cursor, which is kept. `row` is a buffer.
+    fn put<T: Sink>(
+        &self,
+        cursor: &SequenceCursor<'_, '_>,
+        row: &mut TextRow,
+        sink: &mut T,
+    ) -> Result<(), SinkFault>
         requires holds { Self.holds self.now cursor.now }
         requires countable { (T.state sink.old).failures < u64.MAX }
         ensures { (line : Line) → line_before cursor.now.at ≡ Some line

@@ -16,6 +16,7 @@ use crate::form::LineForm;
 use crate::form::gtp::GtpForm;
 use crate::form::list::ListForm;
 use crate::form::sgf::SgfForm;
+use crate::form::text_row::TextRow;
 use crate::laws::rise;
 use crate::options::{Form, Options};
 use crate::over_lines::{Before, OverLines};
@@ -248,6 +249,7 @@ fn write_lines<F: LineForm, T: Sink>(
     ensures delivered { OnOk result (HasDelivered (T.state sink.new)) }
     ensures failures { (T.state sink.new).failures ≡ (T.state sink.old).failures + write_failures result }
 {
+    let mut row = TextRow::new();
     let mut written = 0u64;
     'page: while written < limit {
         match lines.next() {
@@ -255,7 +257,7 @@ fn write_lines<F: LineForm, T: Sink>(
             Ok(false) => break,
             Err(MemoryFault) => return Err(RunFault::Memory { lines: written }),
         }
-        match lines.keeper.put(&lines.cursor, sink) {
+        match lines.keeper.put(&lines.cursor, &mut row, sink) {
             Ok(()) => written += 1,
             Err(SinkFault) => return Err(RunFault::Write { lines: written }),
         }

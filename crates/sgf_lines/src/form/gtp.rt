@@ -44,8 +44,12 @@ impl LineForm for GtpForm {
         }
     }
 
-    fn put<T: Sink>(&self, cursor: &SequenceCursor<'_, '_>, sink: &mut T) -> Result<(), SinkFault> {
-        let mut row = TextRow::new();
+    fn put<T: Sink>(
+        &self,
+        cursor: &SequenceCursor<'_, '_>,
+        row: &mut TextRow,
+        sink: &mut T,
+    ) -> Result<(), SinkFault> {
         row.lay_out_comment(cursor, self.judged.verdict);
         put_all(row.text(), sink)?;
         put_all(self.judged.keeper.text(), sink)?;

@@ -20,8 +20,12 @@ impl LineForm for ListForm {
         Judged::new(alloc, ())
     }
 
-    fn put<T: Sink>(&self, cursor: &SequenceCursor<'_, '_>, sink: &mut T) -> Result<(), SinkFault> {
-        let mut row = TextRow::new();
+    fn put<T: Sink>(
+        &self,
+        cursor: &SequenceCursor<'_, '_>,
+        row: &mut TextRow,
+        sink: &mut T,
+    ) -> Result<(), SinkFault> {
         row.lay_out(cursor, self.verdict);
         put_all(row.text(), sink)
     }

@@ -10,6 +10,7 @@ ghost use Rattle.sgf_lines.specs.inner.Recording.{open_record, whole_record};
 
 use crate::form::LineForm;
 use crate::form::pieces::Pieces;
+use crate::form::text_row::TextRow;
 use crate::over_lines::LineKeeper;
 use byte_streams::{Sink, SinkFault, put_all};
 use sgf_tree::MemoryFault;
@@ -54,7 +55,12 @@ impl LineForm for SgfForm {
     }
 
     #[tactic(auto, using(crate::proofs::RunRecords::record_is))]
-    fn put<T: Sink>(&self, cursor: &SequenceCursor<'_, '_>, sink: &mut T) -> Result<(), SinkFault> {
+    fn put<T: Sink>(
+        &self,
+        cursor: &SequenceCursor<'_, '_>,
+        row: &mut TextRow,
+        sink: &mut T,
+    ) -> Result<(), SinkFault> {
         put_all(self.record.text(), sink)
     }
 
