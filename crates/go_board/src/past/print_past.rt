@@ -32,9 +32,9 @@ ghost use Rattle.board_points.specs.declared.points.Point.{Point};
 ghost use Rattle.go_board.specs.declared.stones.Colour.{Colour};
 ghost use Rattle.board_points.specs.Point.{IsOn};
 ghost use Rattle.go_board.specs.Grid.{Grid, cell_at};
-ghost use Rattle.go_board.specs.Clearing.{play};
+ghost use Rattle.go_board.specs.Clearing.{has_unreaching, play};
 ghost use Rattle.go_board.specs.Past.{all_of, newest_grid, with_next, present_stretch, HaveSide, PastColourings, IsPlayed};
-ghost use Rattle.go_board.specs.inner.Changes.{IsFreshStone};
+ghost use Rattle.go_board.specs.inner.Changes.{is_fresh, is_settled, IsFreshStone};
 ghost use Rattle.go_board.specs.inner.Emptied.{IsEmptied, IsPrintPast};
 ghost use Rattle.go_board.specs.inner.Groups.{IsMove, IsEmptyOnSettled, TakesOff};
 ghost use Rattle.go_board.specs.inner.Print.{print_of, IsPrintedMove};
@@ -44,6 +44,7 @@ ghost use Rattle.go_board.specs.inner.Table.{IsAwakeTable, IsGap, IsPrintOfNext,
 use crate::board::Board;
 use crate::fault::MemoryFault;
 use crate::past::Past;
+use crate::past::print_past::changes::Known;
 use crate::past::print_past::colourings::Colourings;
 use crate::past::print_past::emptied::Emptied;
 use crate::past::print_past::print::{has_point, print_after_taking, print_of};
@@ -132,7 +133,7 @@ impl Past for PrintPast {
         if !newest.takes_nothing_at_a_glance(colour, point) {
             return false;
         }
-        match self.play_new(colour, point, &[], true) {
+        match self.play_new(colour, point, &[], Known::Fresh) {
             Ok(played) => played,
             Err(_) => false,
         }
@@ -247,7 +248,8 @@ impl PrintPast {
         if self.may_repeat(point, taken) {
             return self.play_asked(colour, point, taken);
         }
-        self.play_new(colour, point, taken, true)
+        let known = Known::new(self.newest().is_settled(), true);
+        self.play_new(colour, point, taken, known)
     }
 
     /// Whether a stone may bring a colouring of the present stretch back: it is put on a point that was emptied, or is suicide.
@@ -279,7 +281,10 @@ impl PrintPast {
     {
         match self.decide_by_newest(colour, point, taken) {
             Some(true) => Ok(false),
-            Some(false) => self.play_new(colour, point, taken, false),
+            Some(false) => {
+                let known = Known::new(self.newest().is_settled(), false);
+                self.play_new(colour, point, taken, known)
+            }
             None => self.play_by_print(colour, point, taken),
         }
     }
@@ -305,19 +310,20 @@ impl PrintPast {
         self.colourings.look_back(&made)
     }
 
-    /// Plays a stone that brings no colouring back; `taken` is what the stone takes off. `fresh` says that no colouring of the present stretch
-    /// has a stone on that point.
+    /// Plays a stone that brings no colouring back; `taken` is what the stone takes off. `known` is what is known of the newest colouring, and
+    /// whether no colouring of the present stretch has a stone on that point.
     #[inline(always)]
     fn play_new(
         &mut self,
         colour: Colour,
         point: Point,
         taken: &[u64],
-        fresh: bool,
+        known: Known,
     ) -> Result<bool, MemoryFault>
         requires stone { IsMove (newest_grid self.old) colour point taken.now }
         requires never { ¬ Contains (present_stretch self.old) (play (newest_grid self.old) colour point) }
-        requires fresh { IsTrue fresh → IsFreshStone (with_next self.old (play (newest_grid self.old) colour point) false) point }
+        requires settled { IsTrue (is_settled known) → has_unreaching (newest_grid self.old) ≡ false }
+        requires fresh { IsTrue (is_fresh known) → IsFreshStone (with_next self.old (play (newest_grid self.old) colour point) false) point }
         ensures { IsPlayed colour point self.old self.new result }
     {
         let print = print_if_awake(&self.table, &self.colourings, colour, point, taken);
@@ -328,7 +334,7 @@ impl PrintPast {
             colour,
             point,
             taken,
-            fresh,
+            known,
             print,
             None,
         )?;
@@ -350,6 +356,7 @@ impl PrintPast {
         self.table.wake(&self.colourings);
         let newest = self.colourings.newest();
         newest.has_all_cells();
+        let known = Known::new(newest.is_settled(), false);
         let print = print_after_taking(self.table.newest(), newest, colour, point, taken);
         let mut gap = None;
         if self.table.may_have(print) {
@@ -375,7 +382,7 @@ impl PrintPast {
             colour,
             point,
             taken,
-            false,
+            known,
             Some(print),
             gap,
         )?;
@@ -451,8 +458,8 @@ fn print_if_awake(
     Some(print_after_taking(table.newest(), newest, colour, point, taken))
 }
 
-/// Adds the colouring that a stone makes; `taken` is what the stone takes off. `fresh` says that no colouring of the present stretch has a
-/// stone on that point. `print` is the colouring's print, or None if the table sleeps. Puts the colouring into the trie if its gap there
+/// Adds the colouring that a stone makes; `taken` is what the stone takes off. `known` is what is known of the newest colouring, and whether
+/// no colouring of the present stretch has a stone on that point. `print` is the colouring's print, or None if the table sleeps. Puts the colouring into the trie if its gap there
 /// is known. After a refusal nothing is changed.
 // No method: between its steps the invariant of the past doesn't hold.
 #[inline(always)]
@@ -463,14 +470,15 @@ fn add_stone(
     colour: Colour,
     point: Point,
     taken: &[u64],
-    fresh: bool,
+    known: Known,
     print: Option<u64>,
     gap: Option<Gap>,
 ) -> Result<(), MemoryFault>
     requires table { IsTable (all_of colourings.old) table.old }
     requires emptied { IsEmptied (all_of colourings.old) emptied.old }
     requires stone { IsMove (newest_grid colourings.old) colour point taken.now }
-    requires fresh { IsTrue fresh → IsFreshStone (with_next colourings.old (play (newest_grid colourings.old) colour point) false) point }
+    requires settled { IsTrue (is_settled known) → has_unreaching (newest_grid colourings.old) ≡ false }
+    requires fresh { IsTrue (is_fresh known) → IsFreshStone (with_next colourings.old (play (newest_grid colourings.old) colour point) false) point }
     requires print { IsPrintOfNext (all_of colourings.old) table.old
         (with_next colourings.old (play (newest_grid colourings.old) colour point) false).newest print }
     requires gap { IfSome gap (IsGap (all_of colourings.old) table.old
@@ -484,7 +492,7 @@ fn add_stone(
     let number = colourings.len();
     emptied.reserve(taken.len())?;
     table.reserve(number)?;
-    colourings.add_stone(colour, point, taken, fresh)?;
+    colourings.add_stone(colour, point, taken, known)?;
     emptied.add(taken, number as u32);
     table.push(print, gap);
     Ok(())

@@ -3,9 +3,9 @@
 
 ghost use Rattle.std.specs.Prelude.{◌≡◌, ◌+◌, ◌-◌, ◌*◌, ◌^◌, ◌<◌, ◌≤◌, ◌↔◌, ◌∷◌, [], false, IsFalse, IsTrue, IfOk, IfSome, Contains, MatchOption, OnOk, OnErr, length, replicate, ◌==◌, reverse};
 ghost use Rattle.std.specs.Vec.{vec_capacity};
-ghost use Rattle.go_board.specs.Clearing.{play};
+ghost use Rattle.go_board.specs.Clearing.{has_unreaching, play};
 ghost use Rattle.go_board.specs.Past.{all_of, newest_grid, only, present_stretch, with_next, PastColourings};
-ghost use Rattle.go_board.specs.inner.Changes.{is_full, IsEndOf, IsFreshStone, IsNumber, held_before, IsPast};
+ghost use Rattle.go_board.specs.inner.Changes.{is_fresh, is_full, is_settled, IsEndOf, IsFreshStone, IsNumber, held_before, IsPast};
 ghost use Rattle.go_board.specs.inner.Print.{prints_of};
 ghost use Rattle.go_board.specs.inner.Groups.{IsEmptyOnSettled, IsMove};
 ghost use Rattle.go_board.specs.inner.Key.{start_of, since};
@@ -272,18 +272,20 @@ impl Colourings {
         }
     }
 
-    /// Adds the colouring that a stone makes; `taken` is what the stone takes off. `fresh` says that no colouring of the present stretch has a
-    /// stone on that point. The colouring continues the present stretch. After a refusal nothing is changed.
+    /// Adds the colouring that a stone makes; `taken` is what the stone takes off. `known` is what is known of the newest colouring, and
+    /// whether no colouring of the present stretch has a stone on that point. The colouring continues the present stretch. After a refusal
+    /// nothing is changed.
     #[inline(always)]
     pub(crate) fn add_stone(
         &mut self,
         colour: Colour,
         point: Point,
         taken: &[u64],
-        fresh: bool,
+        known: Known,
     ) -> Result<(), MemoryFault>
         requires stone { IsMove (newest_grid self.old) colour point taken.now }
-        requires fresh { IsTrue fresh → IsFreshStone (with_next self.old (play (newest_grid self.old) colour point) false) point }
+        requires settled { IsTrue (is_settled known) → has_unreaching (newest_grid self.old) ≡ false }
+        requires fresh { IsTrue (is_fresh known) → IsFreshStone (with_next self.old (play (newest_grid self.old) colour point) false) point }
         requires few { length (all_of self.old) ≤ MOST }
         ensures ok { OnOk result (self.new ≡ with_next self.old (play (newest_grid self.old) colour point) false) }
         ensures err { OnErr result (self.new ≡ self.old) }
@@ -297,7 +299,7 @@ impl Colourings {
             stretch_start: self.stretch_start as u32,
             point,
             alone,
-            known: Known::new(self.newest.is_settled(), fresh),
+            known,
         };
         if !alone {
             keep_played(&self.newest, point, taken, all, &mut self.changes);

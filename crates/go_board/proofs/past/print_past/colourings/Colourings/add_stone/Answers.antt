@@ -37,14 +37,14 @@ next c =
     let k = c.args.colour in
     let p = c.args.point in
     let made = play was.newest k p in
-    let kept : Older = record { start = c.len-2.result; stretch_start = was.stretch_start; point = p; alone = c.if-is_empty.alone; known = c.new.result } in
+    let kept : Older = record { start = c.len-2.result; stretch_start = was.stretch_start; point = p; alone = c.if-is_empty.alone; known = c.args.known } in
     let move = subst (λ (past : PastColourings). IsMove (newest_grid past) k p c.args.taken.now) (sym c.self.view_is) c.requires.stone in
-    let fresh : IsTrue (is_fresh kept.known) → IsFreshStone (with_next (past_held was.newest was.stretch_start (reverse was.older.items) was.changes.items) made false) p = λ is. subst (λ (past : PastColourings). IsFreshStone (with_next past (play (newest_grid past) k p) false) p) (sym c.self.view_is) (c.requires.fresh (c.new.ensures.fresh is)) in
+    let fresh : IsTrue (is_fresh kept.known) → IsFreshStone (with_next (past_held was.newest was.stretch_start (reverse was.older.items) was.changes.items) made false) p = λ is. subst (λ (past : PastColourings). IsFreshStone (with_next past (play (newest_grid past) k p) false) p) (sym c.self.view_is) (c.requires.fresh is) in
     let start : c.len-2.result ≡ length was.changes.items = search rules in
     let count : c.len.result ≡ length was.older.items = search rules in
     let full = c.is_full-all.ensures ∙ ap is_full count in
     let cells = c.has_all_cells.ensures.all in
-    let settled : IsTrue (is_settled kept.known) → has_unreaching was.newest ≡ false = λ is. c.is_settled.ensures (c.new.ensures.settled is) in
+    let settled : IsTrue (is_settled kept.known) → has_unreaching was.newest ≡ false = λ is. ap (λ (past : PastColourings). has_unreaching (newest_grid past)) c.self.view_is ∙ c.requires.settled is in
     rw (← c.self.view_is) (elim c.if-not-alone.branch [
       | then-not-alone w ↦
           let rows : KeepRows was.newest made c.is_full-all.result was.newest.side was.changes.items w.keep_played.new.changes.items =
