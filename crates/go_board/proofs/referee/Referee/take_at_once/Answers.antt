@@ -1,12 +1,9 @@
-use Rattle.std.proofs.Common.{◌≡◌, ◌+◌, ◌++◌, ◌≤◌, length, reverse, [], ◌∷◌, false, true, Contains, Some, None, refl, ap, sym, subst, ◌∙◌, arith, rules}
-use Rattle.std.proofs.lemmas.List.{length-reverse, reverse-append}
-use Rattle.go_board.specs.declared.referee.plays.Play.TheVariants.{Stone}
-use Rattle.go_board.specs.declared.referee.plays.Play.{Play}
+use Rattle.std.proofs.Common.{◌≡◌, ◌+◌, ◌++◌, [], ◌∷◌, false, true, refl, ap, sym, ◌∙◌, arith, rules}
 use Rattle.go_board.specs.Clearing.{play}
 use Rattle.go_board.specs.Past.{newest_grid, with_next}
 use Rattle.go_board.specs.State.{States}
 use Rattle.go_board.specs.Reason.{reason_of}
-use Rattle.go_board.specs.inner.Earlier.{grew, player_of, turned, MayOnlyRepeat}
+use Rattle.go_board.specs.inner.Earlier.{grew, player_of, turned}
 use Rattle.go_board.proofs.EarlierLemmas.{IsRefereeKept-grown}
 use Rattle.go_board.proofs.SettledLemmas.{side_play}
 use Rattle.go_board.proofs.TurnLemmas.{reason_of-new}
@@ -29,4 +26,4 @@ returns-clause-legal g c = λ _.
     let present = c.args.self.now.present in
     ap (reason_of present c.args.colour) c.in-Stone.is
     ∙ reason_of-new present c.args.colour c.in-Stone.point _ _ (ap (λ (states : States). states.present.seen) c.self.view_is)
-        (ap (λ (states : States). play states.present.colouring c.args.colour c.in-Stone.point) c.self.view_is) c.in_default-reason_before_repeat.ensures.only_repeat (c.if-not-play_at_once.ensures.new refl)
+    (ap (λ (states : States). play states.present.colouring c.args.colour c.in-Stone.point) c.self.view_is) c.in_default-reason_before_repeat.ensures.only_repeat (c.if-not-play_at_once.ensures.new refl)
