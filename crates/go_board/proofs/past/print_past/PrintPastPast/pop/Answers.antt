@@ -1,8 +1,9 @@
-use Rattle.std.proofs.Common.{◌∷◌, List, inl, refl, subst}
+use Rattle.std.proofs.Common.{◌∷◌, List, length, inl, refl, ap, subst, arith}
+use Rattle.std.proofs.Math.Facts.{Fits-of_lt}
 use Rattle.go_board.specs.Past.{Held, all_of}
 use Rattle.go_board.specs.inner.Emptied.{IsEmptied}
 use Rattle.go_board.specs.inner.Table.{IsTable}
-use Rattle.go_board.proofs.TableLemmas.{asleep_less}
+use Rattle.go_board.proofs.TableLemmas.{asleep_less, few_all}
 use Rattle.go_board.proofs.past.print_past.PrintPastPast.pop.Goals as goal
 
 pub invariant_of-self-2 : goal.invariant_of-self-2
@@ -16,3 +17,7 @@ invariant_of-self-2 c =
       tabled = inl (asleep_less was.table newest left (c.if-is_awake.ensures.asleep (newest ∷ left) held refl));
       emptied_in = c.go_back.ensures newest left (subst (λ (held : List Held). IsEmptied (newest ∷ held) was.emptied) older c.self.invariant.emptied_in) c.len.ensures;
     }
+
+pub overflow_cast-len : goal.overflow_cast-len
+overflow_cast-len c =
+    Fits-of_lt (omega (arith, c.len.ensures, few_all (all_of c.self.inside.colourings) c.self.inside.table c.self.invariant.tabled, ap (λ (xs : List Held). length xs) (c.if-not-pop_point.ensures.taken refl)))
