@@ -19,8 +19,9 @@
 //!
 //! The code outside `quick` plays by the rules and can be read by itself. `quick` has faster ways to the same answers, and may be skipped.
 //! Three functions outside it begin with a test that only saves work: `Board::score`, which calls a shortcut on a small board,
-//! `Board::has_unreaching` and `Board::shut_stones`. A run judges over the past `PrintPast`, whose `play` calls shortcuts for what a stone
-//! takes off. `Past::play` is the plain way, and `ListPast` goes it. Only `PrintPast` uses the crates `key_trie` and `sha2`.
+//! `Board::has_unreaching` and `Board::shut_stones`. A turn begins with a short way that most stones take (`Past::play_at_once`); without it
+//! every turn would be taken by `Referee::turn_in_full`. A run judges over the past `PrintPast`, whose `play` calls shortcuts for what a
+//! stone takes off. `Past::play` is the plain way, and `ListPast` goes it. Only `PrintPast` uses the crates `key_trie` and `sha2`.
 //!
 //! | Module | What it has |
 //! |---|---|
@@ -43,7 +44,7 @@
 //! | clearing a colour, which captures its groups without a liberty | `Board::clear` (`board`); which stones have none: `Board::shut_stones` (`board/regions`) |
 //! | a stone: capture, then suicide | `Board::place` (`board`); shortcuts: `Board::takes_nothing_at_a_glance` (`quick/glance`), `Board::find_taken` and `Board::put`, which takes off what was found (`quick/capture`), by `fill_if_shut` and `add_to_either` of `board_points` (`quick/group`) |
 //! | the area score; an empty point that reaches both colours or neither counts for nobody | `Board::score` (`board`), by `area_of` (`board/regions`), and `count_apart` of `board_points` (`rows`); shortcut below side 32: `Board::score_in_halves` (`quick/both_areas`), by `count_halves` of `board_points` (`quick/halves`) |
-//! | taking a turn; the reasons `over`, `turn` and `occupied`, in this order | `Referee::turn`, `Referee::reason_before_repeat` (`referee/turn`) |
+//! | taking a turn; the reasons `over`, `turn` and `occupied`, in this order | `Referee::turn_in_full`, `Referee::reason_before_repeat` (`referee/turn`); the short way of `Referee::turn` is `Referee::take_at_once` |
 //! | `repeat` (positional superko; suicide of one stone is a case of it) | in a run `PrintPast::play_asked`, if `may_repeat` says that it may, and `play_on_copy` after a setup that leaves a stone without a liberty (`past/print_past`); the plain way is `Past::play` (`past`) |
 //! | the colourings that `repeat` looks at: those since the last setup of stones | `ListPast::holds`, `stretch_has` (`past/list_past`); what a run uses: `Colourings::look_back` (`past/print_past/colourings`), which goes over the newest ones, and if these don't tell, `Table::near`, or `Table::gap`, which finds that no print is the same, and else `Table::gap_by_board` (`past/print_past/table`). All look from `Colourings::stretch_start` on |
 //! | a pass; two passes end the game | `Referee::take_pass` (`referee/turn`); `Referee::over` (`referee`) |
