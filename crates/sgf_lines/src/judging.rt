@@ -1,7 +1,5 @@
 //! Judging a line of play with a referee, node after node.
 //!
-//! `quick` has the one shortcut, and may be skipped: `step` is complete without it.
-//!
 //! `#[inline(always)]` is on what runs for each node, here and in `line_nodes`: a caller that needs no step has none put together, and what a
 //! node without stones doesn't need drops out. `#[inline(never)]` is on what runs for few nodes. Without these attributes list form takes 11 to
 //! 42 percent more instructions.
@@ -11,6 +9,5 @@ pub(crate) mod game;
 pub(crate) mod judge;
 pub(crate) mod judged;
 pub(crate) mod one_line;
-pub(crate) mod quick;
 pub(crate) mod root;
 pub(crate) mod step;

@@ -29,10 +29,9 @@
 //! [`judge_at`] needs only the place of a line. [`judge`] needs a [`Collection`], which knows more of each node and takes more memory. The
 //! node given to it must be a leaf. By [`laws::named`] the last node of each line is a leaf.
 //!
-//! The code outside `judging/quick` is complete and can be read by itself. `judging/quick` has a faster way for nodes that are recognized at a
-//! glance, and may be skipped. What else saves work stands in these functions: `LineNodes::next` takes the nodes so recognized,
-//! `Contents::of_lone` and `Contents::of_front` (`judging/contents`) return what the glance showed, `push_text_of` (`form/commands`) decodes a
-//! comment of one row in place, and `split_counted` and `count` first ask a source for all that is left at once (`Source::give_rest`).
+//! What only saves work stands in these functions: `LineNodes::next` takes nodes that are recognized at a glance, `Contents::of_lone` and
+//! `Contents::of_front` (`judging/contents`) return what the glance showed, `push_text_of` (`form/commands`) decodes a comment of one row in
+//! place, and `split_counted` and `count` first ask a source for all that is left at once (`Source::give_rest`).
 //!
 //! | Module | What it has |
 //! |---|---|
@@ -41,9 +40,8 @@
 //! | `verdict`, `judging` | the verdict of a line; judging lines, in the modules below |
 //! | `judging/one_line`, `judging/judge` | `judge` and `judge_at`: one line, by its leaf or its place; `Judge`, which goes along a line's nodes, and back |
 //! | `judging/game` | a game that is judged: its referee, and the score of its present board |
-//! | `judging/judged` | judging a line from the first node that it does not share with the line before it |
+//! | `judging/judged` | judging line after line, each from the first node that it does not share with the line before it; whom each step is told |
 //! | `judging/root`, `judging/contents`, `judging/step` | the board of a root's game; what a node holds; playing a node |
-//! | `judging/quick` | a shortcut: playing a node that is recognized at a glance |
 //! | `over_lines` | going over the lines that follow a cursor, and what is kept from line to line |
 //! | `follower` | judging each of these lines |
 //! | `node_values` | what the values of a node say |

@@ -11,8 +11,7 @@ ghost use Rattle.sgf_lines.specs.Verdict.{score_in};
 ghost use Rattle.sgf_lines.specs.inner.Gathered.{ComesAs};
 ghost use Rattle.sgf_lines.specs.inner.Judging.{IsStepped, IsStepOf, IsScoreAt, back_to};
 
-use crate::judging::quick::take_step;
-use crate::judging::step::TakenStep;
+use crate::judging::step::{TakenStep, take_step};
 use crate::line_nodes::LineNodes;
 use crate::verdict::Verdict;
 use go_board::{Board, PrintPast, Referee, SetupOp, Size, TurnFault};

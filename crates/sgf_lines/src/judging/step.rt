@@ -46,14 +46,36 @@ pub(crate) fn place_of(next: &NextNode<'_>) -> usize
 }
 
 /// Takes the step of a node, which adds one state: the node's move is played, its stones and its player are set up, or nothing changes.
-/// `front` is its first property, if that was recognized. The other properties are those left of the nodes, and are taken off. `operations`
-/// is a buffer.
+/// `next` is the node, as `LineNodes::next` took it; the properties that are left of it are taken off. `operations` is a buffer.
 ///
 /// If the node is illegal, the first reason is returned. After a refusal the referee is unchanged.
-///
-/// This is the plain way: it gathers all that the node holds. `quick::take_step` calls it for a node that isn't recognized.
+// Each case has a call of its own, so that what its contents don't hold drops out: `deep` else takes 16 percent more instructions.
+#[inline(always)]
+pub(crate) fn take_step<'a, P: Past>(
+    referee: &mut Referee<P>,
+    next: NextNode<'a>,
+    nodes: &mut LineNodes<'_, '_, 'a>,
+    operations: &mut Vec<SetupOp>,
+) -> Result<TakenStep<'a>, TurnFault>
+    ensures stepped { (node : Node) → ComesAs node nodes.old.properties next.entry
+        → IsStepped (step referee.old.present node) referee.old referee.new result }
+    ensures told { (node : Node) → ComesAs node nodes.old.properties next.entry
+        → IfOk result (IsStepOf referee.old.present.colouring.side node) }
+    ensures left { nodes.new.nodes ≡ nodes.old.nodes }
+{
+    match next {
+        NextNode::Led { letter, value, .. } => {
+            take_contents(referee, Contents::of_lone(letter, value), &[])
+        }
+        NextNode::Empty { .. } => take_contents(referee, Contents::nothing(), &[]),
+        NextNode::Open { front, .. } => take_any_step(referee, front, nodes, operations),
+    }
+}
+
+/// Takes the step of a node of which all is gathered. `front` is its first property, if that was recognized. The other properties are those
+/// left of the nodes.
 #[inline(never)]
-pub(crate) fn take_any_step<'a, P: Past>(
+fn take_any_step<'a, P: Past>(
     referee: &mut Referee<P>,
     front: Option<(u8, &'a [u8])>,
     nodes: &mut LineNodes<'_, '_, 'a>,
@@ -74,7 +96,7 @@ pub(crate) fn take_any_step<'a, P: Past>(
 
 /// Takes the step of a node with these contents. `operations` has the operations of the node's stones.
 #[inline(always)]
-pub(crate) fn take_contents<'a, P: Past>(
+fn take_contents<'a, P: Past>(
     referee: &mut Referee<P>,
     contents: Contents<'a>,
     operations: &[SetupOp],

@@ -2,7 +2,7 @@ use Rattle.std.proofs.Common.{◌≡◌, ◌++◌, ◌∷◌, []}
 use Rattle.sgf_tree.specs.Tree.{lone_property, told_property}
 use Rattle.sgf_lines.specs.inner.Gathered.{HoldsAlone}
 use Rattle.sgf_lines.proofs.Gathered.{gathered_alone}
-use Rattle.sgf_lines.proofs.judging.quick.take_step.Goals as goal
+use Rattle.sgf_lines.proofs.judging.step.take_step.Goals as goal
 
 pub take_contents-requires : goal.take_contents-requires
 take_contents-requires g c = (record { place = 0; properties = lone_property c.in-Led.letter c.in-Led.value.now ∷ [] }, c.of_lone.ensures c.args.referee.now.present.colouring.side)
