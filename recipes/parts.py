@@ -33,13 +33,17 @@ import itertools
 import mmap
 import re
 import select
+import signal
 import subprocess
 import tempfile
 
 import goboard
 import sgfsplit
 
+SLICE = 1 << 24  # about how many bytes of a part a job takes if there are several: fewer cost time to start it, more leave cores idle
 ROWS = 1 << 16  # how many bytes of rows are raised at a time
+MANY = 1 << 20  # so many bytes of rows are raised by a process of their own: it costs as much as raising a sixth of them
+ROW = 1 << 10  # more bytes than a row has
 MARK = b"\xef\xbb\xbf"  # the byte order mark, which may stand only before the first game
 IN_VALUE = re.compile(rb"\\.?|\]", re.DOTALL)  # an escape, of which the second byte may still have to be read, or the value's end
 SPACE = rb"[ \t\n\r\v\f]*"
@@ -76,16 +80,19 @@ def games(file, name):
     yield bytes(text), False
 
 
-def first_part(file, name, most, is_empty):
-    """The first part of the rest of a file, found game by game, or None if only white space is left. `is_empty` says whether the file has no
-    game before. What stands after the last game is a part too, unless it is white space."""
-    part = bytearray()
+def first_games(file, name, most, room, is_empty):
+    """The games at the begin of the rest of a file, found one by one, and whether they are the end of a part that has room for so many bytes.
+    If the first game is too long for that, they are a part of their own. None if only white space is left. `is_empty` says whether the file
+    has no game before. What stands after the last game is a part too, unless it is white space."""
+    part, size = bytearray(), room
     for text, is_game in games(file, name):
-        if part and (len(part) + len(text) > most or not is_game):
-            return part
+        if not part and (len(text) > room or not is_game):
+            size = most
+        if part and (len(part) + len(text) > size or not is_game):
+            return part, size == room
         part += text
         is_empty = is_empty and not is_game
-    return part if is_empty or INK.search(part) or len(part) > sgfsplit.LIMIT else None
+    return part if is_empty or INK.search(part) or len(part) > sgfsplit.LIMIT else None, size == room
 
 
 def cuts(text, begin, end, most):
@@ -124,18 +131,92 @@ def last_end(tail, most):
     return last
 
 
-class Part:
-    """The bytes of a part, which stand in a file of their own from an offset on, and the processes that split them and count line feeds."""
+@contextlib.contextmanager
+def signals_wait():
+    """Lets signals wait, so that none comes between the start of a process and the note of its number. The new process keeps them waiting."""
+    before = signal.pthread_sigmask(signal.SIG_BLOCK, signal.valid_signals())
+    try:
+        yield
+    finally:
+        signal.pthread_sigmask(signal.SIG_SETMASK, before)
 
-    def __init__(self, file, start, size, tried):
-        self.file, self.start, self.size, self.tried = file, start, size, tried
+
+class Rows:
+    """The rows of a slice, in a file, and the process that raises them beside the other jobs, if there is one."""
+
+    def __init__(self, part, begin):
+        self.part, self.begin, self.games_before = part, begin, None  # the places of the part and of the slice in the whole text
+        self.file, self.raised, self.is_raised = tempfile.TemporaryFile(buffering=0), None, False
+        self.process, self.told = None, None
+
+    def size(self):
+        return self.file.seek(0, os.SEEK_END)
+
+    def games(self):
+        """The number of the last game."""
+        last = os.pread(self.file.fileno(), ROW, max(self.size() - ROW, 0)).splitlines()[-1:]
+        return int(last[0].split()[1]) if last else 0
+
+    def raise_beside(self):
+        """Starts a process that raises the rows into another file. If the system starts none, or ends it, `pieces` raises them."""
+        self.raised = tempfile.TemporaryFile(buffering=0)
+        reads, writes = os.pipe()
+        self.told = open(reads, "rb", buffering=0)
+        with open(writes, "wb", buffering=0) as tells, signals_wait():
+            with contextlib.suppress(OSError):
+                self.process = os.fork()
+            if self.process == 0:
+                self.raise_and_end(tells)
+
+    def raise_and_end(self, tells):
+        """What the new process does. No signal but SIGKILL ends it, and it closes and removes nothing that belongs to this process."""
+        try:
+            for piece in self.pieces():
+                write(self.raised, piece)
+            tells.write(b".")
+        finally:
+            os._exit(0)
+
+    def hear(self):
+        """Takes what the process says at its end: that all is raised, or nothing, if it was ended before."""
+        self.is_raised = self.told.read(1) == b"."
+        with contextlib.suppress(ChildProcessError):  # if SIGCHLD is ignored, the system forgets a process that has ended
+            os.waitpid(self.process, 0)
+        self.process = None
+
+    def pieces(self):
+        """The rows as rows of the whole text, many at a time."""
+        if not self.is_raised:
+            yield from raised(self.file, self.begin, self.games_before)
+            return
+        self.raised.seek(0)
+        while piece := self.raised.read(sgfsplit.PIECE):
+            yield piece
+
+    def end(self):
+        """Ends the process, and drops the rows."""
+        if self.process is not None:
+            with contextlib.suppress(ProcessLookupError):
+                os.kill(self.process, signal.SIGKILL)
+            self.hear()
+        for file in self.file, self.raised, self.told:
+            if file is not None:
+                file.close()
+
+
+class Part:
+    """The bytes of a part or of a slice of it, which stand in a file of their own from an offset on, and the processes that split them and
+    count line feeds. `part` and `begin` are the places of the part and of these bytes in the whole text."""
+
+    def __init__(self, file, start, size, tried, part, begin):
+        self.file, self.start, self.size, self.tried, self.part, self.begin = file, start, size, tried, part, begin
         self.run, self.rows, self.said, self.status = None, None, b"", None
-        self.counting, self.feeds = None, b"0"
+        self.counting, self.feeds = None, 0
 
     def split(self):
         self.file.seek(self.start)
-        self.rows = tempfile.TemporaryFile()
-        self.run = subprocess.Popen([sgfsplit.program(), "split"], stdin=self.file, stdout=self.rows, stderr=subprocess.PIPE)
+        self.rows = Rows(self.part, self.begin)
+        self.run = subprocess.Popen([sgfsplit.program(), "split"], stdin=self.file, stdout=self.rows.file, stderr=subprocess.PIPE)
 
     def hear(self):
         """Takes what the process says. Once it says nothing more, it has ended, and its status is known."""
@@ -160,13 +241,14 @@ class Part:
         self.counting = subprocess.Popen(["wc", "-l"], stdin=self.file, stdout=subprocess.PIPE)
 
     def wait(self):
-        """Waits until the line feeds are counted, so that no process reads the file any more."""
+        """Waits until the line feeds are counted, so that no process reads the file any more. If it was ended, counts them here."""
         if self.counting is not None:
-            self.feeds, self.counting = self.counting.communicate()[0], None
+            counted = self.counting.communicate()[0]
+            self.feeds, self.counting = int(counted or sum(piece.count(b"\n") for piece in self.pieces())), None
 
     def line_feeds(self):
         self.wait()
-        return int(self.feeds)
+        return self.feeds
 
     def last_line_feed(self):
         """The offset of the last line feed in the part, or -1."""
@@ -179,13 +261,19 @@ class Part:
             end = begin
         return -1
 
+    def taken(self):
+        """The rows, which stay when all else is dropped."""
+        rows, self.rows = self.rows, None
+        return rows
+
     def stop(self):
-        """Ends the process that splits, and drops the rows."""
+        """Ends the process that splits, and drops the rows if nobody took them."""
         if self.run is not None:
             self.run.kill()
             self.run.wait()
             self.run.stderr.close()
-            self.rows.close()
+        if self.rows is not None:
+            self.rows.end()
 
     def end(self):
         """Ends the processes, and drops the rows and the bytes."""
@@ -223,11 +311,13 @@ def viewed(file, size):
 
 
 class Parts:
-    """The parts of an open file, one by one. If a part turns out to be wrong, it is put back with all after it, and is cut in another way."""
+    """The slices of the parts of an open file, one by one. If one turns out to be wrong, it is put back with all after it, and is cut in
+    another way."""
 
-    def __init__(self, file, name, most):
+    def __init__(self, file, name, most, slice_size):
         self.file = getattr(file, "raw", file)  # without Python's buffer, because the system copies from its own place in the file
-        self.name, self.most, self.ahead, self.begin = name, most, b"", 0
+        self.name, self.most, self.slice_size, self.ahead = name, most, slice_size, b""
+        self.begin, self.part = 0, 0  # where the next slice begins, and its part
         self.buffer = memoryview(bytearray(sgfsplit.PIECE))
         self.spare = None  # a part that is done
 
@@ -256,7 +346,7 @@ class Parts:
 
     def put_back(self, *parts):
         self.ahead = b"".join([part.text() for part in parts] + [self.ahead])
-        self.begin -= sum(part.size for part in parts)
+        self.begin, self.part = parts[0].begin, parts[0].part
 
     def emptied(self):
         """A file to be filled. Filling that of an earlier part is faster, because the system has its memory already."""
@@ -272,41 +362,59 @@ class Parts:
             self.spare = None
 
     def next(self, tried):
-        """The next part, cut in the likeliest way that wasn't `tried`. None if there is none, or if only white space is left."""
+        """The next slice, cut in the likeliest way that wasn't `tried`. None if there is none, or if only white space is left."""
         file, start = self.emptied(), self.begin % mmap.PAGESIZE  # the system is faster at copying bytes to the same place of a page
         file.seek(start)
-        end = start + self.fill(file, self.most + 1)
-        file.truncate(end)
+        cut, is_last = next(itertools.islice(self.ways(file, start), tried, None), (None, False))
+        end = file.seek(0, os.SEEK_END)
         with viewed(file, end) as text:
-            cut = self.cut(text, start, end, tried)
             self.ahead = text[start if cut is None else cut:end] + self.ahead
         if cut is None:
             file.close()
             return None
         file.truncate(cut)
-        self.begin += cut - start
-        return Part(file, start, cut - start, tried)
+        return self.passed(Part(file, start, cut - start, tried, self.part, self.begin), is_last)
 
-    def cut(self, text, start, end, tried):
-        """The offset at which the part ends that begins at `start`, or None."""
-        is_whole = end - start <= self.most
-        is_marked = text[start:start + len(MARK)] == MARK
-        if self.begin and (is_marked or is_whole and not INK.search(text, start)):
-            return None
-        return next(itertools.islice([end] if is_whole else cuts(text, start, end, start + self.most), tried, None), None)
+    def passed(self, part, is_last):
+        """Goes on after a slice, with a new part if it is the last one of its part."""
+        self.begin += part.size
+        self.part = self.begin if is_last else self.part
+        return part
+
+    def sizes(self):
+        """How many bytes the next slice may have: it ends before a multiple of their size in its part, but is no short rest, or as the part."""
+        done, size = self.begin - self.part, self.slice_size
+        first = size * ((done + size // 2) // size + 1)
+        return [*range(first - done, self.most - done, size), self.most - done]
+
+    def ways(self, file, start):
+        """Fills a file from `start` on, as far as is needed. The offsets at which the slice may end, the likeliest one first, and whether its
+        part ends there too."""
+        end = start
+        for most in self.sizes():
+            end += self.fill(file, start + most + 1 - end)
+            file.truncate(end)
+            is_whole = end - start <= most
+            with viewed(file, end) as text:
+                is_marked = text[start:start + len(MARK)] == MARK
+                if self.begin and (is_marked or is_whole and not INK.search(text, start)):
+                    return
+                for cut in [end] if is_whole else cuts(text, start, end, start + most):
+                    yield cut, most == self.part + self.most - self.begin
+            if is_whole:
+                return
 
     def next_by_games(self):
-        """The next part, found game by game, which takes long; None if only white space is left. It is the right one."""
+        """The next games, found one by one, which takes long; None if only white space is left. They are the right ones."""
         self.drop_spare()
         seen = Seen(self)
-        part = first_part(seen, self.name, self.most, self.begin == 0)
-        if part is None:
+        text, is_same_part = first_games(seen, self.name, self.most, self.part + self.most - self.begin, self.begin == 0)
+        if text is None:
             return None
-        self.ahead = bytes(seen.bytes[len(part):]) + self.ahead
+        self.ahead = bytes(seen.bytes[len(text):]) + self.ahead
         file = unnamed()
-        write(file, part)
-        self.begin += len(part)
-        return Part(file, 0, len(part), None)
+        write(file, text)
+        return self.passed(Part(file, 0, len(text), None, self.part if is_same_part else self.begin, self.begin), True)
 
 
 class Seen:
@@ -322,21 +430,22 @@ class Seen:
 
 
 class Splitting:
-    """A file while it is split: the part whose rows are written, the parts whose processes run or have ended, in their order, and the part
-    that will be started next."""
+    """A file while it is split: the slice that was split last, those whose processes run or have ended, in their order, and the one that will
+    be started next. And the rows of earlier slices that aren't written yet."""
 
     def __init__(self, parts, jobs):
-        self.parts, self.jobs, self.written, self.started, self.ready = parts, jobs, None, collections.deque(), None
+        self.parts, self.jobs, self.done, self.started, self.ready = parts, jobs, None, collections.deque(), None
         self.tried, self.is_stuck = 0, False
+        self.rows, self.games = collections.deque(), 0
 
     def more(self):
-        """Cuts and starts parts, so that as many processes run as there are jobs, and cuts one more. A part begins where the one before is
-        thought to end. One that is split early waits for its turn. Never are more parts held than two beside the jobs."""
+        """Cuts and starts slices, so that as many programs run as there are jobs, and cuts one more. A slice begins where the one before is
+        thought to end. One that is split early waits for its turn. Never are more slices held than two beside the jobs."""
         self.hear(0)
         while True:
             if self.started and self.started[-1].tried is None:
                 return  # such a part may be refused in any case, so no more is read yet
-            if self.ready is None and not self.is_stuck and len(self.started) + (self.written is not None) < self.jobs + 2:
+            if self.ready is None and not self.is_stuck and len(self.started) + (self.done is not None) < self.jobs + 2:
                 self.ready = self.parts.next(self.tried)
                 self.is_stuck = self.ready is None
             if self.ready is None and not self.started:
@@ -345,7 +454,7 @@ class Splitting:
                 return
 
     def start(self):
-        """Starts the part that was cut last, if it isn't started and fewer processes run than there are jobs. Returns whether it did."""
+        """Starts the slice that was cut last, if it isn't started and fewer programs run than there are jobs. Returns whether it did."""
         if self.ready is None or len(self.running()) >= self.jobs:
             return False
         self.ready.split()
@@ -354,15 +463,38 @@ class Splitting:
         return True
 
     def meanwhile(self):
-        """While rows are written: lets a job that has ended go on with the part that was cut last. Reads no more, because that may fail."""
+        """While rows are written: lets a job that has ended go on with the slice that was cut last. Reads no more, because that may fail."""
         self.hear(0)
         self.start()
+
+    def take(self, part):
+        """Keeps the rows of the slice that was split last. If there are many, and several jobs, they are raised beside the other jobs."""
+        rows = part.taken()
+        rows.games_before = self.games
+        self.games += rows.games()
+        self.rows.append(rows)
+        if self.jobs > 1 and rows.begin > 0 and rows.size() >= MANY:
+            rows.raise_beside()
+
+    def written(self, part, most):
+        """The rows of earlier parts than this one, raised, up to those of the last slices, at most so many. (All slices of an earlier part were
+        accepted. So if one is refused, no rows of its part are written.)"""
+        while len(self.rows) > most and self.rows[0].part != part:
+            rows = self.rows[0]
+            while rows.process is not None:
+                self.hear(None)
+                self.start()
+            for piece in rows.pieces():
+                yield piece
+                self.meanwhile()
+            rows.end()
+            self.rows.popleft()
 
     def running(self):
         return [part for part in self.started if part.status is None]
 
     def first(self):
-        """The first part, once it is split; None if no part is left. A part that is refused may have been cut in the wrong place."""
+        """The first slice, once it is split; None if none is left. One that is refused may have been cut in the wrong place."""
         self.put_away()
         while True:
             self.more()
@@ -372,7 +504,7 @@ class Splitting:
             if part.status is None:
                 self.hear(None)
             elif part.status != 1 or part.tried is None:
-                self.written = self.started.popleft()
+                self.done = self.started.popleft()
                 return part
             else:
                 self.tried = part.tried + 1
@@ -382,23 +514,32 @@ class Splitting:
     def hear(self, timeout):
         """Waits until a process says something or ends, but no longer than so many milliseconds, if this isn't None."""
         asked, heard = select.poll(), {part.run.stderr.fileno(): part for part in self.running()}
+        heard.update((rows.told.fileno(), rows) for rows in self.rows if rows.process is not None)
         for stream in heard:
             asked.register(stream, select.POLLIN)
         for stream, _ in asked.poll(timeout):
             heard[stream].hear()
 
     def put_away(self):
-        """Makes the part whose rows are written the spare one."""
-        if self.written is not None:
-            self.written.stop()
+        """Makes the slice that was split last the spare one."""
+        if self.done is not None:
+            self.done.stop()
             self.parts.drop_spare()
-            self.parts.spare, self.written = self.written, None
+            self.parts.spare, self.done = self.done, None
+
+    def drop(self):
+        """Ends all processes, and drops all slices and rows."""
+        self.end()
+        for rows in self.rows:
+            rows.end()
+        self.put_away()
+        self.parts.drop_spare()
 
     def all(self):
         return [*self.started, *([] if self.ready is None else [self.ready])]
 
     def end(self):
-        """Drops all parts but the spare one."""
+        """Drops all slices but the spare one."""
         for part in self.all():
             part.end()
         self.started.clear()
@@ -407,43 +548,44 @@ class Splitting:
 
 def rows_of(name, most, jobs):
     """The rows of a file of any size, as bytes, many rows at a time."""
-    begin, games_before, line, feed = 0, 0, 1, -1  # `feed` is the offset of the last line feed before the part
+    line, feed = 1, -1  # the line at the begin of a slice, and the offset of the last line feed before
     with sgfsplit.opened(name) as file:
-        splitting, before = Splitting(Parts(file, name, most), jobs), None
+        splitting, before = Splitting(Parts(file, name, most, SLICE if jobs > 1 else most), jobs), None
         try:
             while (part := splitting.first()) is not None:
                 status, said = part.status, part.said
-                if begin > 0 and part.is_marked():
+                if part.begin > 0 and part.is_marked():
                     status, said = 1, b"sgfsplit: byte 0: not SGF"
                 line += 0 if before is None else before.line_feeds()
                 if status:
-                    raise sgfsplit.refusal(sgfsplit.Text(name, part.text(), (line, begin - feed)), status, said)
+                    yield from splitting.written(part.part, 0)
+                    raise sgfsplit.refusal(sgfsplit.Text(name, part.text(), (line, part.begin - feed)), status, said)
+                splitting.take(part)
                 splitting.more()
                 part.count()
-                games_before = yield from raised(part.rows, begin, games_before, splitting.meanwhile)
+                yield from splitting.written(part.part, jobs)
                 last = part.last_line_feed()
-                begin, feed, before = begin + part.size, feed if last < 0 else begin + last, part
+                feed, before = feed if last < 0 else part.begin + last, part
+            yield from splitting.written(None, 0)
         finally:
-            splitting.end()
-            splitting.put_away()
-            splitting.parts.drop_spare()
+            splitting.drop()
 
 
-def raised(rows, begin, games_before, meanwhile):
-    """The rows of a part as rows of the whole text, many at a time; after each time calls `meanwhile`. Returns the number of games up to the
-    part's end."""
-    game = "0"
-    rows.seek(0)
-    while piece := rows.read(ROWS) + rows.readline():
-        words = []
-        game = raise_all(piece.decode().splitlines(True), begin, games_before, words)
-        yield "".join(words).encode()
-        meanwhile()
-    return games_before + int(game)
+def raised(file, begin, games_before):
+    """The rows of a slice as rows of the whole text, many at a time."""
+    words, at = [], 0
+    while piece := os.pread(file.fileno(), ROWS, at):
+        piece = piece[:piece.rfind(b"\n") + 1] or piece
+        at += len(piece)
+        if begin > 0:
+            raise_all(piece.decode().splitlines(True), begin, games_before, words)
+            piece = "".join(words).encode()
+            words.clear()
+        yield piece
 
 
 def raise_all(rows, begin, games_before, words):
-    """Appends the words of these rows, raised. Returns the number that the last game has in the part."""
+    """Appends the words of these rows, raised."""
     last = None
     for row in rows:
         place, game, rest = row.split(" ", 2)
@@ -453,7 +595,6 @@ def raise_all(rows, begin, games_before, words):
             nodes, verdict, turn, fault, reason = rest.split(" ")
             rest = f"{nodes} {verdict} {turn} {int(fault) + begin} {reason}"
         words += (str(int(place) + begin), number, rest)
-    return last
 
 
 def main(job):

@@ -46,7 +46,8 @@ same want.fault fault "the fault if line feeds are counted slowly"
 # The cut that the program accepts is the one that is found game by game. So the rows are the same, and for a refused text, too, the fault and
 # the rows before it, with any number of jobs. The texts have variations, comments that look like the ends of games, and damage at any byte.
 # They come from a file, of which the system copies the bytes, or from a pipe. The system may refuse to copy, at once or later, or copy a few
-# bytes at a time, or the file may be cut off meanwhile.
+# bytes at a time, or the file may be cut off meanwhile. If several jobs split the slices of a part, or processes of their own raise the rows,
+# that changes nothing either.
 cat > cuts.py <<'PYTHON'
 import errno
 import os
@@ -153,21 +154,35 @@ for way, name in (("next", "cut"), ("next_by_games", "by games")):
         part = plain(self, *words)
         kept[name] += part is not None
         again += part is not None and words not in ((), (0,))
+        sliced[name] += part is not None and part.part < part.begin
         return part
     setattr(parts.Parts, way, counted)
-for number in range(180):
+
+
+def raise_beside(self, plain=parts.Rows.raise_beside):
+    global beside
+    plain(self)
+    beside += 1
+
+
+sliced, beside = {"cut": 0, "by games": 0}, 0
+parts.Rows.raise_beside = raise_beside
+for number in range(240):
     text, most, way = collection(), random.choice([1, 30, 100, 200, 400, 1000]), WAYS[number % len(WAYS)]
+    parts.SLICE, parts.MANY = random.choice([20, 70, 150, 1 << 24]), random.choice([0, 1 << 20])
     want = by_games(text[:CUT_OFF] if way == "cut off" else text, most)
     refused += want[1] is not None
     got = given(text, most, random.choice([1, 2, 5]), way)
     if got != want:
         sys.exit(f"parts of {most} bytes, {way}, of {text}:\n{got}\nnot\n{want}")
-print(40 < refused < 140 and kept["cut"] > 100 and again > 10 or (refused, kept, again))
+print(60 < refused < 180 and kept["cut"] > 100 and again > 10 or (refused, kept, again))
+print(sliced["cut"] > 100 and sliced["by games"] > 2 and beside > 100 or (sliced, beside))
 print(*(way for way in WAYS if system.copied[way] > 1000), "are copied")
 print(*(way for way in WAYS if system.read[way] > 1000), "are read")
 PYTHON
 python3 cuts.py "$top" > got || failed "$(cat got)"
 cat > want <<'WANT'
+True
 True
 whole slow refused later cut off are copied
 refused refused later pipe are read
@@ -289,6 +304,187 @@ chmod +x late
 TRUE_SGFSPLIT=$SGFSPLIT SGFSPLIT=$work/late "$tool" --jobs 2 --most 1000000 late.sgf > got
 same want got "the rows after a part that takes long"
 [ "$(wc -l < ended_before)" = 3 ] || failed "$(wc -l < ended_before) programs ended before the first one, which took long"
+
+# With several jobs, processes raise the rows, several at a time. If the system starts none, or ends one, or one can't write, that costs no row.
+# None is left behind.
+cat > beside.py <<'PYTHON'
+import errno
+import os
+import signal
+import sys
+import time
+
+sys.path.insert(0, sys.argv[1] + "/recipes")
+import parts
+
+parts.MANY, parts.ROWS = 0, 1000  # any rows are raised by a process, few at a time
+me, kept, heard, calls = os.getpid(), (parts.raised, parts.write, os.fork), [], 0
+
+
+def hear(self, plain=parts.Rows.hear):
+    plain(self)
+    heard.append(self.is_raised)
+
+
+def is_late():
+    """Whether this is a process that has raised some rows."""
+    global calls
+    calls += os.getpid() != me
+    return calls > 1
+
+
+def killed(*words, plain=parts.raised):
+    for piece in plain(*words):
+        if is_late():
+            os.kill(os.getpid(), signal.SIGKILL)
+        yield piece
+
+
+def full(*words, plain=parts.write):
+    if is_late():
+        raise OSError(errno.ENOSPC, "full")
+    plain(*words)
+
+
+def refused():
+    raise BlockingIOError(errno.EAGAIN, "refused")
+
+
+def together(*words, plain=parts.raised):
+    if os.getpid() != me:
+        open(f"raises.{os.getpid()}", "w").close()
+        while sum(name.startswith("raises.") for name in os.listdir()) < 3:
+            time.sleep(0.01)
+    yield from plain(*words)
+
+
+def asleep(*words, plain=parts.raised):
+    if os.getpid() != me:
+        time.sleep(60)
+    yield from plain(*words)
+
+
+def children():
+    try:
+        return os.waitpid(-1, os.WNOHANG)
+    except ChildProcessError:
+        return "none left"
+
+
+parts.Rows.hear = hear
+want = open("want.library", "rb").read()
+for way in (kept[0], killed, full, refused, together):
+    if way is full:
+        parts.write = way
+    elif way is refused:
+        os.fork = way
+    else:
+        parts.raised = way
+    heard.clear()
+    rows = b"".join(parts.rows_of("library.sgf", 1000000, 4))
+    print(way.__name__, rows == want, heard.count(True), heard.count(False), children())
+    parts.raised, parts.write, os.fork = kept
+parts.raised = asleep
+rows = parts.rows_of("library.sgf", 1000000, 4)
+heard.clear()
+begun = next(rows)
+rows.close()
+print("closed", want.startswith(begun), heard.count(True), heard.count(False) > 2, children())
+PYTHON
+timeout 60 python3 beside.py "$top" > got || failed "processes that raise rows: $(cat got)"
+cat > want <<'WANT'
+raised True 8 0 none left
+killed True 0 8 none left
+full True 0 8 none left
+refused True 0 0 none left
+together True 8 0 none left
+closed True 0 True none left
+WANT
+same want got "what processes that raise rows have done"
+
+# A collection with a line for every eight bytes, of which most of the work is to raise rows. That is the work of the processes.
+python3 - <<'PYTHON'
+game = b"(;GM[1]FF[4]SZ[9]" + b"(;B[aa])" * 5000 + b")\n"
+with open("dense.sgf", "wb") as file:
+    file.writelines([game] * 100)
+PYTHON
+"$SGFSPLIT" split dense.sgf > want.dense
+cat > shares.py <<'PYTHON'
+import resource
+import sys
+import time
+
+sys.path.insert(0, sys.argv[1] + "/recipes")
+import parts
+
+begin = time.process_time()
+rows = b"".join(parts.rows_of("dense.sgf", 1000000, 3))
+own, others = time.process_time() - begin, resource.getrusage(resource.RUSAGE_CHILDREN)
+print(rows == open("want.dense", "rb").read(), 2 * own < others.ru_utime + others.ru_stime or (own, others))
+PYTHON
+python3 shares.py "$top" > got
+echo True True > want
+same want got "the share of work that is left to the tool's first process"
+# Whoever ends the tool, or reads no more, or kills what it has started: no process is left, and Python says nothing.
+cat > ended.py <<'PYTHON'
+import os
+import signal
+import subprocess
+import sys
+import time
+
+tool, way = sys.argv[1:]
+want = open("want.dense", "rb").read()
+run = subprocess.Popen([tool, "--most", "1000000", "--jobs", "3", "dense.sgf"], start_new_session=True, stderr=subprocess.PIPE,
+                       stdout=open("/dev/full", "wb") if way == "full" else subprocess.PIPE)
+
+
+def raising():
+    """The processes that raise rows: those that the tool has begun, that haven't become another program, and have worked for a while."""
+    for number in filter(str.isdigit, os.listdir("/proc")):
+        try:
+            with open(f"/proc/{number}/stat") as status, open(f"/proc/{number}/cmdline") as command:
+                words = status.read().rsplit(")", 1)[1].split()
+                if int(words[1]) == run.pid and int(words[11]) > 2 and "parts.py" in command.read():
+                    yield int(number)
+        except OSError:
+            pass
+
+
+got, killed, ended = b"", 0, None
+if way in ("INT", "HUP", "TERM", "kill"):
+    while not killed:
+        for process in raising():
+            if way == "kill":
+                os.kill(process, signal.SIGKILL)
+            else:
+                os.killpg(run.pid, getattr(signal, "SIG" + way))
+            killed += 1
+            break
+if way == "close":
+    got = run.stdout.read(100)
+    run.stdout.close()
+elif way != "full":
+    got = run.stdout.read()
+said = run.stderr.read().decode()
+status = run.wait()
+try:
+    os.killpg(run.pid, signal.SIGKILL)
+    left = "processes are left"
+except ProcessLookupError:
+    left = "none left"
+print(way, status, got == want if way == "kill" else want.startswith(got), left, said.strip())
+PYTHON
+for way in INT HUP TERM kill close full; do timeout 60 python3 ended.py "$tool" "$way"; done > got
+cat > want <<'WANT'
+INT 130 True none left 
+HUP 129 True none left 
+TERM 143 True none left 
+kill 0 True none left 
+close 0 True none left 
+full 3 True none left parts.py: No space left on device
+WANT
+same want got "how the tool ends while rows are raised"
 
 # More than the program accepts: 48 games of about 1.5 MB, and the same once more.
 python3 - <<'PYTHON'
