@@ -16,10 +16,11 @@ file follow those of the file before.
                                  splits one part at a time; without --jobs as
                                  many as there are cores
 
-A file is read as it is split. For each job a part is in memory, and two more
-are, with a game. A single game of more than 64 MiB is still refused, once
-64 MiB and a byte of it are read. Status 1: a file was refused; the rows of the
-parts before the fault are written.
+A file is read as it is split. Several jobs take slices of a part, of about 16
+MiB, and a single job takes the whole part. For each job one of these is in
+memory, and two more are, with a game. A single game of more than 64 MiB is
+still refused, once 64 MiB and a byte of it are read. Status 1: a file was
+refused; the rows of the parts before the fault are written.
 """
 import os
 import sys
@@ -43,9 +44,11 @@ import sgfsplit
 SLICE = 1 << 24  # about how many bytes of a part a job takes if there are several: fewer cost time to start it, more leave cores idle
 ROWS = 1 << 16  # how many bytes of rows are raised at a time
 MANY = 1 << 20  # so many bytes of rows are raised by a process of their own: it costs as much as raising a sixth of them
+WAITING = 16  # the rows of no more slices wait, while those of an earlier part are raised
 ROW = 1 << 10  # more bytes than a row has
 MARK = b"\xef\xbb\xbf"  # the byte order mark, which may stand only before the first game
 IN_VALUE = re.compile(rb"\\.?|\]", re.DOTALL)  # an escape, of which the second byte may still have to be read, or the value's end
+NEXT = re.compile(rb"(?:[^()\[]*\[[^\]\\]*\]){0,100}[^()\[]*[()\[]")  # up to the next parenthesis outside values, or into a value before it
 SPACE = rb"[ \t\n\r\v\f]*"
 INK = re.compile(rb"[^ \t\n\r\v\f]")
 # What may stand between two games: most likely the second one begins with a property of a root, or in a row of its own. And how many bytes
@@ -95,16 +98,19 @@ def first_games(file, name, most, room, is_empty):
     return part if is_empty or INK.search(part) or len(part) > sgfsplit.LIMIT else None, size == room
 
 
-def cuts(text, begin, end, most):
-    """Offsets at which the first part of the text from `begin` to `end` may end, the most likely one first. The program says whether it does:
-    if it accepts the text up to an offset, this is the last game that ends by the offset `most`. For from there on no further game does."""
+def cuts(text, begin, end, most, is_last):
+    """Offsets at which the first slice of the text from `begin` to `end` may end, none after `most`, the most likely one first. The program
+    says whether it does. If it is to be the last slice of its part, and the program accepts the text up to an offset, this is the last game
+    that ends by the offset `most`. For from there on no further game does."""
     found = set()
     for between, distances in BETWEEN:
         at = last_match(between, distances, text, begin, end, most)
-        size = None if at is None else last_end(text[at:end], most - at)
-        if size is not None and at + size not in found:
-            found.add(at + size)
-            yield at + size
+        if at is not None and is_last:
+            size = last_end(text[at:end], most - at)
+            at = None if size is None else at + size
+        if at is not None and at not in found:
+            found.add(at)
+            yield at
 
 
 def last_match(between, distances, text, begin, end, most):
@@ -119,15 +125,17 @@ def last_match(between, distances, text, begin, end, most):
 def last_end(tail, most):
     """If a text begins between two games, the offset at which the last game ends within `most` bytes. None if a parenthesis shows that it
     doesn't begin there."""
-    depth, last = 0, 0
-    for begin, end in goboard.tokens(tail, 0, goboard.PARENTHESES):
-        if end > most:
-            break
-        depth += {b"(": 1, b")": -1}.get(tail[begin:end], 0)
+    depth, last, at = 0, 0, 0
+    while at >= 0 and (found := NEXT.match(tail, at)) and found.end() <= most:
+        at = found.end()
+        if tail[at - 1] == 91:  # an opening bracket
+            at = sgfsplit.end_of_value(tail, at)
+            continue
+        depth += 1 if tail[at - 1] == 40 else -1
         if depth < 0:
             return None
         if depth == 0:
-            last = end
+            last = at
     return last
 
 
@@ -183,6 +191,9 @@ class Rows:
         with contextlib.suppress(ChildProcessError):  # if SIGCHLD is ignored, the system forgets a process that has ended
             os.waitpid(self.process, 0)
         self.process = None
+        self.told.close()
+        if self.is_raised:
+            self.file.close()
 
     def pieces(self):
         """The rows as rows of the whole text, many at a time."""
@@ -394,13 +405,13 @@ class Parts:
         for most in self.sizes():
             end += self.fill(file, start + most + 1 - end)
             file.truncate(end)
-            is_whole = end - start <= most
+            is_whole, is_last = end - start <= most, most == self.part + self.most - self.begin
             with viewed(file, end) as text:
                 is_marked = text[start:start + len(MARK)] == MARK
                 if self.begin and (is_marked or is_whole and not INK.search(text, start)):
                     return
-                for cut in [end] if is_whole else cuts(text, start, end, start + most):
-                    yield cut, most == self.part + self.most - self.begin
+                for cut in [end] if is_whole else cuts(text, start, end, start + most, is_last):
+                    yield cut, is_last
             if is_whole:
                 return
 
@@ -563,7 +574,7 @@ def rows_of(name, most, jobs):
                 splitting.take(part)
                 splitting.more()
                 part.count()
-                yield from splitting.written(part.part, jobs)
+                yield from splitting.written(part.part, min(jobs, WAITING))
                 last = part.last_line_feed()
                 feed, before = feed if last < 0 else part.begin + last, part
             yield from splitting.written(None, 0)
