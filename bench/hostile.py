@@ -320,7 +320,7 @@ def shifted(right, down):
     return {(col + right, row + down): int(which) - 1 for row, digits in enumerate(SHIFTING) for col, which in enumerate(digits) if which != "0"}
 
 
-def deep(size):
+def shifts(size):
     """Variations each of whose moves makes a colouring whose print 192 earlier colourings have, each of which parts from it at another point. Black
     has 17 holes of two points in each of 24 rows. The stones of SHIFTING stand at one place after another. At each, both players turn other holes
     over, there and back in turn. The variations do this once more, without these stones."""
@@ -506,7 +506,7 @@ INPUTS = {
     "low": ("one line of moves on side 52, of colourings very many of which have the same 36 low bits in their prints", lambda n: equal_prints(n, 8), ["list", "count"]),
     "costly": ("variations whose moves have the prints of colourings that take long to work out", costly, FORMS),
     "walks": ("variations whose moves have the prints of colourings to which a look-up walks through nearly all bits of a print", long_walks, FORMS),
-    "deep": ("variations whose moves have the prints of very many colourings, each of which parts from them at another point", deep, FORMS),
+    "shifts": ("variations whose moves have the prints of very many colourings, each of which parts from them at another point", shifts, FORMS),
     "restarts": ("setups that fill a board of 52 but for one point, and a suicide there after each",
                  lambda n: repeated(n, "(;SZ[52]", ";AB[aa:ZZ]AE[aa];B[aa]", ")"), ["list", "count"]),
     "searches": ("moves in a hole of two points in a group of 1,973 stones, whose only other liberty is far away", searches, ["list", "count"]),

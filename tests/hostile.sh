@@ -177,9 +177,9 @@ PROGRAM
 if command -v python3 > /dev/null; then
     small costly 0 '(;B[bf];W[];B[cf])'
     small walks 0 '(;W[eZ];B[];W[dZ])'
-    small deep 0 '(;B[aU];W[];B[bU])'
+    small shifts 0 '(;B[aU];W[];B[bU])'
     # The stones of the last set come back, one after another. So the last one makes a colouring whose print 192 others have.
-    small deep 0 "($(python3 -B - "$top/bench" <<'PROGRAM'
+    small shifts 0 "($(python3 -B - "$top/bench" <<'PROGRAM'
 import sys
 sys.path.insert(0, sys.argv[1])
 from hostile import point, shifted
