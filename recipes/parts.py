@@ -17,9 +17,9 @@ file follow those of the file before.
                                  many as there are cores
 
 A file is read as it is split. Several jobs take slices of a part, of about 16
-MiB, and a single job takes the whole part. For each job one of these is in
-memory, and two more are, with a game. A single game of more than 64 MiB is
-still refused, once 64 MiB and a byte of it are read. Status 1: a file was
+MiB, and a single job takes the whole part. Of a pipe, one of these is in memory
+for each job, and two more are, with a game. A single game of more than 64 MiB
+is still refused, once 64 MiB and a byte of it are read. Status 1: a file was
 refused; the rows of the parts before the fault are written.
 """
 import os
@@ -31,10 +31,10 @@ import tool
 import collections
 import contextlib
 import itertools
-import mmap
 import re
 import select
 import signal
+import stat
 import subprocess
 import tempfile
 
@@ -46,6 +46,8 @@ ROWS = 1 << 16  # how many bytes of rows are raised at a time
 MANY = 1 << 20  # so many bytes of rows are raised by a process of their own: it costs as much as raising a sixth of them
 WAITING = 16  # the rows of no more slices wait, while those of an earlier part are raised
 ROW = 1 << 10  # more bytes than a row has
+CUT_OFF = "cut off while it was read"
+SHORT = 255  # the status of a process that gives bytes to a program, if it couldn't give all; other statuses are the numbers of faults
 MARK = b"\xef\xbb\xbf"  # the byte order mark, which may stand only before the first game
 IN_VALUE = re.compile(rb"\\.?|\]", re.DOTALL)  # an escape, of which the second byte may still have to be read, or the value's end
 NEXT = re.compile(rb"(?:[^()\[]*\[[^\]\\]*\]){0,100}[^()\[]*[()\[]")  # up to the next parenthesis outside values, or into a value before it
@@ -98,27 +100,28 @@ def first_games(file, name, most, room, is_empty):
     return part if is_empty or INK.search(part) or len(part) > sgfsplit.LIMIT else None, size == room
 
 
-def cuts(text, begin, end, most, is_last):
-    """Offsets at which the first slice of the text from `begin` to `end` may end, none after `most`, the most likely one first. The program
-    says whether it does. If it is to be the last slice of its part, and the program accepts the text up to an offset, this is the last game
-    that ends by the offset `most`. For from there on no further game does."""
+def cuts(seen, most, is_last):
+    """Offsets at which the first slice of what is seen of a text may end, none after `most`, the most likely one first. The program says
+    whether it does. If it is to be the last slice of its part, and the program accepts the text up to an offset, this is the last game that
+    ends by the offset `most`. For from there on no further game does."""
     found = set()
     for between, distances in BETWEEN:
-        at = last_match(between, distances, text, begin, end, most)
+        at = last_match(between, distances, seen, most)
         if at is not None and is_last:
-            size = last_end(text[at:end], most - at)
+            size = last_end(seen.read(at, seen.size), most - at)
             at = None if size is None else at + size
         if at is not None and at not in found:
             found.add(at)
             yield at
 
 
-def last_match(between, distances, text, begin, end, most):
-    """The offset after the `)` of the last match in a text, or None if there is none near enough."""
+def last_match(between, distances, seen, most):
+    """The offset after the `)` of the last match in what is seen of a text, or None if there is none near enough."""
     for distance in distances:
-        starts = collections.deque((match.start() for match in between.finditer(text, max(most - distance, begin), end)), 1)
+        begin = max(most - distance, 0)
+        starts = collections.deque((match.start() for match in between.finditer(seen.read(begin, seen.size))), 1)
         if starts:
-            return starts[0] + 1
+            return begin + starts[0] + 1
     return None
 
 
@@ -215,19 +218,61 @@ class Rows:
                 file.close()
 
 
-class Part:
-    """The bytes of a part or of a slice of it, which stand in a file of their own from an offset on, and the processes that split them and
-    count line feeds. `part` and `begin` are the places of the part and of these bytes in the whole text."""
+class Bytes:
+    """Bytes that stand in a file from an offset on. Other offsets count from there."""
 
-    def __init__(self, file, start, size, tried, part, begin):
-        self.file, self.start, self.size, self.tried, self.part, self.begin = file, start, size, tried, part, begin
+    def __init__(self, file, name, start, size):
+        self.file, self.name, self.start, self.size = file, name, start, size
+
+    def pieces(self, begin, end):
+        """The bytes between two offsets, piece by piece. They are fewer if the file ends before."""
+        try:
+            while begin < end and (piece := os.pread(self.file.fileno(), min(sgfsplit.PIECE, end - begin), self.start + begin)):
+                yield piece
+                begin += len(piece)
+        except OSError as error:
+            raise sgfsplit.Failed(f"{sgfsplit.shown(self.name)}: {error.strerror}") from error
+
+    def read(self, begin, end):
+        return b"".join(self.pieces(begin, end))
+
+    def text(self):
+        return self.read(0, self.size)
+
+    def is_marked(self):
+        return self.read(0, len(MARK)) == MARK
+
+    def is_empty(self):
+        """Whether there is nothing but white space."""
+        return not any(INK.search(piece) for piece in self.pieces(0, self.size))
+
+    def line_feeds(self):
+        return sum(piece.count(b"\n") for piece in self.pieces(0, self.size))
+
+    def last_line_feed(self):
+        """The offset of the last line feed, or -1."""
+        end = self.size
+        while end > 0:
+            begin = max(end - sgfsplit.PIECE, 0)
+            feed = self.read(begin, end).rfind(b"\n")
+            if feed >= 0:
+                return begin + feed
+            end = begin
+        return -1
+
+
+class Part:
+    """A part or a slice of it, and the process that splits it. `part` and `begin` are the places of the part and of the slice in the whole
+    text."""
+
+    def __init__(self, kept, tried, part, begin):
+        self.kept, self.tried, self.part, self.begin = kept, tried, part, begin
         self.run, self.rows, self.said, self.status = None, None, b"", None
-        self.counting, self.feeds = None, 0
 
     def split(self):
-        self.file.seek(self.start)
         self.rows = Rows(self.part, self.begin)
-        self.run = subprocess.Popen([sgfsplit.program(), "split"], stdin=self.file, stdout=self.rows.file, stderr=subprocess.PIPE)
+        with self.given() as source:
+            self.run = subprocess.Popen([sgfsplit.program(), "split"], stdin=source, stdout=self.rows.file, stderr=subprocess.PIPE)
 
     def hear(self):
         """Takes what the process says. Once it says nothing more, it has ended, and its status is known."""
@@ -235,42 +280,6 @@ class Part:
         self.said += said
         if not said:
             self.status = self.run.wait()
-
-    def pieces(self):
-        """The bytes, piece by piece."""
-        return (os.pread(self.file.fileno(), sgfsplit.PIECE, at) for at in range(self.start, self.start + self.size, sgfsplit.PIECE))
-
-    def text(self):
-        return b"".join(self.pieces())
-
-    def is_marked(self):
-        return os.pread(self.file.fileno(), len(MARK), self.start) == MARK
-
-    def count(self):
-        """Starts a process that counts the line feeds, four times as fast as Python would, and beside the other jobs."""
-        self.file.seek(self.start)
-        self.counting = subprocess.Popen(["wc", "-l"], stdin=self.file, stdout=subprocess.PIPE)
-
-    def wait(self):
-        """Waits until the line feeds are counted, so that no process reads the file any more. If it was ended, counts them here."""
-        if self.counting is not None:
-            counted = self.counting.communicate()[0]
-            self.feeds, self.counting = int(counted or sum(piece.count(b"\n") for piece in self.pieces())), None
-
-    def line_feeds(self):
-        self.wait()
-        return self.feeds
-
-    def last_line_feed(self):
-        """The offset of the last line feed in the part, or -1."""
-        end = self.start + self.size
-        while end > self.start:
-            begin = max(end - sgfsplit.PIECE, self.start)
-            feed = os.pread(self.file.fileno(), end - begin, begin).rfind(b"\n")
-            if feed >= 0:
-                return begin + feed - self.start
-            end = begin
-        return -1
 
     def taken(self):
         """The rows, which stay when all else is dropped."""
@@ -286,11 +295,96 @@ class Part:
         if self.rows is not None:
             self.rows.end()
 
+
+class CopiedPart(Part):
+    """A part that has a file of its own, and the process that counts its line feeds."""
+
+    counting, feeds = None, 0
+
+    def given(self):
+        self.kept.file.seek(0)
+        return contextlib.nullcontext(self.kept.file)
+
+    def count(self):
+        """Starts a process that counts the line feeds, four times as fast as Python would, and beside the other jobs."""
+        self.kept.file.seek(0)
+        self.counting = subprocess.Popen(["wc", "-l"], stdin=self.kept.file, stdout=subprocess.PIPE)
+
+    def wait(self):
+        """Waits until the line feeds are counted, so that no process reads the file any more. If it was ended, counts them here."""
+        if self.counting is not None:
+            counted = self.counting.communicate()[0]
+            self.feeds, self.counting = int(counted or self.kept.line_feeds()), None
+
+    def line_feeds(self):
+        self.wait()
+        return self.feeds
+
     def end(self):
         """Ends the processes, and drops the rows and the bytes."""
         self.stop()
         self.wait()
-        self.file.close()
+        self.kept.file.close()
+
+
+class StandingPart(Part):
+    """A part whose bytes are read where they stand in the collection, by a process that gives them to the program."""
+
+    giving = None  # the number of that process
+
+    @contextlib.contextmanager
+    def given(self):
+        """A pipe, which that process fills."""
+        reads, writes = os.pipe()
+        with open(reads, "rb", buffering=0) as source:
+            with open(writes, "wb", buffering=0) as target, signals_wait():
+                self.giving = os.fork()
+                if self.giving == 0:
+                    source.close()
+                    give_and_end(self.kept, target)
+            yield source
+
+    def hear(self):
+        """The program may have accepted what it got, or refused it, though it didn't get all. Then the reason why counts."""
+        super().hear()
+        if self.status is not None:
+            fault = self.heard()
+            if fault is not None and self.status >= 0:
+                self.status, self.said = 3, f"sgfsplit: {fault}".encode()
+
+    def heard(self):
+        """Takes what the process says at its end: why it couldn't give all bytes; None if it gave them, or if the program took no more."""
+        giving, self.giving, status = self.giving, None, 0
+        with contextlib.suppress(ChildProcessError):  # if SIGCHLD is ignored, the system forgets a process that has ended
+            status = os.waitstatus_to_exitcode(os.waitpid(giving, 0)[1])
+        if status < 0:
+            return f"the process that read it was ended by signal {-status}"
+        return {0: None, SHORT: CUT_OFF}.get(status, os.strerror(status))
+
+    def stop(self):
+        super().stop()
+        if self.giving is not None:
+            self.heard()
+
+    end = stop
+
+
+def give_and_end(kept, target):
+    """What the process does that gives bytes to a program. No signal but SIGKILL ends it, and it closes and removes nothing that belongs to
+    the process that began it."""
+    status = SHORT
+    try:
+        size = send(kept, target)
+        for piece in kept.pieces(size, kept.size):
+            write(target, piece)
+            size += len(piece)
+        status = 0 if size == kept.size else SHORT
+    except BrokenPipeError:
+        status = 0
+    except sgfsplit.Failed as error:
+        status = error.__cause__.errno
+    finally:
+        os._exit(status)
 
 
 def unnamed():
@@ -305,20 +399,22 @@ def write(file, data):
         data = data[file.write(data):]
 
 
-def send(source, file, most):
-    """Lets the system copy the next bytes of a file, at most so many, to another one, so that they don't pass through this process. Returns
-    their number. They are fewer at the end of the file, and if the system can't copy them: from a pipe, for example."""
+def stands(file):
+    """Whether the bytes of an open file stand on a disk, so that any of them can be read at any time. A file without bytes may be one that the
+    system makes up as it is read."""
+    status = os.fstat(file.fileno())
+    return stat.S_ISREG(status.st_mode) and status.st_size > 0
+
+
+def send(kept, target):
+    """Lets the system give bytes to a pipe, so that they aren't copied twice. Returns how many. They are fewer if the system can't do this, or
+    if the file ends before."""
     size = 0
     if sys.platform == "linux":  # elsewhere this call is for sockets
-        with contextlib.suppress(OSError):  # what is wrong with the file is said when it is read
-            while size < most and (more := os.sendfile(file.fileno(), source.fileno(), None, min(most - size, sgfsplit.PIECE))):
+        with contextlib.suppress(OSError):  # what is wrong is said when the rest is read or written
+            while size < kept.size and (more := os.sendfile(target.fileno(), kept.file.fileno(), kept.start + size, kept.size - size)):
                 size += more
     return size
-
-
-def viewed(file, size):
-    """The bytes of a file, of which only those that are looked at are loaded."""
-    return mmap.mmap(file.fileno(), size) if size else contextlib.nullcontext(b"")
 
 
 class Parts:
@@ -326,69 +422,19 @@ class Parts:
     another way."""
 
     def __init__(self, file, name, most, slice_size):
-        self.file = getattr(file, "raw", file)  # without Python's buffer, because the system copies from its own place in the file
-        self.name, self.most, self.slice_size, self.ahead = name, most, slice_size, b""
+        self.file = getattr(file, "raw", file)  # without Python's buffer
+        self.name, self.most, self.slice_size = name, most, slice_size
         self.begin, self.part = 0, 0  # where the next slice begins, and its part
-        self.buffer = memoryview(bytearray(sgfsplit.PIECE))
-        self.spare = None  # a part that is done
-
-    def read(self, size):
-        """The next bytes, at most so many; none at the end of the file. First come those that were put back."""
-        piece, self.ahead = self.ahead[:size], self.ahead[size:]
-        return piece or self.file.read(size)
-
-    def fill(self, file, most):
-        """Copies the next bytes, at most so many, to another file. Returns their number."""
-        size = min(most, len(self.ahead))
-        write(file, memoryview(self.ahead)[:size])
-        self.ahead = self.ahead[size:]
-        size += send(self.file, file, most - size)
-        while size < most and (more := self.take(most - size)):
-            write(file, self.buffer[:more])
-            size += more
-        return size
-
-    def take(self, most):
-        """Reads the next bytes of the file, at most so many, into the buffer. Returns their number."""
-        try:
-            return self.file.readinto(self.buffer[:most])
-        except OSError as error:
-            raise sgfsplit.Failed(f"{sgfsplit.shown(self.name)}: {error.strerror}") from error
-
-    def put_back(self, *parts):
-        self.ahead = b"".join([part.text() for part in parts] + [self.ahead])
-        self.begin, self.part = parts[0].begin, parts[0].part
-
-    def emptied(self):
-        """A file to be filled. Filling that of an earlier part is faster, because the system has its memory already."""
-        if self.spare is None:
-            return unnamed()
-        self.spare.wait()
-        file, self.spare = self.spare.file, None
-        return file
-
-    def drop_spare(self):
-        if self.spare is not None:
-            self.spare.end()
-            self.spare = None
 
     def next(self, tried):
         """The next slice, cut in the likeliest way that wasn't `tried`. None if there is none, or if only white space is left."""
-        file, start = self.emptied(), self.begin % mmap.PAGESIZE  # the system is faster at copying bytes to the same place of a page
-        file.seek(start)
-        cut, is_last = next(itertools.islice(self.ways(file, start), tried, None), (None, False))
-        end = file.seek(0, os.SEEK_END)
-        with viewed(file, end) as text:
-            self.ahead = text[start if cut is None else cut:end] + self.ahead
-        if cut is None:
-            file.close()
-            return None
-        file.truncate(cut)
-        return self.passed(Part(file, start, cut - start, tried, self.part, self.begin), is_last)
+        cut, is_last = next(itertools.islice(self.ways(), tried, None), (None, False))
+        kept = self.keep(cut)
+        return None if kept is None else self.passed(self.KIND(kept, tried, self.part, self.begin), is_last)
 
     def passed(self, part, is_last):
         """Goes on after a slice, with a new part if it is the last one of its part."""
-        self.begin += part.size
+        self.begin += part.kept.size
         self.part = self.begin if is_last else self.part
         return part
 
@@ -398,34 +444,156 @@ class Parts:
         first = size * ((done + size // 2) // size + 1)
         return [*range(first - done, self.most - done, size), self.most - done]
 
-    def ways(self, file, start):
-        """Fills a file from `start` on, as far as is needed. The offsets at which the slice may end, the likeliest one first, and whether its
-        part ends there too."""
-        end = start
+    def ways(self):
+        """The offsets at which the slice may end, the likeliest one first, and whether its part ends there too."""
         for most in self.sizes():
-            end += self.fill(file, start + most + 1 - end)
-            file.truncate(end)
-            is_whole, is_last = end - start <= most, most == self.part + self.most - self.begin
-            with viewed(file, end) as text:
-                is_marked = text[start:start + len(MARK)] == MARK
-                if self.begin and (is_marked or is_whole and not INK.search(text, start)):
-                    return
-                for cut in [end] if is_whole else cuts(text, start, end, start + most, is_last):
-                    yield cut, is_last
+            seen = self.seen(most + 1)
+            is_whole, is_last = seen.size <= most, most == self.part + self.most - self.begin
+            if self.begin and (seen.is_marked() or is_whole and seen.is_empty()):
+                return
+            for cut in [seen.size] if is_whole else cuts(seen, most, is_last):
+                yield cut, is_last
             if is_whole:
                 return
 
     def next_by_games(self):
         """The next games, found one by one, which takes long; None if only white space is left. They are the right ones."""
         self.drop_spare()
-        seen = Seen(self)
-        text, is_same_part = first_games(seen, self.name, self.most, self.part + self.most - self.begin, self.begin == 0)
+        text, is_same_part = first_games(self.reader(), self.name, self.most, self.part + self.most - self.begin, self.begin == 0)
         if text is None:
             return None
-        self.ahead = bytes(seen.bytes[len(text):]) + self.ahead
+        return self.passed(self.KIND(self.keep_games(text), None, self.part if is_same_part else self.begin, self.begin), True)
+
+    def put_back(self, *parts):
+        self.begin, self.part = parts[0].begin, parts[0].part
+
+    # Each of the two kinds of parts has these, too:
+    # - seen(most): the next bytes, at most so many;
+    # - keep(cut): those up to a cut, which are the next slice, or None;
+    # - reader(): a file that reads the next bytes, and keep_games(text): those of them that are the next slice;
+    # - count(part): counts the line feeds of a part that was accepted, if they can't be counted later;
+    # - place(part): the line and column at which a part begins that follows the one counted last.
+
+
+class StandingParts(Parts):
+    """Those of a file on disk. Their bytes are read where they stand."""
+
+    KIND, spare = StandingPart, None
+
+    def __init__(self, file, *words):
+        super().__init__(file, *words)
+        self.first, self.size = self.file.tell(), 0  # where the text begins in the file, and the file's size when it was last asked for
+
+    def here(self, size):
+        """So many of the next bytes."""
+        return Bytes(self.file, self.name, self.first + self.begin, size)
+
+    def seen(self, most):
+        before, self.size = self.size, os.fstat(self.file.fileno()).st_size
+        if self.size < before:
+            raise sgfsplit.Failed(f"{sgfsplit.shown(self.name)}: {CUT_OFF}")
+        return self.here(max(min(most, self.size - self.first - self.begin), 0))
+
+    def keep(self, cut):
+        return None if cut is None else self.here(cut)
+
+    def reader(self):
+        self.file.seek(self.first + self.begin)
+        return self.file
+
+    def keep_games(self, text):
+        return self.here(len(text))
+
+    def count(self, part):
+        """Line feeds are counted only if a fault is found."""
+
+    def place(self, part):
+        before = Bytes(self.file, self.name, self.first, part.begin)
+        return 1 + before.line_feeds(), part.begin - before.last_line_feed()
+
+    def drop_spare(self):
+        """There is none."""
+
+
+class CopiedParts(Parts):
+    """Those of a pipe. Each is copied to a file of its own."""
+
+    KIND = CopiedPart
+
+    def __init__(self, *words):
+        super().__init__(*words)
+        self.ahead, self.buffer = b"", memoryview(bytearray(sgfsplit.PIECE))
+        self.copy, self.size, self.spare = None, 0, None  # the file that is being filled, how far it is, and a part that is done
+        self.counted, self.line, self.feed = None, 1, -1  # the part counted last, the line at its begin, and the last line feed before its end
+
+    def read(self, size):
+        """The next bytes, at most so many; none at the end of the file. First come those that were put back."""
+        piece, self.ahead = self.ahead[:size], self.ahead[size:]
+        return piece or self.file.read(size)
+
+    def seen(self, most):
+        """Copies the next bytes, so that a file has at most so many of them."""
+        if self.copy is None:
+            self.copy, self.size = self.emptied(), 0
+            self.copy.seek(0)
+        while self.size < most and (more := self.take(most - self.size)):
+            write(self.copy, more)
+            self.size += len(more)
+        return Bytes(self.copy, self.name, 0, self.size)
+
+    def take(self, most):
+        """The next bytes, at most so many. First come those that were put back."""
+        if self.ahead:
+            piece, self.ahead = self.ahead[:most], self.ahead[most:]
+            return piece
+        try:
+            return self.buffer[:self.file.readinto(self.buffer[:most])]
+        except OSError as error:
+            raise sgfsplit.Failed(f"{sgfsplit.shown(self.name)}: {error.strerror}") from error
+
+    def put_back(self, *parts):
+        super().put_back(*parts)
+        self.ahead = b"".join([part.kept.text() for part in parts] + [self.ahead])
+
+    def emptied(self):
+        """A file to be filled. Filling that of an earlier part is faster, because the system has its memory already."""
+        if self.spare is None:
+            return unnamed()
+        self.spare.wait()
+        file, self.spare = self.spare.kept.file, None
+        return file
+
+    def drop_spare(self):
+        if self.spare is not None:
+            self.spare.end()
+            self.spare = None
+
+    def keep(self, cut):
+        file, self.copy = self.copy, None
+        self.ahead = Bytes(file, self.name, 0, self.size).read(cut or 0, self.size) + self.ahead
+        if cut is None:
+            file.close()
+            return None
+        file.truncate(cut)
+        return Bytes(file, self.name, 0, cut)
+
+    def reader(self):
+        self.read_by_games = Seen(self)
+        return self.read_by_games
+
+    def keep_games(self, text):
+        self.ahead = bytes(self.read_by_games.bytes[len(text):]) + self.ahead
         file = unnamed()
         write(file, text)
-        return self.passed(Part(file, 0, len(text), None, self.part if is_same_part else self.begin, self.begin), True)
+        return Bytes(file, self.name, 0, len(text))
+
+    def count(self, part):
+        self.line, last = self.place(part)[0], part.kept.last_line_feed()
+        self.counted, self.feed = part, self.feed if last < 0 else part.begin + last
+        part.count()
+
+    def place(self, part):
+        return self.line + (0 if self.counted is None else self.counted.line_feeds()), part.begin - self.feed
 
 
 class Seen:
@@ -559,24 +727,21 @@ class Splitting:
 
 def rows_of(name, most, jobs):
     """The rows of a file of any size, as bytes, many rows at a time."""
-    line, feed = 1, -1  # the line at the begin of a slice, and the offset of the last line feed before
     with sgfsplit.opened(name) as file:
-        splitting, before = Splitting(Parts(file, name, most, SLICE if jobs > 1 else most), jobs), None
+        parts = (StandingParts if stands(file) else CopiedParts)(file, name, most, SLICE if jobs > 1 else most)
+        splitting = Splitting(parts, jobs)
         try:
             while (part := splitting.first()) is not None:
                 status, said = part.status, part.said
-                if part.begin > 0 and part.is_marked():
+                if part.begin > 0 and part.kept.is_marked():
                     status, said = 1, b"sgfsplit: byte 0: not SGF"
-                line += 0 if before is None else before.line_feeds()
                 if status:
                     yield from splitting.written(part.part, 0)
-                    raise sgfsplit.refusal(sgfsplit.Text(name, part.text(), (line, part.begin - feed)), status, said)
+                    raise sgfsplit.refusal(sgfsplit.Text(name, part.kept.text(), parts.place(part)), status, said)
                 splitting.take(part)
                 splitting.more()
-                part.count()
+                parts.count(part)
                 yield from splitting.written(part.part, min(jobs, WAITING))
-                last = part.last_line_feed()
-                feed, before = feed if last < 0 else part.begin + last, part
             yield from splitting.written(None, 0)
         finally:
             splitting.drop()

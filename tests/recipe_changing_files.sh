@@ -1,6 +1,6 @@
 #!/usr/bin/env bash
-# Each tool reads a file once. If the file is replaced, changed or cut off while the tool works on it, all that the tool writes is about the
-# bytes that it read. Of an endless pipe it takes no more than it can use.
+# Each tool reads a file once, but parts.py, which reads it piece by piece as it goes. If the file is replaced, changed or cut off while the
+# tool works on it, all that the tool writes is about the bytes that it read. Of an endless pipe it takes no more than it can use.
 . "$(dirname "$0")/lib.sh"
 needs python3
 recipes=$top/recipes
@@ -53,8 +53,12 @@ same want out/game.rows
 # A file is cut off between its parts, between its rows, and before its prose is written.
 for number in $(seq 100); do cat "$top/examples/corner.sgf"; done > long.sgf
 "$SGFSPLIT" split long.sgf > want
-while_doing ': > long.sgf' parts.py --most 1 long.sgf > got
-same want got "what parts.py writes of a file that was cut off"
+if (while_doing ': > long.sgf' parts.py --most 1 long.sgf > got) 2> said; then failed "parts.py accepts a file that was cut off"; fi
+grep -q 'parts.py: status 1, long.sgf: cut off while it was read' said || failed "parts.py says of a file that was cut off: $(cat said)"
+head -c "$(wc -c < got)" want | cmp - got || failed "parts.py writes other rows of a file that was cut off"
+for number in $(seq 100); do cat "$top/examples/corner.sgf"; done > long.sgf
+while_doing 'mv other long.sgf' parts.py --most 1 long.sgf > got
+same want got "what parts.py writes of a file that was replaced"
 cp "$top/examples/illegal.sgf" illegal.sgf
 "$recipes/illegal_lines.py" illegal.sgf > want
 while_doing '"$TRUE_SGFSPLIT" "$@" > rows; : > illegal.sgf; cat rows; exit' illegal_lines.py illegal.sgf > got
