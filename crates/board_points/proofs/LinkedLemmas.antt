@@ -1,7 +1,7 @@
 -- The group of a stone, and the points beside it.
-use Rattle.std.proofs.Common.{◌≡◌, ◌≢◌, inl, inr, ℕ, zero, suc, ◌+◌, ◌*◌, ◌/◌, ◌%◌, ◌^◌, ◌<◌, subst, Bool, not, ◌&&◌, true, false, w64, List, length, set, take, replicate, bit_and, bit_or, slice_index, refl, sym, ap, ◌∙◌, arith, rules}
+use Rattle.std.proofs.Common.{◌≡◌, ◌≢◌, inl, inr, ℕ, zero, suc, ◌+◌, ◌*◌, ◌/◌, ◌%◌, ◌^◌, ◌<◌, subst, Bool, not, ◌&&◌, ◌||◌, true, false, w64, List, length, set, take, replicate, bit_and, bit_or, slice_index, refl, sym, ap, ◌∙◌, arith, rules}
 use Rattle.std.proofs.lemmas.Grind.{common_steps}
-use Rattle.std.proofs.lemmas.Bool.{or_cases, or_left, or_right, and_parts, and_from, false≢true, cases_Bool}
+use Rattle.std.proofs.lemmas.Bool.{or_cases, or_left, or_right, or_parts, and_parts, and_from, false≢true, cases_Bool}
 use Rattle.std.specs.Int.{trailing_zeros}
 use Rattle.board_points.specs.declared.points.Point.{Point}
 use Rattle.board_points.specs.declared.liberty.RowStones.{RowStones}
@@ -41,6 +41,16 @@ none_lives own others row word alive low to none stone at there free =
     ∙ and_from _ _ there (to stone at (column_below 64 word stone.col low there) free))
 
 -- with no row set no point is
+-- a column of the last word is in neither of the others, if none is in common
+pub none_in_both : (a b word col : ℕ) → bit_and (bit_or a b) word ≡ 0 → has_bit word col ≡ true → (has_bit a col ≡ false) × (has_bit b col ≡ false)
+none_in_both a b word col none is =
+    let both = sym (has_bit-and (bit_or a b) word col ∙ ap (λ x. x && has_bit word col) (has_bit-or a b col)) ∙ ap (λ n. has_bit n col) none ∙ has_bit-zero col in
+    or_parts _ _
+    (elim (cases_Bool (has_bit a col || has_bit b col)) [
+      | inl there ↦ absurd (false≢true (sym both ∙ and_from _ _ there is))
+      | inr gone ↦ gone
+    ])
+
 pub none_in_front : (n m : ℕ) (words : List ℕ) (p : Point) → words ≡ replicate m 0 → is_set (take n words) p ≡ false
 none_in_front n m words p is = grind (arith, common_steps, has_bit-zero, suc, zero)
 

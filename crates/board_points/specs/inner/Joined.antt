@@ -1,5 +1,5 @@
 -- The stones of a row that are linked within the row.
-use Rattle.std.specs.Prelude.{ℕ, IsTrue, List, slice_index}
+use Rattle.std.specs.Prelude.{◌≡◌, ◌⊎◌, ◌+◌, ℕ, false, IsTrue, List, slice_index}
 use Rattle.board_points.specs.declared.points.Point.{Point}
 use Rattle.board_points.specs.Rows.{has_bit, is_set}
 use Rattle.board_points.specs.inner.Columns.{HasBeside, IsPart}
@@ -21,3 +21,8 @@ pub record IsShutRow (own others : List ℕ) (from : Point) (joined : ℕ) : Typ
 -- a stone of the group has a liberty
 abbrev pub HasOneAlive : List ℕ → List ℕ → List ℕ → Type 0
 HasOneAlive own others group = (stone : Point) × IsTrue (is_set group stone) × HasLiberty own others stone
+
+-- no stone is straight above or below one of these columns of the row
+abbrev pub HasNoneAcross : List ℕ → ℕ → ℕ → Type 0
+HasNoneAcross own row joined =
+    (point : Point) → (point.row + 1 ≡ row) ⊎ (row + 1 ≡ point.row) → IsTrue (has_bit joined point.col) → is_set own point ≡ false

@@ -5,7 +5,7 @@ ghost use Rattle.std.specs.Prelude.{◌≡◌, ◌<◌, ◌≤◌, IsTrue, IsFal
 ghost use Rattle.board_points.specs.declared.points.Point.{Point};
 ghost use Rattle.board_points.specs.Rows.{is_set, AreOfOneBoard, HasNoPoint, Grows, IsWithin};
 ghost use Rattle.board_points.specs.Linked.{AddsAlive, AddsIfShut, IsLinked, HasLiberty, IsLiberty, IsShutIn, IsStone};
-ghost use Rattle.board_points.specs.inner.Joined.{HasOneAlive, IsJoined, IsShutRow};
+ghost use Rattle.board_points.specs.inner.Joined.{HasNoneAcross, HasOneAlive, IsJoined, IsShutRow};
 
 use crate::columns::{has_column, with_column};
 use crate::fill::{Direction, fill, widened};
@@ -101,7 +101,10 @@ fn has_liberty(own: &[u64], others: &[u64], from: Point, joined: u64, group: &mu
 {
     let first = usize::from(from.row);
     group[first] = joined;
-    // most groups have a liberty straight above or below these stones
+    if is_in_one_row(own, first, joined) {
+        return joined & columns_with_liberty(own, others, first) != 0;
+    }
+    // most other groups have a liberty straight above or below these stones
     if lives_ahead(own, others, first, Direction::Up, group) {
         return true;
     }
@@ -110,6 +113,17 @@ fn has_liberty(own: &[u64], others: &[u64], from: Point, joined: u64, group: &mu
     }
     fill(group, own);
     some_lives(own, others, group)
+}
+
+/// Whether stones of a row are linked to none in the row above or below.
+fn is_in_one_row(own: &[u64], row: usize, joined: u64) -> bool
+    requires few { length own.now < 64 }
+    requires row { row < length own.now }
+    ensures { IsTrue result → HasNoneAcross own.now row joined }
+{
+    let above = if row > 0 { own[row - 1] } else { 0 };
+    let below = if row + 1 < own.len() { own[row + 1] } else { 0 };
+    (above | below) & joined == 0
 }
 
 /// Adds to a group stones that a row of it is linked to straight up or down, row by row. Ends at the first of these rows that has a stone with

@@ -1,12 +1,13 @@
-use Rattle.std.proofs.Common.{◌≡◌, ◌<◌, ℕ, true, false, List, length, set, slice_index, sym, ap, ◌∙◌, subst, arith}
+use Rattle.std.proofs.Common.{◌≡◌, ◌+◌, ◌<◌, ◌^◌, ℕ, not, nat_eq, true, false, List, length, set, slice_index, inl, inr, sym, ap, ◌∙◌, subst, arith, rules}
+use Rattle.std.proofs.lemmas.Bool.{false≢true}
 use Rattle.std.proofs.lemmas.List.{length-set}
 use Rattle.board_points.specs.declared.points.Point.{Point}
-use Rattle.board_points.specs.Rows.{has_bit, is_set, IsWithin}
+use Rattle.board_points.specs.Rows.{has_bit, is_set, IsClosed, IsWithin}
 use Rattle.board_points.specs.inner.Columns.{IsPart}
-use Rattle.board_points.specs.inner.Joined.{IsJoined}
-use Rattle.board_points.specs.Linked.{IsLinked, IsStone}
-use Rattle.board_points.proofs.GrowLemmas.{Grows-twice}
-use Rattle.board_points.proofs.LinkedLemmas.{in_first, of_first, first_within, alive_linked, part_linked}
+use Rattle.board_points.specs.inner.Joined.{HasNoneAcross, IsJoined}
+use Rattle.board_points.specs.Linked.{HasLiberty, IsLinked, IsStone}
+use Rattle.board_points.proofs.GrowLemmas.{Grows-twice, zero_of}
+use Rattle.board_points.proofs.LinkedLemmas.{in_first, of_first, first_within, alive_linked, common_column, none_lives, part_linked}
 use Rattle.board_points.proofs.quick.group.has_liberty.Goals as goal
 
 -- the stones in the row of a stone that are linked to it, as a set
@@ -31,6 +32,68 @@ module _ (own others old : List ℕ) (from : Point) (joined row : ℕ) (at : row
 
   there : is_set start from ≡ true
   there = ap (λ r. has_bit (slice_index start r) from.col) (sym at) ∙ of_first own old row joined none below from.col joins.start
+
+  -- if no stone is across, it is the whole group
+  alone_closed : HasNoneAcross own row joined → IsClosed (is_set own) (is_set start)
+  alone_closed across point other beside own_stone is =
+      let w = in_first own old row joined none below other is in
+      elim beside [
+        | inl column ↦
+            (let in_column : has_bit joined point.col ≡ true = ap (λ k. has_bit joined k) column.0 ∙ w.1 in
+            let gone : is_set own point ≡ false = elim column.1 [
+              | inl up ↦ across point (inl (up ∙ w.0)) in_column
+              | inr down ↦ across point (inr (ap (λ r. r + 1) (sym w.0) ∙ down)) in_column
+            ] in
+            absurd (false≢true (sym gone ∙ own_stone)))
+        | inr in_row ↦
+            (let point_row : point.row ≡ row = in_row.0 ∙ w.0 in
+            let there = ap (λ r. has_bit (slice_index own r) point.col) (sym (point_row ∙ at)) ∙ own_stone in
+            ap (λ r. has_bit (slice_index start r) point.col) point_row ∙ of_first own old row joined none below point.col (joins.closed point.col other.col in_row.1 there w.1))
+      ]
+
+pub returns-then-is_in_one_row-clause-lives : goal.returns-then-is_in_one_row-clause-lives
+returns-then-is_in_one_row-clause-lives c = λ is.
+    let own = c.args.own.now in
+    let joined = c.args.joined in
+    let low : joined < 2 ^ 64 = search rules in
+    let both = common_column joined c.columns_with_liberty.result low (λ none. false≢true (sym (ap (λ n. not (nat_eq n 0)) none) ∙ is)) in (
+      record { col = both.0; row = c.args.from.row },
+      record {
+        own_stone = c.requires.row.within both.0 both.1;
+        linked = c.requires.row.linked both.0 both.1;
+        liberty = subst (λ r. HasLiberty own c.args.others.now (record { col = both.0; row = r })) c.from-first.ensures (c.columns_with_liberty.ensures.from both.0 both.2);
+      },
+    )
+
+pub returns-then-is_in_one_row-clause-shut : goal.returns-then-is_in_one_row-clause-shut
+returns-then-is_in_one_row-clause-shut c = λ no.
+    let own = c.args.own.now in
+    let others = c.args.others.now in
+    let old = c.args.group.now in
+    let row = c.from-first.result in
+    let joined = c.args.joined in
+    let low : joined < 2 ^ 64 = search rules in
+    let long = below own others old c.args.from joined row c.from-first.ensures c.requires.stone c.requires.row c.requires.none.all c.requires.none.none in
+    record {
+      all = length-set old row joined ∙ c.requires.none.all;
+      within = (start_within own others old c.args.from joined row c.from-first.ensures c.requires.stone c.requires.row c.requires.none.all c.requires.none.none).within;
+      start = there own others old c.args.from joined row c.from-first.ensures c.requires.stone c.requires.row c.requires.none.all c.requires.none.none;
+      closed = alone_closed own others old c.args.from joined row c.from-first.ensures c.requires.stone c.requires.row c.requires.none.all c.requires.none.none (c.is_in_one_row.ensures c.if-is_in_one_row.true);
+      shut = λ stone is.
+          let w = in_first own old row joined c.requires.none.none long stone is in
+          none_lives own others row joined c.columns_with_liberty.result low c.columns_with_liberty.ensures.to (zero_of _ no) stone w.0 w.1;
+    }
+
+pub returns-then-is_in_one_row-clause-part : goal.returns-then-is_in_one_row-clause-part
+returns-then-is_in_one_row-clause-part c = λ stone is.
+    let own = c.args.own.now in
+    let others = c.args.others.now in
+    let old = c.args.group.now in
+    let row = c.from-first.result in
+    let joined = c.args.joined in (
+      (start_within own others old c.args.from joined row c.from-first.ensures c.requires.stone c.requires.row c.requires.none.all c.requires.none.none).within stone is,
+      linked own others old c.args.from joined row c.from-first.ensures c.requires.stone c.requires.row c.requires.none.all c.requires.none.none stone is,
+    )
 
 pub lives_ahead-requires-clause-group : goal.lives_ahead-requires-clause-group
 lives_ahead-requires-clause-group c =
