@@ -1,11 +1,12 @@
 -- Past colourings, as what is kept of them tells them.
 use Rattle.std.proofs.Common.{◌≡◌, ◌≢◌, ◌↔◌, ◌==◌, ℕ, zero, suc, ◌+◌, ◌-◌, ◌*◌, ◌<◌, ◌≤◌, inl, inr, List, [], ◌∷◌, ◌++◌, Bool, true, false, cond, length, get_or, take, drop, reverse, slice_range, slice_set, append_assoc, refl, sym, ap, subst, ◌∙◌, arith, length-take, length-append, IsTrue, Contains}
-use Rattle.std.proofs.lemmas.List.{take_more, take_all, take_at, drop_at, drop-drop, drop-set, drop_all, take-take, append-nil, reverse-append, length-reverse, get_or-reverse}
+use Rattle.std.proofs.lemmas.List.{length-set, take_more, take_all, take_at, drop_at, drop-drop, drop-set, drop_all, take-take, append-nil, reverse-append, length-reverse, get_or-reverse}
 use Rattle.std.proofs.lemmas.List.Elements.{All-take, All-drop, All-append}
 use Rattle.std.proofs.lemmas.Bool.{cases_eq, eq-eqb, ne_eqb, false≢true}
 use Rattle.std.proofs.lemmas.Slice.{between_is}
 use Rattle.go_board.specs.declared.stones.Cell.TheVariants.{Empty}
-use Rattle.board_points.specs.Point.{IsOn}
+use Rattle.board_points.specs.declared.points.Point.{Point}
+use Rattle.board_points.specs.Point.{IsOn, index_of}
 use Rattle.go_board.specs.declared.past.print_past.changes.Change.{Change}
 use Rattle.go_board.specs.declared.past.print_past.changes.Older.{Older}
 use Rattle.go_board.specs.declared.past.print_past.changes.TheConstants.{MOST}
@@ -15,6 +16,8 @@ use Rattle.go_board.specs.Past.{Held, PastColourings, all_of, with_next, stretch
 use Rattle.go_board.specs.inner.Changes.{first_grid, after_changes, step_back, is_full, is_settled, is_fresh, IsEndOf, IsNumber, IsFreshStone, KeepRows, IsChangeOn, MakeOne, before, changes_before, held_before, all_held, AreFresh, AreKept, AreStarted, AreOn, IsPast}
 use Rattle.go_board.specs.inner.Print.{print_of, prints_of}
 use Rattle.go_board.specs.inner.Key.{start_of, since}
+use Rattle.board_points.proofs.PointLemmas.{same_or_not}
+use Rattle.go_board.proofs.GridLemmas.{cell_at-with_cell, cell_at-with_cell_elsewhere}
 use Rattle.go_board.proofs.ChangesLemmas.{step-side, leads_back, makes_one, kept_on}
 
 -- a stretch starts no later than at the newest colouring
@@ -262,6 +265,7 @@ pub record IsLook (held : List Held) (older : List Older) (number start : ℕ) (
   pub same_start : start ≡ one.stretch_start
   pub stretch : stretch_of (drop (length older - number) held) ≡ board ∷ stretch_of (drop (length older - (number - 1)) held)
   pub point : IsTrue (is_fresh one.known) → IsOn board.side one.point
+  pub stone : IsTrue (is_fresh one.known) → cell_at board one.point ≢ Empty
   pub new : IsTrue (is_fresh one.known) → (grid : Grid) → Contains (stretch_of (drop (length older - (number - 1)) held)) grid → cell_at grid one.point ≡ Empty
 
 module _ (held : List Held) (older : List Older) (changes : List Change) (number end start : ℕ) (board : Grid) (one : Older) (some : 0 < number) (high : number ≤ length older) (is_one : one ≡ get_or older (number - 1) one) (at : IsThere held older changes number end start board) (later : start ≢ number) where
@@ -288,6 +292,7 @@ module _ (held : List Held) (older : List Older) (changes : List Change) (number
         same_start = started.1 (omega (arith, started.0, count, later));
         stretch = ap stretch_of split;
         point = λ is. (last.0 is).on;
+        stone = λ is. (last.0 is).there;
         new = λ is. (last.0 is).new;
       })
 
@@ -298,6 +303,93 @@ contains-others x xs made other = (others, λ has. (suc has.0, omega (arith, has
     others : Contains (x ∷ xs) made → Contains xs made
     others (zero, h, e) = absurd (other e)
     others (suc j, h, e) = (j, omega (arith, h), e)
+
+-- Going back from the newest colouring over steps that only put stones: no colouring on the way has a stone where the newest has none. So one
+-- that has a stone there can only be in the stretch of the number at which one is.
+pub record IsPassed (held : List Held) (older : List Older) (changes : List Change) (start number : ℕ) (newest : Grid) (point : Point) : Type 0 where
+  pub end : ℕ
+  pub board : Grid
+  pub there : IsThere held older changes number end start board
+  pub high : number ≤ length older
+  pub side : board.side ≡ newest.side
+  pub all : length board.cells ≡ board.side * board.side
+  pub fewer : (p : Point) → IsOn newest.side p → cell_at newest p ≡ Empty → cell_at board p ≡ Empty
+  pub rest : (made : Grid) → cell_at made point ≢ Empty → Contains (stretch_of held) made → Contains (stretch_of (drop (length older - number) held)) made
+
+-- none is passed yet
+pub passed_none : (newest : Grid) (start : ℕ) (older : List Older) (changes : List Change) (held : List Held) (number : ℕ) (point : Point) → all_held newest start (reverse older) changes ≡ held → number ≡ length older → IsPast newest start older changes → length newest.cells ≡ newest.side * newest.side
+    → IsPassed held older changes start number newest point
+passed_none newest start older changes held number point same is past all =
+    let none : 0 ≡ length older - number = omega arith in
+    record {
+      end = length changes;
+      board = newest;
+      there = there-newest newest start older changes held number (length changes) same is refl past;
+      high = omega (arith, is);
+      side = refl;
+      all = all;
+      fewer = λ p on empty. empty;
+      rest = λ made stone has. subst (λ n. Contains (stretch_of (drop n held)) made) none has;
+    }
+
+module _ (held : List Held) (older : List Older) (changes : List Change) (start number : ℕ) (newest : Grid) (point : Point) (on : IsOn newest.side point) (empty : cell_at newest point ≡ Empty) (at : IsPassed held older changes start number newest point) where
+  -- where the stretch starts, none is left
+  pub passed_all : start ≡ number → (made : Grid) → cell_at made point ≢ Empty → Contains (stretch_of held) made → ⊥
+  passed_all first made stone has =
+      let count : length (reverse (take number older)) ≡ number = length-reverse (take number older) ∙ length-take number older ∙ omega (arith, at.high) in
+      let begins : (start == length (reverse (take number older))) ≡ true = eq-eqb start _ (first ∙ sym count) in
+      let only : stretch_of (drop (length older - number) held) ≡ at.board ∷ [] =
+      ap stretch_of at.there.whole ∙ ap (λ b. at.board ∷ cond b [] (stretch_of (held_before at.board (reverse (take number older)) (take at.end changes)))) begins in
+      none_left ((contains-others at.board [] made (λ e. stone (ap (λ (g : Grid). cell_at g point) (sym e) ∙ at.fewer point on empty))).0 (subst (λ (gs : List Grid). Contains gs made) only (at.rest made stone has)))
+    where
+      none_left : Contains [] made → ⊥
+      none_left (k, h, e) = absurd (omega (arith, h))
+
+  module _ (one : Older) (some : 0 < number) (is_one : one ≡ get_or older (number - 1) one) (later : start ≢ number) where
+    look : IsLook held older number start at.board one
+    look = look-from held older changes number at.end start at.board one some at.high is_one at.there later
+
+    step : IsStep held older changes number at.end at.board one
+    step = step-from held older changes number at.end start at.board one some at.high is_one at.there
+
+    earlier : (made : Grid) → cell_at made point ≢ Empty → Contains (stretch_of held) made → Contains (stretch_of (drop (length older - (number - 1)) held)) made
+    unfolding look
+    earlier made stone has =
+        (contains-others at.board (stretch_of (drop (length older - (number - 1)) held)) made (λ e. stone (ap (λ (g : Grid). cell_at g point) (sym e) ∙ at.fewer point on empty))).0
+        (subst (λ (gs : List Grid). Contains gs made) look.stretch (at.rest made stone has))
+
+    -- a fresh stone is on the newest colouring
+    pub fresh_on : is_fresh one.known ≡ true → IsOn newest.side one.point
+    fresh_on is = subst (λ n. IsOn n one.point) at.side (look.point is)
+
+    pub fresh_there : is_fresh one.known ≡ true → cell_at newest one.point ≢ Empty
+    fresh_there is = λ free. look.stone is (at.fewer one.point (fresh_on is) free)
+
+    -- and before it no colouring has it
+    pub passed_fresh : is_fresh one.known ≡ true → (made : Grid) → cell_at made point ≢ Empty → cell_at made one.point ≢ Empty → Contains (stretch_of held) made → ⊥
+    passed_fresh is made stone fresh has = fresh (look.new is made (earlier made stone has))
+
+    -- a step that only put a stone is passed
+    pub passed_one : one.alone ≡ true → IsPassed held older changes start (number - 1) newest point
+    passed_one alone =
+        let cs = slice_range changes one.start at.end in
+        let on_one = step.point alone in
+        let is : step_back at.board one cs ≡ with_cell at.board one.point Empty = ap (λ b. cond b (with_cell at.board one.point Empty) (after_changes at.board cs)) alone in
+        record {
+          end = one.start;
+          board = step_back at.board one cs;
+          there = subst (λ s. IsThere held older changes (number - 1) one.start s (step_back at.board one cs)) (sym look.same_start) step.there;
+          high = omega (arith, at.high);
+          side = step.side ∙ at.side;
+          all = rw is (length-set at.board.cells (index_of at.board.side one.point) Empty ∙ at.all);
+          fewer = λ p on_p free.
+              ap (λ (g : Grid). cell_at g p) is
+              ∙ elim (same_or_not p one.point) [
+                | inl same ↦ ap (λ q. cell_at (with_cell at.board one.point Empty) q) same ∙ cell_at-with_cell at.board one.point Empty on_one at.all
+                | inr other ↦ cell_at-with_cell_elsewhere at.board one.point p Empty on_one (subst (λ n. IsOn n p) (sym at.side) on_p) other ∙ at.fewer p on_p free
+              ];
+          rest = earlier;
+        }
 
 -- the changes of a full step lead back to the colouring before it, from any board
 pub record IsFullStep (held : List Held) (older : List Older) (changes : List Change) (from end : ℕ) (board : Grid) (one : Older) : Type 0 where

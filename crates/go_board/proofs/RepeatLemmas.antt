@@ -95,18 +95,17 @@ fresh_stone_put past k p rows emptied all sides kept move fresh stays =
           ];
     }
 
--- while such a stone stays, a stone that stays makes no colouring of the present stretch
-pub never_back_with : (past : PastColourings) (k : Colour) (p q : Point) (rows : List ℕ) → length (newest_grid past).cells ≡ (newest_grid past).side * (newest_grid past).side
-    → IsMove (newest_grid past) k p rows → IsFreshStone past q → is_set rows q ≡ false → is_set rows p ≡ false → Contains (present_stretch past) (play (newest_grid past) k p) → ⊥
-never_back_with past k p q rows all move last stays_too stays (zero, h, e) =
-    let g = newest_grid past in
-    let there : cell_at (play g k p) p ≡ stone_of k = move.taken.played.kept p move.on_board (λ taken. false≢true (sym stays ∙ taken)) ∙ cell_at-with_cell g p (stone_of k) move.on_board all in
-    stone_of≢Empty k (sym there ∙ ap (λ (x : Grid). cell_at x p) (sym e) ∙ move.empty)
-never_back_with past k p q rows all move last stays_too stays (suc j, h, e) =
-    let g = newest_grid past in
-    let free : cell_at (play g k p) q ≡ Empty = last.new (play g k p) (j, omega (arith, h), e) in
-    let other : q ≢ p = λ same. last.there (ap (cell_at g) same ∙ move.empty) in
-    last.there (sym (cell_at-with_cell_elsewhere g p q (stone_of k) move.on_board last.on other) ∙ sym (move.taken.played.kept q last.on (λ taken. false≢true (sym stays_too ∙ taken))) ∙ free)
+-- What a stone leaves on the grid that it makes, if it isn't taken off at once: itself, and each stone that it doesn't take off.
+module _ (g : Grid) (k : Colour) (p : Point) (rows : List ℕ) (all : length g.cells ≡ g.side * g.side) (move : IsMove g k p rows) where
+  pub stone_put : is_set rows p ≡ false → cell_at (play g k p) p ≢ Empty
+  stone_put stays =
+      let there : cell_at (play g k p) p ≡ stone_of k = move.taken.played.kept p move.on_board (λ taken. false≢true (sym stays ∙ taken)) ∙ cell_at-with_cell g p (stone_of k) move.on_board all in
+      λ e. stone_of≢Empty k (sym there ∙ e)
+
+  pub stone_left : (q : Point) → IsOn g.side q → cell_at g q ≢ Empty → is_set rows q ≡ false → cell_at (play g k p) q ≢ Empty
+  stone_left q on there stays =
+      let other : q ≢ p = λ same. there (ap (cell_at g) same ∙ move.empty) in
+      λ free. there (sym (cell_at-with_cell_elsewhere g p q (stone_of k) move.on_board on other) ∙ sym (move.taken.played.kept q on (λ taken. false≢true (sym stays ∙ taken))) ∙ free)
 
 -- what becomes of a past when a stone is played: a stone is played, or memory is refused
 module _ {E : Type 0} (k : Colour) (p : Point) (old new : PastColourings) where

@@ -1,9 +1,10 @@
 //! The past of a run, and how it finds a stone that repeats a colouring (positional superko).
 //!
 //! A colouring can come back only by a stone on a point that was emptied before, or by suicide. So most stones are played without a look-up
-//! (`may_repeat`). For any other one, the newest colourings are gone over one by one (`decide_by_newest`). Nearly always they tell: one
-//! of them is the colouring that the stone makes, or one put a stone there that no older colouring has and the made one keeps. If they
-//! don't tell, a table of prints and a trie of keys do, for all colourings at once (`play_by_print`). `ListPast` is the plainest past.
+//! (`may_repeat`). For any other one, the newest steps are gone over (`decide_by_newest`). Nearly always they tell: behind steps
+//! that only put stones no colouring has the stone that is played, and behind a fresh stone none has that one. If they don't tell, the newest
+//! colourings are compared one by one, and then a table of prints and a trie of keys decide, for all colourings at once (`play_by_print`).
+//! `ListPast` is the plainest past.
 //!
 //! | Module | What it has |
 //! |---|---|
@@ -295,12 +296,8 @@ impl PrintPast {
         requires stone { IsMove (newest_grid self.now) colour point taken.now }
         ensures { IfSome result (λ has. IsTrue has ↔ Contains (present_stretch self.now) (play (newest_grid self.now) colour point)) }
     {
-        self.colourings.newest().has_all_cells();
-        if let Some(stone) = self.colourings.fresh_stone() {
-            let gone = has_point(taken, point) | has_point(taken, stone);
-            if !gone {
-                return Some(false);
-            }
+        if self.colourings.newest_steps_show_new(point, taken) {
+            return Some(false);
         }
         if self.table.is_awake() {
             return None;

@@ -16,7 +16,7 @@ use crate::past::print_past::changes::{
     Change, FULL, Known, MOST, Older, is_full, keep_played, keep_rows, step_back,
     step_back_with_print, take_back,
 };
-use crate::past::print_past::print::print_of;
+use crate::past::print_past::print::{has_point, print_of};
 use crate::stones::{Cell, Colour};
 use board_points::{MAX_ROWS, Point};
 use std::alloc::Global;
@@ -81,20 +81,35 @@ impl Colourings {
         self.older.len() + 1
     }
 
-    /// The point of a stone of the newest colouring that no older one of the present stretch has there; None if none is known. While that
-    /// stone stays, a stone that stays can't bring a colouring back.
-    pub(crate) fn fresh_stone(&self) -> Option<Point>
-        ensures { IfSome result (IsFreshStone self.now) }
+    /// Whether the newest steps show that a stone brings no colouring of the present stretch back; `taken` is what the stone takes off. False
+    /// says nothing.
+    ///
+    /// Behind steps that only put stones, no colouring has a stone where the newest has none, so none has the stone that is played. Behind a
+    /// fresh stone that stays, no colouring has that stone. At most `LOOK_BACK` steps are gone over.
+    pub(crate) fn newest_steps_show_new(&self, point: Point, taken: &[u64]) -> bool
+        requires stone { (colour : Colour) × IsMove (newest_grid self.now) colour point taken.now }
+        ensures { (colour : Colour) → IsMove (newest_grid self.now) colour point taken.now → IsTrue result
+            → ¬ Contains (present_stretch self.now) (play (newest_grid self.now) colour point) }
     {
-        if self.older.is_empty() {
-            return None;
+        self.newest.has_all_cells();
+        if has_point(taken, point) {
+            return false;
         }
-        let kept = self.older[self.older.len() - 1];
-        if kept.known.is_fresh() {
-            Some(kept.point)
-        } else {
-            None
+        let mut number = self.older.len();
+        'each: for _ in 0..LOOK_BACK {
+            if number == self.stretch_start {
+                return true;
+            }
+            number -= 1;
+            let step = self.older[number];
+            if step.known.is_fresh() && !has_point(taken, step.point) {
+                return true;
+            }
+            if !step.alone {
+                return false;
+            }
         }
+        false
     }
 
     /// The number of the first colouring of the present stretch, which the last setup of stones began, or the game. Only the colourings from it on
