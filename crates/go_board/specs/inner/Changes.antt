@@ -1,6 +1,6 @@
 -- Past colourings. The newest is kept whole. Of each older one, only what leads back to it is kept: the point of a stone that was put, or
 -- rows. A change is one such row.
-use Rattle.std.specs.Prelude.{◌≡◌, ◌≢◌, ◌⊎◌, ◌==◌, ℕ, suc, ◌-◌, ◌*◌, ◌%◌, ◌<◌, ◌≤◌, Bool, if◌then◌else◌, List, [], ◌∷◌, ◌++◌, IsTrue, IsFalse, All, Contains, true, false, Option, Some, None, length, take, drop, reverse, slice_index_or}
+use Rattle.std.specs.Prelude.{◌≡◌, ◌≢◌, ◌⊎◌, ◌==◌, ℕ, suc, ◌+◌, ◌-◌, ◌*◌, ◌%◌, ◌<◌, ◌≤◌, Bool, if◌then◌else◌, List, [], ◌∷◌, ◌++◌, IsTrue, IsFalse, All, Contains, true, false, Option, Some, None, length, take, drop, reverse, slice_index_or}
 use Rattle.go_board.specs.declared.stones.Cell.TheVariants.{Black, White, Empty}
 use Rattle.board_points.specs.declared.points.Point.{Point}
 use Rattle.board_points.specs.Point.{IsOn}
@@ -85,6 +85,10 @@ pub record KeepRows (old new : Grid) (all : Bool) (count : ℕ) (before after : 
 -- the step after this many others keeps all rows of the colouring before it
 abbrev pub is_full : ℕ → Bool
 is_full count = count % FULL == FULL - 1
+
+-- there is room for the older colourings up to the next full step, if there are this many
+abbrev pub HasRoom : ℕ → ℕ → Type 0
+HasRoom count room = count - count % FULL + (FULL - 1) ≤ room
 
 -- the changes make that grid from every grid of its side
 abbrev pub MakeOne : Grid → List Change → Type 0

@@ -5,7 +5,7 @@ ghost use Rattle.std.specs.Prelude.{◌≡◌, ◌+◌, ◌-◌, ◌*◌, ◌^�
 ghost use Rattle.std.specs.Vec.{vec_capacity};
 ghost use Rattle.go_board.specs.Clearing.{has_unreaching, play};
 ghost use Rattle.go_board.specs.Past.{all_of, newest_grid, only, present_stretch, with_next, PastColourings};
-ghost use Rattle.go_board.specs.inner.Changes.{is_fresh, is_full, is_settled, IsEndOf, IsFreshStone, IsNumber, held_before, IsPast};
+ghost use Rattle.go_board.specs.inner.Changes.{is_fresh, is_full, is_settled, HasRoom, IsEndOf, IsFreshStone, IsNumber, held_before, IsPast};
 ghost use Rattle.go_board.specs.inner.Print.{prints_of};
 ghost use Rattle.go_board.specs.inner.Groups.{IsEmptyOnSettled, IsMove};
 ghost use Rattle.go_board.specs.inner.Key.{start_of, since};
@@ -37,7 +37,7 @@ pub(crate) struct Colourings {
     newest: Board,
     /// The number of the first colouring of the present stretch.
     stretch_start: usize,
-    /// What is kept of the older colourings, oldest first.
+    /// What is kept of the older colourings, oldest first. There is room up to the next full step, so that the steps before it needn't ask.
     older: Vec<Older>,
     /// Their changes, oldest first.
     changes: Vec<Change>,
@@ -51,7 +51,8 @@ impl Model for Colourings {
       older = held_before p.newest (reverse p.older.items) p.changes.items;
     } };
 
-    ghost invariant = { λ p. IsPast p.newest p.stretch_start p.older.items p.changes.items };
+    ghost invariant = { λ p. IsPast p.newest p.stretch_start p.older.items p.changes.items
+        × HasRoom (length p.older.items) (vec_capacity p.older) };
 }
 
 impl Colourings {
@@ -259,10 +260,10 @@ impl Colourings {
         Ok(())
     }
 
-    /// Whether there is room for one more older colouring, and its step keeps no rows if it only puts a stone.
+    /// Whether the next step keeps rows only if it changes more than a point. Then there is room for one more older colouring, too.
     #[inline(always)]
     pub(crate) fn has_room_for_point(&self) -> bool {
-        self.older.len() < self.older.capacity() && !is_full(self.older.len())
+        !is_full(self.older.len())
     }
 
     /// What a stone on an empty point takes off, by capture or else by suicide (`Board::find_taken`); None if that is nothing. The rows
@@ -368,20 +369,26 @@ impl Colourings {
     }
 }
 
-/// Makes room for one more older colouring, and if `rows` is true, for all rows of it. There are at most `MOST` rows.
+/// Makes room for the older colourings up to the next full step, if this step is one, and if `rows` is true, for all rows of a colouring. There
+/// are at most `MOST` rows.
 #[inline(always)]
 fn make_room(
     older: &mut Vec<Older>,
     changes: &mut Vec<Change>,
     rows: bool,
 ) -> Result<(), MemoryFault>
+    requires { HasRoom (length older.old.items) (vec_capacity older.old) }
     ensures items { older.new.items ≡ older.old.items }
+    ensures kept { HasRoom (length older.new.items) (vec_capacity older.new) }
+    ensures next { OnOk result (HasRoom (length older.new.items + 1) (vec_capacity older.new)) }
     ensures ok { OnOk result (length older.new.items < vec_capacity older.new) }
     ensures changes { changes.new.items ≡ changes.old.items }
     ensures rows { OnOk result (IsTrue rows → length changes.new.items + MAX_ROWS ≤ vec_capacity changes.new) }
     ensures few_rows { OnOk result (IsTrue rows → length changes.new.items + MAX_ROWS ≤ MOST) }
 {
-    older.reserve(1)?;
+    if is_full(older.len()) {
+        older.reserve(FULL)?;
+    }
     if rows {
         make_room_for_rows(changes)?;
     }

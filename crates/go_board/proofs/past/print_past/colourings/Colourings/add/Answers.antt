@@ -13,7 +13,7 @@ pub overflow_cast-kept-2 : goal.overflow_cast-kept-2
 overflow_cast-kept-2 c =
     let was = c.self.inside in
     let few : length was.older.items < 4294967295 = omega (arith, c.requires.few, count-all was.newest was.stretch_start was.older.items was.changes.items c.args.self.now c.self.view_is) in
-    Fits-of_lt (omega (arith, started-below was.older.items was.older.items was.stretch_start 4294967295 refl few c.self.invariant.started))
+    Fits-of_lt (omega (arith, started-below was.older.items was.older.items was.stretch_start 4294967295 refl few c.self.invariant.0.started))
 
 -- what is kept, and what it tells
 next : (c : After-copy-self-inside) → IsPast c.copy-self-inside.result c.if-begins.stretch_start c.push_reserved.new.self.items c.keep_rows.new.changes.items
@@ -33,11 +33,13 @@ next c =
     ] in
     rw c.copy-self-inside.ensures
     (grown was.newest board was.stretch_start c.if-begins.stretch_start was.older.items c.push_reserved.new.self.items kept was.changes.items c.keep_rows.new.changes.items c.is_full-all.result c.args.begins c.args.self.now
-    c.self.view_is c.self.invariant c.has_all_cells.ensures.all side c.has_all_cells-2.ensures.all rows older follows refl start refl
+    c.self.view_is c.self.invariant.0 c.has_all_cells.ensures.all side c.has_all_cells-2.ensures.all rows older follows refl start refl
     (λ is. c.is_settled.ensures (c.new.ensures.settled is)) (λ is. absurd (false≢true (c.new.ensures.fresh is))) (c.is_full-all.ensures ∙ ap is_full count) (room_for_all c.in_ok-make_room.ensures.changes (c.in_ok-make_room.ensures.few_rows refl) c.has_all_cells.ensures.few))
 
 pub invariant_of-self-2 : goal.invariant_of-self-2
-invariant_of-self-2 c = (next (goal.at.invariant_of-self-2 c).After-copy-self-inside).0
+invariant_of-self-2 c =
+    let count : length c.push_reserved.new.self.items ≡ length c.make_room.new.older.items + 1 = search rules in
+    ((next (goal.at.invariant_of-self-2 c).After-copy-self-inside).0, omega (arith, count, c.push_reserved.ensures.capacity, c.in_ok-make_room.ensures.next))
 
 pub returns-clause-ok : goal.returns-clause-ok
 returns-clause-ok c = (next (goal.at.returns-clause-ok c).After-copy-self-inside).1

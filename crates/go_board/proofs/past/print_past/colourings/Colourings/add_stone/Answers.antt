@@ -1,4 +1,5 @@
-use Rattle.std.proofs.Common.{◌≡◌, Bool, not, ◌++◌, [], ◌∷◌, false, true, length, reverse, refl, ap, sym, subst, ◌∙◌, ◌<◌, IsTrue, arith, rules}
+use Rattle.std.proofs.Common.{◌≡◌, ◌+◌, Bool, not, ◌++◌, [], ◌∷◌, false, true, length, reverse, refl, ap, sym, subst, ◌∙◌, ◌<◌, IsTrue, arith, rules}
+use Rattle.std.specs.Vec.{vec_capacity}
 use Rattle.std.proofs.lemmas.Bool.{eqb-true, false≢true}
 use Rattle.std.proofs.Math.Facts.{Fits-of_lt}
 use Rattle.go_board.specs.declared.past.print_past.changes.Older.{Older}
@@ -16,7 +17,7 @@ pub overflow_cast-kept-2 : goal.overflow_cast-kept-2
 overflow_cast-kept-2 c =
     let was = c.self.inside in
     let few : length was.older.items < 4294967295 = omega (arith, c.requires.few, count-all was.newest was.stretch_start was.older.items was.changes.items c.args.self.now c.self.view_is) in
-    Fits-of_lt (omega (arith, started-below was.older.items was.older.items was.stretch_start 4294967295 refl few c.self.invariant.started))
+    Fits-of_lt (omega (arith, started-below was.older.items was.older.items was.stretch_start 4294967295 refl few c.self.invariant.0.started))
 
 not_true : (b : Bool) → not b ≡ true → b ≡ false
 not_true true e = sym e
@@ -53,7 +54,7 @@ next c =
           let board : c.put.new.self ≡ made = rw w.self-inside-is at c.put.ensures in
           rw (board, w.self-inside-is)
           (grown was.newest made was.stretch_start was.stretch_start was.older.items c.push_reserved.new.self.items kept was.changes.items w.keep_played.new.changes.items c.is_full-all.result false _
-          refl c.self.invariant cells (side_play was.newest k p) (play_cells was.newest k p c.args.taken.now cells move.taken) rows older refl refl start w.if-not-alone.true
+          refl c.self.invariant.0 cells (side_play was.newest k p) (play_cells was.newest k p c.args.taken.now cells move.taken) rows older refl refl start w.if-not-alone.true
           settled fresh full (room_for_all c.in_ok-make_room.ensures.changes (c.in_ok-make_room.ensures.few_rows (ap not w.if-not-alone.true)) c.has_all_cells.ensures.few))
       | else-not-alone w ↦
           let alone = is_alone c w.if-not-alone.false in
@@ -61,12 +62,18 @@ next c =
           let board : c.put.new.self ≡ made = rw w.self-inside-is at c.put.ensures in
           rw (board, w.self-inside-is, c.in_ok-make_room.ensures.changes)
           (grown_alone was.newest made was.stretch_start was.older.items c.push_reserved.new.self.items kept was.changes.items _
-          refl c.self.invariant (side_play was.newest k p) move.on_board (alone_back was.newest k p c.args.taken.now cells move alone.0)
+          refl c.self.invariant.0 (side_play was.newest k p) move.on_board (alone_back was.newest k p c.args.taken.now cells move alone.0)
           older refl start w.if-not-alone.false settled fresh (sym full ∙ alone.1))
     ])
 
 pub invariant_of-self-2 : goal.invariant_of-self-2
-invariant_of-self-2 c = (next (goal.at.invariant_of-self-2 c).After-push_reserved).0
+invariant_of-self-2 c =
+    let room = elim c.if-not-alone.branch as (λ _. vec_capacity c.if-not-alone.self-inside.older ≡ vec_capacity c.make_room.new.older) [
+      | then-not-alone w ↦ rw w.self-inside-is refl
+      | else-not-alone w ↦ rw w.self-inside-is refl
+    ] in
+    let count : length c.push_reserved.new.self.items ≡ length c.make_room.new.older.items + 1 = search rules in
+    ((next (goal.at.invariant_of-self-2 c).After-push_reserved).0, omega (arith, count, room, c.push_reserved.ensures.capacity, c.in_ok-make_room.ensures.next))
 
 pub returns-clause-ok : goal.returns-clause-ok
 returns-clause-ok c = (next (goal.at.returns-clause-ok c).After-push_reserved).1

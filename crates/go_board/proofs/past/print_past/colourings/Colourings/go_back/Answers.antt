@@ -19,7 +19,7 @@ full c one lt is_one =
     let to = c.next_full-at in
     let found = rw c.deref.ensures.value at to.ensures in
     let same : c.args.board.now ≡ p.newest = c.requires.newest ∙ ap newest_grid (sym c.self.view_is) in
-    there-full p.newest c.args.board.now p.stretch_start p.older.items p.changes.items (all_of c.args.self.now) (ap all_of c.self.view_is) c.self.invariant same c.has_all_cells.ensures.all
+    there-full p.newest c.args.board.now p.stretch_start p.older.items p.changes.items (all_of c.args.self.now) (ap all_of c.self.view_is) c.self.invariant.0 same c.has_all_cells.ensures.all
     to.result.0 to.result.1 c.len.result one (omega (arith, (found.full lt).0)) lt (found.full lt).1 (c.len.ensures ∙ p.changes.ok.0) found.end is_one
 
 pub slice_bounds-take_back-count : goal.slice_bounds-take_back-count
@@ -64,7 +64,7 @@ each-init c =
             there = (
               p.stretch_start,
               rw (w.board-is, w.at-is, w.end-is, same)
-                  (there-newest p.newest p.stretch_start p.older.items p.changes.items held to.result.0 to.result.1 (ap all_of c.self.view_is) at (found.end.0 at ∙ c.len.ensures ∙ p.changes.ok.0) c.self.invariant),
+                  (there-newest p.newest p.stretch_start p.older.items p.changes.items held to.result.0 to.result.1 (ap all_of c.self.view_is) at (found.end.0 at ∙ c.len.ensures ∙ p.changes.ok.0) c.self.invariant.0),
             );
             low = rw w.at-is found.low;
             high = rw w.at-is found.high;

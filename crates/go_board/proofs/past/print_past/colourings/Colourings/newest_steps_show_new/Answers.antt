@@ -14,7 +14,7 @@ pub each-init : goal.each-init
 each-init c =
     let p = c.self.inside in
     let count : c.len-number.result ≡ length p.older.items = search rules in
-    passed_none p.newest p.stretch_start p.older.items p.changes.items (all_of c.args.self.now) c.len-number.result c.args.point (ap all_of c.self.view_is) count c.self.invariant c.has_all_cells.ensures.all
+    passed_none p.newest p.stretch_start p.older.items p.changes.items (all_of c.args.self.now) c.len-number.result c.args.point (ap all_of c.self.view_is) count c.self.invariant.0 c.has_all_cells.ensures.all
 
 same : (c : After-index-step) → newest_grid c.args.self.now ≡ c.self.inside.newest
 same c = sym (ap (λ (past : PastColourings). newest_grid past) c.self.view_is)

@@ -1,4 +1,4 @@
-use Rattle.std.proofs.Common.{◌≡◌, ◌≤◌, ◌++◌, [], ◌∷◌, List, length, reverse, refl, ap, sym, subst, ◌∙◌, rules}
+use Rattle.std.proofs.Common.{◌≡◌, ◌+◌, ◌≤◌, ◌++◌, [], ◌∷◌, List, length, reverse, refl, ap, sym, subst, ◌∙◌, arith, rules}
 use Rattle.std.proofs.lemmas.List.{reverse-append, take_rest}
 use Rattle.go_board.specs.declared.past.print_past.changes.Change.{Change}
 use Rattle.go_board.specs.declared.past.print_past.changes.Older.{Older}
@@ -19,43 +19,44 @@ invariant_of-self c =
     let p = c.self.inside in
     let o = c.unwrap-kept.result in
     let parts : p.older.items ≡ c.pop.new.self.items ++ o ∷ [] = search rules in
-    let less = past-pop p.newest p.stretch_start p.older.items c.pop.new.self.items o p.changes.items parts c.self.invariant in
+    let less = past-pop p.newest p.stretch_start p.older.items c.pop.new.self.items o p.changes.items parts c.self.invariant.0 in
     let board = rw (c.deref.ensures.value, take_rest p.changes.items o.start) at c.step_back.ensures in
-    rw (c.restore.ensures, board, c.truncate.ensures.items) less
+    let count : length p.older.items ≡ length c.pop.new.self.items + 1 = search rules in
+    (rw (c.restore.ensures, board, c.truncate.ensures.items) less, omega (arith, count, c.pop.ensures.capacity, c.self.invariant.1))
 
 -- the rest is only there for speed
 pub offset_bounds-deref-start : goal.offset_bounds-deref-start
 offset_bounds-deref-start c =
     let p = c.self.inside in
     let parts : p.older.items ≡ c.pop.new.self.items ++ c.unwrap-kept.result ∷ [] = search rules in
-    let low : c.unwrap-kept.result.start ≤ length c.deref.result.now = rw c.deref.ensures.value (kept-first p.newest p.older.items c.pop.new.self.items c.unwrap-kept.result p.changes.items parts c.self.invariant.kept).0 in
+    let low : c.unwrap-kept.result.start ≤ length c.deref.result.now = rw c.deref.ensures.value (kept-first p.newest p.older.items c.pop.new.self.items c.unwrap-kept.result p.changes.items parts c.self.invariant.0.kept).0 in
     search rules
 
 pub slice_bounds-step_back-count : goal.slice_bounds-step_back-count
 slice_bounds-step_back-count c =
     let p = c.self.inside in
     let parts : p.older.items ≡ c.pop.new.self.items ++ c.unwrap-kept.result ∷ [] = search rules in
-    rw c.deref.ensures.value (kept-first p.newest p.older.items c.pop.new.self.items c.unwrap-kept.result p.changes.items parts c.self.invariant.kept).0
+    rw c.deref.ensures.value (kept-first p.newest p.older.items c.pop.new.self.items c.unwrap-kept.result p.changes.items parts c.self.invariant.0.kept).0
 
 pub slice_bounds-step_back-start : goal.slice_bounds-step_back-start
 slice_bounds-step_back-start c =
     let p = c.self.inside in
     let parts : p.older.items ≡ c.pop.new.self.items ++ c.unwrap-kept.result ∷ [] = search rules in
-    let low : c.unwrap-kept.result.start ≤ length c.deref.result.now = rw c.deref.ensures.value (kept-first p.newest p.older.items c.pop.new.self.items c.unwrap-kept.result p.changes.items parts c.self.invariant.kept).0 in
+    let low : c.unwrap-kept.result.start ≤ length c.deref.result.now = rw c.deref.ensures.value (kept-first p.newest p.older.items c.pop.new.self.items c.unwrap-kept.result p.changes.items parts c.self.invariant.0.kept).0 in
     search rules
 
 pub step_back-requires-clause-point : goal.step_back-requires-clause-point
 step_back-requires-clause-point c =
     let p = c.self.inside in
     let parts : p.older.items ≡ c.pop.new.self.items ++ c.unwrap-kept.result ∷ [] = search rules in
-    (kept-first p.newest p.older.items c.pop.new.self.items c.unwrap-kept.result p.changes.items parts c.self.invariant.kept).1
+    (kept-first p.newest p.older.items c.pop.new.self.items c.unwrap-kept.result p.changes.items parts c.self.invariant.0.kept).1
 
 pub restore-requires : goal.restore-requires
 restore-requires c = λ is.
     let p = c.self.inside in
     let parts : p.older.items ≡ c.pop.new.self.items ++ c.unwrap-kept.result ∷ [] = search rules in
     let board = rw (c.deref.ensures.value, take_rest p.changes.items c.unwrap-kept.result.start) at c.step_back.ensures in
-    rw board ((kept-first p.newest p.older.items c.pop.new.self.items c.unwrap-kept.result p.changes.items parts c.self.invariant.kept).2 (sym c.is_settled.ensures ∙ is))
+    rw board ((kept-first p.newest p.older.items c.pop.new.self.items c.unwrap-kept.result p.changes.items parts c.self.invariant.0.kept).2 (sym c.is_settled.ensures ∙ is))
 
 pub returns : goal.returns
 returns c =

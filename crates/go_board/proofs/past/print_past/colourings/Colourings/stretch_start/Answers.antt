@@ -6,9 +6,9 @@ pub returns-clause-below : goal.returns-clause-below
 returns-clause-below c =
     let p = c.self.inside in
     let os = reverse p.older.items in
-    rw (← c.self.view_is) (omega (arith, length-held p.newest os p.changes.items, started-le p.stretch_start os c.self.invariant.started))
+    rw (← c.self.view_is) (omega (arith, length-held p.newest os p.changes.items, started-le p.stretch_start os c.self.invariant.0.started))
 
 pub returns-clause-start : goal.returns-clause-start
 returns-clause-start c =
     let p = c.self.inside in
-    rw (← c.self.view_is) (sym (start-newest p.newest p.stretch_start (reverse p.older.items) p.changes.items c.self.invariant.started))
+    rw (← c.self.view_is) (sym (start-newest p.newest p.stretch_start (reverse p.older.items) p.changes.items c.self.invariant.0.started))

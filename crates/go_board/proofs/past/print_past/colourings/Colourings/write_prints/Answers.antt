@@ -28,7 +28,7 @@ each-init c =
     let count : top ≡ length p.older.items = search rules in
     let end : c.len-end.result ≡ length p.changes.items = search rules in
     let there : IsThere held p.older.items p.changes.items top c.len-end.result p.stretch_start c.copy-past.result =
-    rw c.copy-past.ensures (there-newest p.newest p.stretch_start p.older.items p.changes.items held top c.len-end.result (ap all_of c.self.view_is) count end c.self.invariant) in
+    rw c.copy-past.ensures (there-newest p.newest p.stretch_start p.older.items p.changes.items held top c.len-end.result (ap all_of c.self.view_is) count end c.self.invariant.0) in
     let none : drop (top + 1) prints ≡ [] = drop_all (top + 1) prints (omega (arith, count, all, c.requires)) in
     let zero : length p.older.items - top ≡ 0 = omega (arith, count) in
     record {
