@@ -1,7 +1,7 @@
 //! Sets of points of a board: a word for each row from the top, with a bit for each column. A set has as many words as the board has rows, unless
 //! a function says otherwise.
 
-ghost use Rattle.std.specs.Prelude.{◌≡◌, ◌≤◌, ◌<◌, ◌↔◌, ◌||◌, false, not, IsTrue, length, replicate};
+ghost use Rattle.std.specs.Prelude.{◌≡◌, ◌≤◌, ◌<◌, ◌↔◌, ◌||◌, false, not, IsTrue, length, replicate, take};
 ghost use Rattle.board_points.specs.declared.points.Point.{Point};
 ghost use Rattle.board_points.specs.Point.{IsOn};
 ghost use Rattle.board_points.specs.Rows.{is_set, AreRowsOf, HasNoPoint, IsDifference, count_apart};
@@ -36,6 +36,18 @@ pub fn is_none(rows: &[u64]) -> bool
         }
     }
     true
+}
+
+/// The number of rows of a set down to the last one that has a point. It may have any number of rows.
+pub fn rows_in_use(rows: &[u64]) -> usize
+    ensures few { result ≤ length rows.now }
+    ensures same { (p : Point) → is_set (take result rows.now) p ≡ is_set rows.now p }
+{
+    let mut count = rows.len();
+    'rows: while count > 0 && rows[count - 1] == 0 {
+        count -= 1;
+    }
+    count
 }
 
 /// Writes to `others` the points of a board that aren't in `rows`. Both must have as many words as the board has rows, and fewer than 64.

@@ -1,6 +1,6 @@
 -- Changes that lead back from a colouring to the one before it.
-use Rattle.std.proofs.Common.{◌≡◌, ◌≢◌, ◌⊎◌, ◌==◌, ℕ, ◌+◌, ◌*◌, ◌<◌, inl, inr, Bool, true, false, cond, List, [], ◌∷◌, ◌++◌, length, take, drop, refl, sym, ap, subst, ◌∙◌, append_assoc, length-append, All, slice_index, arith}
-use Rattle.std.proofs.lemmas.Bool.{cases_Bool, cases_eq, false≢true}
+use Rattle.std.proofs.Common.{◌≡◌, ◌≢◌, ◌⊎◌, ◌==◌, ℕ, ◌+◌, ◌*◌, ◌<◌, ◌≤◌, inl, inr, Bool, true, false, cond, List, [], ◌∷◌, ◌++◌, length, take, drop, refl, sym, ap, subst, ◌∙◌, append_assoc, length-append, All, slice_index, arith}
+use Rattle.std.proofs.lemmas.Bool.{cases_lt, cases_Bool, cases_eq, false≢true}
 use Rattle.std.proofs.lemmas.Bool.Decides.{Decides-eqb}
 use Rattle.std.proofs.lemmas.List.{append-nil, take-append-drop, length-set}
 use Rattle.std.proofs.lemmas.List.Elements.{All-nil, All-push, All-head, All-tail, All-weaker}
@@ -236,6 +236,19 @@ module _ {old new : Grid} {all : Bool} {row : ℕ} {a b : List Change} (h : Keep
       | inr other ↦ h.each r (omega (arith, low, other))
     ];
   }
+
+-- rows that stay as they are needn't be kept
+pub kept_rest : {old new : Grid} {all : Bool} {row : ℕ} {a b : List Change} → KeepRows old new all row a b → (count : ℕ) → row ≤ count → ((r : ℕ) → row ≤ r → r < count → (all ≡ false) × IsSameRow old new r) → KeepRows old new all count a b
+kept_rest {row = row} h count high same = record {
+  more = h.more;
+  added = h.added;
+  are = h.are;
+  few = omega (arith, h.few, high);
+  each = λ r low. elim (cases_lt r row) [
+    | inl before ↦ h.each r before
+    | inr rest ↦ inr (same r rest low)
+  ];
+}
 
 -- a row that has neither the stone nor what it takes off
 pub row_kept : (g : Grid) (k : Colour) (p : Point) (taken : List ℕ) (row : ℕ) → IsMove g k p taken → row < g.side → row ≢ p.row → slice_index taken row ≡ 0 → IsSameRow g (play g k p) row

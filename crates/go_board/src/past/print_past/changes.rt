@@ -1,6 +1,6 @@
 //! What leads back from a colouring to the one before it: the point of a stone that was put, or rows.
 
-ghost use Rattle.std.specs.Prelude.{◌≡◌, ◌≢◌, ◌+◌, ◌<◌, ◌≤◌, IsTrue, IsFalse, length, slice_index};
+ghost use Rattle.std.specs.Prelude.{◌≡◌, ◌≢◌, ◌+◌, ◌<◌, ◌≤◌, ℕ, IsTrue, IsFalse, length, slice_index};
 ghost use Rattle.std.specs.Vec.{vec_capacity};
 ghost use Rattle.go_board.specs.declared.stones.Colour.{Colour};
 ghost use Rattle.go_board.specs.Clearing.{play};
@@ -178,17 +178,31 @@ pub(crate) fn keep_played(
     all: bool,
     changes: &mut Vec<Change>,
 )
+    requires stone { (colour : Colour) × IsMove board.now colour point taken.now }
     requires room { length changes.old.items + board.now.side ≤ vec_capacity changes.old }
     ensures { (colour : Colour) → IsMove board.now colour point taken.now
         → KeepRows board.now (play board.now colour point) all board.now.side changes.old.items changes.new.items }
 {
     board.has_all_cells();
-    for row in 0..board.size().side() {
+    for row in 0..rows_to_keep(board.size().side(), point, taken, all) {
         let apart = all | may_change(row, point, taken);
         if apart {
             keep_row(board, row, changes);
         }
     }
+}
+
+/// The number of rows among which are all that a stone may change; all rows if `all` is true.
+fn rows_to_keep(side: u8, point: Point, taken: &[u64], all: bool) -> u8
+    requires row { point.row < side }
+    requires few { length taken.now ≤ side }
+    ensures few { result ≤ side }
+    ensures rest { (row : ℕ) → result ≤ row → row < side → IsFalse all × (row ≢ point.row) × (slice_index taken.now row ≡ 0) }
+{
+    if all {
+        return side;
+    }
+    (taken.len() as u8).max(point.row + 1)
 }
 
 /// Whether a stone may change a row; `taken` is what the stone takes off.

@@ -18,6 +18,7 @@ use crate::past::print_past::changes::{
 };
 use crate::past::print_past::print::{has_point, print_of};
 use crate::stones::{Cell, Colour};
+use board_points::rows::rows_in_use;
 use board_points::{MAX_ROWS, Point};
 use std::alloc::Global;
 use std::marker::Model;
@@ -267,7 +268,7 @@ impl Colourings {
     }
 
     /// What a stone on an empty point takes off, by capture or else by suicide (`Board::find_taken`); None if that is nothing. The rows
-    /// are written to `words`, which must be 0.
+    /// are written to `words`, which must be 0. Those below the last stone that is taken off are left out.
     pub(crate) fn find_taken<'a>(
         &mut self,
         colour: Colour,
@@ -282,7 +283,7 @@ impl Colourings {
     {
         let taken = &mut words[..usize::from(self.newest.size().side())];
         if self.newest.find_taken(colour, point, taken) {
-            Some(taken)
+            Some(&taken[..rows_in_use(taken)])
         } else {
             None
         }

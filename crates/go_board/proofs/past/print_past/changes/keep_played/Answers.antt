@@ -1,8 +1,7 @@
-use Rattle.std.proofs.Common.{◌≡◌, ◌<◌, ◌∷◌, [], length, length-append, subst, ap, arith}
+use Rattle.std.proofs.Common.{◌≡◌, ◌<◌, ◌∷◌, [], length, length-append, ap, arith}
 use Rattle.std.proofs.lemmas.Bool.{or_parts}
 use Rattle.go_board.specs.Clearing.{play}
-use Rattle.go_board.specs.inner.Changes.{KeepRows}
-use Rattle.go_board.proofs.ChangesLemmas.{kept_none, kept_more, kept_same, row_kept}
+use Rattle.go_board.proofs.ChangesLemmas.{kept_none, kept_more, kept_same, kept_rest, row_kept}
 use Rattle.go_board.proofs.past.print_past.changes.keep_played.Goals as goal
 use Rattle.go_board.proofs.past.print_past.changes.keep_played.Goals.{then-apart, else-apart}
 
@@ -15,7 +14,7 @@ loop-row-init c = record {
 pub loop-row-preserved : goal.loop-row-preserved
 loop-row-preserved c =
     let was = c.loop-row.invariant in
-    let low : c.loop-row.row < c.args.board.now.side = omega arith in
+    let low : c.loop-row.row < c.args.board.now.side = omega (arith, c.rows_to_keep-row-end.ensures.few) in
     elim c.if-apart.branch [
       | then-apart w ↦
           let adds = w.keep_row.ensures.row in
@@ -34,5 +33,8 @@ loop-row-preserved c =
 
 pub returns : goal.returns
 returns c = λ k move.
-    let all : c.loop-row.row ≡ c.args.board.now.side = omega arith in
-    subst (λ n. KeepRows c.args.board.now (play c.args.board.now k c.args.point) c.args.all n c.args.changes.now.items c.loop-row.changes.items) all (c.loop-row.invariant.kept k move)
+    let g = c.args.board.now in
+    let all : c.loop-row.row ≡ c.rows_to_keep-row-end.result = omega arith in
+    kept_rest (c.loop-row.invariant.kept k move) g.side (omega (arith, all, c.rows_to_keep-row-end.ensures.few))
+    (λ r rest low. let still = c.rows_to_keep-row-end.ensures.rest r (omega (arith, rest, all)) (omega (arith, low)) in
+    (still.0, row_kept g k c.args.point c.args.taken.now r move low still.1 still.2))
