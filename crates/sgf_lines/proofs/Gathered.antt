@@ -14,6 +14,7 @@ use Rattle.sgf_tree.specs.Tree.{Property, Node, values, lone_property, told_prop
 use Rattle.sgf_tree.specs.declared.walk.NextNode.{NextNode}
 use Rattle.sgf_tree.specs.declared.walk.NextNode.TheVariants.{Led, Empty as EmptyNode, Open}
 use Rattle.sgf_tree.specs.Lead.{IsOtherName, IsLedBy}
+use Rattle.sgf_tree.specs.Walk.{IsTakenOff}
 use Rattle.go_board.specs.declared.stones.Colour.{Colour}
 use Rattle.go_board.specs.declared.stones.Cell.{Cell}
 use Rattle.board_points.specs.declared.points.Rect.{Rect}
@@ -228,8 +229,14 @@ setup_names = codes "AB" ∷ codes "AW" ∷ codes "AE" ∷ codes "PL" ∷ []
 other_kind : (p : Property) → IsOtherName setup_names p.name → kind_of p ≡ None
 other_kind p other = first_of (search rules, grind (arith, common_steps, bytes_eq-Decides, false_from_ne_true))
 
-pub led_alone : (first : Property) (properties : List Property) → IsLedBy setup_names first properties → HoldsAlone first properties
+led_alone : (first : Property) (properties : List Property) → IsLedBy setup_names first properties → HoldsAlone first properties
 led_alone first properties led = first_of (search rules, grind (arith, common_steps, All-weaker, other_kind))
+
+-- a node that was taken off
+pub comes : (node : Node) (left : List Property) (next : NextNode) → IsTakenOff setup_names node left next → ComesAs node left next
+comes node left (Led place letter value) is = (is.0, led_alone (lone_property letter value.now) node.properties is.1)
+comes node left (EmptyNode place) is = (is.0, is.1)
+comes node left (Open place front) is = is
 
 -- there is a node that comes so
 pub coming : (left : List Property) (next : NextNode) → (node : Node) × ComesAs node left next

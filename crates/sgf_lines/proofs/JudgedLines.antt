@@ -1,103 +1,160 @@
--- How many nodes are judged of a front of a line, and of the whole.
-use Rattle.std.proofs.Common.{◌≡◌, ℕ, ◌+◌, ◌-◌, ◌≤◌, List, [], ◌∷◌, refl, length, min, take, drop, ◌++◌, slice_get, Some, Result, Ok, Err, OnOk, sym, ap, subst, ◌∙◌, arith, rules}
-use Rattle.std.proofs.lemmas.Grind.{common_steps}
+-- A judge goes on by the nodes of a line, and how many of them are judged.
+use Rattle.std.proofs.Common.{◌≡◌, ℕ, ◌+◌, ◌≤◌, List, [], ◌∷◌, length, min, take, drop, ◌++◌, refl, slice_get, Some, None, Result, Ok, Err, OnOk, sym, ap, subst, ◌∙◌, arith, length-append, append-nil, append_assoc}
+use Rattle.std.proofs.Math.Seq.{take-append_seam}
+use Rattle.std.proofs.lemmas.List.{length-take, length-take-le, take-append-drop}
 use Rattle.std.specs.Result.{IsErr}
-use Rattle.std.proofs.lemmas.List.{take_all, take-append-drop, length-take}
 use Rattle.sgf_tree.specs.Tree.{Node}
+use Rattle.go_board.specs.Grid.{Grid}
+use Rattle.sgf_lines.specs.declared.judging.step.TakenStep.{TakenStep}
 use Rattle.sgf_lines.specs.JudgedGames.{GameKind, game_kind, root_properties}
 use Rattle.sgf_lines.specs.Walk.{TakenNode, taken_on}
 use Rattle.sgf_lines.specs.Verdict.{judged_on}
-use Rattle.sgf_lines.specs.inner.Judging.{Judging, IsSettled, begun_game, judging, after, next_plays}
-use Rattle.sgf_lines.specs.inner.Keeping.{HoldsJudgement, HoldsTaken, judging_front, taken_front, fresh_plays, PlaysUpTo}
-use Rattle.tree_lines.proofs.Lists.{front_more}
+use Rattle.sgf_lines.specs.inner.Judging.{Judging, IsSettled, IsStepTaken, IsTakenFrom, after, begun_game, board_in, judging, next_plays, state_after}
+use Rattle.sgf_lines.specs.inner.Keeping.{HasJudged, PlaysUpTo, WentOn, fresh_plays, plays_for}
+use Rattle.sgf_lines.proofs.Judgements.{judging_more, plays_more, settled_all, settled_by}
+use Rattle.sgf_lines.proofs.Keeping.{judging_front}
+use Rattle.sgf_lines.proofs.TakenNodes.{is_taken, taken_settled, told_last, untaken}
 use Rattle.sgf_lines.proofs.Walking.{judged_of_front}
-use Rattle.sgf_lines.proofs.TakenNodes.{taken_settled}
-use Rattle.sgf_lines.proofs.Judgements.{judging_more, plays_more, settled_all, one_at_most}
-
--- how many nodes of a line are judged
-abbrev judged_count : List Node → ℕ
-judged_count nodes = length (judged_on (game_kind (root_properties nodes)) nodes)
-
-front_count : (nodes : List Node) (k : ℕ) → length (judged_on (game_kind (root_properties nodes)) (take k nodes)) ≡ min k (judged_count nodes)
-front_count nodes k =
-    let kind = game_kind (root_properties nodes) in ap length (sym (judged_of_front kind nodes k)) ∙ length-take k (judged_on kind nodes)
-
--- a judge stands after the first `i` nodes of a line, and plays went from `old` by those of them after the first `held`
-pub record JudgesTo (nodes : List Node) (held old i : ℕ) (judge : Judging) : Type 0 where
-  pub judged : judge.judgement ≡ judging_front nodes i
-  pub plays : judge.plays ≡ old + (min i (judged_count nodes) - held)
-  pub few : judge.plays + held ≤ old + i
-
-pub judges_begun : (nodes : List Node) (held old : ℕ) (judge : Judging) → judge.judgement ≡ judging_front nodes held → judge.plays ≡ old → JudgesTo nodes held old held judge
-judges_begun nodes held old judge is plays = record { judged = is; plays = omega (arith, plays); few = omega (arith, plays) }
 
 -- the judgement before the root is that of its game
 pub begun_front : (nodes : List Node) (root : Node) (held : ℕ) → slice_get nodes 0 ≡ Some root → held ≡ 0 → begun_game (game_kind root.properties) ≡ judging_front nodes held
 begun_front [] root held e none = absurd cc
 begun_front (n ∷ ns) root held e none = let same : n ≡ root = cc in rw (none, same) refl
 
-module _ (nodes : List Node) (held old i : ℕ) (judge : Judging) (h : JudgesTo nodes held old i judge) (le : held ≤ i) (n : Node) (at : slice_get nodes i ≡ Some n) where
-  judging_next : after judge.judgement n ≡ judging_front nodes (i + 1)
-  judging_next =
-      ap (λ j. after j n) h.judged ∙ sym (judging_more (game_kind (root_properties nodes)) (take i nodes) n) ∙ ap (judging (game_kind (root_properties nodes))) (sym (front_more nodes i n at))
+module _ (kind : GameKind) where
+  abbrev judged_count : List Node → ℕ
+  judged_count nodes = length (judged_on kind nodes)
 
-  plays_next : min (i + 1) (judged_count nodes) ≡ min i (judged_count nodes) + next_plays judge.judgement
-  plays_next =
-      let kind = game_kind (root_properties nodes) in
-      sym (front_count nodes (i + 1)) ∙ ap (λ ns. length (judged_on kind ns)) (front_more nodes i n at) ∙ plays_more kind (take i nodes) n
-      ∙ ap (λ k. k + next_plays (judging_front nodes i)) (front_count nodes i) ∙ ap (λ j. min i (judged_count nodes) + next_plays j) (sym h.judged)
+  -- the first nodes of a line are judged as far as the line is
+  judged_first : (front rest : List Node) → judged_count front ≡ min (length front) (judged_count (front ++ rest))
+  judged_first front rest =
+      ap judged_count (sym (take-append_seam front rest)) ∙ ap length (sym (judged_of_front kind (front ++ rest) (length front))) ∙ length-take (length front) (judged_on kind (front ++ rest))
 
-  -- one node more
-  pub judges_on : (new : Judging) → new.judgement ≡ after judge.judgement n → new.plays ≡ judge.plays + next_plays judge.judgement → JudgesTo nodes held old (i + 1) new
-  judges_on new is plays = record {
-    judged = is ∙ judging_next;
-    plays = omega (arith, plays, h.plays, plays_next, le, one_at_most judge.judgement);
-    few = omega (arith, plays, h.few, one_at_most judge.judgement);
-  }
+  -- no more than there are
+  few : (before nodes : List Node) → plays_for kind before nodes ≤ length nodes
+  few before nodes = omega (arith, judged_first before nodes, judged_first (before ++ nodes) [], length-append before nodes)
 
-  -- or none, or its play alone, for want of memory
-  pub stopped : {A E : Type 0} (r : Result A E) → IsErr r → (new : ℕ) → judge.plays ≤ new → new ≤ judge.plays + next_plays judge.judgement → PlaysUpTo old new (fresh_plays nodes held) r
-  stopped (Ok x) is new more less = absurd cc
-  stopped (Err e) is new more less = record { not_fewer = omega (arith, h.plays, more); not_more = omega (arith, h.plays, less, plays_next, le, one_at_most judge.judgement); each = tt }
+  plays_sum : (before nodes more : List Node) → plays_for kind before (nodes ++ more) ≡ plays_for kind before nodes + plays_for kind (before ++ nodes) more
+  plays_sum before nodes more =
+      omega (arith, judged_first before nodes, judged_first (before ++ nodes) more, ap judged_count (append_assoc before nodes more))
 
 -- as much was counted, whatever came of the rest
-pub on_any : {A E : Type 0} {P : Type 0} (r : Result A E) → P → OnOk r P
+on_any : {A E : Type 0} {P : Type 0} (r : Result A E) → P → OnOk r P
 on_any (Ok x) p = p
 on_any (Err e) p = tt
 
--- no node more is judged than the first `i`, and the judgement and the taken nodes stay
-module _ (nodes : List Node) (held old i : ℕ) (judge : Judging) (h : JudgesTo nodes held old i judge) where
-  pub record IsWhole : Type 0 where
-    pub judged : judging_front nodes (length nodes) ≡ judging_front nodes i
-    pub taken : taken_on (game_kind (root_properties nodes)) nodes ≡ taken_front nodes i
-    pub count : judged_count nodes ≡ min i (judged_count nodes)
+on_none : {A E : Type 0} (P : Type 0) (r : Result A E) → IsErr r → OnOk r P
+on_none P (Ok x) is = absurd cc
+on_none P (Err e) is = tt
 
-  -- all nodes
-  pub all_whole : length nodes ≤ i → IsWhole
-  all_whole past = first_of (search rules, grind (arith, common_steps, front_count, take_all))
+-- a judge went on by the first of these nodes, and the rest of them is left
+pub record Going (holds : GameKind → List TakenNode → Type 0) (kind : GameKind) (before all rest : List Node) (old : ℕ) (judge : Judging) : Type 0 where
+  pub done : List Node
+  pub whole : done ++ rest ≡ all
+  pub on : WentOn holds kind before done old judge
 
-  -- a verdict that is known
-  pub settled_whole : IsSettled judge.judgement → IsWhole
-  settled_whole settled =
-      let kind = game_kind (root_properties nodes) in
-      let stays = subst IsSettled h.judged settled in
-      let on = settled_all kind (take i nodes) (drop i nodes) stays in
-      let parts : nodes ≡ take i nodes ++ drop i nodes = sym (take-append-drop i nodes) in
-      let all = take_all (length nodes) nodes (omega arith) ∙ parts in
+-- before the first of them
+pub starts : {holds : GameKind → List TakenNode → Type 0} {kind : GameKind} {before : List Node} (all rest : List Node) (old : ℕ) (judge : Judging) → HasJudged holds kind before judge.judgement → judge.plays ≡ old
+    → rest ≡ all → Going holds kind before all rest old judge
+starts {holds} {kind} {before} all rest old judge has plays is = record {
+  done = [];
+  whole = is;
+  on = record {
+    has_judged = subst (λ nodes. HasJudged holds kind nodes judge.judgement) (sym (append-nil before)) has;
+    plays = omega (arith, plays, few kind before []);
+  };
+}
+
+module _ {holds : GameKind → List TakenNode → Type 0} {kind : GameKind} {before all rest : List Node} {old : ℕ} {judge : Judging} (h : Going holds kind before all rest old judge) where
+  pub countable : judge.plays + length rest ≤ old + length all
+  countable = omega (arith, h.on.plays, few kind before h.done, ap length h.whole, length-append h.done rest)
+
+  -- none is left
+  pub ends : rest ≡ [] → WentOn holds kind before all old judge
+  ends none = subst (λ nodes. WentOn holds kind before nodes old judge) (sym (append-nil h.done) ∙ ap (λ nodes. h.done ++ nodes) (sym none) ∙ h.whole) h.on
+
+  -- or the rest changes nothing, since the verdict is known
+  pub settles : IsSettled judge.judgement → WentOn holds kind before all old judge
+  settles settled =
+      let nodes = before ++ h.done in
+      let known = subst IsSettled h.on.has_judged.judged settled in
+      let on = settled_all kind nodes rest known in
+      let same : before ++ all ≡ nodes ++ rest = ap (λ nodes. before ++ nodes) (sym h.whole) ∙ sym (append_assoc before h.done rest) in
       record {
-        judged = ap (judging kind) all ∙ on.0;
-        taken = ap (taken_on kind) parts ∙ taken_settled kind (take i nodes) (drop i nodes) stays;
-        count = ap (λ ns. length (judged_on kind ns)) parts ∙ on.1 ∙ front_count nodes i;
+        has_judged = record {
+          judged = h.on.has_judged.judged ∙ sym (ap (judging kind) same ∙ on.0);
+          taken = subst (holds kind) (sym (ap (taken_on kind) same ∙ taken_settled kind nodes rest known)) h.on.has_judged.taken;
+        };
+        plays = omega (arith, h.on.plays, ap (judged_count kind) same, on.1);
       }
 
-  pub finish : IsWhole → (tells : GameKind → List TakenNode → Type 0) → tells (game_kind (root_properties nodes)) (taken_front nodes i) → {A E : Type 0} (r : Result A E)
-      → record {
-        judged : OnOk r (HoldsJudgement nodes judge.judgement);
-        told : OnOk r (HoldsTaken tells nodes);
-        plays : PlaysUpTo old judge.plays (fresh_plays nodes held) r;
-      }
-  finish whole tells is r = record {
-    judged = on_any r (h.judged ∙ sym whole.judged);
-    told = on_any r (subst (tells (game_kind (root_properties nodes))) (sym whole.taken) is);
-    plays = record { not_fewer = omega (arith, h.plays); not_more = omega (arith, h.plays, whole.count); each = on_any r (omega (arith, h.plays, whole.count)) };
+  module _ (more others : List Node) (is : rest ≡ more ++ others) where
+    whole : (h.done ++ more) ++ others ≡ all
+    whole = append_assoc h.done more others ∙ ap (λ nodes. h.done ++ nodes) (sym is) ∙ h.whole
+
+    -- the judge goes on by more of them
+    pub goes_on : (tells : GameKind → List TakenNode → Type 0) (new : Judging) → WentOn tells kind (before ++ h.done) more judge.plays new → Going tells kind before all others old new
+    goes_on tells new on = record {
+      done = h.done ++ more;
+      whole = whole;
+      on = record {
+        has_judged = subst (λ nodes. HasJudged tells kind nodes new.judgement) (append_assoc before h.done more) on.has_judged;
+        plays = omega (arith, on.plays, h.on.plays, plays_sum kind before h.done more);
+      };
+    }
+
+    -- or by some of these, for want of memory
+    pub stops : (new : ℕ) → (judge.plays ≤ new) × (new ≤ judge.plays + plays_for kind (before ++ h.done) more) → (old ≤ new) × (new ≤ old + plays_for kind before all)
+    stops new up = (
+      omega (arith, h.on.plays, up.0),
+      omega (arith, h.on.plays, up.1, plays_sum kind before h.done more, plays_sum kind before (h.done ++ more) others, ap (plays_for kind before) whole),
+    )
+
+-- by one node
+module _ {holds : GameKind → List TakenNode → Type 0} {kind : GameKind} {before all rest : List Node} {old : ℕ} {judge : Judging} (h : Going holds kind before all rest old judge)
+    (node : Node) (others : List Node) (is : rest ≡ node ∷ others) (new : Judging) (judged : new.judgement ≡ after judge.judgement node) (plays : new.plays ≡ judge.plays + next_plays judge.judgement) where
+  by_node : (tells : GameKind → List TakenNode → Type 0) → tells kind (taken_on kind ((before ++ h.done) ++ node ∷ [])) → Going tells kind before all others old new
+  by_node tells told =
+      let nodes = before ++ h.done in
+      goes_on h (node ∷ []) others is tells new (record {
+        has_judged = record { judged = judged ∙ ap (λ j. after j node) h.on.has_judged.judged ∙ sym (judging_more kind nodes node); taken = told };
+        plays = omega (arith, plays, plays_more kind nodes node, ap next_plays h.on.has_judged.judged);
+      })
+
+  -- which wasn't taken
+  pub refuses : state_after judge.judgement node ≡ None → WentOn holds kind before all old new
+  refuses none =
+      settles (by_node holds (subst (holds kind) (untaken kind (before ++ h.done) node judge.judgement h.on.has_judged.judged none) h.on.has_judged.taken)) (rw judged (settled_by judge.judgement node none))
+
+  -- or whose step wasn't told, for want of memory
+  pub unsaid : (old ≤ new.plays) × (new.plays ≤ old + plays_for kind before all)
+  unsaid = stops (by_node (λ _ _. Unit {0}) tt) [] others refl new.plays (omega arith, omega arith)
+
+  -- or whose step was told
+  module _ (step : TakenStep) (grid : Grid) (taken : IsTakenFrom judge.judgement node (Some step)) (there : Some grid ≡ board_in new.judgement) where
+    abbrev pub taken_node : TakenNode
+    taken_node = record { node = node; after = taken.0 }
+
+    pub step_taken : IsStepTaken kind grid step taken_node
+    step_taken = is_taken kind (before ++ h.done) node judge.judgement h.on.has_judged.judged step grid taken (there ∙ ap board_in judged)
+
+    pub said : (tells : GameKind → List TakenNode → Type 0) → tells kind (taken_on kind (before ++ h.done) ++ taken_node ∷ []) → Going tells kind before all others old new
+    said tells told = by_node tells (subst (tells kind) (told_last kind (before ++ h.done) node judge.judgement h.on.has_judged.judged taken.0 taken.1) told)
+
+-- a line was judged, whose front was judged before
+module _ (nodes : List Node) (held : ℕ) (le : held ≤ length nodes) {A E : Type 0} (r : Result A E) where
+  abbrev kind_of : GameKind
+  kind_of = game_kind (root_properties nodes)
+
+  fresh : plays_for kind_of (take held nodes) (drop held nodes) ≡ fresh_plays nodes held
+  fresh = omega (arith, judged_first kind_of (take held nodes) (drop held nodes), ap (judged_count kind_of) (take-append-drop held nodes), length-take-le held nodes le)
+
+  pub finish : (tells : GameKind → List TakenNode → Type 0) (old : ℕ) (judge : Judging) → WentOn tells kind_of (take held nodes) (drop held nodes) old judge
+      → record { judged : OnOk r (HasJudged tells kind_of nodes judge.judgement); plays : PlaysUpTo old judge.plays (fresh_plays nodes held) r }
+  finish tells old judge on = record {
+    judged = on_any r (subst (λ ns. HasJudged tells kind_of ns judge.judgement) (take-append-drop held nodes) on.has_judged);
+    plays = record { not_fewer = omega (arith, on.plays); not_more = omega (arith, on.plays, fresh); each = on_any r (omega (arith, on.plays, fresh)) };
   }
+
+  pub stopped : (old new : ℕ) → IsErr r → (old ≤ new) × (new ≤ old + plays_for kind_of (take held nodes) (drop held nodes)) → PlaysUpTo old new (fresh_plays nodes held) r
+  stopped old new is up = record { not_fewer = up.0; not_more = omega (arith, up.1, fresh); each = on_none _ r is }

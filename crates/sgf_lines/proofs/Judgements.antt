@@ -208,6 +208,9 @@ plays_more (board side) nodes node =
 settled_stays : (j : Judgement) (node : Node) → IsSettled j → after j node ≡ j
 settled_stays j node known = first_of (search rules, grind (arith, common_steps))
 
+pub settled_by : (j : Judgement) (node : Node) → state_after j node ≡ None → IsSettled (after j node)
+settled_by j node none = first_of (search rules, grind (arith, common_steps))
+
 pub settled_none : (j : Judgement) (node : Node) → IsSettled j → (state_after j node ≡ None) × (next_plays j ≡ 0)
 settled_none j node known = first_of (search rules, grind (arith, common_steps))
 
@@ -226,9 +229,6 @@ settled_all kind nodes (n ∷ ns) h =
     )
 
 -- what a judge says of one node more
-pub one_at_most : (j : Judgement) → next_plays j ≤ 1
-one_at_most j = first_of (search rules, grind (arith, common_steps))
-
 module _ (ended : Option Verdict) (referee : Option States) (r : States) (plays : ℕ) (now : Judging) (view : record { judgement = judgement_of ended referee; plays = plays } ≡ now) (is : referee ≡ Some r) where
   stood : now.judgement ≡ judged r ended
   stood = sym (ap (λ (j : Judging). j.judgement) view) ∙ ap (judgement_of ended) is

@@ -1,7 +1,7 @@
 -- What is held of a line is kept of the next one, as far as it begins alike.
 use Rattle.std.proofs.Common.{◌≡◌, ℕ, suc, ◌+◌, ◌-◌, ◌<◌, ◌≤◌, List, [], ◌∷◌, length, take, map, slice_get, Option, Some, refl, sym, ap, subst, inl, inr, ◌∙◌, arith, add-one, length-append, rules}
 use Rattle.std.proofs.lemmas.Grind.{common_steps}
-use Rattle.std.proofs.lemmas.List.{take-map, take_all, length-take-le}
+use Rattle.std.proofs.lemmas.List.{take-map, length-take-le}
 use Rattle.std.proofs.lemmas.List.FromFn.{length-range_with_len}
 use Rattle.sgf_tree.specs.Tree.{Node}
 use Rattle.sgf_tree.specs.FileOrder.{node_at}
@@ -10,11 +10,11 @@ use Rattle.sgf_lines.specs.Cursor.{CursorState, advanced}
 use Rattle.sgf_lines.specs.JudgedGames.{GameKind, game_kind, root_properties}
 use Rattle.sgf_lines.specs.Walk.{TakenNode, taken_on}
 use Rattle.tree_lines.specs.declared.sequence_cursor.Front.{Front}
-use Rattle.sgf_lines.specs.inner.Judging.{Judgement, back}
+use Rattle.sgf_lines.specs.inner.Judging.{Judgement, back, judging}
 use Rattle.sgf_lines.specs.inner.Pieces.{PiecesState, cut}
 use Rattle.sgf_lines.specs.inner.Recording.{open_record, whole_record}
 use Rattle.tree_lines.specs.Following.{Continues, line_in, line_before, nodes_before, path_before}
-use Rattle.sgf_lines.specs.inner.Keeping.{judging_front, taken_front, HoldsJudgement, HoldsTaken}
+use Rattle.sgf_lines.specs.inner.Keeping.{HoldsLine}
 use Rattle.tree_lines.specs.Sequences.{SequencesState, RiseTo, SharesFront}
 use Rattle.sgf_lines.specs.inner.Fronts.{sequences_before, HasFront}
 use Rattle.sgf_lines.specs.inner.GoingOn.{IsHeldOf}
@@ -23,6 +23,13 @@ use Rattle.tree_lines.proofs.Fronts.{end_of, alike, front_kept}
 use Rattle.sgf_lines.proofs.Judgements.{judging_back, taken_cut}
 use Rattle.tree_lines.proofs.LineNodes.{named_in, as_long}
 use Rattle.sgf_lines.proofs.Recordings.{record_back}
+
+-- the judgement on a line after its first nodes, and the taken ones of them
+abbrev pub judging_front : List Node → ℕ → Judgement
+judging_front nodes count = judging (game_kind (root_properties nodes)) (take count nodes)
+
+abbrev pub taken_front : List Node → ℕ → List TakenNode
+taken_front nodes count = taken_on (game_kind (root_properties nodes)) (take count nodes)
 
 -- a judgement can be cut back to the first `count` of a line's nodes; if `count` is 0, nothing is known
 abbrev pub KeepsJudgement : List Node → ℕ → Judgement → Type 0
@@ -52,13 +59,11 @@ module _ (old nodes : List Node) (count : ℕ) (some : 0 < count) (within : coun
   kinds : game_kind (root_properties old) ≡ game_kind (root_properties nodes)
   kinds = ap game_kind (same_root count old nodes some within same)
 
-  whole : take (length old) old ≡ old
-  whole = take_all (length old) old (omega arith)
+  judged_same : (judgement : Judgement) → judgement ≡ judging (game_kind (root_properties old)) old → back count judgement ≡ judging_front nodes count
+  judged_same judgement h = first_of (search rules, grind (arith, common_steps, judging_back, kinds))
 
-  judged_same : (judgement : Judgement) → HoldsJudgement old judgement → back count judgement ≡ judging_front nodes count
-  judged_same judgement h = first_of (search rules, grind (arith, common_steps, judging_back, kinds, whole))
-
-  taken_same : (keeps : GameKind → List TakenNode → Type 0) → HoldsTaken keeps old → (taken : List TakenNode) × keeps (game_kind (root_properties nodes)) taken × (take count taken ≡ taken_front nodes count)
+  taken_same : (keeps : GameKind → List TakenNode → Type 0) → keeps (game_kind (root_properties old)) (taken_on (game_kind (root_properties old)) old)
+      → (taken : List TakenNode) × keeps (game_kind (root_properties nodes)) taken × (take count taken ≡ taken_front nodes count)
   taken_same keeps h =
       let kind = game_kind (root_properties old) in
       let taken = taken_on kind old in (
@@ -113,17 +118,18 @@ module _ (holds : SequencesState → Type 0) (cursor : SequencesState) (front : 
   some_front : 0 < front.nodes → 0 < front.sequences
   some_front known = first_of (search rules, grind (arith, common_steps))
 
-  pub judgement_kept : (j : Judgement) → ((old : SequencesState) → holds old → HoldsJudgement (nodes_before old.at) j) → KeepsJudgement (nodes_before cursor.at) front.nodes j
-  judgement_kept j of some =
-      by_old (back front.nodes j ≡ judging_front (nodes_before cursor.at) front.nodes) (some_front some) (λ old h moved shares.
-      judged_same (nodes_before old.at) (nodes_before cursor.at) front.nodes some (within_old old.at cursor.at front.nodes moved shares.nodes)
-      (same_nodes old.at cursor.at front.nodes moved shares.nodes) j (of old h))
+  module _ (keeps : GameKind → List TakenNode → Type 0) (j : Judgement) (of : (old : SequencesState) → holds old → HoldsLine keeps j old) where
+    pub judgement_kept : KeepsJudgement (nodes_before cursor.at) front.nodes j
+    judgement_kept some =
+        by_old (back front.nodes j ≡ judging_front (nodes_before cursor.at) front.nodes) (some_front some) (λ old h moved shares.
+        judged_same (nodes_before old.at) (nodes_before cursor.at) front.nodes some (within_old old.at cursor.at front.nodes moved shares.nodes)
+        (same_nodes old.at cursor.at front.nodes moved shares.nodes) j (of old h).judged)
 
-  pub taken_kept : (keeps : GameKind → List TakenNode → Type 0) → ((old : SequencesState) → holds old → HoldsTaken keeps (nodes_before old.at)) → KeepsTaken keeps (nodes_before cursor.at) front.nodes
-  taken_kept keeps of some =
-      let nodes = nodes_before cursor.at in
-      by_old ((taken : List TakenNode) × keeps (game_kind (root_properties nodes)) taken × (take front.nodes taken ≡ taken_front nodes front.nodes)) (some_front some) (λ old h moved shares.
-      taken_same (nodes_before old.at) nodes front.nodes some (within_old old.at cursor.at front.nodes moved shares.nodes) (same_nodes old.at cursor.at front.nodes moved shares.nodes) keeps (of old h))
+    pub taken_kept : KeepsTaken keeps (nodes_before cursor.at) front.nodes
+    taken_kept some =
+        let nodes = nodes_before cursor.at in
+        by_old ((taken : List TakenNode) × keeps (game_kind (root_properties nodes)) taken × (take front.nodes taken ≡ taken_front nodes front.nodes)) (some_front some) (λ old h moved shares.
+        taken_same (nodes_before old.at) nodes front.nodes some (within_old old.at cursor.at front.nodes moved shares.nodes) (same_nodes old.at cursor.at front.nodes moved shares.nodes) keeps (of old h).taken)
 
   pub record_kept : (game : PiecesState) → ((old : SequencesState) → holds old → game ≡ whole_record (sequences_before old)) → RiseTo 0 cursor.ends (length (nodes_before cursor.at))
       → 0 < front.sequences → cut (front.sequences + 1) game ≡ open_record (take front.sequences (sequences_before cursor))

@@ -10,7 +10,6 @@ pub mod Steps
 pub mod Gathered
 pub mod Judgements
 pub mod PieceTexts
-pub mod NodesToCome
 pub mod Recordings
 pub mod TakenNodes
 pub mod Scripts

@@ -3,7 +3,6 @@ use Rattle.std.proofs.Common.{◌≡◌, ℕ, ◌<◌, List, ◌++◌, length, O
 use Rattle.std.proofs.lemmas.Grind.{common_steps}
 use Rattle.std.specs.Prelude.{option_map, codes, Result, Ok, Err, IfOk}
 use Rattle.std.specs.List.{concat}
-use Rattle.std.proofs.lemmas.List.{take_all}
 use Rattle.sgf_tree.specs.Tree.{Node, Games, node_count}
 use Rattle.sgf_lines.specs.Lines.{Line}
 use Rattle.sgf_lines.specs.Record.{record_of, sgf_record}
@@ -23,7 +22,7 @@ use Rattle.sgf_lines.specs.inner.Pieces.{PiecesState}
 use Rattle.sgf_lines.specs.inner.Recording.{whole_record}
 use Rattle.sgf_lines.specs.inner.Scripting.{ScriptState, script_of, script_text}
 use Rattle.tree_lines.specs.Sequences.{RiseTo, SequencesState, sequences_of}
-use Rattle.sgf_lines.specs.inner.Keeping.{HoldsJudgement, HoldsTaken, IsRecord, judging_front}
+use Rattle.sgf_lines.specs.inner.Keeping.{IsRecord}
 use Rattle.sgf_lines.proofs.Judgements.{judging_verdict}
 use Rattle.sgf_lines.proofs.Recordings.{record_text}
 use Rattle.sgf_lines.proofs.Scripts.{script_put}
@@ -33,11 +32,8 @@ use Rattle.sgf_lines.specs.Paths.{Path, leaf_of}
 use Rattle.tree_lines.proofs.CursorStates.{IsNextLine, next_line, before}
 use Rattle.tree_lines.proofs.Named.{line_at}
 
-whole : (nodes : List Node) → judging_front nodes (length nodes) ≡ judging (game_kind (root_properties nodes)) nodes
-whole nodes = ap (judging (game_kind (root_properties nodes))) (take_all (length nodes) nodes (omega arith))
-
-pub verdict_is : (nodes : List Node) (j : Judgement) (v : Verdict) → v ≡ verdict_in j → HoldsJudgement nodes j → v ≡ verdict_of nodes
-verdict_is nodes j v e h = e ∙ ap verdict_in (h ∙ whole nodes) ∙ judging_verdict (game_kind (root_properties nodes)) nodes
+pub verdict_is : (nodes : List Node) (j : Judgement) (v : Verdict) → v ≡ verdict_in j → j ≡ judging (game_kind (root_properties nodes)) nodes → v ≡ verdict_of nodes
+verdict_is nodes j v e h = e ∙ ap verdict_in h ∙ judging_verdict (game_kind (root_properties nodes)) nodes
 
 module _ (at : CursorState) (own : Line) (before : line_before at ≡ Some own) where
   nodes_are : nodes_before at ≡ own.nodes
@@ -49,7 +45,7 @@ module _ (at : CursorState) (own : Line) (before : line_before at ≡ Some own) 
 
   -- in gtp form: its row as a comment, its commands, and an empty row
   pub made_script : (v : Verdict) → v ≡ verdict_of (nodes_before at) → (row : List ℕ) → row ≡ comment_row (row_of own v)
-      → (script : ScriptState) → HoldsTaken (λ kind taken. script ≡ script_of kind taken) (nodes_before at) → row ++ (script_text script ++ codes "\n") ≡ record_of gtp_form own
+      → (script : ScriptState) → script ≡ script_of (game_kind (root_properties (nodes_before at))) (taken_on (game_kind (root_properties (nodes_before at))) (nodes_before at)) → row ++ (script_text script ++ codes "\n") ≡ record_of gtp_form own
   made_script v told row is script said =
       let kind = game_kind (root_properties own.nodes) in
       let same : script ≡ script_of kind (taken_on kind own.nodes) =

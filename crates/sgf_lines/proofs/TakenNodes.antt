@@ -1,6 +1,6 @@
 -- Taken nodes are told one by one, and those of a line's front are kept for the next line.
-use Rattle.std.proofs.Common.{◌≡◌, ℕ, zero, suc, ◌+◌, ◌<◌, List, [], ◌∷◌, ◌++◌, take, Some, None, Result, Ok, Err, refl, sym, ap, subst, ◌∙◌, arith, append-nil, append_assoc}
-use Rattle.std.specs.Prelude.{fold, slice_get}
+use Rattle.std.proofs.Common.{◌≡◌, ℕ, zero, suc, ◌<◌, List, [], ◌∷◌, ◌++◌, take, Some, None, Result, Ok, Err, refl, sym, ap, subst, ◌∙◌, arith, append-nil, append_assoc}
+use Rattle.std.specs.Prelude.{fold}
 use Rattle.sgf_tree.specs.Tree.{Node}
 use Rattle.go_board.specs.declared.reason.Reason.{Reason}
 use Rattle.go_board.specs.Grid.{Grid}
@@ -11,10 +11,8 @@ use Rattle.sgf_lines.specs.JudgedGames.{GameKind, not_go, bad_size, board, game_
 use Rattle.sgf_lines.specs.Step.{step}
 use Rattle.sgf_lines.specs.Walk.{TakenNode, taken_on}
 use Rattle.sgf_lines.specs.inner.Judging.{Judgement, IsSettled, unjudged, judged, side_in, judging, begun_game, after, stepped, state_after, taken_by, board_in, IsStepOf, IsStepTaken, IsTakenFrom}
-use Rattle.sgf_lines.specs.inner.Keeping.{judging_front, taken_front}
 use Rattle.sgf_lines.proofs.Steps.{side-step}
-use Rattle.tree_lines.proofs.Lists.{front_more}
-use Rattle.sgf_lines.proofs.Keeping.{KeepsTaken}
+use Rattle.sgf_lines.proofs.Keeping.{KeepsTaken, judging_front, taken_front}
 use Rattle.sgf_lines.proofs.Judgements.{judging_more, settled_none, settled_more, unjudged_stays, taken_more, taken_only, board_after}
 
 -- no more nodes are taken once the verdict is known
@@ -57,39 +55,27 @@ kind_there (board side) nodes grid there = by (judging (board side) nodes) (has_
 side_after : (j : Judgement) (n : Node) (s : State) → state_after j n ≡ Some s → side_in j ≡ s.colouring.side
 side_after j n s e = let t = taken_only j n s e in ap side_in t.1 ∙ sym (side-step t.0.present s n t.2)
 
--- there is a board after a step that was taken
-pub on_board : (j : Judgement) (n : Node) (step : TakenStep) → IsTakenFrom j n (Some step) → None ≡ board_in (after j n) → ⊥
-on_board j n step taken none = let some = board_after j n taken.0 taken.1 in cc
+-- a node is told if its step was taken
+module _ (kind : GameKind) (nodes : List Node) (n : Node) (j : Judgement) (is : j ≡ judging kind nodes) where
+  taken_next : taken_on kind nodes ++ taken_by (state_after j n) n ≡ taken_on kind (nodes ++ n ∷ [])
+  taken_next = ap (λ k. taken_on kind nodes ++ taken_by (state_after k n) n) is ∙ sym (taken_more kind nodes n)
 
--- a node of a line is told if its step was taken
-module _ (nodes : List Node) (i : ℕ) (n : Node) (at : slice_get nodes i ≡ Some n) (j : Judgement) (is : j ≡ judging_front nodes i) where
-  abbrev kind : GameKind
-  kind = game_kind (root_properties nodes)
+  pub untaken : state_after j n ≡ None → taken_on kind nodes ≡ taken_on kind (nodes ++ n ∷ [])
+  untaken none = sym (append-nil (taken_on kind nodes)) ∙ ap (λ o. taken_on kind nodes ++ taken_by o n) (sym none) ∙ taken_next
 
-  taken_next : taken_front nodes i ++ taken_by (state_after j n) n ≡ taken_front nodes (i + 1)
-  taken_next = ap (λ k. taken_front nodes i ++ taken_by (state_after k n) n) is ∙ sym (taken_more kind (take i nodes) n) ∙ ap (taken_on kind) (sym (front_more nodes i n at))
+  pub told_last : (s : State) → state_after j n ≡ Some s → taken_on kind nodes ++ record { node = n; after = s } ∷ [] ≡ taken_on kind (nodes ++ n ∷ [])
+  told_last s taken = ap (λ o. taken_on kind nodes ++ taken_by o n) (sym taken) ∙ taken_next
 
-  pub untaken : state_after j n ≡ None → taken_front nodes i ≡ taken_front nodes (i + 1)
-  untaken none = sym (append-nil (taken_front nodes i)) ∙ ap (λ o. taken_front nodes i ++ taken_by o n) (sym none) ∙ taken_next
-
-  module _ (step : TakenStep) (grid : Grid) (taken : IsTakenFrom j n (Some step)) (there : Some grid ≡ board_in (after j n)) where
-    abbrev pub taken_node : TakenNode
-    taken_node = record { node = n; after = taken.0 }
-
-    same : grid ≡ taken.0.colouring
-    same = let both : Some grid ≡ Some taken.0.colouring = there ∙ board_after j n taken.0 taken.1 in cc
-
-    pub told_last : taken_front nodes i ++ taken_node ∷ [] ≡ taken_front nodes (i + 1)
-    told_last = ap (λ o. taken_front nodes i ++ taken_by o n) (sym taken.1) ∙ taken_next
-
-    pub step_taken : IsStepTaken (game_kind (root_properties nodes)) grid step taken_node
-    step_taken =
-        let next : board_in (judging kind (take i nodes ++ n ∷ [])) ≡ Some grid = ap board_in (judging_more kind (take i nodes) n ∙ ap (λ k. after k n) (sym is)) ∙ sym there in
-        record {
-          kind_is = kind_there kind (take i nodes ++ n ∷ []) grid next;
-          board_is = same;
-          step_is = subst (λ side. IsStepOf side n step) (side_after j n taken.0 taken.1 ∙ ap (λ (g : Grid). g.side) (sym same)) taken.2;
-        }
+  pub is_taken : (step : TakenStep) (grid : Grid) (taken : IsTakenFrom j n (Some step)) → Some grid ≡ board_in (after j n) → IsStepTaken kind grid step (record { node = n; after = taken.0 })
+  is_taken step grid taken there =
+      let both : Some grid ≡ Some taken.0.colouring = there ∙ board_after j n taken.0 taken.1 in
+      let same : grid ≡ taken.0.colouring = cc in
+      let next : board_in (judging kind (nodes ++ n ∷ [])) ≡ Some grid = ap board_in (judging_more kind nodes n ∙ ap (λ k. after k n) (sym is)) ∙ sym there in
+      record {
+        kind_is = kind_there kind (nodes ++ n ∷ []) grid next;
+        board_is = same;
+        step_is = subst (λ side. IsStepOf side n step) (side_after j n taken.0 taken.1 ∙ ap (λ (g : Grid). g.side) (sym same)) taken.2;
+      }
 
 -- what is kept of a line is told of its first nodes
 told_none : (kind : GameKind) → taken_on kind [] ≡ []

@@ -29,13 +29,12 @@
 //! [`judge_at`] needs only the place of a line. [`judge`] needs a [`Collection`], which knows more of each node and takes more memory. The
 //! node given to it must be a leaf. By [`laws::named`] the last node of each line is a leaf.
 //!
-//! What only saves work stands in these functions: `LineNodes::next` takes nodes that are recognized at a glance, `Contents::of_lone` and
-//! `Contents::of_front` (`judging/contents`) return what the glance showed, `push_text_of` (`form/commands`) decodes a comment of one row in
-//! place, and `split_counted` and `count` first ask a source for all that is left at once (`Source::give_rest`).
+//! What only saves work stands in these functions: `Contents::of_lone` and `Contents::of_front` (`judging/contents`) return what
+//! `SequenceNodes::next` of `sgf_tree` recognized at a glance, `push_text_of` (`form/commands`) decodes a comment of one row in place, and
+//! `split_counted` and `count` first ask a source for all that is left at once (`Source::give_rest`).
 //!
 //! | Module | What it has |
 //! |---|---|
-//! | `line_nodes` | going over the nodes of a line |
 //! | `options`, `fault` | what a run is asked for; how it may fail |
 //! | `verdict`, `judging` | the verdict of a line; judging lines, in the modules below |
 //! | `judging/one_line`, `judging/judge` | `judge` and `judge_at`: one line, by its leaf or its place; `Judge`, which goes along a line's nodes, and back |
@@ -56,7 +55,7 @@
 //! | the order of the lines | `SequenceCursor::advance` of `tree_lines` (`sequence_cursor`) |
 //! | `--after`, and that no line ends there; `--limit` | `SequenceCursor::seek_after` of `tree_lines` (`sequence_cursor`); `write_lines` (`run`) |
 //! | at most 64 MiB of a source | `read_some` (`run`) |
-//! | which values are moves, stones and players; that KM, HA and others have no effect | `kind_of`; `Contents::of_lone` for a node that is recognized at a glance (`judging/contents`); `LineNodes::next` (`line_nodes`) says which names no such node has |
+//! | which values are moves, stones and players; that KM, HA and others have no effect | `kind_of`; `Contents::of_lone` for a node that is recognized at a glance; `NEEDED_NAMES` says which names no such node has (`judging/contents`) |
 //! | which games are judged: GM; SZ | `is_go`; `size`; of several the first counts: `game_and_side` (`judging/root`) |
 //! | the first reason of a node: `mixed`, `two-moves` or `bad-setup`; then `bad-point` | `effect_of`; `take_move` (`judging/step`); a faulty value of a setup: `push_areas`, `last_player` (`judging/contents`) |
 //! | which values are passes; the last value of PL, which counts | `is_pass` (`node_values`); `last_player`, `with_player` (`judging/contents`); what PL does then: `Referee::setup` of `go_board` |
@@ -65,7 +64,7 @@
 //! | the verdict of a line; `over` or `open` | `Judge::verdict` (`judging/judge`); `Game::verdict` (`judging/game`), which keeps the score of a board while no node changes it |
 //! | PLACE, GAME and NODES of a row | `SequenceCursor::place`, `SequenceCursor::game`, `SequenceCursor::len` of `tree_lines` (`sequence_cursor`) |
 //! | a row; the row of counts | `TextRow::lay_out`; `TextRow::lay_out_counts` (`form/text_row`); the counts: `measure` of `sgf_tree` (`reader`) |
-//! | that a script stops before an illegal node | `judge_line` (`judging/judged`) |
+//! | that a script stops before an illegal node | `judge_sequence` (`judging/judged`) |
 //! | which lines have no commands: not judged, or over side 25; a setup leaves a stone without a liberty | `Script::keep`; `leaves_unreaching`, `Script::text` (`form/script`) |
 //! | a script; a node's commands | `Script::begin`, `Script::say`, `Script::text` (`form/script`); `push_step` (`form/commands`) |
 //! | a game without variations | `SgfForm::follow` (`form/sgf`); its nodes: `Outline::push_sequence` of `sgf_tree` (`outline`); what it leaves out: `Stretch::then` of `sgf_tree` (`reader/stretch`), `copy_capitals` of `sgf_tree` (`reader/properties`) |
@@ -81,7 +80,6 @@ mod follower;
 mod form;
 mod judging;
 pub mod laws;
-mod line_nodes;
 mod node_values;
 mod options;
 mod over_lines;

@@ -1,11 +1,11 @@
 -- Nodes in sequences, by the indices where these end.
 use Rattle.std.proofs.lemmas.Grind.{common_steps, flat_map-append}
-use Rattle.std.proofs.Common.{◌≡◌, ℕ, zero, suc, ◌+◌, ◌-◌, ◌<◌, ◌≤◌, List, [], ◌∷◌, ◌++◌, length, get_or, take, drop, map, slice_get, Some, refl, sym, ap, ◌∙◌, arith}
+use Rattle.std.proofs.Common.{◌≡◌, ℕ, zero, suc, ◌+◌, ◌-◌, ◌<◌, ◌≤◌, List, [], ◌∷◌, ◌++◌, length, get_or, take, drop, map, slice_get, Some, refl, sym, ap, ◌∙◌, arith, add-one}
 use Rattle.std.specs.List.{concat, flat_map}
 use Rattle.std.proofs.Math.Seq.{take-append_seam}
-use Rattle.std.proofs.lemmas.List.{take-append-drop, length-drop, length-take-le, drop-take, drop-drop}
+use Rattle.std.proofs.lemmas.List.{take-append-drop, length-drop, length-take-le, drop-take, drop-drop, drop_all}
 use Rattle.tree_lines.specs.Following.{Continues}
-use Rattle.tree_lines.specs.Sequences.{RiseTo, parts_from}
+use Rattle.tree_lines.specs.Sequences.{RiseTo, nodes_in, parts_from}
 
 -- where the first `k` parts end
 abbrev pub end_of : ℕ → List ℕ → ℕ → ℕ
@@ -25,18 +25,12 @@ rises_through start ends count zero h le = (omega arith, omega (arith, rises_ove
 rises_through start [] count (suc k) h le = absurd (omega arith)
 rises_through start (end ∷ ends) count (suc k) h le = let rest = rises_through end ends count k h.1 (omega arith) in (omega (arith, rest.0, h.0), rest.1)
 
-pub rises_all : (start : ℕ) (ends : List ℕ) (count : ℕ) → RiseTo start ends count → end_of start ends (length ends) ≡ count
+rises_all : (start : ℕ) (ends : List ℕ) (count : ℕ) → RiseTo start ends count → end_of start ends (length ends) ≡ count
 rises_all start [] count h = h
 rises_all start (end ∷ ends) count h = rises_all end ends count h.1
 
--- a part has an element
-pub rises_each : (start : ℕ) (ends : List ℕ) (count k : ℕ) → RiseTo start ends count → k < length ends → end_of start ends k < end_of start ends (suc k)
-rises_each start [] count k h lt = absurd (omega arith)
-rises_each start (end ∷ ends) count zero h lt = h.0
-rises_each start (end ∷ ends) count (suc k) h lt = rises_each end ends count k h.1 (omega arith)
-
 -- an element of the parts stands before those after it
-pub part_then : {A : Type 0} (start : ℕ) (ends : List ℕ) (xs : List A) (count k : ℕ) (part : List A) → RiseTo start ends count → slice_get (parts_from start ends xs) k ≡ Some part
+part_then : {A : Type 0} (start : ℕ) (ends : List ℕ) (xs : List A) (count k : ℕ) (part : List A) → RiseTo start ends count → slice_get (parts_from start ends xs) k ≡ Some part
     → drop (end_of start ends k - start) xs ≡ part ++ drop (end_of start ends (suc k) - start) xs
 part_then start [] xs count k part h e = absurd cc
 part_then start (end ∷ ends) xs count zero part h e = grind (arith, common_steps, take-append-drop)
@@ -54,6 +48,17 @@ part_then start (end ∷ ends) xs count (suc k) part h e =
     length_of [] k y e = absurd cc
     length_of (z ∷ ys) zero y e = omega arith
     length_of (z ∷ ys) (suc k) y e = omega (arith, length_of ys k y e)
+
+-- the same of the parts of a line
+pub next_part : {A : Type 0} (ends : List ℕ) (xs : List A) (count k : ℕ) (part : List A) → RiseTo 0 ends count → Some part ≡ slice_get (parts_from 0 ends xs) k
+    → drop (nodes_in ends k) xs ≡ part ++ drop (nodes_in ends (k + 1)) xs
+next_part ends xs count k part h e =
+    let none : (n : ℕ) → n - 0 ≡ n = λ n. omega arith in
+    ap (λ n. drop n xs) (sym (none (nodes_in ends k))) ∙ part_then 0 ends xs count k part h (sym e) ∙ ap (λ n. part ++ drop n xs) (none (nodes_in ends (suc k)) ∙ ap (nodes_in ends) (sym (add-one k)))
+
+-- nothing comes after all of them
+pub none_after : {A : Type 0} (ends : List ℕ) (xs : List A) (count k : ℕ) → RiseTo 0 ends count → length xs ≡ count → k ≡ length ends → drop (nodes_in ends k) xs ≡ []
+none_after ends xs count k h many last = let all = ap (nodes_in ends) last ∙ rises_all 0 ends count h in drop_all (nodes_in ends k) xs (omega (arith, all, many))
 
 -- The first parts depend on their ends and on their elements.
 pub alike : {A : Type 0} (start : ℕ) (ends others : List ℕ) (xs ys : List A) (count k : ℕ) → RiseTo start ends count → k ≤ length ends → take k ends ≡ take k others

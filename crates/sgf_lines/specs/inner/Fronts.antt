@@ -1,5 +1,5 @@
 -- The sequences of the line before a cursor, and the first of them that are held already.
-use Rattle.std.specs.Prelude.{◌≡◌, ◌<◌, ℕ, List, ◌++◌, length, drop}
+use Rattle.std.specs.Prelude.{◌≡◌, ◌<◌, ℕ, List, length}
 use Rattle.sgf_tree.specs.Tree.{Node}
 use Rattle.tree_lines.specs.declared.sequence_cursor.Front.{Front}
 use Rattle.tree_lines.specs.Following.{nodes_before}
@@ -13,7 +13,3 @@ sequences_before cursor = sequences_of cursor.ends (nodes_before cursor.at)
 pub record HasFront (ends : List ℕ) (front : Front) : Type 0 where
   pub more : front.sequences < length ends
   pub count : front.nodes ≡ nodes_in ends front.sequences
-
--- the nodes that are left of one sequence, and then those of the line's sequences from the index `sequence` on
-abbrev pub nodes_to_come : SequencesState → ℕ → List Node → List Node
-nodes_to_come cursor sequence left = left ++ drop (nodes_in cursor.ends sequence) (nodes_before cursor.at)

@@ -1,5 +1,5 @@
 -- What is kept of the line before a cursor: its judgement, its taken nodes, its record. How many nodes are played for it.
-use Rattle.std.specs.Prelude.{◌≡◌, ℕ, ◌+◌, ◌-◌, ◌<◌, ◌≤◌, List, length, take, Some, option_map, Result, OnOk}
+use Rattle.std.specs.Prelude.{◌≡◌, ℕ, ◌+◌, ◌-◌, ◌<◌, ◌≤◌, List, ◌++◌, length, Some, option_map, Result, OnOk}
 use Rattle.sgf_tree.specs.Tree.{Node}
 use Rattle.sgf_lines.specs.JudgedGames.{GameKind, game_kind, root_properties}
 use Rattle.sgf_lines.specs.Record.{record_of}
@@ -7,28 +7,27 @@ use Rattle.sgf_lines.specs.Verdict.{judged_on, verdict_of}
 use Rattle.sgf_lines.specs.Walk.{TakenNode, taken_on}
 use Rattle.sgf_lines.specs.declared.options.Form.{Form}
 use Rattle.sgf_lines.specs.declared.verdict.Verdict.{Verdict}
-use Rattle.sgf_lines.specs.inner.Judging.{Judgement, judging}
+use Rattle.sgf_lines.specs.inner.Judging.{Judgement, Judging, judging}
 use Rattle.tree_lines.specs.Following.{line_before, nodes_before}
 use Rattle.tree_lines.specs.Sequences.{SequencesState}
 
--- the judgement on a line after its first nodes, and the taken ones of them
-abbrev pub judging_front : List Node → ℕ → Judgement
-judging_front nodes count = judging (game_kind (root_properties nodes)) (take count nodes)
+-- in a game of this kind these nodes were judged, and the taken ones of them are held
+pub record HasJudged (holds : GameKind → List TakenNode → Type 0) (kind : GameKind) (nodes : List Node) (judgement : Judgement) : Type 0 where
+  pub judged : judgement ≡ judging kind nodes
+  pub taken : holds kind (taken_on kind nodes)
 
-abbrev pub taken_front : List Node → ℕ → List TakenNode
-taken_front nodes count = taken_on (game_kind (root_properties nodes)) (take count nodes)
+-- how many nodes are judged of some that come after others
+abbrev pub plays_for : GameKind → List Node → List Node → ℕ
+plays_for kind before nodes = length (judged_on kind (before ++ nodes)) - length (judged_on kind before)
 
--- the judgement is that on a line with these nodes
-abbrev pub HoldsJudgement : List Node → Judgement → Type 0
-HoldsJudgement nodes judgement = judgement ≡ judging_front nodes (length nodes)
+-- a judge went on by these nodes, after others; until then there were `old` plays
+pub record WentOn (holds : GameKind → List TakenNode → Type 0) (kind : GameKind) (before nodes : List Node) (old : ℕ) (judge : Judging) : Type 0 where
+  pub has_judged : HasJudged holds kind (before ++ nodes) judge.judgement
+  pub plays : judge.plays ≡ old + plays_for kind before nodes
 
--- the taken nodes of a line with these nodes are held
-abbrev pub HoldsTaken : (GameKind → List TakenNode → Type 0) → List Node → Type 0
-HoldsTaken holds nodes = holds (game_kind (root_properties nodes)) (taken_on (game_kind (root_properties nodes)) nodes)
-
--- the judgement and the taken nodes of the line before a cursor are held
+-- the line before a cursor was judged
 abbrev pub HoldsLine : (GameKind → List TakenNode → Type 0) → Judgement → SequencesState → Type 0
-HoldsLine holds judgement cursor = HoldsJudgement (nodes_before cursor.at) judgement × HoldsTaken holds (nodes_before cursor.at)
+HoldsLine holds judgement cursor = HasJudged holds (game_kind (root_properties (nodes_before cursor.at))) (nodes_before cursor.at) judgement
 
 -- and its verdict is held
 pub record HoldsVerdict (holds : GameKind → List TakenNode → Type 0) (judgement : Judgement) (verdict : Verdict) (cursor : SequencesState) : Type 0 where

@@ -8,10 +8,12 @@ ghost use Rattle.sgf_lines.specs.NodeContents.{Move, moves_by, stones_of};
 ghost use Rattle.sgf_lines.specs.NodeValues.{last_player as last_player_rule};
 ghost use Rattle.sgf_lines.specs.inner.Gathered.{AreMoves, AddsAreas, IsGathered, kind_of as kind_of_rule, setup_with_stones, setup_with_player};
 
-use crate::line_nodes::LineNodes;
 use crate::node_values::player_value;
 use go_board::{Cell, Colour, SetupOp, Size, rect};
-use sgf_tree::{MemoryFault, PropRef};
+use sgf_tree::{MemoryFault, PropRef, SequenceNodes};
+
+/// The names of two letters that `kind_of` knows. A node that is recognized at a glance has none of them (`SequenceNodes::next`).
+pub(crate) const NEEDED_NAMES: [[u8; 2]; 4] = [*b"AB", *b"AW", *b"AE", *b"PL"];
 
 /// The moves of a node, as far as a step needs them.
 #[derive(Clone, Copy)]
@@ -57,7 +59,7 @@ pub(crate) enum Kind {
 /// node's values of AB, AW and AE name, in order.
 pub(crate) fn gathered<'a>(
     front: Option<(u8, &'a [u8])>,
-    nodes: &mut LineNodes<'_, '_, 'a>,
+    nodes: &mut SequenceNodes<'_, 'a>,
     size: Size,
     operations: &mut Vec<SetupOp>,
 ) -> Result<Contents<'a>, MemoryFault>

@@ -12,10 +12,9 @@ ghost use Rattle.sgf_lines.specs.inner.Gathered.{ComesAs};
 ghost use Rattle.sgf_lines.specs.inner.Judging.{IsStepped, IsStepOf, IsScoreAt, back_to};
 
 use crate::judging::step::{TakenStep, take_step};
-use crate::line_nodes::LineNodes;
 use crate::verdict::Verdict;
 use go_board::{Board, PrintPast, Referee, SetupOp, Size, TurnFault};
-use sgf_tree::{MemoryFault, NextNode};
+use sgf_tree::{MemoryFault, NextNode, SequenceNodes};
 use std::alloc::Global;
 use std::marker::Model;
 
@@ -71,7 +70,7 @@ impl Game {
     pub(crate) fn take<'a>(
         &mut self,
         next: NextNode<'a>,
-        nodes: &mut LineNodes<'_, '_, 'a>,
+        nodes: &mut SequenceNodes<'_, 'a>,
         operations: &mut Vec<SetupOp>,
     ) -> Result<TakenStep<'a>, TurnFault>
         ensures stepped { (node : Node) → ComesAs node nodes.old.properties next.entry

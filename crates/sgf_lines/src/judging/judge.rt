@@ -9,10 +9,9 @@ ghost use Rattle.sgf_lines.specs.JudgedGames.{game_kind, board};
 use crate::judging::game::Game;
 use crate::judging::root::board_size;
 use crate::judging::step::{TakenStep, place_of};
-use crate::line_nodes::LineNodes;
 use crate::verdict::Verdict;
 use go_board::{Board, SetupOp, Size, TurnFault};
-use sgf_tree::{MemoryFault, NextNode, NodeRef};
+use sgf_tree::{MemoryFault, NextNode, NodeRef, SequenceNodes};
 use std::alloc::Global;
 use std::marker::Model;
 
@@ -92,7 +91,7 @@ impl Judge {
     pub(crate) fn take<'a>(
         &mut self,
         next: NextNode<'a>,
-        nodes: &mut LineNodes<'_, '_, 'a>,
+        nodes: &mut SequenceNodes<'_, 'a>,
     ) -> Result<Option<TakenStep<'a>>, MemoryFault>
         requires countable { self.old.plays < u64.MAX }
         ensures judged { (node : Node) → ComesAs node nodes.old.properties next.entry

@@ -1,21 +1,22 @@
 //! Judging line after line, each from the first node that it doesn't share with the line before it.
 
-ghost use Rattle.std.specs.Prelude.{◌≡◌, ◌+◌, ◌<◌, ◌++◌, ◌∷◌, [], List, length, take, option_copied, OnOk};
+ghost use Rattle.std.specs.Prelude.{◌≡◌, ◌+◌, ◌<◌, ◌≤◌, ◌++◌, ◌∷◌, [], List, length, take, option_copied, OnErr, OnOk};
+ghost use Rattle.sgf_tree.specs.Tree.{Node};
 ghost use Rattle.tree_lines.specs.Following.{nodes_before};
 ghost use Rattle.sgf_lines.specs.JudgedGames.{GameKind};
 ghost use Rattle.sgf_lines.specs.Walk.{TakenNode};
 ghost use Rattle.sgf_lines.specs.inner.Fronts.{HasFront};
 ghost use Rattle.sgf_lines.specs.inner.GoingOn.{IsHeldOf};
 ghost use Rattle.sgf_lines.specs.inner.Judging.{IsStepTaken, begun_game, board_in};
-ghost use Rattle.sgf_lines.specs.inner.Keeping.{HoldsJudgement, HoldsLine, HoldsTaken, HoldsVerdict, PlaysUpTo, fresh_plays};
+ghost use Rattle.sgf_lines.specs.inner.Keeping.{HasJudged, HoldsLine, HoldsVerdict, PlaysUpTo, WentOn, fresh_plays, plays_for};
 
+use crate::judging::contents::NEEDED_NAMES;
 use crate::judging::judge::Judge;
 use crate::judging::step::TakenStep;
-use crate::line_nodes::LineNodes;
 use crate::over_lines::LineKeeper;
 use crate::verdict::Verdict;
 use go_board::Board;
-use sgf_tree::MemoryFault;
+use sgf_tree::{MemoryFault, SequenceNodes};
 use std::alloc::Global;
 use tree_lines::{Front, SequenceCursor};
 
@@ -111,33 +112,51 @@ fn judge_line<K: StepKeeper>(
     requires front { HasFront cursor.now.ends held }
     requires held { IsHeldOf (HoldsLine (K.tells keeper.old) judge.old.judgement) cursor.now held }
     requires countable { judge.old.plays + length (nodes_before cursor.now.at) < u64.MAX }
-    ensures judged { OnOk result (HoldsJudgement (nodes_before cursor.now.at) judge.new.judgement) }
-    ensures told { OnOk result (HoldsTaken (K.tells keeper.new) (nodes_before cursor.now.at)) }
+    ensures judged { OnOk result (HoldsLine (K.tells keeper.new) judge.new.judgement cursor.now) }
     ensures plays { PlaysUpTo judge.old.plays judge.new.plays (fresh_plays (nodes_before cursor.now.at) held.nodes) result }
 {
     // The ends of the sequences rise to the number of nodes.
-    let _sequences = cursor.sequences();
-    let end = cursor.len();
+    let _nodes = cursor.len();
+    let end = cursor.sequences();
     if held.nodes == 0 {
         judge.begin(&cursor.root())?;
     } else {
         judge.cut_back(held.nodes);
     }
     keeper.keep(held.nodes, judge.board())?;
-    let mut nodes = LineNodes::after(cursor, held);
-    for index in held.nodes..end {
+    for index in held.sequences..end {
         if judge.is_settled() {
             return Ok(());
         }
-        let next = nodes.next();
-        let step = judge.take(next, &mut nodes)?;
-        match step {
-            Some(step) => match judge.board() {
-                Some(board) => keeper.say(step, board)?,
-                None => {}
-            },
-            None => {}
+        judge_sequence(cursor.nodes(index), judge, keeper)?;
+    }
+    Ok(())
+}
+
+/// Judges the nodes of one more sequence of a line, and tells their steps, up to the first that isn't taken.
+#[inline(always)]
+fn judge_sequence<K: StepKeeper>(
+    mut nodes: SequenceNodes<'_, '_>,
+    judge: &mut Judge,
+    keeper: &mut K,
+) -> Result<(), MemoryFault>
+    requires known { (kind : GameKind) × (before : List Node) × HasJudged (K.tells keeper.old) kind before judge.old.judgement }
+    requires countable { judge.old.plays + length nodes.nodes < u64.MAX }
+    ensures judged { (kind : GameKind) (before : List Node) → HasJudged (K.tells keeper.old) kind before judge.old.judgement
+        → OnOk result (WentOn (K.tells keeper.new) kind before nodes.entry.nodes judge.old.plays judge.new) }
+    ensures refused { (kind : GameKind) (before : List Node) → HasJudged (K.tells keeper.old) kind before judge.old.judgement
+        → OnErr result ((judge.old.plays ≤ judge.new.plays) × (judge.new.plays ≤ judge.old.plays + plays_for kind before nodes.entry.nodes)) }
+{
+    // The order matters for speed: what `next` says of the node then leads straight to its step.
+    'steps: while !nodes.is_empty() {
+        if judge.is_settled() {
+            return Ok(());
         }
+        let next = nodes.next(&NEEDED_NAMES).unwrap();
+        let Some(step) = judge.take(next, &mut nodes)? else {
+            return Ok(());
+        };
+        keeper.say(step, judge.board().unwrap())?;
     }
     Ok(())
 }

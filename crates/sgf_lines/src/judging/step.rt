@@ -10,10 +10,9 @@ ghost use Rattle.sgf_lines.specs.inner.Gathered.{IsGathered, ComesAs};
 ghost use Rattle.sgf_lines.specs.inner.Judging.{IsStepped, IsStepOf, IsEffect, IsEffectBy, setup_effect};
 
 use crate::judging::contents::{Contents, Moves, Setup, gathered};
-use crate::line_nodes::LineNodes;
 use crate::node_values::move_value;
 use go_board::{Colour, Past, Play, Reason, Referee, SetupOp, TurnFault};
-use sgf_tree::NextNode;
+use sgf_tree::{NextNode, SequenceNodes};
 
 /// What a node did to the board.
 #[derive(Clone, Copy)]
@@ -34,7 +33,7 @@ pub(crate) struct TakenStep<'a> {
     pub(crate) comment: Option<&'a [u8]>,
 }
 
-/// The place of a node that `LineNodes::next` took.
+/// The place of a node that `SequenceNodes::next` took.
 pub(crate) fn place_of(next: &NextNode<'_>) -> usize
     ensures { (node : Node) (left : List Property) → ComesAs node left next.now → node.place ≡ result }
 {
@@ -46,7 +45,7 @@ pub(crate) fn place_of(next: &NextNode<'_>) -> usize
 }
 
 /// Takes the step of a node, which adds one state: the node's move is played, its stones and its player are set up, or nothing changes.
-/// `next` is the node, as `LineNodes::next` took it; the properties that are left of it are taken off. `operations` is a buffer.
+/// `next` is the node, as `SequenceNodes::next` took it; the properties that are left of it are taken off. `operations` is a buffer.
 ///
 /// If the node is illegal, the first reason is returned. After a refusal the referee is unchanged.
 // Each case has a call of its own, so that what its contents don't hold drops out: `deep` else takes 16 percent more instructions.
@@ -54,7 +53,7 @@ pub(crate) fn place_of(next: &NextNode<'_>) -> usize
 pub(crate) fn take_step<'a, P: Past>(
     referee: &mut Referee<P>,
     next: NextNode<'a>,
-    nodes: &mut LineNodes<'_, '_, 'a>,
+    nodes: &mut SequenceNodes<'_, 'a>,
     operations: &mut Vec<SetupOp>,
 ) -> Result<TakenStep<'a>, TurnFault>
     ensures stepped { (node : Node) → ComesAs node nodes.old.properties next.entry
@@ -78,7 +77,7 @@ pub(crate) fn take_step<'a, P: Past>(
 fn take_any_step<'a, P: Past>(
     referee: &mut Referee<P>,
     front: Option<(u8, &'a [u8])>,
-    nodes: &mut LineNodes<'_, '_, 'a>,
+    nodes: &mut SequenceNodes<'_, 'a>,
     operations: &mut Vec<SetupOp>,
 ) -> Result<TakenStep<'a>, TurnFault>
     ensures stepped { (node : Node) → node.properties ≡ told_property front.entry ++ nodes.old.properties

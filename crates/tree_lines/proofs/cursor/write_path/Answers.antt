@@ -1,11 +1,11 @@
 -- Each sequence follows those before it, until all nodes are there.
-use Rattle.std.proofs.Common.{◌≡◌, ℕ, ◌+◌, ◌-◌, ◌++◌, List, [], length, take, drop, suc, sym, ap, ◌∙◌, append_assoc, append-nil, length-append, add-one, arith}
+use Rattle.std.proofs.Common.{◌≡◌, ℕ, ◌+◌, ◌-◌, ◌++◌, List, length, take, drop, sym, ap, ◌∙◌, append_assoc, append-nil, length-append, arith}
 use Rattle.std.specs.List.{range_with_len}
-use Rattle.std.proofs.lemmas.List.{take-append-drop, drop_all}
+use Rattle.std.proofs.lemmas.List.{take-append-drop}
 use Rattle.std.proofs.lemmas.List.FromFn.{length-range_with_len}
 use Rattle.tree_lines.specs.Following.{nodes_before, path_before}
 use Rattle.tree_lines.specs.Sequences.{nodes_in}
-use Rattle.tree_lines.proofs.Fronts.{rises_all, part_then}
+use Rattle.tree_lines.proofs.Fronts.{next_part, none_after}
 use Rattle.tree_lines.proofs.LineNodes.{as_long}
 use Rattle.tree_lines.proofs.cursor.write_path.Goals as goal
 use Rattle.tree_lines.proofs.cursor.write_path.Goals.{After-numbers-first}
@@ -20,12 +20,8 @@ module _ (c : After-numbers-first) where
 
   next : drop (nodes_in c.args.sequences.now.ends c.loop-index.index) (path_before c.args.sequences.now.at) ≡ next_range c ++ rest
   next =
-      let ends = c.args.sequences.now.ends in
-      let path = path_before c.args.sequences.now.at in
-      let none : (k : ℕ) → k - 0 ≡ k = λ k. omega arith in
-      ap (λ k. drop k path) (sym (none (nodes_in ends c.loop-index.index)))
-      ∙ part_then 0 ends path (length (nodes_before c.args.sequences.now.at)) c.loop-index.index (next_range c) c.sequences-count.ensures.divided (sym c.numbers-first.ensures.path)
-      ∙ ap (λ k. next_range c ++ drop k path) (none (nodes_in ends (suc c.loop-index.index)) ∙ ap (nodes_in ends) (sym (add-one c.loop-index.index)))
+      next_part c.args.sequences.now.ends (path_before c.args.sequences.now.at) (length (nodes_before c.args.sequences.now.at)) c.loop-index.index (next_range c) c.sequences-count.ensures.divided
+      c.numbers-first.ensures.path
 
 pub loop-index-init : goal.loop-index-init
 loop-index-init c =
@@ -69,6 +65,5 @@ returns c =
     let ends = c.args.sequences.now.ends in
     let path = path_before c.args.sequences.now.at in
     let last : c.loop-index.index ≡ length ends = omega (arith, c.loop-index-test.false, c.loop-index.auto.index-end, c.requires.within, c.sequences-count.ensures.count) in
-    let all : nodes_in ends c.loop-index.index ≡ length (nodes_before c.args.sequences.now.at) = ap (nodes_in ends) last ∙ rises_all 0 ends (length (nodes_before c.args.sequences.now.at)) c.sequences-count.ensures.divided in
-    let none : drop (nodes_in ends c.loop-index.index) path ≡ [] = drop_all (nodes_in ends c.loop-index.index) path (omega (arith, all, as_long c.args.sequences.now.at)) in
+    let none = none_after ends path (length (nodes_before c.args.sequences.now.at)) c.loop-index.index c.sequences-count.ensures.divided (sym (as_long c.args.sequences.now.at)) last in
     sym (append-nil c.loop-index.path.items) ∙ ap (λ ns. c.loop-index.path.items ++ ns) (sym none) ∙ c.loop-index.invariant.up_to

@@ -18,7 +18,7 @@ parts_are : (g : Over) (c : After-put_all g) (line : Line) → line_before c.arg
 parts_are g c line before =
     let held = c.requires.holds in
     let judged = c.args.self.now.judged in
-    made_script c.args.cursor.now.at line before judged.verdict held.verdict_is (built_text c.lay_out_comment.new.self) (c.lay_out_comment.ensures line before) judged.keeper held.line.1
+    made_script c.args.cursor.now.at line before judged.verdict held.verdict_is (built_text c.lay_out_comment.new.self) (c.lay_out_comment.ensures line before) judged.keeper held.line.taken
 
 first_put : (g : Over) (c : In_ok-put_all g) → PutsAll {E = Unit {0}} (g.T.Sink.state c.args.sink.now) (g.T.Sink.state c.put_all.new.sink) (built_text c.lay_out_comment.new.self) (Ok (tt {0}))
 first_put g c = rw c.text.ensures at c.in_ok-put_all.ensures

@@ -16,6 +16,6 @@ returns-clause-holds g c =
     let line = c.in_ok-judge_line.ensures in
     record {
       some = omega (arith, c.requires.front.more);
-      line = (rw c.verdict-self.ensures.unchanged line.judged, line.told);
-      verdict_is = verdict_is (nodes_before c.args.cursor.now.at) c.judge_line.new.judge.judgement c.verdict-self.result c.verdict-self.ensures.told line.judged;
+      line = rw c.verdict-self.ensures.unchanged line.judged;
+      verdict_is = verdict_is (nodes_before c.args.cursor.now.at) c.judge_line.new.judge.judgement c.verdict-self.result c.verdict-self.ensures.told line.judged.judged;
     }

@@ -1,0 +1,123 @@
+-- One node more is judged, and told if its step is taken, until all are, or the verdict is known.
+use Rattle.std.proofs.Common.{◌≡◌, ◌==◌, ◌<◌, Bor, List, true, false, Option, Some, None, [], ◌∷◌, OnErr, Result, Ok, Err, refl, sym, ap, subst, ◌∙◌, length, arith}
+use Rattle.std.specs.Prelude.{IsSome, MatchOption, option_copied}
+use Rattle.std.proofs.lemmas.Bool.{eqb-true}
+use Rattle.std.proofs.lemmas.List.{nil_from_length}
+use Rattle.sgf_tree.specs.NodesLeft.{NodesLeft}
+use Rattle.sgf_tree.specs.Walk.{IsTakenOff}
+use Rattle.sgf_tree.specs.declared.walk.NextNode.{NextNode}
+use Rattle.sgf_lines.specs.inner.Gathered.{ComesAs}
+use Rattle.sgf_tree.specs.Tree.{Node}
+use Rattle.go_board.specs.Grid.{Grid}
+use Rattle.go_board.specs.State.{State}
+use Rattle.sgf_lines.specs.declared.judging.step.TakenStep.{TakenStep}
+use Rattle.sgf_lines.specs.inner.Judging.{IsTakenFrom, Judging, after, board_in}
+use Rattle.sgf_lines.proofs.Gathered.{comes, setup_names}
+use Rattle.sgf_lines.proofs.JudgedLines.{countable, ends, refuses, said, settles, starts, step_taken, stops, unsaid}
+use Rattle.sgf_lines.proofs.Judgements.{board_after}
+use Rattle.sgf_lines.proofs.judging.judged.judge_sequence.Given.{Over}
+use Rattle.sgf_lines.proofs.judging.judged.judge_sequence.Goals as goal
+use Rattle.sgf_lines.proofs.judging.judged.judge_sequence.Goals.{In_ok-step}
+
+on_err : {A E : Type 0} {P : Type 0} (r : Result A E) → P → OnErr r P
+on_err (Ok x) p = tt
+on_err (Err e) p = p
+
+some : (board : Option (Bor Grid)) (state : State) → option_copied board ≡ Some state.colouring → IsSome board
+some None state is = absurd cc
+some (Some board) state is = refl
+
+some_length : (nodes : List Node) → (length nodes == 0) ≡ false → 0 < length nodes
+some_length [] is = absurd cc
+some_length (n ∷ ns) is = omega arith
+
+-- a node is left
+abbrev IsNext : NodesLeft → NodesLeft → NextNode → Type 0
+IsNext old new next = (node : Node) × (old.nodes ≡ node ∷ new.nodes) × IsTakenOff setup_names node new.properties next
+
+some_next : (old new : NodesLeft) (o : Option NextNode) → MatchOption o ((old.nodes ≡ []) × (new ≡ old)) (IsNext old new) → (length old.nodes == 0) ≡ false → IsSome o
+some_next old new None taken some = absurd (let none : (length old.nodes == 0) ≡ true = ap (λ nodes. length nodes == 0) taken.0 in cc)
+some_next old new (Some next) taken some = refl
+
+-- the next node, and what is known of its step
+module _ (g : Over) (c : In_ok-step g) where
+  next : IsNext c.steps.nodes c.next.new.self c.unwrap-next.result
+  next = rw c.unwrap-next.ensures at c.next.ensures
+
+  abbrev node : Node
+  node = next.0
+
+  first : c.steps.nodes.nodes ≡ node ∷ c.take.new.nodes.nodes
+  first = next.1 ∙ ap (λ nodes. node ∷ nodes) (sym c.in_ok-step.ensures.left)
+
+  coming : ComesAs node c.next.new.self.properties c.unwrap-next.result
+  coming = comes node c.next.new.self.properties c.unwrap-next.result next.2
+
+  judged : c.take.new.self.judgement ≡ after c.steps.judge.judgement node
+  judged = c.in_ok-step.ensures.judged node coming
+
+  taken : (step : Option TakenStep) → c.in_ok-step.field-0 ≡ step → IsTakenFrom c.steps.judge.judgement node step
+  taken step is = subst (IsTakenFrom c.steps.judge.judgement node) is (c.in_ok-step.ensures.step node coming)
+
+pub steps-init : goal.steps-init
+steps-init g c kind before h = starts c.args.nodes.nodes c.args.nodes.nodes c.args.judge.now.plays c.args.judge.now h refl refl
+
+pub returns-clause-judged : goal.returns-clause-judged
+returns-clause-judged g c kind before h = ends (c.steps.invariant kind before h) (nil_from_length c.steps.nodes.nodes (eqb-true _ _ (sym c.is_empty.ensures ∙ c.steps-test.false)))
+
+pub returns-then-is_settled-clause-judged : goal.returns-then-is_settled-clause-judged
+returns-then-is_settled-clause-judged g c kind before h = settles (c.steps.invariant kind before h) (c.is_settled.ensures c.if-is_settled.true)
+
+pub unwrap-next-requires : goal.unwrap-next-requires
+unwrap-next-requires g c = some_next c.steps.nodes c.next.new.self c.next.result c.next.ensures (sym c.is_empty.ensures ∙ c.steps-test.true)
+
+pub take-requires : goal.take-requires
+take-requires g c =
+    let (kind, before, h) = c.requires.known in
+    omega (arith, countable (c.steps.invariant kind before h), some_length c.steps.nodes.nodes (sym c.is_empty.ensures ∙ c.steps-test.true), c.requires.countable)
+
+pub returns-in_err-step-clause-refused : goal.returns-in_err-step-clause-refused
+returns-in_err-step-clause-refused g c kind before h =
+    let plays = ap (λ (j : Judging). j.plays) c.in_err-step.ensures.unchanged in
+    on_err c.from_residual.result (stops (c.steps.invariant kind before h) [] c.steps.nodes.nodes refl c.take.new.self.plays (omega (arith, plays), omega (arith, plays)))
+
+pub returns-in_default-clause-judged : goal.returns-in_default-clause-judged
+returns-in_default-clause-judged g c kind before h =
+    let at = (goal.at.returns-in_default-clause-judged g c).In_ok-step in
+    refuses (c.steps.invariant kind before h) (node g at) c.take.new.nodes.nodes (first g at) c.take.new.self (judged g at) c.in_ok-step.ensures.plays (taken g at None c.in_default.is)
+
+pub unwrap-requires : goal.unwrap-requires
+unwrap-requires g c =
+    let at = (goal.at.unwrap-requires g c).In_ok-step in
+    let known = taken g at (Some c.in-Some.step) c.in-Some.is in
+    some c.board.result known.0 (c.board.ensures ∙ ap board_in (judged g at) ∙ board_after c.steps.judge.judgement (node g at) known.0 known.1)
+
+pub say-requires : goal.say-requires
+say-requires g c =
+    let at = (goal.at.say-requires g c).In_ok-step in
+    let (kind, before, h) = c.requires.known in
+    let going = c.steps.invariant kind before h in
+    let known = taken g at (Some c.in-Some.step) c.in-Some.is in
+    let there = rw c.unwrap.ensures at c.board.ensures in (
+      kind,
+      _,
+      _,
+      going.on.has_judged.taken,
+      step_taken going (node g at) c.take.new.nodes.nodes (first g at) c.take.new.self (judged g at) c.in_ok-step.ensures.plays c.in-Some.step c.unwrap.result.now known there,
+    )
+
+pub returns-in_err-say-clause-refused : goal.returns-in_err-say-clause-refused
+returns-in_err-say-clause-refused g c kind before h =
+    let at = (goal.at.returns-in_err-say-clause-refused g c).In_ok-step in
+    on_err c.from_residual-in_err-say.result
+    (unsaid (c.steps.invariant kind before h) (node g at) c.take.new.nodes.nodes (first g at) c.take.new.self (judged g at) c.in_ok-step.ensures.plays)
+
+pub steps-preserved : goal.steps-preserved
+steps-preserved g c kind before h =
+    let at = (goal.at.steps-preserved g c).In_ok-step in
+    let going = c.steps.invariant kind before h in
+    let known = taken g at (Some c.in-Some.step) c.in-Some.is in
+    let there = rw c.unwrap.ensures at c.board.ensures in
+    let step = step_taken going (node g at) c.take.new.nodes.nodes (first g at) c.take.new.self (judged g at) c.in_ok-step.ensures.plays c.in-Some.step c.unwrap.result.now known there in
+    said going (node g at) c.take.new.nodes.nodes (first g at) c.take.new.self (judged g at) c.in_ok-step.ensures.plays c.in-Some.step c.unwrap.result.now known there
+    (g.K.StepKeeper.tells c.say.new.self) (c.in_ok-say.ensures _ _ _ going.on.has_judged.taken step)
