@@ -1,13 +1,11 @@
--- The trie: walks, and one item more.
-use Rattle.std.proofs.Common.{◌≡◌, ◌≢◌, ◌⊎◌, ℕ, zero, suc, ◌+◌, ◌-◌, ◌<◌, ◌≤◌, ◌==◌, Bool, true, false, not, if◌then◌else◌, List, [], ◌∷◌, ◌++◌, length, take, slice_set, length-append, inl, inr, refl, sym, ap, subst, ◌∙◌, arith}
-use Rattle.std.proofs.lemmas.Bool.{cases_lt, cases_eq, cases_order, false≢true, true≢false, eq-eqb, ne_eqb}
-use Rattle.std.proofs.lemmas.List.{get_or-set_same, get_or-set_other, get_or_append_left, set-get_or, set-set, length-set}
-use Rattle.std.proofs.Math.Seq.{get_or-append_seam, take-append_seam}
+-- The trie: walks, and the nodes as they are kept.
+use Rattle.std.proofs.Common.{◌≡◌, ◌≢◌, ◌⊎◌, ℕ, zero, suc, ◌+◌, ◌-◌, ◌<◌, ◌≤◌, Bool, true, false, not, List, length, inl, inr, refl, sym, ap, subst, ◌∙◌, arith}
+use Rattle.std.proofs.lemmas.Bool.{cases_lt, cases_order, false≢true, true≢false}
 use Rattle.key_trie.specs.declared.node.Node.{Node}
 use Rattle.key_trie.specs.declared.trie.Slot.{Slot}
 use Rattle.key_trie.specs.declared.trie.Trie.{Trie}
 use Rattle.key_trie.specs.Key.{Agree}
-use Rattle.key_trie.specs.Trie.{IsUnder, IsSlot, IsReach, IsKid, IsTree, IsOnWay, IsWayTo, IsNearest, IsParting, IsOpening, IsTrieOf, IsTrie, nodes_of, item_count, kid_at, no_node, node_at, depth_of, kid_of, named, with_kid, with_named, displaced, without_newest}
+use Rattle.key_trie.specs.Trie.{IsUnder, IsSlot, IsReach, IsKid, IsTree, IsOnWay, IsWayTo, IsNearest, IsParting, IsOpening, IsTrieOf, IsTrie, nodes_of, item_count, kid_at, depth_of, kid_of, without_newest}
 
 -- Keys.
 
@@ -37,21 +35,21 @@ other_bit true false apart = refl
 other_bit false true apart = refl
 other_bit false false apart = absurd (apart refl)
 
-not_itself : (x : Bool) → x ≡ not x → ⊥
+pub not_itself : (x : Bool) → x ≡ not x → ⊥
 not_itself true e = true≢false e
 not_itself false e = false≢true e
 
-cases_same : (x y : Bool) → (x ≡ y) ⊎ (x ≢ y)
+pub cases_same : (x y : Bool) → (x ≡ y) ⊎ (x ≢ y)
 cases_same true true = inl refl
 cases_same true false = inr true≢false
 cases_same false true = inr false≢true
 cases_same false false = inl refl
 
-inner_reach : {w above below reach : ℕ} → IsReach w above below reach → above < below → reach ≡ below - 1
+pub inner_reach : {w above below reach : ℕ} → IsReach w above below reach → above < below → reach ≡ below - 1
 inner_reach {w} {above} {below} {reach} far inner = elim far [ inl is ↦ is.1 | inr other ↦ absurd (omega (arith, other.0, inner)) ]
 
 -- a walk that stops before a place ends where all items under the slot are alike up to it
-stop_reach : {w above below reach : ℕ} (end : ℕ) → IsReach w above below reach → (above < below → end < below) → end ≤ w → end ≤ reach
+pub stop_reach : {w above below reach : ℕ} (end : ℕ) → IsReach w above below reach → (above < below → end < below) → end ≤ w → end ≤ reach
 stop_reach {w} {above} {below} {reach} end far stop within = elim far [
   | inl is ↦ omega (arith, stop is.0, is.0, is.1)
   | inr is ↦ omega (arith, is.1, within)
@@ -61,14 +59,14 @@ stop_reach {w} {above} {below} {reach} end far stop within = elim far [
 
 module _ {b : ℕ → ℕ → Bool} {d : ℕ → ℕ} {i : ℕ} {s : Bool} where
   -- what is like an item under a slot as far as the node goes is under it
-  under_as : {l : ℕ} (j : ℕ) → IsUnder b d i s l → Agree (b j) (b l) (d i) → IsUnder b d i s j
+  pub under_as : {l : ℕ} (j : ℕ) → IsUnder b d i s l → Agree (b j) (b l) (d i) → IsUnder b d i s j
   under_as {l} j u a = record {
     path = record { each = λ p h. a.each p (omega (arith, h)) ∙ u.path.each p h };
     turn = λ some. a.each (d i - 1) (omega (arith, some)) ∙ u.turn some;
   }
 
   -- two items under a slot are alike as far as the node goes
-  under_both : {j l : ℕ} → IsUnder b d i s j → IsUnder b d i s l → Agree (b j) (b l) (d i)
+  pub under_both : {j l : ℕ} → IsUnder b d i s j → IsUnder b d i s l → Agree (b j) (b l) (d i)
   under_both {j} {l} u v = record {
     each = λ p h. elim (cases_lt p (d i - 1)) [
       | inl low ↦ u.path.each p low ∙ sym (v.path.each p low)
@@ -195,7 +193,7 @@ module _ {w n : ℕ} {b : ℕ → ℕ → Bool} {d : ℕ → ℕ} {k : ℕ → B
     )
   ]
 
-  two_slots : {i o l : ℕ} {s t : Bool} → IsSlot n d i s → IsSlot n d o t → IsUnder b d i s l → IsUnder b d o t l → (i ≡ o → s ≢ t)
+  pub two_slots : {i o l : ℕ} {s t : Bool} → IsSlot n d i s → IsSlot n d o t → IsUnder b d i s l → IsUnder b d o t l → (i ≡ o → s ≢ t)
       → ((d i < d o) × (d i < d (k i s)) × (d (k i s) ≤ d o)) ⊎ ((d o < d i) × (d o < d (k o t)) × (d (k o t) ≤ d i))
   two_slots {i} {o} {l} {s} {t} slot other u v apart = elim (cases_order (d i) (d o)) [
     | inl same ↦ let e = same_slot slot other u v same in absurd (apart e.0 e.1)
@@ -208,13 +206,13 @@ module _ {w n : ℕ} {b : ℕ → ℕ → Bool} {d : ℕ → ℕ} {k : ℕ → B
 -- Tries of the same items.
 
 module _ {b b' : ℕ → ℕ → Bool} {d d' : ℕ → ℕ} {i : ℕ} {s : Bool} where
-  under_same : {j : ℕ} → b j ≡ b' j → b i ≡ b' i → d i ≡ d' i → IsUnder b d i s j → IsUnder b' d' i s j
+  pub under_same : {j : ℕ} → b j ≡ b' j → b i ≡ b' i → d i ≡ d' i → IsUnder b d i s j → IsUnder b' d' i s j
   under_same {j} item node depth u = record {
     path = record { each = λ p h. ap (λ (x : ℕ → Bool). x p) (sym item) ∙ u.path.each p (omega (arith, h, depth)) ∙ ap (λ (x : ℕ → Bool). x p) node };
     turn = λ some. ap (λ (x : ℕ → Bool). x (d' i - 1)) (sym item) ∙ ap (λ m. b j (m - 1)) (sym depth) ∙ u.turn (omega (arith, some, depth));
   }
 
-same_tree : {w n : ℕ} {b b' : ℕ → ℕ → Bool} {d d' : ℕ → ℕ} {k : ℕ → Bool → ℕ} → IsTree w n b d k
+pub same_tree : {w n : ℕ} {b b' : ℕ → ℕ → Bool} {d d' : ℕ → ℕ} {k : ℕ → Bool → ℕ} → IsTree w n b d k
     → ((i : ℕ) → i < n → b i ≡ b' i) → ((i : ℕ) → i < n → d i ≡ d' i) → IsTree w n b' d' k
 same_tree {w} {n} {b} {b'} {d} {d'} {k} tree keys depths = record {
   root = λ some. sym (depths 0 some) ∙ tree.root some;
@@ -233,219 +231,6 @@ same_tree {w} {n} {b} {b'} {d} {d'} {k} tree keys depths = record {
       };
   alone = λ one other h g some same a. tree.alone one other h g (omega (arith, some, depths one h)) (depths one h ∙ same ∙ sym (depths other g))
       (subst (λ x. Agree x (b other) (d one - 1)) (sym (keys one h)) (subst (λ x. Agree (b' one) x (d one - 1)) (sym (keys other g)) (subst (λ m. Agree (b' one) (b' other) (m - 1)) (sym (depths one h)) a)));
-}
-
--- One item more.
-
--- a slot that keeps what it names
-grown : {w n : ℕ} {b : ℕ → ℕ → Bool} {d : ℕ → ℕ} {o r : ℕ} {t : Bool} (kid : IsKid w n b d o t r) → (IsUnder b d o t n → Agree (b n) (b r) kid.reach) → IsKid w (n + 1) b d o t r
-grown {w} {n} {b} {d} {o} {r} {t} kid new = record {
-  there = omega (arith, kid.there);
-  under = kid.under;
-  reach = kid.reach;
-  far = kid.far;
-  alike = λ j h u. elim (cases_lt j n) [
-    | inl low ↦ kid.alike j low u
-    | inr high ↦ let e : j ≡ n = omega (arith, high, h) in subst (λ x. Agree (b x) (b r) kid.reach) (sym e) (new (subst (λ x. IsUnder b d o t x) e u))
-  ];
-}
-
--- Item `n` parts from item `l` at place `p`, and from no item later. The slot is where the walk by its bits ends before that place.
-module _ {w n : ℕ} {b : ℕ → ℕ → Bool} {d : ℕ → ℕ} {k : ℕ → Bool → ℕ} (tree : IsTree w n b d k) {i l p : ℕ} {s : Bool} (slot : IsSlot n d i s) (low : d i ≤ p) (stop : d i < d (k i s) → p < d (k i s)) (under : IsUnder b d i s l) (part : IsParting n b (b n) l p) (within : p < w) (depth : d n ≡ p + 1) where
-  near : p ≤ (tree.kids i s slot).reach
-  near = stop_reach p (tree.kids i s slot).far stop (omega (arith, within))
-
-  front : (j : ℕ) → j < n → IsUnder b d i s j → Agree (b j) (b n) p
-  front j h u =
-      let kid = tree.kids i s slot in
-      agree_on (agree_less p near (agree_on (kid.alike j h u) (agree_back (kid.alike l part.there under)))) part.same
-
-  -- no node is at that place behind the same bits
-  no_node_there : (o : ℕ) → o < n → d o ≡ p + 1 → Agree (b o) (b n) p → ⊥
-  no_node_there o h e a =
-      let side = b n p in
-      let kid = tree.kids o side (record { there = h; real = λ x. omega (arith, e); one = λ x. absurd (omega (arith, e, x)) }) in
-      let place : d o - 1 ≡ p = omega (arith, e) in
-      part.best (k o side) kid.there
-      (agree_more (p + 1) (omega arith) (agree_on (agree_less p (omega (arith, place)) kid.under.path) a)
-      (subst (λ m. b (k o side) m ≡ side) place (kid.under.turn (omega (arith, e)))))
-
-  deep : d i < d (k i s) → p + 1 < d (k i s)
-  deep inner =
-      let kid = tree.kids i s slot in
-      elim (cases_lt (p + 1) (d (k i s))) [
-        | inl below ↦ below
-        | inr high ↦ absurd (no_node_there (k i s) kid.there (omega (arith, high, stop inner)) (front (k i s) kid.there kid.under))
-      ]
-
-  turned : b (k i s) p ≡ not (b n p)
-  turned =
-      let kid = tree.kids i s slot in
-      let past : p < kid.reach = elim kid.far [ inl is ↦ omega (arith, deep is.0, is.1) | inr is ↦ omega (arith, within, is.1) ] in
-      sym ((kid.alike l part.there under).each p past) ∙ other_bit (b l p) (b n p) part.differ
-
-  -- another slot over the new item
-  elsewhere : (o : ℕ) (t : Bool) (other : IsSlot n d o t) → (i ≡ o → s ≢ t) → IsUnder b d o t n → Agree (b n) (b (k o t)) (tree.kids o t other).reach
-  elsewhere o t other apart new =
-      let kid = tree.kids o t other in
-      let few : d o ≤ p = elim (cases_lt p (d o)) [
-        | inl far ↦ absurd (part.best (k o t) kid.there (agree_less (p + 1) (omega (arith, far)) (under_both kid.under new)))
-        | inr few ↦ few
-      ] in
-      let over : IsUnder b d o t l = under_as l new (agree_less (d o) few part.same) in
-      elim (two_slots tree slot other under over apart) [
-        | inl x ↦ absurd (omega (arith, stop x.1, x.2, few))
-        | inr x ↦
-            let reach : kid.reach ≡ d (k o t) - 1 = inner_reach kid.far x.1 in
-            agree_on (agree_less kid.reach (omega (arith, reach, x.2, low)) (agree_back part.same)) (kid.alike l part.there over)
-      ]
-
-  here : IsKid w (n + 1) b d i s n
-  here = record {
-    there = omega arith;
-    under = under_as n under (agree_less (d i) low (agree_back part.same));
-    reach = p;
-    far = inl (omega (arith, low, depth), omega (arith, depth));
-    alike = λ j h u. elim (cases_lt j n) [
-      | inl before ↦ front j before u
-      | inr high ↦ let e : j ≡ n = omega (arith, high, h) in subst (λ x. Agree (b x) (b n) p) (sym e) (agree_self (b n) p)
-    ];
-  }
-
-  own : IsKid w (n + 1) b d n (b n p) n
-  own =
-      let place : d n - 1 ≡ p = omega (arith, depth) in
-      record {
-        there = omega arith;
-        under = record { path = agree_self (b n) (d n - 1); turn = λ some. ap (b n) place };
-        reach = w;
-        far = inr (omega arith, refl);
-        alike = λ j h u. elim (cases_lt j n) [
-          | inl before ↦ absurd (part.best j before (agree_more (p + 1) (omega arith) (subst (λ m. Agree (b j) (b n) m) place u.path) (subst (λ m. b j m ≡ b n p) place (u.turn (omega (arith, depth))))))
-          | inr high ↦ let e : j ≡ n = omega (arith, high, h) in subst (λ x. Agree (b x) (b n) w) (sym e) (agree_self (b n) w)
-        ];
-      }
-
-  rest : IsKid w (n + 1) b d n (not (b n p)) (k i s)
-  rest =
-      let r = k i s in
-      let kid = tree.kids i s slot in
-      let place : d n - 1 ≡ p = omega (arith, depth) in
-      let old : (j : ℕ) → j < n + 1 → IsUnder b d n (not (b n p)) j → (j < n) × IsUnder b d i s j = λ j h u.
-      let turn : b j p ≡ not (b n p) = subst (λ m. b j m ≡ not (b n p)) place (u.turn (omega (arith, depth))) in
-      elim (cases_lt j n) [
-        | inl before ↦ (before, under_as j under (agree_less (d i) low (agree_on (subst (λ m. Agree (b j) (b n) m) place u.path) (agree_back part.same))))
-        | inr high ↦ let e : j ≡ n = omega (arith, high, h) in absurd (not_itself (b n p) (subst (λ x. b x p ≡ not (b n p)) e turn))
-      ]
-      in
-      record {
-        there = omega (arith, kid.there);
-        under = record {
-          path = agree_less (d n - 1) (omega (arith, place)) (front r kid.there kid.under);
-          turn = λ some. subst (λ m. b r m ≡ not (b n p)) (sym place) turned;
-        };
-        reach = kid.reach;
-        far = elim kid.far [
-          | inl is ↦ inl (omega (arith, depth, deep is.0), is.1)
-          | inr is ↦ inr (omega (arith, depth, low, is.0), is.1)
-        ];
-        alike = λ j h u. let under_old = old j h u in kid.alike j under_old.0 under_old.1;
-      }
-
-  pub parted_tree : (k' : ℕ → Bool → ℕ) → k' i s ≡ n → k' n (b n p) ≡ n → k' n (not (b n p)) ≡ k i s
-      → ((o : ℕ) (t : Bool) → o < n → (i ≡ o → s ≢ t) → k' o t ≡ k o t) → IsTree w (n + 1) b d k'
-  parted_tree k' to_new to_own to_rest others = record {
-    root = λ some. tree.root (omega (arith, slot.there));
-    within = λ o h. elim (cases_lt o n) [
-      | inl before ↦ tree.within o before
-      | inr high ↦ let e : o ≡ n = omega (arith, high, h) in subst (λ x. d x ≤ w) (sym e) (omega (arith, depth, within))
-    ];
-    kids = λ o t at. elim (cases_lt o n) [
-      | inl before ↦
-          let old : IsSlot n d o t = record { there = before; real = at.real; one = at.one } in
-          let kept : (i ≡ o → s ≢ t) → IsKid w (n + 1) b d o t (k' o t) = λ apart.
-          subst (λ x. IsKid w (n + 1) b d o t x) (sym (others o t before apart)) (grown (tree.kids o t old) (elsewhere o t old apart))
-          in
-          elim (cases_eq i o) [
-            | inr apart ↦ kept (λ e. absurd (apart e))
-            | inl same_node ↦ elim (cases_same s t) [
-              | inr apart ↦ kept (λ e. apart)
-              | inl same_side ↦
-                  let goes : IsKid w (n + 1) b d i s (k' i s) = subst (λ x. IsKid w (n + 1) b d i s x) (sym to_new) here in
-                  subst (λ x. IsKid w (n + 1) b d x t (k' x t)) same_node (subst (λ x. IsKid w (n + 1) b d i x (k' i x)) same_side goes)
-            ]
-          ]
-      | inr high ↦
-          let e : o ≡ n = omega (arith, high, at.there) in
-          subst (λ x. IsKid w (n + 1) b d x t (k' x t)) (sym e)
-          (elim (cases_same t (b n p)) [
-            | inl same ↦ subst (λ x. IsKid w (n + 1) b d n x (k' n x)) (sym same) (subst (λ x. IsKid w (n + 1) b d n (b n p) x) (sym to_own) own)
-            | inr other ↦ subst (λ x. IsKid w (n + 1) b d n x (k' n x)) (sym (other_bit t (b n p) other)) (subst (λ x. IsKid w (n + 1) b d n (not (b n p)) x) (sym to_rest) rest)
-          ])
-    ];
-    alone = λ one other h g some same a. elim (cases_lt one n) [
-      | inl before ↦ elim (cases_lt other n) [
-        | inl before_too ↦ tree.alone one other before before_too some same a
-        | inr high ↦
-            let e : other ≡ n = omega (arith, high, g) in
-            let at : d one ≡ p + 1 = same ∙ ap d e ∙ depth in
-            absurd (no_node_there one before at (agree_less p (omega (arith, at)) (subst (λ x. Agree (b one) (b x) (d one - 1)) e a)))
-      ]
-      | inr high ↦ elim (cases_lt other n) [
-        | inl before ↦
-            let e : one ≡ n = omega (arith, high, h) in
-            let at : d other ≡ p + 1 = sym same ∙ ap d e ∙ depth in
-            absurd (no_node_there other before at (agree_less p (omega (arith, at, same)) (agree_back (subst (λ x. Agree (b x) (b other) (d one - 1)) e a))))
-        | inr high_too ↦ omega (arith, high, high_too, h, g)
-      ]
-    ];
-  }
-
--- Item `n` equals item `l`: no slot changes.
-pub repeated_tree : {w n : ℕ} {b : ℕ → ℕ → Bool} {d : ℕ → ℕ} {k : ℕ → Bool → ℕ} (tree : IsTree w n b d k) {l : ℕ} → l < n → Agree (b l) (b n) w → d n ≡ 0
-    → (k' : ℕ → Bool → ℕ) → ((o : ℕ) (t : Bool) → o < n → k' o t ≡ k o t) → IsTree w (n + 1) b d k'
-repeated_tree {w} {n} {b} {d} {k} tree {l} there same depth k' kept = record {
-  root = λ some. tree.root (omega (arith, there));
-  within = λ o h. elim (cases_lt o n) [
-    | inl before ↦ tree.within o before
-    | inr high ↦ let e : o ≡ n = omega (arith, high, h) in subst (λ x. d x ≤ w) (sym e) (omega (arith, depth))
-  ];
-  kids = λ o t at. elim (cases_lt o n) [
-    | inl before ↦
-        let old : IsSlot n d o t = record { there = before; real = at.real; one = at.one } in
-        let kid = tree.kids o t old in
-        let few : kid.reach ≤ w = elim kid.far [ inl is ↦ omega (arith, is.1, tree.within (k o t) kid.there) | inr is ↦ omega (arith, is.1) ] in
-        subst (λ x. IsKid w (n + 1) b d o t x) (sym (kept o t before)) (grown kid (λ new.
-        agree_on (agree_less kid.reach few (agree_back same)) (kid.alike l there (under_as l new (agree_less (d o) (tree.within o before) same)))))
-    | inr high ↦
-        let e : o ≡ n = omega (arith, high, at.there) in
-        absurd (omega (arith, at.real (omega (arith, e, there)), ap d e, depth))
-  ];
-  alone = λ one other h g some same_depth a. elim (cases_lt one n) [
-    | inl before ↦ elim (cases_lt other n) [
-      | inl before_too ↦ tree.alone one other before before_too some same_depth a
-      | inr high ↦ let e : other ≡ n = omega (arith, high, g) in absurd (omega (arith, some, same_depth, ap d e, depth))
-    ]
-    | inr high ↦ let e : one ≡ n = omega (arith, high, h) in absurd (omega (arith, some, ap d e, depth))
-  ];
-}
-
--- the first item
-pub first_tree : (w : ℕ) (b : ℕ → ℕ → Bool) (d : ℕ → ℕ) (k : ℕ → Bool → ℕ) → d 0 ≡ 0 → k 0 false ≡ 0 → IsTree w 1 b d k
-first_tree w b d k depth named = record {
-  root = λ some. depth;
-  within = λ o h. let e : o ≡ 0 = omega (arith, h) in subst (λ x. d x ≤ w) (sym e) (omega (arith, depth));
-  kids = λ o t at.
-      let e : o ≡ 0 = omega (arith, at.there) in
-      let side : t ≡ false = at.one (ap d e ∙ depth) in
-      subst (λ x. IsKid w 1 b d x t (k x t)) (sym e) (subst (λ x. IsKid w 1 b d 0 x (k 0 x)) (sym side) (subst (λ x. IsKid w 1 b d 0 false x) (sym named) (record {
-        there = omega arith;
-        under = record { path = agree_self (b 0) (d 0 - 1); turn = λ some. absurd (omega (arith, some, depth)) };
-        reach = w;
-        far = inr (omega arith, refl);
-        alike = λ j h u. let f : j ≡ 0 = omega (arith, h) in subst (λ x. Agree (b x) (b 0) w) (sym f) (agree_self (b 0) w);
-      })));
-  alone = λ one other h g some same a. omega (arith, h, g);
 }
 
 -- The nodes as they are kept.
@@ -473,141 +258,6 @@ pub trie_same : (w n : ℕ) (keys others : ℕ → ℕ → Bool) (nodes : List N
 trie_same w zero keys others nodes same trie = trie
 trie_same w (suc n) keys others nodes same trie =
     (trie.0, same_tree trie.1 same (λ i h. refl), trie.2, trie_same w n keys others (without_newest nodes) (λ i h. same i (omega (arith, h))) trie.3)
-
-depth-with_kid : (node : Node) (s : Bool) (x : ℕ) → (with_kid node s x).depth ≡ node.depth
-depth-with_kid node true x = refl
-depth-with_kid node false x = refl
-
-named-with_kid : (node : Node) (s : Bool) (x : ℕ) → named (with_kid node s x) s ≡ x
-named-with_kid node true x = refl
-named-with_kid node false x = refl
-
-named-with_other : (node : Node) (s t : Bool) (x : ℕ) → s ≢ t → named (with_kid node s x) t ≡ named node t
-named-with_other node true true x apart = absurd (apart refl)
-named-with_other node true false x apart = refl
-named-with_other node false true x apart = refl
-named-with_other node false false x apart = absurd (apart refl)
-
-with_kid-back : (node : Node) (s : Bool) (x : ℕ) → with_kid (with_kid node s x) s (named node s) ≡ node
-with_kid-back node true x = refl
-with_kid-back node false x = refl
-
--- what a slot named, named again
-named-back : (nodes : List Node) (i : ℕ) (s : Bool) (x : ℕ) → i < length nodes → with_named (with_named nodes i s x) i s (kid_of nodes i s) ≡ nodes
-named-back nodes i s x h =
-    let node = node_at nodes i in
-    let changed : node_at (with_named nodes i s x) i ≡ with_kid node s x = get_or-set_same nodes i (with_kid node s x) no_node h in
-    ap (λ (one : Node). slice_set (with_named nodes i s x) i (with_kid one s (kid_of nodes i s))) changed
-    ∙ ap (λ (one : Node). slice_set (with_named nodes i s x) i one) (with_kid-back node s x)
-    ∙ set-set nodes i (with_kid node s x) node
-    ∙ set-get_or nodes i no_node
-
-abbrev undone : ℕ → Node → List Node → List Node
-undone number newest front = if newest.up == number then front else with_named front newest.up newest.up_side (displaced number newest)
-
--- without a node at the end, the nodes are as it says
-without_last : (older : List Node) (node : Node) (n : ℕ) → length older ≡ n → without_newest (older ++ node ∷ []) ≡ undone n node older
-without_last older node n count =
-    let nodes = older ++ node ∷ [] in
-    let number : length nodes - 1 ≡ n = omega (arith, length-append older (node ∷ []), count) in
-    let newest : node_at nodes n ≡ node = subst (λ m. node_at nodes m ≡ node) count (get_or-append_seam older node [] no_node) in
-    let rest : take n nodes ≡ older = subst (λ m. take m nodes ≡ older) count (take-append_seam older (node ∷ [])) in
-    ap (λ m. undone m (node_at nodes m) (take m nodes)) number
-    ∙ ap (λ (one : Node). undone n one (take n nodes)) newest
-    ∙ ap (λ (xs : List Node). undone n node xs) rest
-
--- the node of an item that parts from the others at a place, at the end of the walk by its bits
-pub record IsParted (nodes : List Node) (key : ℕ → Bool) (place i : ℕ) (s : Bool) (node : Node) : Type 0 where
-  pub depth : node.depth ≡ place + 1
-  pub up : node.up ≡ i
-  pub up_side : node.up_side ≡ s
-  pub own : named node (key place) ≡ length nodes
-  pub rest : named node (not (key place)) ≡ kid_of nodes i s
-
-displaced-parted : (node : Node) (side : Bool) (n r : ℕ) → named node side ≡ n → named node (not side) ≡ r → r < n → displaced n node ≡ r
-displaced-parted node true n r own rest less =
-    ap (λ (t : Bool). if t then node.on else node.off) (ne_eqb node.off n (λ e. omega (arith, e, rest, less))) ∙ rest
-displaced-parted node false n r own rest less =
-    ap (λ (t : Bool). if t then node.on else node.off) (eq-eqb node.off n own) ∙ rest
-
-module _ {w : ℕ} (keys : ℕ → ℕ → Bool) (before : Trie) (trie : IsTrie w keys before) (some : 0 < item_count before) where
-  pub trie_parted : {p : ℕ} {slot : Slot} (node : Node) → IsOpening keys before (keys (item_count before)) slot p → p < w → IsParted (nodes_of before) (keys (item_count before)) p slot.node slot.side node
-      → IsTrieOf w (item_count before + 1) keys (with_named (nodes_of before) slot.node slot.side (item_count before) ++ node ∷ [])
-  trie_parted {p} {slot} node opening within parted =
-      let nodes = nodes_of before in
-      let n = length nodes in
-      let i = slot.node in
-      let s = slot.side in
-      let tree = trie_tree n keys nodes trie some in
-      let front = with_named nodes i s n in
-      let new = front ++ node ∷ [] in
-      let d = depth_of new in
-      let old = opening.there in
-      let all : length front ≡ n = length-set nodes i (with_kid (node_at nodes i) s n) in
-      let at : (o : ℕ) → o < n → node_at new o ≡ node_at front o = λ o h. get_or_append_left front (node ∷ []) no_node o (omega (arith, h, all)) in
-      let changed : node_at front i ≡ with_kid (node_at nodes i) s n = get_or-set_same nodes i (with_kid (node_at nodes i) s n) no_node old.there in
-      let other : (o : ℕ) → o ≢ i → node_at front o ≡ node_at nodes o = λ o apart. get_or-set_other nodes i o (with_kid (node_at nodes i) s n) no_node apart in
-      let last : node_at new n ≡ node = subst (λ m. node_at new m ≡ node) all (get_or-append_seam front node [] no_node) in
-      let depths : (o : ℕ) → o < n → depth_of nodes o ≡ d o = λ o h. sym (ap (λ (x : Node). x.depth) (at o h) ∙ elim (cases_eq o i) [
-        | inl same ↦ ap (λ m. depth_of front m) same ∙ ap (λ (x : Node). x.depth) changed ∙ depth-with_kid (node_at nodes i) s n ∙ ap (λ m. depth_of nodes m) (sym same)
-        | inr apart ↦ ap (λ (x : Node). x.depth) (other o apart)
-      ]) in
-      let to_new : kid_of new i s ≡ n = ap (λ (x : Node). named x s) (at i old.there ∙ changed) ∙ named-with_kid (node_at nodes i) s n in
-      let others : (o : ℕ) (t : Bool) → o < n → (i ≡ o → s ≢ t) → kid_of new o t ≡ kid_of nodes o t = λ o t h apart. ap (λ (x : Node). named x t) (at o h) ∙ elim (cases_eq o i) [
-        | inl same ↦ ap (λ m. kid_of front m t) same ∙ ap (λ (x : Node). named x t) changed ∙ named-with_other (node_at nodes i) s t n (apart (sym same)) ∙ ap (λ m. kid_of nodes m t) (sym same)
-        | inr elsewhere_too ↦ ap (λ (x : Node). named x t) (other o elsewhere_too)
-      ] in
-      let depth_new : d n ≡ p + 1 = ap (λ (x : Node). x.depth) last ∙ parted.depth in
-      let to_own : kid_of new n (keys n p) ≡ n = ap (λ (x : Node). named x (keys n p)) last ∙ parted.own in
-      let to_rest : kid_of new n (not (keys n p)) ≡ kid_of nodes i s = ap (λ (x : Node). named x (not (keys n p))) last ∙ parted.rest in
-      let tree_new = same_tree {b' = keys} {d' = d} tree (λ j h. refl) depths in
-      let here_depth = depths i old.there in
-      let kid = tree.kids i s old in
-      let kid_depth = depths (kid_of nodes i s) kid.there in
-      let at_slot : IsSlot n d i s = record { there = old.there; real = λ h. omega (arith, old.real h, here_depth); one = λ e. old.one (omega (arith, e, here_depth)) } in
-      let under : IsUnder keys d i s opening.item = under_same refl refl here_depth opening.under in
-      let grown_tree : IsTree w (n + 1) keys d (kid_of new) = parted_tree tree_new at_slot (omega (arith, opening.low, here_depth)) (λ inner. omega (arith, opening.stop (omega (arith, inner, here_depth, kid_depth)), kid_depth)) under opening.part within depth_new
-      (kid_of new) to_new to_own to_rest others in
-      let undo : without_newest new ≡ nodes =
-      without_last front node n all
-      ∙ ap (λ (t : Bool). if t then front else with_named front node.up node.up_side (displaced n node)) (ne_eqb node.up n (λ e. omega (arith, e, parted.up, old.there)))
-      ∙ ap (λ m. with_named front m node.up_side (displaced n node)) parted.up
-      ∙ ap (λ (t : Bool). with_named front i t (displaced n node)) parted.up_side
-      ∙ ap (λ m. with_named front i s m) (displaced-parted node (keys n p) n (kid_of nodes i s) parted.own parted.rest kid.there)
-      ∙ named-back nodes i s n old.there in
-      let next : n + 1 ≡ suc n = omega arith in
-      subst (λ m. IsTrieOf w m keys new) (sym next) (
-        omega (arith, length-append front (node ∷ []), all),
-        subst (λ m. IsTree w m keys d (kid_of new)) next grown_tree,
-        subst (λ (x : Node). x.up ≤ n) (sym last) (omega (arith, parted.up, old.there)),
-        subst (λ (xs : List Node). IsTrieOf w n keys xs) (sym undo) trie,
-      )
-
-  -- an item that equals an earlier one
-  pub trie_repeated : {l : ℕ} (node : Node) → l < item_count before → Agree (keys l) (keys (item_count before)) w → node.depth ≡ 0 → node.up ≡ item_count before → IsTrieOf w (item_count before + 1) keys (nodes_of before ++ node ∷ [])
-  trie_repeated {l} node there same depth up =
-      let nodes = nodes_of before in
-      let n = length nodes in
-      let new = nodes ++ node ∷ [] in
-      let d = depth_of new in
-      let at : (o : ℕ) → o < n → node_at new o ≡ node_at nodes o = λ o h. get_or_append_left nodes (node ∷ []) no_node o h in
-      let last : node_at new n ≡ node = get_or-append_seam nodes node [] no_node in
-      let tree_new = same_tree {b' = keys} {d' = d} (trie_tree n keys nodes trie some) (λ j h. refl) (λ o h. sym (ap (λ (x : Node). x.depth) (at o h))) in
-      let grown_tree = repeated_tree tree_new there same (ap (λ (x : Node). x.depth) last ∙ depth) (kid_of new) (λ o t h. ap (λ (x : Node). named x t) (at o h)) in
-      let undo : without_newest new ≡ nodes =
-      without_last nodes node n refl
-      ∙ ap (λ (t : Bool). if t then nodes else with_named nodes node.up node.up_side (displaced n node)) (eq-eqb node.up n up) in
-      let next : n + 1 ≡ suc n = omega arith in
-      subst (λ m. IsTrieOf w m keys new) (sym next) (
-        omega (arith, length-append nodes (node ∷ [])),
-        subst (λ m. IsTree w m keys d (kid_of new)) next grown_tree,
-        subst (λ (x : Node). x.up ≤ n) (sym last) (omega (arith, up)),
-        subst (λ (xs : List Node). IsTrieOf w n keys xs) (sym undo) trie,
-      )
-
-pub trie_first : (w : ℕ) (keys : ℕ → ℕ → Bool) (node : Node) → node.depth ≡ 0 → node.up ≡ 0 → node.off ≡ 0 → IsTrieOf w 1 keys (node ∷ [])
-trie_first w keys node depth up off =
-    (refl, first_tree w keys (depth_of (node ∷ [])) (kid_of (node ∷ [])) depth off, omega (arith, up), without_last [] node 0 refl ∙ ap (λ (t : Bool). if t then [] else with_named [] node.up node.up_side (displaced 0 node)) (eq-eqb node.up 0 up))
 
 -- where a walk by the bits of an item ends before the place where the item parts, it comes in
 pub way_opens : {keys : ℕ → ℕ → Bool} {trie : Trie} {key bits : ℕ → Bool} {item : ℕ} (slot : Slot) (place : ℕ) → IsWayTo keys trie key place slot

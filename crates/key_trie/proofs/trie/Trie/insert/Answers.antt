@@ -2,7 +2,7 @@ use Rattle.std.proofs.Common.{◌≡◌, ◌+◌, ◌++◌, ◌∷◌, [], List,
 use Rattle.std.proofs.lemmas.List.{length-set}
 use Rattle.key_trie.specs.declared.node.Node.{Node}
 use Rattle.key_trie.specs.Trie.{IsTrieOf, named, node_at, kid_of, with_kid, with_named}
-use Rattle.key_trie.proofs.TrieLemmas.{trie_parted}
+use Rattle.key_trie.proofs.InsertLemmas.{trie_parted}
 use Rattle.key_trie.proofs.trie.Trie.insert.Goals as goal
 
 pub returns-clause-more : goal.returns-clause-more

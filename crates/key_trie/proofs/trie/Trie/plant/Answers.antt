@@ -2,7 +2,7 @@ use Rattle.std.proofs.Common.{◌≡◌, ◌++◌, ◌∷◌, [], List, length, 
 use Rattle.std.proofs.lemmas.List.{nil_from_length}
 use Rattle.key_trie.specs.declared.node.Node.{Node}
 use Rattle.key_trie.specs.Trie.{IsTrieOf}
-use Rattle.key_trie.proofs.TrieLemmas.{trie_first}
+use Rattle.key_trie.proofs.InsertLemmas.{trie_first}
 use Rattle.key_trie.proofs.trie.Trie.plant.Goals as goal
 
 pub returns-clause-trie : goal.returns-clause-trie

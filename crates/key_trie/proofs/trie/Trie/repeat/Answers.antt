@@ -1,7 +1,7 @@
 use Rattle.std.proofs.Common.{◌≡◌, ◌+◌, ◌∷◌, [], List, length, length-append, ap, sym, subst, ◌∙◌, rules}
 use Rattle.key_trie.specs.declared.node.Node.{Node}
 use Rattle.key_trie.specs.Trie.{IsTrieOf}
-use Rattle.key_trie.proofs.TrieLemmas.{trie_repeated}
+use Rattle.key_trie.proofs.InsertLemmas.{trie_repeated}
 use Rattle.key_trie.proofs.trie.Trie.repeat.Goals as goal
 
 pub returns-clause-trie : goal.returns-clause-trie
