@@ -1,6 +1,6 @@
 -- One node more is judged, and told if its step is taken, until all are, or the verdict is known.
-use Rattle.std.proofs.Common.{◌≡◌, ◌==◌, ◌<◌, Bor, List, true, false, Option, Some, None, [], ◌∷◌, OnErr, Result, Ok, Err, refl, sym, ap, subst, ◌∙◌, length, arith}
-use Rattle.std.specs.Prelude.{IsSome, MatchOption, option_copied}
+use Rattle.std.proofs.Common.{◌≡◌, ◌<◌, Bor, Option, Some, None, [], ◌∷◌, OnErr, Result, Ok, Err, refl, sym, ap, subst, ◌∙◌, length, arith}
+use Rattle.std.specs.Prelude.{IsSome, option_copied}
 use Rattle.std.proofs.lemmas.Bool.{eqb-true}
 use Rattle.std.proofs.lemmas.List.{nil_from_length}
 use Rattle.sgf_tree.specs.NodesLeft.{NodesLeft}
@@ -27,17 +27,12 @@ some : (board : Option (Bor Grid)) (state : State) → option_copied board ≡ S
 some None state is = absurd cc
 some (Some board) state is = refl
 
-some_length : (nodes : List Node) → (length nodes == 0) ≡ false → 0 < length nodes
-some_length [] is = absurd cc
-some_length (n ∷ ns) is = omega arith
-
--- a node is left
+-- a node is taken off
 abbrev IsNext : NodesLeft → NodesLeft → NextNode → Type 0
 IsNext old new next = (node : Node) × (old.nodes ≡ node ∷ new.nodes) × IsTakenOff setup_names node new.properties next
 
-some_next : (old new : NodesLeft) (o : Option NextNode) → MatchOption o ((old.nodes ≡ []) × (new ≡ old)) (IsNext old new) → (length old.nodes == 0) ≡ false → IsSome o
-some_next old new None taken some = absurd (let none : (length old.nodes == 0) ≡ true = ap (λ nodes. length nodes == 0) taken.0 in cc)
-some_next old new (Some next) taken some = refl
+some_left : (old new : NodesLeft) (next : NextNode) → IsNext old new next → 0 < length old.nodes
+some_left old new next is = omega (arith, ap length is.1)
 
 -- the next node, and what is known of its step
 module _ (g : Over) (c : In_ok-step g) where
@@ -68,13 +63,11 @@ returns-clause-judged g c kind before h = ends (c.steps.invariant kind before h)
 pub returns-then-is_settled-clause-judged : goal.returns-then-is_settled-clause-judged
 returns-then-is_settled-clause-judged g c kind before h = settles (c.steps.invariant kind before h) (c.is_settled.ensures c.if-is_settled.true)
 
-pub unwrap-next-requires : goal.unwrap-next-requires
-unwrap-next-requires g c = some_next c.steps.nodes c.next.new.self c.next.result c.next.ensures (sym c.is_empty.ensures ∙ c.steps-test.true)
-
 pub take-requires : goal.take-requires
 take-requires g c =
     let (kind, before, h) = c.requires.known in
-    omega (arith, countable (c.steps.invariant kind before h), some_length c.steps.nodes.nodes (sym c.is_empty.ensures ∙ c.steps-test.true), c.requires.countable)
+    let some = some_left c.steps.nodes c.next.new.self c.unwrap-next.result (rw c.unwrap-next.ensures at c.next.ensures) in
+    omega (arith, countable (c.steps.invariant kind before h), some, c.requires.countable)
 
 pub returns-in_err-step-clause-refused : goal.returns-in_err-step-clause-refused
 returns-in_err-step-clause-refused g c kind before h =
