@@ -13,8 +13,10 @@
 //! passes more than `MOST_PASSED` nodes, keys have hashes, for the rest of the game: all colourings are put into the trie anew, and those of
 //! one print and one stretch part in the hash, which nobody can choose. To have them part at one bit more, one has to try twice as many
 //! boards. So a walk passes some 50 nodes there at most, after 2^50 boards tried, and goes on into the rows only if two hashes are equal.
-//! No proof rests on that. A hash is worked out once for each colouring, and for each look-up (`hashes`). So no walk gets longer with more
-//! colourings, or with more of them that have one print.
+//! No proof rests on that. So no walk gets longer with more colourings, or with more of them that have one print.
+//!
+//! With hashes, a look-up that goes on by the rows works out two hashes more at most: that of its own colouring, and that of the past one, if
+//! it isn't kept (`hashes`). For this hash the past colouring is worked out once more. To put a colouring in costs as much for each of the two.
 //!
 //! This is so once `link` has put all colourings into the trie. `gap` calls it first: the past asks `gap` for a stone that `may_have`
 //! doesn't answer (see `filter`). `has` asks no trie: it compares one by one.
