@@ -54,6 +54,13 @@ past-pop g start older older' o changes parts past =
       few = omega (arith, length-take o.start changes, past.few);
     }
 
+-- a step that is alone has no changes
+pub none_kept : (g : Grid) (start : ℕ) (older older' : List Older) (o : Older) (changes : List Change) → older ≡ older' ++ o ∷ [] → IsPast g start older changes → o.alone ≡ true → changes_before o changes ≡ changes
+none_kept g start older older' o changes parts past alone =
+    let turned : reverse older ≡ o ∷ reverse older' = ap reverse parts ∙ reverse-append older' (o ∷ []) in
+    let kept = subst (λ (os : List Older). AreKept g os changes) turned past.kept in
+    take_all o.start changes (omega (arith, (kept.1 alone).1))
+
 -- One colouring more. The step back from it is known, and its changes are those that were added.
 module _ (g h : Grid) (stretch next : ℕ) (older : List Older) (o : Older) (changes all : List Change) (begins : Bool) (follows : next ≡ cond begins (length older + 1) stretch) (same : o.stretch_start ≡ stretch) (rest_is : changes_before o all ≡ changes) (before_is : before h o all ≡ g) where
   turned : reverse (older ++ o ∷ []) ≡ o ∷ reverse older
@@ -69,7 +76,7 @@ module _ (g h : Grid) (stretch next : ℕ) (older : List Older) (o : Older) (cha
   pub held-push : AreStarted stretch (reverse older) → past_held h next (reverse (older ++ o ∷ [])) all ≡ with_next (past_held g stretch (reverse older) changes) h begins
   held-push started = rw turned (next_held started)
 
-  pub past-push : IsPast g stretch older changes → o.start ≤ length all → (IsTrue o.alone → IsOn h.side o.point) → (IsTrue (is_settled o.known) → has_unreaching g ≡ false) → (IsTrue (is_full (length older)) → MakeOne g (drop o.start all)) → AreOn h.side all → length all ≤ MOST
+  pub past-push : IsPast g stretch older changes → o.start ≤ length all → (IsTrue o.alone → IsOn h.side o.point × (o.start ≡ length all)) → (IsTrue (is_settled o.known) → has_unreaching g ≡ false) → (IsTrue (is_full (length older)) → MakeOne g (drop o.start all)) → AreOn h.side all → length all ≤ MOST
       → (IsTrue (is_fresh o.known) → IsFreshStone (with_next (past_held g stretch (reverse older) changes) h begins) o.point) → IsPast h next (older ++ o ∷ []) all
   past-push past start on_point settled full on few fresh = record {
     kept = rw turned (
@@ -124,7 +131,7 @@ grown_alone g h stretch older older' o changes past view is side on_point back g
     let rest_is : changes_before o changes ≡ changes = take_all o.start changes (omega (arith, start)) in
     let before_is : before h o changes ≡ g = rw alone back in
     rw grows (
-      past-push g h stretch stretch older o changes changes false refl same rest_is before_is is (omega (arith, start)) (λ _. rw side on_point) settled
+      past-push g h stretch stretch older o changes changes false refl same rest_is before_is is (omega (arith, start)) (λ _. (rw side on_point, start)) settled
           (λ full. absurd (false≢true (sym not_full ∙ full))) (rw side is.on_grid) is.few (λ known. subst (λ (p : PastColourings). IsFreshStone (with_next p h false) o.point) (sym view) (fresh known)),
       held-push g h stretch stretch older o changes changes false refl same rest_is before_is is.started ∙ ap (λ (p : PastColourings). with_next p h false) view,
     )
@@ -161,7 +168,7 @@ module _ (held : List Held) (older : List Older) (changes : List Change) (n end 
   start-within = omega (arith, parts.0, length-take end changes)
 
   pub point-on : IsTrue one.alone → IsOn board.side one.point
-  point-on = parts.1
+  point-on = λ is. (parts.1 is).0
 
   pub changes-on : AreOn board.side newest_changes
   changes-on = subst (λ (cs : List Change). AreOn board.side cs) same_newest (All-drop (IsChangeOn board.side) one.start (take end changes) at.past.on_grid)

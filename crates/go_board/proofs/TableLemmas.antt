@@ -128,9 +128,10 @@ module _ (held : List Held) (table : Table) (is : IsAwakeTable held table) where
       (λ e. other_bits print other place differ (sym (key_print place low) ∙ e ∙ near_print place low))
 
 -- the same prints, and a trie of as many colourings or of more
-pub tabled_with : (held : List Held) (table after : Table) → IsAwakeTable held table → after.prints.items ≡ table.prints.items → after.filter ≡ table.filter → after.hashes ≡ table.hashes
+pub tabled_with : (held : List Held) (table after : Table) → IsAwakeTable held table → after.prints.items ≡ table.prints.items → after.filter ≡ table.filter → after.hashes ≡ table.hashes → after.room_asleep ≡ table.room_asleep
     → length table.prints.items ≤ room_of after.trie → room_of after.trie < 2 ^ 32 → item_count after.trie ≤ length table.prints.items → IsTrie WIDTH (keys_of after.hashed held) after.trie → IsAwakeTable held after
-tabled_with held table after is prints filter hashes room most few trie = record {
+tabled_with held table after is prints filter hashes awake room most few trie = record {
+  awake = awake ∙ is.awake;
   printed = rw prints is.printed;
   few = rw prints few;
   linked = trie;
@@ -171,7 +172,7 @@ links_with held old now trie is same more room next linked =
     let count : item_count trie ≡ item_count old.trie + 1 = next ∙ ap (λ (x : Trie). item_count x + 1) same.trie in
     let prints : length now.prints.items ≡ length old.prints.items = ap (λ (xs : List ℕ). length xs) same.prints in
     record {
-      table = tabled_with held now (record now { trie = trie }) is refl refl refl (omega (arith, is.room, room)) (omega (arith, is.most, room)) (omega (arith, count, more, prints))
+      table = tabled_with held now (record now { trie = trie }) is refl refl refl refl (omega (arith, is.room, room)) (omega (arith, is.most, room)) (omega (arith, count, more, prints))
           (subst (λ (h : Bool). IsTrie WIDTH (keys_of h held) trie) (sym same.hashed) linked);
       fewer = one_linked old (record now { trie = trie }) same.prints same.hashed count more;
       prints = same.prints;
@@ -180,6 +181,7 @@ links_with held old now trie is same more room next linked =
 -- other hashes that are right may be kept
 pub with_hashes : (held : List Held) (table : Table) (hashes : Hashes) → IsAwakeTable held table → HasHashes held hashes → IsAwakeTable held (record table { hashes = hashes })
 with_hashes held table hashes is kept = record {
+  awake = is.awake;
   printed = is.printed;
   few = is.few;
   linked = is.linked;
@@ -198,11 +200,12 @@ pub in_key : (hashed : Bool) (grid : Grid) → hashed ≡ true → hash_of grid 
 in_key hashed grid on = ap (λ (t : Bool). if t then hash_of grid else 0) (sym on)
 
 -- one colouring more
-pub tabled_more : (held : List Held) (table after : Table) (next : Held) (print : ℕ) → IsAwakeTable held table → print ≡ print_of next.colouring → after.prints.items ≡ table.prints.items ++ print ∷ [] → after.filter ≡ table.filter
+pub tabled_more : (held : List Held) (table after : Table) (next : Held) (print : ℕ) → IsAwakeTable held table → print ≡ print_of next.colouring → after.prints.items ≡ table.prints.items ++ print ∷ [] → after.filter ≡ table.filter → after.room_asleep ≡ table.room_asleep
     → length table.prints.items < room_of after.trie → room_of after.trie < 2 ^ 32 → item_count after.trie ≤ length table.prints.items + 1 → IsTrie WIDTH (keys_of after.hashed (next ∷ held)) after.trie → HasHashes (next ∷ held) after.hashes → IsAwakeTable (next ∷ held) after
-tabled_more held table after next print is printed pushed filter room most few trie kept =
+tabled_more held table after next print is printed pushed filter awake room most few trie kept =
     let count : length after.prints.items ≡ length table.prints.items + 1 = ap (λ (xs : List ℕ). length xs) pushed ∙ length-append table.prints.items (print ∷ []) in
     record {
+      awake = awake ∙ is.awake;
       printed = ap (λ (xs : List ℕ). reverse xs) pushed ∙ reverse-append table.prints.items (print ∷ [])
           ∙ ap (λ n. n ∷ reverse table.prints.items) printed ∙ ap (λ (xs : List ℕ). print_of next.colouring ∷ xs) is.printed;
       few = omega (arith, count, few);
@@ -216,10 +219,12 @@ tabled_more held table after next print is printed pushed filter room most few t
 -- the same while the table sleeps
 pub asleep_more : (held : List Held) (table : Table) (next : Held) → IsAsleepTable held table → HasRoomForNext held table → IsAsleepTable (next ∷ held) table
 asleep_more held table next is room = record {
+  asleep = is.asleep;
+  fits = omega (arith, room.asleep is.asleep);
   no_prints = is.no_prints;
   no_items = is.no_items;
-  room = omega (arith, room.trie);
-  prints_room = omega (arith, room.prints);
+  room = is.room;
+  prints_room = is.prints_room;
   most = is.most;
   filtered = is.filtered;
   kept = is.kept;
@@ -227,10 +232,12 @@ asleep_more held table next is room = record {
 
 pub asleep_less : (table : Table) (newest : Held) (older : List Held) → IsAsleepTable (newest ∷ older) table → IsAsleepTable older table
 asleep_less table newest older is = record {
+  asleep = is.asleep;
+  fits = omega (arith, is.fits);
   no_prints = is.no_prints;
   no_items = is.no_items;
-  room = omega (arith, is.room);
-  prints_room = omega (arith, is.prints_room);
+  room = is.room;
+  prints_room = is.prints_room;
   most = is.most;
   filtered = is.filtered;
   kept = is.kept;
@@ -281,7 +288,7 @@ module _ (held : List Held) (old new : Table) (asleep : IsAsleepTable held old �
 
 -- so many colourings that a number of 32 bits counts them
 pub few_all : (held : List Held) (table : Table) → IsTable held table → length held < 2 ^ 32
-few_all held table (inl is) = omega (arith, is.room, is.most)
+few_all held table (inl is) = omega (arith, is.fits, is.room, is.most)
 few_all held table (inr is) = omega (arith, is.room, is.most, tabled held table is)
 
 -- a table without prints sleeps
@@ -290,14 +297,15 @@ sleeps held table (inl is) none some = is
 sleeps held table (inr is) none some = absurd (omega (arith, none, some, tabled held table is))
 
 -- a table that got its prints
-pub awoken : (held : List Held) (old new : Table) → IsAsleepTable held old → reverse new.prints.items ≡ prints_of held → new.trie ≡ old.trie → new.filter ≡ old.filter → new.hashes ≡ old.hashes → IsAwakeTable held new
-awoken held old new is printed trie filter hashes =
+pub awoken : (held : List Held) (old new : Table) → IsAsleepTable held old → reverse new.prints.items ≡ prints_of held → new.trie ≡ old.trie → new.filter ≡ old.filter → new.hashes ≡ old.hashes → new.room_asleep ≡ 0 → IsAwakeTable held new
+awoken held old new is printed trie filter hashes awake =
     let none : item_count new.trie ≡ 0 = ap item_count trie ∙ ap length is.no_items in
     record {
+      awake = awake;
       printed = printed;
       few = omega (arith, none);
       linked = rw trie (rw is.no_items refl);
-      room = omega (arith, ap room_of trie, is.room, same_length held new.prints.items printed);
+      room = omega (arith, ap room_of trie, is.fits, is.room, same_length held new.prints.items printed);
       most = omega (arith, ap room_of trie, is.most);
       filtered = rw filter (filter_any new.prints.items old.filter is.filtered);
       kept = rw hashes (is.kept held);

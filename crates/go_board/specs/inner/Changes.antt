@@ -139,13 +139,13 @@ AreFresh (kept ∷ others) [] = Unit {0}
 AreFresh (kept ∷ others) (later ∷ older) =
     (IsTrue (is_fresh kept.known) → IsFreshStone (record { newest = later; older = older }) kept.point) × AreFresh others older
 
--- Each `start` is at most the number of changes, and the point of a lone stone is on the grid. The changes of a full step make the
--- colouring before it from any grid. A colouring that is marked settled is settled.
+-- Each `start` is at most the number of changes. The point of a lone stone is on the grid, and its step has no changes. The changes of a full
+-- step make the colouring before it from any grid. A colouring that is marked settled is settled.
 abbrev pub AreKept : Grid → List Older → List Change → Type 0
 AreKept grid [] changes = Unit {0}
 AreKept grid (kept ∷ others) changes =
     (kept.start ≤ length changes)
-    × (IsTrue kept.alone → IsOn grid.side kept.point)
+    × (IsTrue kept.alone → IsOn grid.side kept.point × (kept.start ≡ length changes))
     × (IsTrue (is_settled kept.known) → has_unreaching (before grid kept changes) ≡ false)
     × (IsTrue (is_full (length others)) → MakeOne (before grid kept changes) (drop kept.start changes))
     × AreKept (before grid kept changes) others (changes_before kept changes)

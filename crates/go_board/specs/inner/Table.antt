@@ -15,6 +15,7 @@ use Rattle.key_trie.specs.Trie.{nodes_of, item_count, room_of, IsTrie, IsOpening
 -- The table of these colourings, newest first, if it is awake: it has their prints. The trie has as many of the oldest ones as it has
 -- items, and there is room for all.
 pub record IsAwakeTable (held : List Held) (table : Table) : Type 0 where
+  pub awake : table.room_asleep ≡ 0
   pub printed : reverse table.prints.items ≡ prints_of held
   pub few : item_count table.trie ≤ length table.prints.items
   pub linked : IsTrie WIDTH (keys_of table.hashed held) table.trie
@@ -25,10 +26,12 @@ pub record IsAwakeTable (held : List Held) (table : Table) : Type 0 where
 
 -- the table of these colourings, if it sleeps: it has no prints and no items, but room for all
 pub record IsAsleepTable (held : List Held) (table : Table) : Type 0 where
+  pub asleep : 0 < table.room_asleep
+  pub fits : length held ≤ table.room_asleep
   pub no_prints : table.prints.items ≡ []
   pub no_items : nodes_of table.trie ≡ []
-  pub room : length held ≤ room_of table.trie
-  pub prints_room : length held ≤ vec_capacity table.prints
+  pub room : table.room_asleep ≤ room_of table.trie
+  pub prints_room : table.room_asleep ≤ vec_capacity table.prints
   pub most : room_of table.trie < 2 ^ 32
   pub filtered : IsFilter [] table.filter
   pub kept : (any : List Held) → HasHashes any table.hashes
@@ -41,6 +44,19 @@ IsTable held table = IsAsleepTable held table ⊎ IsAwakeTable held table
 pub record HasRoomForNext (held : List Held) (table : Table) : Type 0 where
   pub prints : length held < vec_capacity table.prints
   pub trie : length held < room_of table.trie
+  pub asleep : 0 < table.room_asleep → length held < table.room_asleep
+
+-- the table may have got more room, and nothing else is changed
+pub record GrowsTable (old new : Table) : Type 0 where
+  pub nodes : nodes_of new.trie ≡ nodes_of old.trie
+  pub room : room_of old.trie ≤ room_of new.trie
+  pub most : room_of new.trie < 2 ^ 32
+  pub prints : new.prints.items ≡ old.prints.items
+  pub prints_room : vec_capacity old.prints ≤ vec_capacity new.prints
+  pub filter : new.filter ≡ old.filter
+  pub hashed : new.hashed ≡ old.hashed
+  pub hashes : new.hashes ≡ old.hashes
+  pub asleep : new.room_asleep ≡ old.room_asleep
 
 -- the print of the next colouring if the table is awake, and none if it sleeps
 pub record IsPrintOfNext (held : List Held) (table : Table) (next : Held) (print : Option ℕ) : Type 0 where

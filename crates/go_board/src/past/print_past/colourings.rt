@@ -354,7 +354,6 @@ impl Colourings {
         let _ = self.older.pop();
         self.newest.set(kept.point, Cell::Empty);
         self.newest.restore(kept.known.is_settled());
-        self.changes.truncate(kept.start as usize);
         self.stretch_start = kept.stretch_start as usize;
         true
     }

@@ -25,15 +25,16 @@
 //! and a stone costs no more here than the test that there is room. `wake` works the prints out, once a game, one for each colouring; from
 //! then on the table has those of all colourings.
 
-ghost use Rattle.std.specs.Prelude.{◌≡◌, ◌↔◌, ◌+◌, ◌*◌, ◌<◌, ◌≤◌, [], ◌∷◌, List, length, false, slice_index, IsTrue, IsFalse, IfNone, IfSome, IfOk, OnOk, Contains};
+ghost use Rattle.std.specs.Prelude.{◌≡◌, ◌↔◌, ◌+◌, ◌*◌, ◌^◌, ◌<◌, ◌≤◌, [], ◌∷◌, List, ℕ, length, false, slice_index, IsTrue, IsFalse, IfNone, IfSome, IfOk, OnOk, Contains};
 ghost use Rattle.go_board.specs.Grid.{Grid};
 ghost use Rattle.go_board.specs.Past.{Held, all_of, present_stretch, stretch_of, with_next, HaveSide};
 ghost use Rattle.go_board.specs.inner.Changes.{IsNumber};
 ghost use Rattle.go_board.specs.inner.Key.{bits_of, hash_in_key, keys_of};
 ghost use Rattle.go_board.specs.inner.Print.{print_of};
-ghost use Rattle.go_board.specs.inner.Table.{HasRoomForNext, HasUnlinked, IsAsleepTable, IsAwakeTable, IsGap, IsFirstApart, IsPrintOfNext, IsTable, LinksNext, SameButHashes};
+ghost use Rattle.go_board.specs.inner.Table.{GrowsTable, HasRoomForNext, HasUnlinked, IsAsleepTable, IsAwakeTable, IsGap, IsFirstApart, IsPrintOfNext, IsTable, LinksNext, SameButHashes};
 ghost use Rattle.key_trie.specs.Key.{Agree};
-ghost use Rattle.key_trie.specs.Trie.{item_count, nodes_of};
+ghost use Rattle.key_trie.specs.Trie.{item_count, nodes_of, room_of};
+ghost use Rattle.std.specs.Vec.{vec_capacity};
 
 use crate::board::Board;
 use crate::fault::MemoryFault;
@@ -72,6 +73,8 @@ pub(crate) struct Table {
     hashed: bool,
     /// The hashes that were worked out.
     hashes: Hashes,
+    /// While the table sleeps, how many colourings it has room for; 0 once it is awake.
+    room_asleep: usize,
 }
 
 /// Where a colouring comes into the trie.
@@ -91,9 +94,12 @@ impl Table {
     pub(crate) fn new(alloc: Global) -> Result<Table, MemoryFault>
         ensures { IfOk result (λ table. (first : Held) → IsTable (first ∷ []) table) }
     {
+        let prints = Vec::with_capacity(alloc, FIRST_ROOM)?;
+        let trie = Trie::new(alloc)?;
         Ok(Table {
-            prints: Vec::with_capacity(alloc, FIRST_ROOM)?,
-            trie: Trie::new(alloc)?,
+            room_asleep: room_of_both(&prints, &trie),
+            prints,
+            trie,
             filter: Filter::new(),
             hashed: false,
             hashes: Hashes::new(alloc),
@@ -105,8 +111,9 @@ impl Table {
         ensures awake { (newest : Held) (older : List Held) → IsTable (newest ∷ older) self.now → IsTrue result
             → IsAwakeTable (newest ∷ older) self.now }
         ensures asleep { (held : List Held) → IsTable held self.now → IsFalse result → IsAsleepTable held self.now }
+        ensures room { IsTrue result → self.now.room_asleep ≡ 0 }
     {
-        !self.prints.is_empty()
+        self.room_asleep == 0
     }
 
     /// The newest print. The table must be awake.
@@ -129,12 +136,15 @@ impl Table {
             self.prints.push_reserved(0);
         }
         colourings.write_prints(&mut self.prints);
+        self.room_asleep = 0;
     }
 
     /// Whether the table sleeps, and has room for one more colouring; `count` is how many there are.
     #[inline(always)]
-    pub(crate) fn has_room_asleep(&self, count: usize) -> bool {
-        self.prints.is_empty() && count < self.trie.room() && count < self.prints.capacity()
+    pub(crate) fn has_room_asleep(&self, count: usize) -> bool
+        ensures { IsTrue result ↔ count < self.now.room_asleep }
+    {
+        count < self.room_asleep
     }
 
     /// Makes room for one more colouring than these; `count` is how many there are.
@@ -146,6 +156,26 @@ impl Table {
         ensures trie { nodes_of self.new.trie ≡ nodes_of self.old.trie }
         ensures hashed { self.new.hashed ≡ self.old.hashed }
         ensures ok { (held : List Held) → count ≡ length held → OnOk result (HasRoomForNext held self.new) }
+    {
+        if self.has_room_asleep(count) {
+            return Ok(());
+        }
+        self.grow(count)?;
+        if !self.is_awake() {
+            self.room_asleep = room_of_both(&self.prints, &self.trie);
+        }
+        Ok(())
+    }
+
+    /// Makes room in the trie and for prints, for one more colouring than these.
+    #[inline(never)]
+    fn grow(&mut self, count: usize) -> Result<(), MemoryFault>
+        requires most { room_of self.old.trie < 2 ^ 32 }
+        requires prints { length self.old.prints.items ≤ count }
+        requires room { count ≤ room_of self.old.trie }
+        ensures grows { GrowsTable self.old self.new }
+        ensures trie { OnOk result (count < room_of self.new.trie) }
+        ensures prints { OnOk result (count < vec_capacity self.new.prints) }
     {
         if count >= self.trie.room() {
             self.trie.make_room()?;
@@ -202,6 +232,7 @@ impl Table {
         self.filter.go_back(0);
         self.hashed = false;
         self.hashes.clear();
+        self.room_asleep = room_of_both(&self.prints, &self.trie);
     }
 
     /// The newest colouring with this print, if it is one of the last `NEAR` and not before `start`.
@@ -491,4 +522,13 @@ impl Table {
             None => self.trie.repeat(),
         }
     }
+}
+
+/// How many colourings have room in both: the least of the two rooms.
+fn room_of_both(prints: &Vec<u64>, trie: &Trie) -> usize
+    ensures prints { result ≤ vec_capacity prints.now }
+    ensures trie { result ≤ room_of trie.now }
+    ensures least { (count : ℕ) → count ≤ vec_capacity prints.now → count ≤ room_of trie.now → count ≤ result }
+{
+    trie.room().min(prints.capacity())
 }

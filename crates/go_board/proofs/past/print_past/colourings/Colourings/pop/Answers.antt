@@ -46,10 +46,10 @@ slice_bounds-step_back-start c =
     search rules
 
 pub step_back-requires-clause-point : goal.step_back-requires-clause-point
-step_back-requires-clause-point c =
+step_back-requires-clause-point c = λ is.
     let p = c.self.inside in
     let parts : p.older.items ≡ c.pop.new.self.items ++ c.unwrap-kept.result ∷ [] = search rules in
-    (kept-first p.newest p.older.items c.pop.new.self.items c.unwrap-kept.result p.changes.items parts c.self.invariant.0.kept).1
+    ((kept-first p.newest p.older.items c.pop.new.self.items c.unwrap-kept.result p.changes.items parts c.self.invariant.0.kept).1 is).0
 
 pub restore-requires : goal.restore-requires
 restore-requires c = λ is.

@@ -17,7 +17,7 @@ returns-in-Some c =
     let apart = c.in-Some.ensures in
     let parts = parts_as (c.nearest-near.ensures.nearest WIDTH keys is.linked (omega arith)) (keys (item_count t.trie)) _ c.in-Some.place apart.0 own.front c.key_of-other.ensures.front apart.1 apart.2 in
     record {
-      table = tabled_with held t (record t { trie = c.part.new.self }) is refl refl refl (omega (arith, is.room, c.part.ensures.room)) (omega (arith, is.most, c.part.ensures.room)) (omega (arith, c.part.ensures.more, c.requires.unlinked.more))
+      table = tabled_with held t (record t { trie = c.part.new.self }) is refl refl refl refl (omega (arith, is.room, c.part.ensures.room)) (omega (arith, is.most, c.part.ensures.room)) (omega (arith, c.part.ensures.more, c.requires.unlinked.more))
           (c.part.ensures.trie WIDTH keys c.nearest-near.result is.linked (omega (arith, apart.0)) parts.0 parts.1);
       fewer = one_linked t (record t { trie = c.part.new.self }) refl refl c.part.ensures.more c.requires.unlinked.more;
       prints = refl {A = List ℕ};

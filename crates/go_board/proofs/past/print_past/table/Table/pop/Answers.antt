@@ -8,7 +8,7 @@ use Rattle.go_board.specs.inner.Filter.{IsFilter}
 use Rattle.go_board.specs.inner.Print.{prints_of}
 use Rattle.go_board.specs.inner.Table.{IsAwakeTable}
 use Rattle.key_trie.specs.Trie.{item_count, room_of, IsTrie}
-use Rattle.go_board.proofs.TableLemmas.{asleep_less, tabled, printed_back, linked_after}
+use Rattle.go_board.proofs.TableLemmas.{asleep_less, sleeps, with_prints, tabled, printed_back, linked_after}
 use Rattle.go_board.proofs.past.print_past.table.Table.pop.Goals as goal
 use Rattle.go_board.proofs.past.print_past.table.Table.pop.Goals.{then-len, else-len}
 
@@ -16,18 +16,12 @@ use Rattle.go_board.proofs.past.print_past.table.Table.pop.Goals.{then-len, else
 pub returns-then-is_empty : goal.returns-then-is_empty
 returns-then-is_empty c = λ newest older is.
     let none : length c.args.self.now.prints.items ≡ 0 = search rules in
-    elim is [
-      | inl asleep ↦ inl (asleep_less c.args.self.now newest older asleep)
-      | inr awake ↦ absurd (omega (arith, none, tabled (newest ∷ older) c.args.self.now awake))
-    ]
+    inl (asleep_less c.args.self.now newest older (sleeps (newest ∷ older) c.args.self.now is none (omega arith)))
 
 pub returns : goal.returns
 returns c = λ newest older any.
     let some : 0 < length c.args.self.now.prints.items = search rules in
-    let is : IsAwakeTable (newest ∷ older) c.args.self.now = elim any [
-      | inl asleep ↦ absurd (omega (arith, some, ap (λ (xs : List ℕ). length xs) asleep.no_prints))
-      | inr awake ↦ awake
-    ] in
+    let is = with_prints (newest ∷ older) c.args.self.now any some in
     let t = c.args.self.now in
     let after = c.if-len.self in
     let left = c.pop.new.self.items in
@@ -43,10 +37,11 @@ returns c = λ newest older any.
           (rw filter (subst (λ (xs : List ℕ). IsFilter xs t.filter) parts is.filtered)),
     )
     in
-    let table_of : (after.prints.items ≡ t.prints.items) → (after.filter ≡ t.filter) → (room_of after.trie ≡ room_of t.trie) → (after.hashed ≡ t.hashed) → (after.hashes ≡ t.hashes) → (item_count after.trie ≤ length older) → IsTrie WIDTH (keys_of t.hashed (newest ∷ older)) after.trie
-    → IsAwakeTable older (record { prints = c.pop.new.self; trie = after.trie; filter = c.go_back.new.self; hashed = after.hashed; hashes = c.go_back-2.new.self }) = λ same filter room hashed hashes few linked.
+    let table_of : (after.prints.items ≡ t.prints.items) → (after.filter ≡ t.filter) → (room_of after.trie ≡ room_of t.trie) → (after.hashed ≡ t.hashed) → (after.hashes ≡ t.hashes) → (after.room_asleep ≡ t.room_asleep) → (item_count after.trie ≤ length older) → IsTrie WIDTH (keys_of t.hashed (newest ∷ older)) after.trie
+    → IsAwakeTable older (record { prints = c.pop.new.self; trie = after.trie; filter = c.go_back.new.self; hashed = after.hashed; hashes = c.go_back-2.new.self; room_asleep = after.room_asleep }) = λ same filter room hashed hashes awake few linked.
     let print = popped same filter in
     record {
+      awake = awake ∙ is.awake;
       printed = print.0;
       few = omega (arith, print.1, few);
       linked = subst (λ h. IsTrie WIDTH (keys_of h older) after.trie) (sym hashed) (linked_after t.hashed newest older after.trie few linked);
@@ -59,12 +54,12 @@ returns c = λ newest older any.
     inr (elim c.if-len.branch [
       | then-len w ↦
           let trie : after.trie ≡ w.take_back.new.self = ap (λ (x : Table). x.trie) w.self-is in
-          table_of (ap (λ (x : Table). x.prints.items) w.self-is) (ap (λ (x : Table). x.filter) w.self-is) (ap room_of trie ∙ w.take_back.ensures.room) (ap (λ (x : Table). x.hashed) w.self-is) (ap (λ (x : Table). x.hashes) w.self-is)
+          table_of (ap (λ (x : Table). x.prints.items) w.self-is) (ap (λ (x : Table). x.filter) w.self-is) (ap room_of trie ∙ w.take_back.ensures.room) (ap (λ (x : Table). x.hashed) w.self-is) (ap (λ (x : Table). x.hashes) w.self-is) (ap (λ (x : Table). x.room_asleep) w.self-is)
           (omega (arith, ap item_count trie, w.take_back.ensures.fewer, w.if-len.true, c.len.ensures, c.len-2.ensures, t.prints.ok.0, all))
           (subst (λ (x : Trie). IsTrie WIDTH (keys_of t.hashed (newest ∷ older)) x) (sym trie) (w.take_back.ensures.trie WIDTH (keys_of t.hashed (newest ∷ older)) is.linked))
       | else-len w ↦
           let trie : after.trie ≡ t.trie = ap (λ (x : Table). x.trie) w.self-is in
-          table_of (ap (λ (x : Table). x.prints.items) w.self-is) (ap (λ (x : Table). x.filter) w.self-is) (ap room_of trie) (ap (λ (x : Table). x.hashed) w.self-is) (ap (λ (x : Table). x.hashes) w.self-is)
+          table_of (ap (λ (x : Table). x.prints.items) w.self-is) (ap (λ (x : Table). x.filter) w.self-is) (ap room_of trie) (ap (λ (x : Table). x.hashed) w.self-is) (ap (λ (x : Table). x.hashes) w.self-is) (ap (λ (x : Table). x.room_asleep) w.self-is)
           (omega (arith, ap item_count trie, w.if-len.false, c.len.ensures, c.len-2.ensures, t.prints.ok.0, all, is.few))
           (subst (λ (x : Trie). IsTrie WIDTH (keys_of t.hashed (newest ∷ older)) x) (sym trie) is.linked)
     ])
