@@ -10,9 +10,9 @@
 //!
 //! ```text
 //! // An item comes. (The first one comes by `plant`.)
-//! let near = trie.nearest(&key, width);
-//! match first_difference(&key, &key_of(near), words) {
-//!     Some(place) => trie.part(&key, place),
+//! let from = trie.descend(&key, width);
+//! match first_difference(&key, &key_of(trie.kid(from)), words) {
+//!     Some(place) => trie.part(&key, from, place),
 //!     None => trie.repeat(),
 //! }
 //! ```

@@ -162,18 +162,6 @@ impl Trie {
         self.descend(key, place)
     }
 
-    /// The item that is as `key` at least as far as any other is, as far as `end`. (Behind that place it may be any item that is so.) This
-    /// takes one walk.
-    pub fn nearest<K: Key>(&self, key: &K, end: u32) -> usize
-        requires trie { (width : ℕ) × (keys : ℕ → ℕ → Bool) × IsTrie width keys self.now }
-        requires some { 0 < item_count self.now }
-        ensures there { result < item_count self.now }
-        ensures nearest { (width : ℕ) (keys : ℕ → ℕ → Bool) → IsTrie width keys self.now → end ≤ width
-            → IsNearest keys self.now (K.bits key.now) end result }
-    {
-        self.kid(self.descend(key, end)) as usize
-    }
-
     /// Adds the first item. There must be room for it.
     pub fn plant(&mut self)
         requires none { item_count self.old ≡ 0 }
@@ -198,20 +186,20 @@ impl Trie {
         self.nodes.push_reserved(lone_node(number));
     }
 
-    /// Adds an item that parts from the others at a place. Up to that place, the item has the bits of `key`. There must be room for it. This
-    /// takes one walk.
-    pub fn part<K: Key>(&mut self, key: &K, place: u32)
+    /// Adds an item that parts from the others at a place. Up to that place, the item has the bits of `key`; `from` is where the walk by
+    /// them ends before some place behind. There must be room for it. This takes at most one walk.
+    pub fn part<K: Key>(&mut self, key: &K, from: Slot, place: u32)
         requires trie { (width : ℕ) × (keys : ℕ → ℕ → Bool) × IsTrie width keys self.old }
-        requires some { 0 < item_count self.old }
+        requires from { IsIn self.old from }
         requires room { HasRoom self.old }
         requires within { place < MAX_WIDTH }
-        ensures trie { (width : ℕ) (keys : ℕ → ℕ → Bool) (item : ℕ) → IsTrie width keys self.old → place < width
-            → Agree (K.bits key.now) (keys (item_count self.old)) (place + 1)
-            → IsParting (item_count self.old) keys (keys (item_count self.old)) item place → IsTrie width keys self.new }
+        ensures trie { (width : ℕ) (keys : ℕ → ℕ → Bool) (end : ℕ) → IsTrie width keys self.old → place < width
+            → IsWayTo keys self.old (K.bits key.now) end from → place < end → Agree (K.bits key.now) (keys (item_count self.old)) (place + 1)
+            → IsParting (item_count self.old) keys (keys (item_count self.old)) (kid_at self.old from) place → IsTrie width keys self.new }
         ensures more { item_count self.new ≡ item_count self.old + 1 }
         ensures room { room_of self.new ≡ room_of self.old }
     {
-        let slot = self.descend(key, place);
+        let slot = self.opening(key, from, place);
         self.insert(slot, place, key.bit(place));
     }
 

@@ -494,10 +494,11 @@ impl Table {
             return;
         }
         let key = self.key_of(colourings, number, 0, colourings.newest());
-        let near = self.trie.nearest(&key, FRONT);
+        let from = self.trie.descend(&key, FRONT);
+        let near = self.trie.kid(from) as usize;
         let other = self.key_of(colourings, near, 0, colourings.newest());
         match first_difference(&key, &other, FRONT / WORD) {
-            Some(place) => self.trie.part(&key, place),
+            Some(place) => self.trie.part(&key, from, place),
             None => self.link_by_board(colourings),
         }
     }
@@ -516,9 +517,10 @@ impl Table {
             self.begin_anew();
             return;
         }
-        let near = self.trie.nearest(&key, WIDTH);
+        let from = self.trie.descend(&key, WIDTH);
+        let near = self.trie.kid(from) as usize;
         match self.first_apart(colourings, &key, near) {
-            Some(place) => self.trie.part(&key, place),
+            Some(place) => self.trie.part(&key, from, place),
             None => self.trie.repeat(),
         }
     }

@@ -1,10 +1,11 @@
-use Rattle.std.proofs.Common.{ℕ, List, refl, arith}
+use Rattle.std.proofs.Common.{ℕ, List, refl, subst, arith}
 use Rattle.go_board.specs.Past.{all_of}
-use Rattle.go_board.specs.declared.past.print_past.key.TheConstants.{WIDTH}
-use Rattle.go_board.specs.inner.Key.{keys_of}
+use Rattle.go_board.specs.declared.past.print_past.key.TheConstants.{FRONT, WIDTH}
+use Rattle.go_board.specs.inner.Key.{bits_of, keys_of}
+use Rattle.key_trie.specs.Key.{Agree}
 use Rattle.key_trie.specs.Trie.{item_count}
 use Rattle.go_board.proofs.TableLemmas.{one_linked, tabled, tabled_with}
-use Rattle.key_trie.proofs.TrieLemmas.{parts_as}
+use Rattle.key_trie.proofs.TrieLemmas.{parts_as, way_nearest}
 use Rattle.go_board.proofs.past.print_past.table.Table.link_next.Goals as goal
 
 pub returns-in-Some : goal.returns-in-Some
@@ -15,10 +16,12 @@ returns-in-Some c =
     let keys = keys_of t.hashed held in
     let own = rw c.len-number.ensures at c.key_of-key.ensures in
     let apart = c.in-Some.ensures in
-    let parts = parts_as (c.nearest-near.ensures.nearest WIDTH keys is.linked (omega arith)) (keys (item_count t.trie)) _ c.in-Some.place apart.0 own.front c.key_of-other.ensures.front apart.1 apart.2 in
+    let walk = c.descend-from.ensures.way WIDTH keys is.linked in
+    let near = way_nearest WIDTH keys t.trie is.linked c.descend-from.result walk (omega arith) in
+    let parts = parts_as near (keys (item_count t.trie)) _ c.in-Some.place apart.0 own.front (subst (λ n. Agree (bits_of c.key_of-other.result) (keys n) FRONT) c.kid-near.ensures c.key_of-other.ensures.front) apart.1 apart.2 in
     record {
       table = tabled_with held t (record t { trie = c.part.new.self }) is refl refl refl refl (omega (arith, is.room, c.part.ensures.room)) (omega (arith, is.most, c.part.ensures.room)) (omega (arith, c.part.ensures.more, c.requires.unlinked.more))
-          (c.part.ensures.trie WIDTH keys c.nearest-near.result is.linked (omega (arith, apart.0)) parts.0 parts.1);
+          (c.part.ensures.trie WIDTH keys FRONT is.linked (omega (arith, apart.0)) walk apart.0 parts.0 parts.1);
       fewer = one_linked t (record t { trie = c.part.new.self }) refl refl c.part.ensures.more c.requires.unlinked.more;
       prints = refl {A = List ℕ};
     }
@@ -30,4 +33,9 @@ key_of-key-requires-clause-number c =
 
 pub key_of-other-requires-clause-number : goal.key_of-other-requires-clause-number
 key_of-other-requires-clause-number c =
-    omega (arith, c.nearest-near.ensures.there, c.requires.unlinked.more, tabled (all_of c.args.colourings.now) c.args.self.now c.requires.unlinked.table)
+    let held = all_of c.args.colourings.now in
+    let t = c.args.self.now in
+    let keys = keys_of t.hashed held in
+    let linked = c.requires.unlinked.table.linked in
+    let near = way_nearest WIDTH keys t.trie linked c.descend-from.result (c.descend-from.ensures.way WIDTH keys linked) (omega arith) in
+    omega (arith, c.kid-near.ensures, near.there, c.requires.unlinked.more, tabled (all_of c.args.colourings.now) c.args.self.now c.requires.unlinked.table)
