@@ -6,7 +6,7 @@ use Rattle.std.proofs.lemmas.List.Sums.{fold_more}
 use Rattle.std.proofs.lemmas.Bool.{leb-true, le-leb, and_from, and_parts}
 use Rattle.board_points.specs.declared.points.Point.{Point}
 use Rattle.board_points.specs.declared.points.Rect.{Rect}
-use Rattle.go_board.specs.declared.referee.plays.SetupOp.{SetupOp}
+use Rattle.go_board.specs.declared.setup_op.SetupOp.{SetupOp}
 use Rattle.go_board.specs.Grid.{Grid}
 use Rattle.go_board.specs.State.{is_in, with_area}
 use Rattle.board_points.specs.Rows.{has_bit}

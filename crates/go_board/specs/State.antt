@@ -6,7 +6,7 @@ use Rattle.board_points.specs.declared.points.Point.{Point}
 use Rattle.board_points.specs.declared.points.Rect.{Rect}
 use Rattle.go_board.specs.declared.referee.plays.Play.{Play}
 use Rattle.go_board.specs.declared.referee.plays.Play.TheVariants.{Pass, Stone}
-use Rattle.go_board.specs.declared.referee.plays.SetupOp.{SetupOp}
+use Rattle.go_board.specs.declared.setup_op.SetupOp.{SetupOp}
 use Rattle.go_board.specs.Colour.{opponent}
 use Rattle.board_points.specs.Point.{IsOn}
 use Rattle.go_board.specs.Grid.{Grid, cell_at, empty_grid, grid_of}

@@ -9,7 +9,7 @@ ghost use Rattle.go_board.specs.declared.reason.Reason.{Reason};
 ghost use Rattle.go_board.specs.declared.reason.Reason.TheVariants.{Repeat};
 ghost use Rattle.go_board.specs.declared.referee.plays.Play.{Play};
 ghost use Rattle.go_board.specs.declared.referee.plays.Play.TheVariants.{Stone};
-ghost use Rattle.go_board.specs.declared.referee.plays.SetupOp.{SetupOp};
+ghost use Rattle.go_board.specs.declared.setup_op.SetupOp.{SetupOp};
 ghost use Rattle.go_board.specs.Colour.{stone_of};
 ghost use Rattle.board_points.specs.Point.{IsOn, points};
 ghost use Rattle.go_board.specs.Grid.{Grid, cell_at, with_cell};

@@ -26,6 +26,7 @@
 //! | Module | What it has |
 //! |---|---|
 //! | `stones` | players and what stands on a point |
+//! | `setup_op` | one operation of a setup: an area, and what its points become |
 //! | `steps` | a count of work |
 //! | `board` | the board: reading, setting, moves, score |
 //! | `board/stone_rows` | the stones of a row as bits |
@@ -70,6 +71,7 @@ mod past;
 mod quick;
 mod reason;
 mod referee;
+mod setup_op;
 mod steps;
 mod stones;
 
@@ -80,6 +82,7 @@ pub use board_points::{
 pub use fault::{MemoryFault, TurnFault};
 pub use past::{ListPast, Past, PrintPast};
 pub use reason::Reason;
-pub use referee::{Play, Referee, SetupOp};
+pub use referee::{Play, Referee};
+pub use setup_op::SetupOp;
 pub use steps::Steps;
 pub use stones::{Cell, Colour};

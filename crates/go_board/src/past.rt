@@ -18,7 +18,7 @@ ghost use Rattle.go_board.specs.Past.{PastColourings, newest_grid, only, with_ne
 
 use crate::board::Board;
 use crate::fault::MemoryFault;
-use crate::referee::SetupOp;
+use crate::setup_op::SetupOp;
 use crate::stones::Colour;
 use board_points::Point;
 pub use list_past::ListPast;

@@ -17,7 +17,7 @@ use crate::fault::MemoryFault;
 use crate::past::Past;
 use crate::stones::Colour;
 use board_points::Size;
-pub use plays::{Play, SetupOp};
+pub use plays::Play;
 use std::alloc::Global;
 use std::marker::Model;
 

@@ -18,7 +18,7 @@ use Rattle.sgf_tree.specs.Walk.{IsTakenOff}
 use Rattle.go_board.specs.declared.stones.Colour.{Colour}
 use Rattle.go_board.specs.declared.stones.Cell.{Cell}
 use Rattle.board_points.specs.declared.points.Rect.{Rect}
-use Rattle.go_board.specs.declared.referee.plays.SetupOp.{SetupOp}
+use Rattle.go_board.specs.declared.setup_op.SetupOp.{SetupOp}
 use Rattle.board_points.specs.Point.{IsRectOn}
 use Rattle.board_points.specs.Values.{rect_value}
 use Rattle.sgf_lines.specs.declared.judging.contents.Moves.{Moves}

@@ -15,7 +15,7 @@ use Rattle.board_points.specs.declared.vertices.TheConstants.{MAX_VERTEX_SIDE}
 use Rattle.go_board.specs.declared.reason.Reason.{Reason}
 use Rattle.go_board.specs.declared.referee.plays.Play.{Play}
 use Rattle.go_board.specs.declared.referee.plays.Play.TheVariants.{Stone}
-use Rattle.go_board.specs.declared.referee.plays.SetupOp.{SetupOp}
+use Rattle.go_board.specs.declared.setup_op.SetupOp.{SetupOp}
 use Rattle.board_points.specs.Point.{IsOn, points}
 use Rattle.go_board.specs.Grid.{Grid, empty_grid}
 use Rattle.go_board.specs.Clearing.{play, has_unreaching}

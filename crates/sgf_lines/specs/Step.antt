@@ -4,7 +4,7 @@ use Rattle.std.specs.Prelude.{Option, Some, None, List, [], ◌∷◌, ℕ, Resu
 use Rattle.sgf_tree.specs.Tree.{Node}
 use Rattle.go_board.specs.declared.stones.Colour.{Colour}
 use Rattle.go_board.specs.declared.referee.plays.Play.{Play}
-use Rattle.go_board.specs.declared.referee.plays.SetupOp.{SetupOp}
+use Rattle.go_board.specs.declared.setup_op.SetupOp.{SetupOp}
 use Rattle.go_board.specs.declared.reason.Reason.{Reason}
 use Rattle.go_board.specs.declared.reason.Reason.TheVariants.{Mixed, TwoMoves, BadSetup, BadPoint}
 use Rattle.go_board.specs.State.{State, set_up, turned}

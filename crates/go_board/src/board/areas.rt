@@ -8,7 +8,7 @@ ghost use Rattle.board_points.specs.Rows.{is_set};
 ghost use Rattle.go_board.specs.State.{with_area};
 
 use crate::board::Board;
-use crate::referee::SetupOp;
+use crate::setup_op::SetupOp;
 use crate::stones::Cell;
 use board_points::columns::columns_between;
 

@@ -50,7 +50,7 @@ use crate::past::print_past::colourings::Colourings;
 use crate::past::print_past::emptied::Emptied;
 use crate::past::print_past::print::{has_point, print_after_taking, print_of};
 use crate::past::print_past::table::{Gap, Table};
-use crate::referee::SetupOp;
+use crate::setup_op::SetupOp;
 use crate::stones::Colour;
 use board_points::rows::{add_points, no_rows};
 use board_points::{MAX_ROWS, Point};

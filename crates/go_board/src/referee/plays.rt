@@ -1,7 +1,6 @@
-//! Turns and setup operations, as plain data.
+//! Turns, as plain data.
 
-use crate::stones::Cell;
-use board_points::{Point, Rect};
+use board_points::Point;
 
 /// A player's turn.
 #[derive(Clone, Copy, Debug, PartialEq, Eq)]
@@ -10,13 +9,4 @@ pub enum Play {
     Pass,
     /// A stone is played on this point.
     Stone(Point),
-}
-
-/// One operation of a setup (SGF FF[4]): each point of the area gets the cell, whatever stood there.
-#[derive(Clone, Copy, Debug, PartialEq, Eq)]
-pub struct SetupOp {
-    /// What each point becomes.
-    pub cell: Cell,
-    /// The points that change.
-    pub area: Rect,
 }

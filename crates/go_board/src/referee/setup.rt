@@ -7,7 +7,8 @@ ghost use Rattle.go_board.specs.inner.Earlier.{with_setup};
 
 use crate::fault::MemoryFault;
 use crate::past::Past;
-use crate::referee::{Call, Mover, Referee, SetupOp};
+use crate::referee::{Call, Mover, Referee};
+use crate::setup_op::SetupOp;
 use crate::stones::Colour;
 
 impl<P: Past> Referee<P> {

@@ -7,7 +7,7 @@ use Rattle.sgf_tree.specs.declared.walk.NextNode.TheVariants.{Led, Empty as Empt
 use Rattle.go_board.specs.declared.stones.Colour.{Colour}
 use Rattle.go_board.specs.declared.stones.Colour.TheVariants.{Black, White}
 use Rattle.go_board.specs.declared.stones.Cell.TheVariants.{Black as BlackStone, White as WhiteStone, Empty}
-use Rattle.go_board.specs.declared.referee.plays.SetupOp.{SetupOp}
+use Rattle.go_board.specs.declared.setup_op.SetupOp.{SetupOp}
 use Rattle.board_points.specs.Point.{IsRectOn}
 use Rattle.sgf_lines.specs.declared.judging.contents.Moves.{Moves}
 use Rattle.sgf_lines.specs.declared.judging.contents.Moves.TheVariants.{Nothing, One, Several}

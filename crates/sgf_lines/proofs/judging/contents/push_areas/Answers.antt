@@ -1,6 +1,6 @@
 use Rattle.std.proofs.Common.{[], ◌∷◌, ◌++◌, sym, ap, ◌∙◌, append_assoc, subst, All}
 use Rattle.std.proofs.lemmas.List.Elements.{All-append, All-from_recursion}
-use Rattle.go_board.specs.declared.referee.plays.SetupOp.{SetupOp}
+use Rattle.go_board.specs.declared.setup_op.SetupOp.{SetupOp}
 use Rattle.board_points.specs.Point.{IsRectOn}
 use Rattle.sgf_lines.proofs.Gathered.{areas_more, areas_stop}
 use Rattle.sgf_lines.proofs.judging.contents.push_areas.Goals as goal
