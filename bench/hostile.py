@@ -1,17 +1,17 @@
 #!/usr/bin/env python3
 """Measures sgfsplit on inputs that are made to hurt, and prints a table.
 
-  bench/hostile.py [--mib N,..] [--only NAME,..] [--forms list,sgf,gtp,count] [--limit GIB] [--seconds N] [--table FILE]
+  bench/hostile.py [--mib N,..] [--only NAME,..] [--forms list,sgf,gtp,count] [--large] [--limit GIB] [--seconds N] [--table FILE]
   bench/hostile.py --from FILE                the short table of an earlier run
 
   SGFSPLIT   the program (crates/sgfsplit/out/sgfsplit)
   PEER       another program with the same words, which is run beside it
 
 Each input is made as large as N MiB allow (64, the program's limit), or smaller if its output would grow with its square; with several N, once
-for each. A run has at most GIB of memory (16) and N seconds (300). For each input and form the table has the bytes read and written, the
-processor seconds, and the nanoseconds per byte read or written. It also has the peak memory, that memory per byte read, and the status if it
-isn't 0. With PEER it has that program's processor seconds, and says if the outputs differ. The short table of docs/PERFORMANCE.md comes last.
-Needs /usr/bin/time.
+for each. With --large, forms whose output is hundreds of times as long as the input are measured too. A run has at most GIB of memory (16)
+and N seconds (300). For each input and form the table has the bytes read and written, the processor seconds, and the nanoseconds per byte
+read or written. It also has the peak memory, that memory per byte read, and the status if it isn't 0. With PEER it has that program's
+processor seconds, and says if the outputs differ. The short table of docs/PERFORMANCE.md comes last. Needs /usr/bin/time.
 """
 import argparse
 import hashlib
@@ -613,7 +613,7 @@ def measure(name, path, arguments):
     """Runs the forms of an input, and prints a row for each. Yields the rows of the table."""
     what, _, forms = INPUTS[name]
     size = os.path.getsize(path)
-    for form in forms:
+    for form in FORMS if arguments.large else forms:
         if arguments.forms and form not in arguments.forms.split(","):
             continue
         status, written, seen, seconds, peak = run(words(PROGRAM, form, path), arguments.limit, arguments.seconds)
@@ -627,6 +627,7 @@ def main():
     parser.add_argument("--mib", default="64")
     parser.add_argument("--only")
     parser.add_argument("--forms")
+    parser.add_argument("--large", action="store_true")
     parser.add_argument("--limit", type=int, default=16)
     parser.add_argument("--seconds", type=int, default=300)
     parser.add_argument("--table")

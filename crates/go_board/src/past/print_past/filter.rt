@@ -1,6 +1,6 @@
 //! A filter of prints: a Bloom filter whose one hash is the 13 low bits of a print. Most colourings that are looked up have a print that
-//! no past colouring has. Usually its bit isn't set then, and neither the table's trie is asked nor colourings are put into it. That would take
-//! a fifth of the time of long fights, where most stones are put on emptied points.
+//! no past colouring has. Usually its bit isn't set then, and neither the table's trie is asked nor colourings are put into it. Without the
+//! filter and the look of `Table::near`, short fights take 5 to 11 % more instructions.
 //!
 //! This costs one bit to set for each colouring, and for a look-up at most `MOST_COMPARED` prints compared. If there are more colourings
 //! than that, only the trie is asked.

@@ -51,7 +51,7 @@ use std::alloc::Global;
 const FIRST_ROOM: usize = 256;
 
 /// How many of the newest colourings are looked at before the trie is asked: the newest, and the one that a simple ko brings back. To work
-/// that one out takes one step. Without this look, fights take 1.3 times as long (the workload `awkward` of docs/PERF.md).
+/// that one out takes one step. Without this look and the filter, short fights take 5 to 11 % more instructions.
 const NEAR: usize = 2;
 
 /// The most nodes that a walk passes before keys get hashes: 64 in the print, 26 in the start of the stretch, and some on the board. No game
