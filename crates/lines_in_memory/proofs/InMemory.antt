@@ -1,7 +1,7 @@
 -- What follows from a run whose source is a text in memory and whose sink is an empty vector.
 use Rattle.std.proofs.Common.{◌≡◌, ℕ, List, [], ◌++◌, Option, Some, None, Ok, sym, ap, ◌∙◌, append-nil}
 use Rattle.std.specs.Io.KnownBytes.{Appends, Consumes, IsAtEnd}
-use Rattle.sgf_lines.specs.Lines.{Line}
+use Rattle.tree_lines.specs.Lines.{Line}
 use Rattle.sgf_lines.specs.Record.{output}
 use Rattle.byte_streams.specs.Streams.{SourceState, SinkState}
 use Rattle.sgf_lines.specs.Answer.{HasPage, IsRun}

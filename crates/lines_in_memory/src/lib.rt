@@ -3,7 +3,7 @@
 #![tactic(auto)]
 
 ghost use Rattle.std.specs.Prelude.{◌≡◌, List, IfOk};
-ghost use Rattle.sgf_lines.specs.Lines.{Line};
+ghost use Rattle.tree_lines.specs.Lines.{Line};
 ghost use Rattle.sgf_lines.specs.Record.{output};
 ghost use Rattle.sgf_lines.specs.Answer.{HasPage};
 

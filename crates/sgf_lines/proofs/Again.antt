@@ -15,7 +15,7 @@ use Rattle.sgf_lines.proofs.Walking.{after_illegal}
 use Rattle.sgf_lines.specs.SplitAgain.{HaveSame, SaysSame, scored, illegal_at, another_game, another_size, IsKept}
 use Rattle.sgf_properties.specs.RawValue.{IsValue, no_unit, plain, escaped}
 use Rattle.sgf_tree.specs.Spelling.{WhiteSpace, no_white_space, white_space, Letters, no_letter, upper, lower, IsPropValue, prop_value, ArePropValues, no_value, value, IsProperty, property, AreProperties, no_property, properties, IsNode, node, AreNodes, no_node, nodes, AreGames, no_game, games, no_byte_order_mark, Spells, spells}
-use Rattle.sgf_lines.specs.Lines.{Line, through, node_lines, lines_of_game, lines_from, lines}
+use Rattle.tree_lines.specs.Lines.{Line, through, node_lines, lines_of_game, lines_from, lines}
 use Rattle.sgf_lines.specs.Record.{value_text, property_text, node_text, sgf_record, output}
 use Rattle.sgf_lines.specs.Page.{page}
 use Rattle.sgf_lines.specs.declared.options.Options.{Options}

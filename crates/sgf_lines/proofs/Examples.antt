@@ -4,7 +4,7 @@ use Rattle.std.specs.Prelude.{codes}
 use Rattle.sgf_tree.specs.Tree.{no_games, game}
 use Rattle.tree_lines.proofs.Examples.{node_with, variations, two_games}
 use Rattle.sgf_lines.specs.declared.options.Form.TheVariants.{Sgf as sgf_form}
-use Rattle.sgf_lines.specs.Lines.{lines}
+use Rattle.tree_lines.specs.Lines.{lines}
 use Rattle.sgf_lines.specs.Record.{output}
 
 variations-output : output sgf_form (lines variations) ≡ codes "(;SZ[3];B[aa])\n(;SZ[3];B[bb];W[aa])\n"

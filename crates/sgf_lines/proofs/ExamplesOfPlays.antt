@@ -8,7 +8,7 @@ use Rattle.go_board.specs.Clearing.{clear, play, cleared_cell}
 use Rattle.go_board.specs.Score.{score_of, counts_for}
 use Rattle.go_board.specs.State.{with_area}
 use Rattle.board_points.specs.Values.{point_value, rect_value}
-use Rattle.sgf_lines.specs.Lines.{lines}
+use Rattle.tree_lines.specs.Lines.{lines}
 use Rattle.sgf_lines.specs.Page.{page}
 use Rattle.sgf_lines.specs.Plays.{touched_places, all_judged_places}
 use Rattle.sgf_lines.specs.RunPlays.{plays_of}

@@ -6,10 +6,10 @@ use Rattle.std.proofs.lemmas.List.{take-take}
 use Rattle.std.proofs.lemmas.Option.{slice_get_within}
 use Rattle.sgf_tree.specs.Tree.{node_count}
 use Rattle.sgf_tree.specs.FileOrder.{PlacesRise}
-use Rattle.sgf_lines.specs.Lines.{lines}
+use Rattle.tree_lines.specs.Lines.{lines}
 use Rattle.sgf_lines.specs.Verdict.{verdict, verdict_of, judged_nodes}
 use Rattle.sgf_lines.specs.Plays.{all_judged_places}
-use Rattle.sgf_lines.specs.Cursor.{CursorState, advanced}
+use Rattle.tree_lines.specs.Cursor.{CursorState, advanced}
 use Rattle.sgf_lines.specs.Follower.{FollowerState}
 use Rattle.sgf_lines.specs.declared.options.Form.TheVariants.{List as list_form}
 use Rattle.sgf_lines.specs.declared.over_lines.Before.{Before}

@@ -3,7 +3,7 @@ use Rattle.std.proofs.Common.{◌≡◌, ◌≢◌, ℕ, ◌-◌, ◌<◌, lengt
 use Rattle.std.proofs.lemmas.Grind.{common_steps}
 use Rattle.std.specs.Prelude.{Bool}
 use Rattle.std.specs.Result.{IsErr}
-use Rattle.sgf_lines.specs.Cursor.{CursorState}
+use Rattle.tree_lines.specs.Cursor.{CursorState}
 use Rattle.tree_lines.specs.declared.sequence_cursor.Front.{Front}
 use Rattle.sgf_lines.specs.declared.over_lines.Before.{Before}
 use Rattle.sgf_lines.specs.declared.over_lines.Before.TheVariants.{Unheld, Held, Refused}

@@ -5,8 +5,8 @@ use Rattle.std.proofs.lemmas.List.{take-map, length-take-le}
 use Rattle.std.proofs.lemmas.List.FromFn.{length-range_with_len}
 use Rattle.sgf_tree.specs.Tree.{Node}
 use Rattle.sgf_tree.specs.FileOrder.{node_at}
-use Rattle.sgf_lines.specs.Lines.{lines}
-use Rattle.sgf_lines.specs.Cursor.{CursorState, advanced}
+use Rattle.tree_lines.specs.Lines.{lines}
+use Rattle.tree_lines.specs.Cursor.{CursorState, advanced}
 use Rattle.sgf_lines.specs.JudgedGames.{GameKind, game_kind, root_properties}
 use Rattle.sgf_lines.specs.Walk.{TakenNode, taken_on}
 use Rattle.tree_lines.specs.declared.sequence_cursor.Front.{Front}

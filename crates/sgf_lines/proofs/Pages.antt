@@ -7,11 +7,11 @@ use Rattle.std.proofs.lemmas.Option.{slice_get-map, slice_get_within, get_or_fro
 use Rattle.std.proofs.lemmas.List.Kept.{AllPairs-from_increasing}
 use Rattle.sgf_tree.specs.Tree.{Games}
 use Rattle.sgf_tree.specs.FileOrder.{PlacesRise}
-use Rattle.sgf_lines.specs.Lines.{Line, lines, place_of}
+use Rattle.tree_lines.specs.Lines.{Line, lines, place_of}
 use Rattle.tree_lines.proofs.LinePlaces.{lines_rise}
 use Rattle.std.specs.Prelude.{unwrap_or, ◌==◌}
 use Rattle.std.proofs.lemmas.Bool.{eq-eqb, ne_eqb}
-use Rattle.sgf_lines.specs.Cursor.{CursorState, IsAfterPlace}
+use Rattle.tree_lines.specs.Cursor.{CursorState, IsAfterPlace}
 use Rattle.sgf_lines.specs.Page.{lines_after, lines_asked, limited, page}
 use Rattle.std.proofs.Math.Seq.{drop-append-add}
 use Rattle.sgf_lines.specs.declared.options.Options.{Options}

@@ -4,7 +4,7 @@ use Rattle.std.proofs.Common.{◌≡◌, ℕ, zero, suc, ◌+◌, ◌<◌, ◌�
 use Rattle.std.proofs.lemmas.Bool.{cases_Bool}
 use Rattle.sgf_tree.specs.Tree.{Games, node_count}
 use Rattle.sgf_tree.specs.FileOrder.{PlacesRise}
-use Rattle.sgf_lines.specs.Lines.{Line, lines}
+use Rattle.tree_lines.specs.Lines.{Line, lines}
 use Rattle.sgf_lines.proofs.Touched.{SharesAfter, adds_fresh, judged_first, judged_shared, judged_few, fewer_in_front}
 use Rattle.std.proofs.lemmas.List.{take-append-drop, length-map, length-drop, take_all, length-take}
 use Rattle.std.proofs.Math.Seq.{take-add}
@@ -17,7 +17,7 @@ use Rattle.std.proofs.KnownBytes.{Appends-trans}
 use Rattle.sgf_lines.specs.Page.{limited}
 use Rattle.sgf_lines.specs.Record.{record_of, output}
 use Rattle.byte_streams.specs.Streams.{SinkState, TakesNothing}
-use Rattle.sgf_lines.specs.Cursor.{CursorState, advanced}
+use Rattle.tree_lines.specs.Cursor.{CursorState, advanced}
 use Rattle.sgf_lines.specs.Answer.{IsCutShort}
 use Rattle.sgf_lines.specs.RunPlays.{plays_of, plays_in, ArePlaysFor}
 use Rattle.sgf_lines.specs.inner.Running.{WritesLines}

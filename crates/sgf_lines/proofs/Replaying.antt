@@ -22,7 +22,7 @@ use Rattle.go_board.specs.Clearing.{play, has_unreaching}
 use Rattle.board_points.specs.Values.{coordinate, point_value}
 use Rattle.go_board.specs.State.{State, with_area, set_up, turned}
 use Rattle.go_board.specs.Reason.{reason_of}
-use Rattle.sgf_lines.specs.Lines.{Line}
+use Rattle.tree_lines.specs.Lines.{Line}
 use Rattle.sgf_lines.specs.NodeContents.{Move, Stones, moves, stones, players, first_value}
 use Rattle.sgf_lines.specs.NodeValues.{move_value, operations, last_player}
 use Rattle.sgf_lines.specs.JudgedGames.{board, side_of, game_kind, root_properties}

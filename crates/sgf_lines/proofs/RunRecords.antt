@@ -4,12 +4,12 @@ use Rattle.std.proofs.lemmas.Grind.{common_steps}
 use Rattle.std.specs.Prelude.{option_map, codes, Result, Ok, Err, IfOk}
 use Rattle.std.specs.List.{concat}
 use Rattle.sgf_tree.specs.Tree.{Node, Games, node_count}
-use Rattle.sgf_lines.specs.Lines.{Line}
+use Rattle.tree_lines.specs.Lines.{Line}
 use Rattle.sgf_lines.specs.Record.{record_of, sgf_record}
 use Rattle.sgf_lines.specs.ListRow.{list_row}
 use Rattle.sgf_lines.specs.Script.{comment_row, commands_by}
 use Rattle.sgf_lines.specs.Verdict.{verdict_of, verdict, IsVerdictAt, IsVerdictOf}
-use Rattle.sgf_lines.specs.Cursor.{CursorState, IsAfterPlace}
+use Rattle.tree_lines.specs.Cursor.{CursorState, IsAfterPlace}
 use Rattle.sgf_lines.specs.JudgedGames.{game_kind, root_properties}
 use Rattle.sgf_lines.specs.Walk.{taken_on}
 use Rattle.sgf_lines.specs.declared.verdict.Verdict.{Verdict}
@@ -28,7 +28,7 @@ use Rattle.sgf_lines.proofs.Recordings.{record_text}
 use Rattle.sgf_lines.proofs.Scripts.{script_put}
 use Rattle.sgf_tree.specs.FileOrder.{IsLeaf}
 use Rattle.sgf_properties.specs.declared.fault.MemoryFault.{MemoryFault}
-use Rattle.sgf_lines.specs.Paths.{Path, leaf_of}
+use Rattle.tree_lines.specs.Paths.{Path, leaf_of}
 use Rattle.tree_lines.proofs.CursorStates.{IsNextLine, next_line, before}
 use Rattle.tree_lines.proofs.Named.{line_at}
 

@@ -5,7 +5,7 @@ use Rattle.std.proofs.lemmas.Option.{slice_get_past, slice_get_within}
 use Rattle.std.specs.Io.KnownBytes.{Appends}
 use Rattle.std.proofs.KnownBytes.{Appends-trans}
 use Rattle.std.proofs.lemmas.List.{take_all, take-append-drop, length-drop}
-use Rattle.sgf_lines.specs.Lines.{Line, lines}
+use Rattle.tree_lines.specs.Lines.{Line, lines}
 use Rattle.sgf_lines.specs.Record.{record_of, output}
 use Rattle.byte_streams.specs.Streams.{SinkState, SourceState, GivesRest, HasDelivered}
 use Rattle.sgf_lines.specs.Answer.{IsCutShort, read_failures, IsWhole, IsGood, Answers, write_failures, unread}

@@ -21,8 +21,8 @@ use Rattle.sgf_tree.specs.FileOrder.{OrderedNode, ordered_nodes, node_at, place_
 use Rattle.sgf_tree.proofs.Lists.{slice_get-right}
 use Rattle.sgf_tree.proofs.OrderedNodes.{length-nodes_from, length-ordered_nodes}
 use Rattle.sgf_tree.proofs.Rises.{Rises, rises-ends}
-use Rattle.sgf_lines.specs.Lines.{Line, lines, last_number}
-use Rattle.sgf_lines.specs.Paths.{paths}
+use Rattle.tree_lines.specs.Lines.{Line, lines, last_number}
+use Rattle.tree_lines.specs.Paths.{paths}
 use Rattle.sgf_lines.specs.Plays.{differ, different, places_of, node_places, touched_places, judged_places, all_judged_places}
 use Rattle.sgf_lines.specs.JudgedGames.{game_kind, root_properties}
 use Rattle.tree_lines.specs.Following.{first_after, Continues, numbers_before, nodes_of}

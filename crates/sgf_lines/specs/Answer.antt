@@ -8,7 +8,7 @@ use Rattle.sgf_tree.specs.Refusal.{IsFaultyAt}
 pub use Rattle.sgf_tree.specs.declared.fault.TheConstants.{MAX_LENGTH}
 use Rattle.sgf_tree.specs.declared.fault.ReadFault.{ReadFault}
 use Rattle.sgf_tree.specs.declared.fault.ReadFault.TheVariants.{TooLong as TextTooLong, NotSgf as TextNotSgf, Memory as TextMemory}
-use Rattle.sgf_lines.specs.Lines.{Line, HasNoLineAt}
+use Rattle.tree_lines.specs.Lines.{Line, HasNoLineAt}
 use Rattle.sgf_lines.specs.Page.{page}
 use Rattle.sgf_lines.specs.Record.{record_of, output}
 use Rattle.byte_streams.specs.Streams.{SourceState, SinkState, HasDelivered}

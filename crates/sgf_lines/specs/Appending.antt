@@ -2,7 +2,7 @@
 use Rattle.std.specs.Prelude.{ℕ, ◌+◌, List, ◌++◌, length, codes}
 use Rattle.sgf_lines.specs.declared.verdict.Verdict.{Verdict}
 use Rattle.sgf_lines.specs.declared.verdict.Verdict.TheVariants.{Score, Illegal, NotGo, BadSize}
-use Rattle.sgf_lines.specs.Lines.{Line, place_of}
+use Rattle.tree_lines.specs.Lines.{Line, place_of}
 use Rattle.sgf_lines.specs.ListRow.{row_text}
 use Rattle.sgf_lines.specs.Verdict.{verdict}
 

@@ -5,7 +5,7 @@ use Rattle.sgf_tree.specs.Tree.{Games, game_count, node_count}
 use Rattle.sgf_tree.specs.Spelling.{Spells}
 use Rattle.sgf_tree.specs.Refusal.{IsFaultyAt}
 use Rattle.sgf_tree.specs.declared.fault.TheConstants.{MAX_LENGTH}
-use Rattle.sgf_lines.specs.Lines.{lines}
+use Rattle.tree_lines.specs.Lines.{lines}
 use Rattle.byte_streams.specs.Streams.{SourceState, SinkState, HasDelivered}
 use Rattle.sgf_lines.specs.Answer.{IsWhole, read_failures, write_failures}
 use Rattle.sgf_lines.specs.declared.counting.Counts.{Counts}

@@ -2,7 +2,7 @@
 use Rattle.std.specs.Prelude.{◌≡◌, ℕ, ◌+◌, ◌-◌, List, take, drop, Option, Some, None, option_map, slice_get, Result, Ok, Err}
 use Rattle.sgf_tree.specs.Tree.{Games}
 use Rattle.sgf_properties.specs.declared.fault.MemoryFault.{MemoryFault}
-use Rattle.sgf_lines.specs.Lines.{Line, lines}
+use Rattle.tree_lines.specs.Lines.{Line, lines}
 use Rattle.sgf_lines.specs.Verdict.{verdict}
 use Rattle.sgf_lines.specs.declared.verdict.Verdict.{Verdict}
 

@@ -2,7 +2,7 @@
 use Rattle.std.specs.Prelude.{ℕ, Bool, true, false, List, [], ◌∷◌, codes}
 use Rattle.sgf_lines.specs.declared.options.Form.{Form}
 use Rattle.sgf_lines.specs.declared.options.Form.TheVariants as form
-use Rattle.sgf_lines.specs.Lines.{Line}
+use Rattle.tree_lines.specs.Lines.{Line}
 use Rattle.sgf_lines.specs.ListRow.{list_record}
 use Rattle.sgf_lines.specs.SgfRecord.{sgf_record}
 use Rattle.sgf_lines.specs.Script.{script}

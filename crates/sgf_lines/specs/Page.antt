@@ -1,7 +1,7 @@
 -- The lines that a run is asked for.
 use Rattle.std.specs.Prelude.{ℕ, ◌==◌, if◌then◌else◌, List, [], ◌∷◌, take, Option, Some, None, option_map}
 use Rattle.sgf_tree.specs.Tree.{Games}
-use Rattle.sgf_lines.specs.Lines.{Line, lines, place_of}
+use Rattle.tree_lines.specs.Lines.{Line, lines, place_of}
 use Rattle.sgf_lines.specs.declared.options.Options.{Options}
 
 -- the lines that follow the line with this place; None if no line has it

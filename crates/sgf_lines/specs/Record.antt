@@ -4,7 +4,7 @@ use Rattle.std.specs.List.{flat_map}
 pub use Rattle.sgf_tree.specs.Written.{value_text, property_text, node_text}
 use Rattle.sgf_lines.specs.declared.options.Form.{Form}
 use Rattle.sgf_lines.specs.Form.{entry_of}
-use Rattle.sgf_lines.specs.Lines.{Line}
+use Rattle.tree_lines.specs.Lines.{Line}
 pub use Rattle.sgf_lines.specs.SgfRecord.{sgf_record}
 
 -- the record of a line in a form

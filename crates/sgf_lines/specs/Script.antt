@@ -17,7 +17,7 @@ use Rattle.go_board.specs.Grid.{Grid, cell_at}
 use Rattle.go_board.specs.Clearing.{has_unreaching}
 use Rattle.board_points.specs.Vertex.{vertex_of}
 use Rattle.go_board.specs.State.{State}
-use Rattle.sgf_lines.specs.Lines.{Line}
+use Rattle.tree_lines.specs.Lines.{Line}
 use Rattle.sgf_lines.specs.NodeContents.{Move, Stones, moves, stones, first_value}
 use Rattle.sgf_lines.specs.NodeValues.{move_value}
 use Rattle.sgf_lines.specs.JudgedGames.{GameKind, not_go, bad_size, board, game_kind, root_properties}

@@ -8,8 +8,8 @@ use Rattle.go_board.specs.Score.{score_of}
 use Rattle.go_board.specs.State.{State, is_over}
 use Rattle.sgf_lines.specs.declared.verdict.Verdict.{Verdict}
 use Rattle.sgf_lines.specs.declared.verdict.Verdict.TheVariants.{Score, Illegal, NotGo, BadSize}
-use Rattle.sgf_lines.specs.Lines.{Line, lines, place_of}
-use Rattle.sgf_lines.specs.Paths.{paths, leaf_of}
+use Rattle.tree_lines.specs.Lines.{Line, lines, place_of}
+use Rattle.tree_lines.specs.Paths.{paths, leaf_of}
 use Rattle.sgf_lines.specs.JudgedGames.{GameKind, not_go, bad_size, board, game_kind, root_properties}
 use Rattle.sgf_lines.specs.Walk.{IllegalNode, Walk, walk, judged_by}
 

@@ -2,7 +2,7 @@
 
 ghost use Rattle.std.specs.Prelude.{◌≡◌, ◌<◌, ◌-◌, length, IfOk};
 ghost use Rattle.sgf_lines.specs.Plays.{all_judged_places};
-ghost use Rattle.tree_lines.specs.Following.{nodes_before, path_before};
+ghost use Rattle.tree_lines.specs.Following.{path_before};
 
 use crate::judging::judged::Judged;
 use crate::over_lines::{Before, LineKeeper, OverLines};
@@ -64,7 +64,7 @@ impl<'c, 'a> Model for Follower<'c, 'a> {
 }
 
 impl<'c, 'a> Follower<'c, 'a> {
-    ghost use Rattle.sgf_lines.specs.Cursor.{IsLine};
+    ghost use Rattle.tree_lines.specs.Cursor.{IsLine};
     ghost use Rattle.sgf_lines.specs.Follower.{GivesVerdict, LeavesFollower, lines_judged};
 
     /// A follower of all lines. (A `Collection` lends its outline.) This takes no memory.

@@ -8,7 +8,7 @@
 //! | `pieces` | a text in pieces |
 
 ghost use Rattle.std.specs.Prelude.{◌≡◌, ◌<◌, ℕ, Some};
-ghost use Rattle.sgf_lines.specs.Lines.{Line};
+ghost use Rattle.tree_lines.specs.Lines.{Line};
 ghost use Rattle.sgf_lines.specs.Record.{record_of};
 ghost use Rattle.sgf_lines.specs.RunPlays.{plays_in};
 ghost use Rattle.sgf_lines.specs.declared.options.Form.{Form};

@@ -3,8 +3,8 @@
 
 ghost use Rattle.std.specs.Prelude.{◌≡◌, ◌≢◌, ◌+◌, ◌<◌, ℕ, None, length, slice_get, IfNone, IfOk, IfSome, OnErr, OnOk, MatchBool};
 ghost use Rattle.sgf_tree.specs.Tree.{node_count};
-ghost use Rattle.sgf_lines.specs.Lines.{lines};
-ghost use Rattle.sgf_lines.specs.Cursor.{advanced};
+ghost use Rattle.tree_lines.specs.Lines.{lines};
+ghost use Rattle.tree_lines.specs.Cursor.{advanced};
 ghost use Rattle.sgf_lines.specs.declared.over_lines.Before.TheVariants.{Unheld, Held};
 ghost use Rattle.tree_lines.specs.Following.{nodes_before};
 ghost use Rattle.sgf_lines.specs.inner.Fronts.{HasFront};

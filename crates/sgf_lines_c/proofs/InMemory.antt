@@ -2,7 +2,7 @@
 use Rattle.std.proofs.Common.{◌≡◌, ℕ, ◌+◌, ◌≤◌, List, [], ◌++◌, length, Option, Some, None, Ok, Err, sym, ap, ◌∙◌, subst, append-nil, length-append, arith, inl, inr, ◌<◌, drop}
 use Rattle.std.specs.Io.KnownBytes.{Appends, Consumes, IsAtEnd}
 use Rattle.byte_streams.specs.Streams.{SourceState, SinkState}
-use Rattle.sgf_lines.specs.Lines.{Line}
+use Rattle.tree_lines.specs.Lines.{Line}
 use Rattle.sgf_lines.specs.Record.{output}
 use Rattle.sgf_lines.specs.Answer.{MAX_LENGTH, IsWhole, HasPage, IsGood, Answers, IsRun}
 use Rattle.sgf_lines.specs.Counts.{AnswersCount, IsCount}

@@ -3,7 +3,7 @@ use Rattle.std.specs.Prelude.{◌≡◌, ℕ, ◌<◌, ◌≤◌, List, length}
 use Rattle.sgf_tree.specs.Tree.{Games, game_count, node_count}
 use Rattle.sgf_tree.specs.Spelling.{Spells}
 use Rattle.sgf_tree.specs.Refusal.{IsFaultyAt}
-use Rattle.sgf_lines.specs.Lines.{lines}
+use Rattle.tree_lines.specs.Lines.{lines}
 use Rattle.sgf_lines.specs.Answer.{MAX_LENGTH}
 use Rattle.sgf_lines_c.specs.declared.answer.CountAnswer.{CountAnswer}
 use Rattle.sgf_lines_c.specs.declared.status.Status.{Status}

@@ -5,7 +5,7 @@ use Rattle.sgf_tree.specs.Spelling.{Spells}
 use Rattle.sgf_tree.specs.Refusal.{IsFaultyAt}
 use Rattle.go_board.specs.declared.reason.Reason.{Reason}
 use Rattle.go_board.specs.Reason.{rank_of}
-use Rattle.sgf_lines.specs.Lines.{HasNoLineAt}
+use Rattle.tree_lines.specs.Lines.{HasNoLineAt}
 use Rattle.sgf_lines.specs.Verdict.{IsVerdictOf}
 pub use Rattle.sgf_lines.specs.Answer.{MAX_LENGTH}
 use Rattle.sgf_lines.specs.declared.verdict.Verdict.{Verdict}

@@ -1,7 +1,7 @@
 -- What `sgf_lines_split` reports, what that says of the text, and what the room (the caller's buffer for the records) then holds.
 use Rattle.std.specs.Prelude.{◌≡◌, ℕ, ◌<◌, ◌≤◌, ◌⊎◌, List, ◌++◌, length, drop, Option, Some, None}
 use Rattle.sgf_tree.specs.Refusal.{IsFaultyAt}
-use Rattle.sgf_lines.specs.Lines.{Line}
+use Rattle.tree_lines.specs.Lines.{Line}
 use Rattle.sgf_lines.specs.Record.{output}
 use Rattle.sgf_lines.specs.Answer.{MAX_LENGTH, HasPage, HasNoLine}
 use Rattle.sgf_lines.specs.declared.options.Options.{Options}

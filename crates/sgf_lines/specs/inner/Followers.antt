@@ -3,7 +3,7 @@ use Rattle.std.specs.Prelude.{◌≡◌, ◌<◌, ◌≤◌, ℕ, length, refl}
 use Rattle.std.specs.Coded.{Coded, code_by, coded×, coded_ℕ}
 use Rattle.sgf_tree.specs.Tree.{Games}
 use Rattle.sgf_tree.specs.inner.TreeCode.{games_code}
-use Rattle.sgf_lines.specs.Cursor.{CursorState}
+use Rattle.tree_lines.specs.Cursor.{CursorState}
 use Rattle.sgf_lines.specs.Follower.{FollowerState, lines_judged}
 use Rattle.sgf_lines.specs.Plays.{all_judged_places}
 use Rattle.sgf_lines.specs.declared.over_lines.Before.{Before}

@@ -4,11 +4,11 @@ use Rattle.std.specs.Io.KnownBytes.{Appends, Consumes}
 use Rattle.sgf_tree.specs.FileOrder.{PlacesRise}
 use Rattle.sgf_tree.specs.Tree.{Games, node_count}
 use Rattle.sgf_tree.specs.declared.fault.TheConstants.{MAX_LENGTH}
-use Rattle.sgf_lines.specs.Lines.{Line, lines, HasNoLineAt}
+use Rattle.tree_lines.specs.Lines.{Line, lines, HasNoLineAt}
 use Rattle.sgf_lines.specs.Page.{lines_asked}
 use Rattle.sgf_lines.specs.Record.{output}
 use Rattle.byte_streams.specs.Streams.{SourceState, SinkState}
-use Rattle.sgf_lines.specs.Cursor.{CursorState}
+use Rattle.tree_lines.specs.Cursor.{CursorState}
 use Rattle.sgf_lines.specs.Answer.{IsWhole, IsCutShort}
 use Rattle.tree_lines.specs.Sequences.{SequencesState}
 use Rattle.sgf_lines.specs.RunPlays.{plays_of, ArePlaysFor}

@@ -1,6 +1,6 @@
 -- The text that a row has so far, and the row of a line.
 use Rattle.std.specs.Prelude.{ℕ, List, drop, length}
-use Rattle.sgf_lines.specs.Lines.{Line, place_of}
+use Rattle.tree_lines.specs.Lines.{Line, place_of}
 use Rattle.sgf_lines.specs.ListRow.{row_text}
 use Rattle.sgf_lines.specs.declared.verdict.Verdict.{Verdict}
 use Rattle.sgf_lines.specs.declared.form.text_row.TextRow.{TextRow}

@@ -3,7 +3,7 @@
 
 ghost use Rattle.std.specs.Prelude.{◌≡◌, ◌<◌, ◌≤◌, ◌+◌, Some, [], ◌++◌, length, codes, decimal};
 ghost use Rattle.sgf_lines.specs.Counts.{counts_row};
-ghost use Rattle.sgf_lines.specs.Lines.{Line};
+ghost use Rattle.tree_lines.specs.Lines.{Line};
 ghost use Rattle.sgf_lines.specs.ListRow.{verdict_text};
 ghost use Rattle.sgf_lines.specs.Script.{comment_row};
 ghost use Rattle.tree_lines.specs.Following.{line_before};

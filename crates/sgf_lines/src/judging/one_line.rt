@@ -5,7 +5,7 @@ ghost use Rattle.sgf_tree.specs.Tree.{node_count};
 ghost use Rattle.sgf_tree.specs.FileOrder.{IsLeaf};
 ghost use Rattle.sgf_lines.specs.Verdict.{IsVerdictAt, IsVerdictOf, verdict};
 ghost use Rattle.tree_lines.specs.Following.{line_before};
-ghost use Rattle.sgf_lines.specs.Cursor.{IsSeekFault};
+ghost use Rattle.tree_lines.specs.Cursor.{IsSeekFault};
 
 use crate::judging::judged::Judged;
 use crate::over_lines::LineKeeper;

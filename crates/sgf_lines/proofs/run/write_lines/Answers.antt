@@ -2,8 +2,8 @@
 use Rattle.std.proofs.Common.{◌≡◌, true, None, Some, Ok, Err, slice_get, sym, ap, ◌∙◌, arith}
 use Rattle.std.proofs.lemmas.Grind.{common_steps}
 use Rattle.sgf_properties.specs.declared.fault.MemoryFault.{MemoryFault}
-use Rattle.sgf_lines.specs.Cursor.{CursorState, advanced}
-use Rattle.sgf_lines.specs.Lines.{lines}
+use Rattle.tree_lines.specs.Cursor.{CursorState, advanced}
+use Rattle.tree_lines.specs.Lines.{lines}
 use Rattle.sgf_lines.specs.Record.{record_of}
 use Rattle.sgf_lines.specs.declared.over_lines.Before.TheVariants.{Held}
 use Rattle.byte_streams.specs.declared.sink.SinkFault.{SinkFault}

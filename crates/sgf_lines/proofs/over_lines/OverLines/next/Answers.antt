@@ -2,7 +2,7 @@
 use Rattle.std.proofs.Common.{◌≡◌, ◌≢◌, ℕ, ◌<◌, List, [], ◌∷◌, length, Result, Ok, Err, OnErr, inl, inr, refl, ap, arith, rules}
 use Rattle.std.specs.Prelude.{Bool}
 use Rattle.std.specs.Result.{IsErr}
-use Rattle.sgf_lines.specs.Cursor.{CursorState}
+use Rattle.tree_lines.specs.Cursor.{CursorState}
 use Rattle.sgf_tree.specs.Tree.{node_count}
 use Rattle.tree_lines.specs.declared.sequence_cursor.Front.{Front}
 use Rattle.tree_lines.specs.Sequences.{SequencesState, RiseTo}

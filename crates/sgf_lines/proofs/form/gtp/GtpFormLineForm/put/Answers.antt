@@ -2,7 +2,7 @@
 use Rattle.std.proofs.Common.{◌≡◌, ◌++◌, Some, Ok, Err, subst}
 use Rattle.std.specs.Prelude.{codes}
 use Rattle.byte_streams.specs.Streams.{PutsAll}
-use Rattle.sgf_lines.specs.Lines.{Line}
+use Rattle.tree_lines.specs.Lines.{Line}
 use Rattle.sgf_lines.specs.Script.{script}
 use Rattle.tree_lines.specs.Following.{line_before}
 use Rattle.sgf_lines.specs.inner.Views.{built_text}
