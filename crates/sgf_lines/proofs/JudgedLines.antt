@@ -9,9 +9,9 @@ use Rattle.sgf_lines.specs.declared.judging.step.TakenStep.{TakenStep}
 use Rattle.sgf_lines.specs.JudgedGames.{GameKind, game_kind, root_properties}
 use Rattle.sgf_lines.specs.Walk.{TakenNode, taken_on}
 use Rattle.sgf_lines.specs.Verdict.{judged_on}
-use Rattle.sgf_lines.specs.inner.Judging.{Judging, IsSettled, IsStepTaken, IsTakenFrom, after, begun_game, board_in, judging, next_plays, state_after}
+use Rattle.sgf_lines.specs.inner.Judging.{Judging, IsSettled, IsStepTaken, IsTakenFrom, IsUnsettled, after, begun_game, board_in, judging, state_after}
 use Rattle.sgf_lines.specs.inner.Keeping.{HasJudged, PlaysUpTo, WentOn, fresh_plays, plays_for}
-use Rattle.sgf_lines.proofs.Judgements.{judging_more, plays_more, settled_all, settled_by}
+use Rattle.sgf_lines.proofs.Judgements.{judging_more, plays_one, settled_all, settled_by}
 use Rattle.sgf_lines.proofs.Keeping.{judging_front}
 use Rattle.sgf_lines.proofs.TakenNodes.{is_taken, taken_settled, told_last, untaken}
 use Rattle.sgf_lines.proofs.Walking.{judged_of_front}
@@ -110,21 +110,28 @@ module _ {holds : GameKind → List TakenNode → Type 0} {kind : GameKind} {bef
       omega (arith, h.on.plays, up.1, plays_sum kind before h.done more, plays_sum kind before (h.done ++ more) others, ap (plays_for kind before) whole),
     )
 
+-- a judge took the first of these nodes, and the others are left
+pub record TookOne (judge : Judging) (rest : List Node) (node : Node) (others : List Node) (new : Judging) : Type 0 where
+  pub unsettled : IsUnsettled judge.judgement
+  pub first : rest ≡ node ∷ others
+  pub judged : new.judgement ≡ after judge.judgement node
+  pub plays : new.plays ≡ judge.plays + 1
+
 -- by one node
 module _ {holds : GameKind → List TakenNode → Type 0} {kind : GameKind} {before all rest : List Node} {old : ℕ} {judge : Judging} (h : Going holds kind before all rest old judge)
-    (node : Node) (others : List Node) (is : rest ≡ node ∷ others) (new : Judging) (judged : new.judgement ≡ after judge.judgement node) (plays : new.plays ≡ judge.plays + next_plays judge.judgement) where
+    {node : Node} {others : List Node} {new : Judging} (one : TookOne judge rest node others new) where
   by_node : (tells : GameKind → List TakenNode → Type 0) → tells kind (taken_on kind ((before ++ h.done) ++ node ∷ [])) → Going tells kind before all others old new
   by_node tells told =
       let nodes = before ++ h.done in
-      goes_on h (node ∷ []) others is tells new (record {
-        has_judged = record { judged = judged ∙ ap (λ j. after j node) h.on.has_judged.judged ∙ sym (judging_more kind nodes node); taken = told };
-        plays = omega (arith, plays, plays_more kind nodes node, ap next_plays h.on.has_judged.judged);
+      goes_on h (node ∷ []) others one.first tells new (record {
+        has_judged = record { judged = one.judged ∙ ap (λ j. after j node) h.on.has_judged.judged ∙ sym (judging_more kind nodes node); taken = told };
+        plays = omega (arith, one.plays, plays_one kind nodes node (subst IsUnsettled h.on.has_judged.judged one.unsettled));
       })
 
   -- which wasn't taken
   pub refuses : state_after judge.judgement node ≡ None → WentOn holds kind before all old new
   refuses none =
-      settles (by_node holds (subst (holds kind) (untaken kind (before ++ h.done) node judge.judgement h.on.has_judged.judged none) h.on.has_judged.taken)) (rw judged (settled_by judge.judgement node none))
+      settles (by_node holds (subst (holds kind) (untaken kind (before ++ h.done) node judge.judgement h.on.has_judged.judged none) h.on.has_judged.taken)) (rw one.judged (settled_by judge.judgement node none))
 
   -- or whose step wasn't told, for want of memory
   pub unsaid : (old ≤ new.plays) × (new.plays ≤ old + plays_for kind before all)
@@ -136,7 +143,7 @@ module _ {holds : GameKind → List TakenNode → Type 0} {kind : GameKind} {bef
     taken_node = record { node = node; after = taken.0 }
 
     pub step_taken : IsStepTaken kind grid step taken_node
-    step_taken = is_taken kind (before ++ h.done) node judge.judgement h.on.has_judged.judged step grid taken (there ∙ ap board_in judged)
+    step_taken = is_taken kind (before ++ h.done) node judge.judgement h.on.has_judged.judged step grid taken (there ∙ ap board_in one.judged)
 
     pub said : (tells : GameKind → List TakenNode → Type 0) → tells kind (taken_on kind (before ++ h.done) ++ taken_node ∷ []) → Going tells kind before all others old new
     said tells told = by_node tells (subst (tells kind) (told_last kind (before ++ h.done) node judge.judgement h.on.has_judged.judged taken.0 taken.1) told)

@@ -3,7 +3,7 @@ use Rattle.std.proofs.Common.{◌≡◌, ℕ, ◌<◌, ◌≤◌, List, [], ◌�
 use Rattle.std.proofs.lemmas.Grind.{common_steps}
 use Rattle.std.proofs.lemmas.Bool.{le-leb, lt-leb}
 use Rattle.go_board.specs.State.{State, States, followed_by}
-use Rattle.sgf_lines.specs.inner.Judging.{back_from, back_to, Judgement, Judging, IsSettled, unjudged, judged, judgement_of, side_in, begun_game, stepped, after, judging, back, verdict_in, board_in, state_after, state_of, taken_by, next_plays}
+use Rattle.sgf_lines.specs.inner.Judging.{back_from, back_to, Judgement, Judging, IsSettled, IsUnsettled, unjudged, judged, judgement_of, side_in, begun_game, stepped, after, judging, back, verdict_in, board_in, state_after, state_of, taken_by}
 use Rattle.std.specs.Prelude.{fold}
 use Rattle.std.proofs.lemmas.List.{take_all, take-append-le, take-append-drop, length-take-le}
 use Rattle.std.proofs.lemmas.List.Sums.{fold-append}
@@ -195,14 +195,32 @@ board_after j node s e = let t = taken_only j node s e in ap (λ k. board_in (af
 
 -- ---- how many nodes are judged
 
+-- how many nodes are played for the next node
+abbrev next_plays : Judgement → ℕ
+next_plays (unjudged told) = 0
+next_plays (judged states (Some told)) = 0
+next_plays (judged states None) = 1
+
 one_played : (j : Judgement) (walked : Walk) (node : Node) → IsOfWalk j walked → length (judged_by (next walked node)) ≡ length (judged_by walked) + next_plays j
 one_played j walked node known = first_of (search rules, grind (arith, common_steps, length-append, next_none, one_judged))
 
-pub plays_more : (kind : GameKind) (nodes : List Node) (node : Node) → length (judged_on kind (nodes ++ node ∷ [])) ≡ length (judged_on kind nodes) + next_plays (judging kind nodes)
+plays_more : (kind : GameKind) (nodes : List Node) (node : Node) → length (judged_on kind (nodes ++ node ∷ [])) ≡ length (judged_on kind nodes) + next_plays (judging kind nodes)
 plays_more not_go nodes node = omega (arith, ap next_plays (unjudged_stays NotGo nodes))
 plays_more bad_size nodes node = omega (arith, ap next_plays (unjudged_stays BadSize nodes))
 plays_more (board side) nodes node =
     ap (λ w. length (judged_by w)) (walk_step side nodes node) ∙ one_played (judging (board side) nodes) (walk side nodes) node (of_walk side nodes)
+
+-- one, until the verdict is known
+unsettled_one : (j : Judgement) → IsUnsettled j → next_plays j ≡ 1
+unsettled_one (judged states None) known = refl
+unsettled_one (judged states (Some told)) known = absurd known
+unsettled_one (unjudged told) known = absurd known
+
+pub plays_one : (kind : GameKind) (nodes : List Node) (node : Node) → IsUnsettled (judging kind nodes) → length (judged_on kind (nodes ++ node ∷ [])) ≡ length (judged_on kind nodes) + 1
+plays_one kind nodes node known = omega (arith, plays_more kind nodes node, unsettled_one (judging kind nodes) known)
+
+pub unsettled_by : (j : Judgement) (node : Node) (s : State) → state_after j node ≡ Some s → IsUnsettled (after j node)
+unsettled_by j node s some = first_of (search rules, grind (arith, common_steps))
 
 -- none, once the verdict is known
 settled_stays : (j : Judgement) (node : Node) → IsSettled j → after j node ≡ j
@@ -228,6 +246,11 @@ settled_all kind nodes (n ∷ ns) h =
       ap (λ ms. length (judged_on kind ms)) split ∙ on.1 ∙ plays_more kind nodes n ∙ omega (arith, (settled_none (judging kind nodes) n h).1),
     )
 
+-- no verdict is held while it isn't known
+no_verdict : (ended : Option Verdict) (r : States) → IsUnsettled (judged r ended) → ended ≡ None
+no_verdict None r unsettled = refl
+no_verdict (Some told) r unsettled = absurd unsettled
+
 -- what a judge says of one node more
 module _ (ended : Option Verdict) (referee : Option States) (r : States) (plays : ℕ) (now : Judging) (view : record { judgement = judgement_of ended referee; plays = plays } ≡ now) (is : referee ≡ Some r) where
   stood : now.judgement ≡ judged r ended
@@ -236,26 +259,33 @@ module _ (ended : Option Verdict) (referee : Option States) (r : States) (plays 
   pub side_stood : r.present.colouring.side ≡ side_in now.judgement
   side_stood = sym (ap side_in stood)
 
-  pub leads_to : (node : Node) (s : State) → ended ≡ None → step r.present node ≡ Ok s → state_after now.judgement node ≡ Some s
-  leads_to node s none took = ap (λ j. state_after j node) (stood ∙ ap (judged r) none) ∙ ap state_of took
-
-  -- a step that was refused settles the verdict
-  pub refused : (node : Node) (reason : Reason) (turn place : ℕ) (new : States) → ended ≡ None → step r.present node ≡ Err reason → new ≡ r → turn ≡ new.present.turns → node.place ≡ place
-      → judged new (Some (Illegal (turn + 1) place reason)) ≡ after now.judgement node
-  refused node reason turn place new none took same turn_is place_is = first_of (search rules, grind (arith, common_steps, stood))
-
-  pub leads_nowhere : (node : Node) (reason : Reason) → ended ≡ None → step r.present node ≡ Err reason → state_after now.judgement node ≡ None
-  leads_nowhere node reason none took = ap (λ j. state_after j node) (stood ∙ ap (judged r) none) ∙ ap state_of took
-
   -- a line that doesn't have so many nodes is as it was
   pub back_past : (count : ℕ) → length r.earlier < count → judged r ended ≡ back count now.judgement
   back_past count past = rw (stood, lt-leb count (length r.earlier) past) refl
-
-  -- no node is played after an illegal one
-  pub none_more : (told : Verdict) → ended ≡ Some told → plays ≡ now.plays + next_plays now.judgement
-  none_more told some = ap (λ (j : Judging). j.plays) view ∙ rw (stood, some) (omega arith)
 
   -- the same as before
   pub untaken : (new : States) → new ≡ r → record { judgement = judgement_of ended (Some new); plays = plays } ≡ now
   untaken new same =
       ap (λ (s : States). record { judgement = judgement_of ended (Some s); plays = plays }) same ∙ ap (λ o. record { judgement = judgement_of ended o; plays = plays }) (sym is) ∙ view
+
+  module _ (unsettled : IsUnsettled now.judgement) where
+    none : ended ≡ None
+    none = no_verdict ended r (subst IsUnsettled stood unsettled)
+
+    open_before : now.judgement ≡ judged r None
+    open_before = stood ∙ ap (judged r) none
+
+    pub leads_to : (node : Node) (s : State) → step r.present node ≡ Ok s → state_after now.judgement node ≡ Some s
+    leads_to node s took = ap (λ j. state_after j node) open_before ∙ ap state_of took
+
+    pub leads_on : (node : Node) (new : States) → step r.present node ≡ Ok new.present → new ≡ followed_by r new.present → judged new ended ≡ after now.judgement node
+    leads_on node new took added =
+        ap (judged new) none ∙ ap (λ s. judged s None) added ∙ sym (ap (λ j. after j node) open_before ∙ ap (stepped r node) took)
+
+    -- a step that was refused settles the verdict
+    pub refused : (node : Node) (reason : Reason) (turn place : ℕ) (new : States) → step r.present node ≡ Err reason → new ≡ r → turn ≡ new.present.turns → node.place ≡ place
+        → judged new (Some (Illegal (turn + 1) place reason)) ≡ after now.judgement node
+    refused node reason turn place new took same turn_is place_is = first_of (search rules, grind (arith, common_steps, open_before))
+
+    pub leads_nowhere : (node : Node) (reason : Reason) → step r.present node ≡ Err reason → state_after now.judgement node ≡ None
+    leads_nowhere node reason took = ap (λ j. state_after j node) open_before ∙ ap state_of took

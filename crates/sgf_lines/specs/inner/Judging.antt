@@ -110,17 +110,17 @@ abbrev pub taken_by : Option State → Node → List TakenNode
 taken_by None node = []
 taken_by (Some state) node = record { node = node; after = state } ∷ []
 
--- how many nodes are played for the next node
-abbrev pub next_plays : Judgement → ℕ
-next_plays (unjudged told) = 0
-next_plays (judged states (Some told)) = 0
-next_plays (judged states None) = 1
-
 -- no node changes the judgement any more: the game isn't judged, or a node wasn't allowed
 abbrev pub IsSettled : Judgement → Type 0
 IsSettled (unjudged told) = Unit {0}
 IsSettled (judged states (Some told)) = Unit {0}
 IsSettled (judged states None) = ⊥
+
+-- the verdict isn't known before the next node
+abbrev pub IsUnsettled : Judgement → Type 0
+IsUnsettled (unjudged told) = ⊥
+IsUnsettled (judged states (Some told)) = ⊥
+IsUnsettled (judged states None) = Unit {0}
 
 -- the judgement that a judge in memory holds
 abbrev pub judgement_of : Option Verdict → Option States → Judgement

@@ -1,6 +1,6 @@
 //! A judge goes along the nodes of a line, and back to the last node that the next line shares.
 
-ghost use Rattle.std.specs.Prelude.{◌≡◌, ◌+◌, ◌<◌, IsTrue, OnOk, OnErr, IfOk, Some, option_copied};
+ghost use Rattle.std.specs.Prelude.{◌≡◌, ◌+◌, ◌<◌, IsFalse, IsTrue, OnOk, OnErr, IfOk, Some, option_copied};
 ghost use Rattle.sgf_tree.specs.Tree.{Node};
 ghost use Rattle.sgf_lines.specs.inner.Gathered.{ComesAs};
 ghost use Rattle.go_board.specs.State.{begun};
@@ -41,7 +41,7 @@ impl Model for Judge {
 
 impl Judge {
     ghost use Rattle.sgf_lines.specs.declared.verdict.Verdict.TheVariants.{NotGo};
-    ghost use Rattle.sgf_lines.specs.inner.Judging.{unjudged, IsSettled, begun_game, after, next_plays, IsTakenFrom, back, verdict_in, board_in};
+    ghost use Rattle.sgf_lines.specs.inner.Judging.{unjudged, IsSettled, IsUnsettled, begun_game, after, IsTakenFrom, back, verdict_in, board_in};
 
     /// A judge before the first game.
     pub(crate) fn new(alloc: Global) -> Judge
@@ -85,29 +85,27 @@ impl Judge {
         Ok(())
     }
 
-    /// Takes one more node, and returns its step. `next` and `nodes` are as for `Game::take`. None if the step isn't taken: the game isn't
-    /// judged, the node is illegal, or the line ended before it. After a refusal of memory nothing is changed.
+    /// Takes one more node, and returns its step. `next` and `nodes` are as for `Game::take`. None if the node is illegal: the verdict is
+    /// known then. After a refusal of memory nothing is changed.
     #[inline(always)]
     pub(crate) fn take<'a>(
         &mut self,
         next: NextNode<'a>,
         nodes: &mut SequenceNodes<'_, 'a>,
     ) -> Result<Option<TakenStep<'a>>, MemoryFault>
+        requires unsettled { IsUnsettled self.old.judgement }
         requires countable { self.old.plays < u64.MAX }
         ensures judged { (node : Node) → ComesAs node nodes.old.properties next.entry
             → OnOk result (self.new.judgement ≡ after self.old.judgement node) }
-        ensures plays { OnOk result (self.new.plays ≡ self.old.plays + next_plays self.old.judgement) }
+        ensures plays { OnOk result (self.new.plays ≡ self.old.plays + 1) }
         ensures step { (node : Node) → ComesAs node nodes.old.properties next.entry
             → IfOk result (IsTakenFrom self.old.judgement node) }
         ensures unchanged { OnErr result (self.new ≡ self.old) }
         ensures left { nodes.new.nodes ≡ nodes.old.nodes }
     {
         let Some(game) = &mut self.game else {
-            return Ok(None);
+            unreachable!()
         };
-        if let Some(_) = self.ended {
-            return Ok(None);
-        }
         match game.take(next, nodes, &mut self.operations) {
             Ok(step) => {
                 self.plays += 1;
@@ -128,10 +126,11 @@ impl Judge {
         }
     }
 
-    /// Whether the verdict is known already, whatever nodes come. Then `take` changes nothing.
+    /// Whether the verdict is known already, whatever nodes come.
     #[inline(always)]
     pub(crate) fn is_settled(&self) -> bool
-        ensures { IsTrue result → IsSettled self.now.judgement }
+        ensures settled { IsTrue result → IsSettled self.now.judgement }
+        ensures unsettled { IsFalse result → IsUnsettled self.now.judgement }
     {
         self.game.is_none() || self.ended.is_some()
     }

@@ -1,13 +1,13 @@
 //! Judging line after line, each from the first node that it doesn't share with the line before it.
 
-ghost use Rattle.std.specs.Prelude.{◌≡◌, ◌+◌, ◌<◌, ◌≤◌, ◌++◌, ◌∷◌, [], List, length, take, option_copied, OnErr, OnOk};
+ghost use Rattle.std.specs.Prelude.{◌≡◌, ◌+◌, ◌<◌, ◌≤◌, ◌++◌, ◌∷◌, [], List, length, take, option_copied, IfOk, IsFalse, IsTrue, OnErr, OnOk};
 ghost use Rattle.sgf_tree.specs.Tree.{Node};
 ghost use Rattle.tree_lines.specs.Following.{nodes_before};
 ghost use Rattle.sgf_lines.specs.JudgedGames.{GameKind};
 ghost use Rattle.sgf_lines.specs.Walk.{TakenNode};
 ghost use Rattle.sgf_lines.specs.inner.Fronts.{HasFront};
 ghost use Rattle.sgf_lines.specs.inner.GoingOn.{IsHeldOf};
-ghost use Rattle.sgf_lines.specs.inner.Judging.{IsStepTaken, begun_game, board_in};
+ghost use Rattle.sgf_lines.specs.inner.Judging.{IsSettled, IsStepTaken, IsUnsettled, begun_game, board_in};
 ghost use Rattle.sgf_lines.specs.inner.Keeping.{HasJudged, HoldsLine, HoldsVerdict, PlaysUpTo, WentOn, fresh_plays, plays_for};
 
 use crate::judging::contents::NEEDED_NAMES;
@@ -124,39 +124,43 @@ fn judge_line<K: StepKeeper>(
         judge.cut_back(held.nodes);
     }
     keeper.keep(held.nodes, judge.board())?;
+    if judge.is_settled() {
+        return Ok(());
+    }
     for index in held.sequences..end {
-        if judge.is_settled() {
+        let all = judge_sequence(cursor.nodes(index), judge, keeper)?;
+        if !all {
             return Ok(());
         }
-        judge_sequence(cursor.nodes(index), judge, keeper)?;
     }
     Ok(())
 }
 
-/// Judges the nodes of one more sequence of a line, and tells their steps, up to the first that isn't taken.
+/// Judges the nodes of one more sequence of a line, and tells their steps, up to the first that isn't taken. Returns whether all were taken.
+/// So nothing asks before each node whether the verdict is known.
 #[inline(always)]
 fn judge_sequence<K: StepKeeper>(
     mut nodes: SequenceNodes<'_, '_>,
     judge: &mut Judge,
     keeper: &mut K,
-) -> Result<(), MemoryFault>
+) -> Result<bool, MemoryFault>
     requires known { (kind : GameKind) × (before : List Node) × HasJudged (K.tells keeper.old) kind before judge.old.judgement }
+    requires unsettled { IsUnsettled judge.old.judgement }
     requires countable { judge.old.plays + length nodes.nodes < u64.MAX }
     ensures judged { (kind : GameKind) (before : List Node) → HasJudged (K.tells keeper.old) kind before judge.old.judgement
         → OnOk result (WentOn (K.tells keeper.new) kind before nodes.entry.nodes judge.old.plays judge.new) }
+    ensures settled { IfOk result (λ all. IsFalse all → IsSettled judge.new.judgement) }
+    ensures unsettled { IfOk result (λ all. IsTrue all → IsUnsettled judge.new.judgement) }
     ensures refused { (kind : GameKind) (before : List Node) → HasJudged (K.tells keeper.old) kind before judge.old.judgement
         → OnErr result ((judge.old.plays ≤ judge.new.plays) × (judge.new.plays ≤ judge.old.plays + plays_for kind before nodes.entry.nodes)) }
 {
     // The order matters for speed: what `next` says of the node then leads straight to its step.
     'steps: while !nodes.is_empty() {
-        if judge.is_settled() {
-            return Ok(());
-        }
         let next = nodes.next(&NEEDED_NAMES).unwrap();
         let Some(step) = judge.take(next, &mut nodes)? else {
-            return Ok(());
+            return Ok(false);
         };
         keeper.say(step, judge.board().unwrap())?;
     }
-    Ok(())
+    Ok(true)
 }

@@ -11,10 +11,10 @@ use Rattle.sgf_tree.specs.Tree.{Node}
 use Rattle.go_board.specs.Grid.{Grid}
 use Rattle.go_board.specs.State.{State}
 use Rattle.sgf_lines.specs.declared.judging.step.TakenStep.{TakenStep}
-use Rattle.sgf_lines.specs.inner.Judging.{IsTakenFrom, Judging, after, board_in}
+use Rattle.sgf_lines.specs.inner.Judging.{IsSettled, IsTakenFrom, IsUnsettled, Judging, after, board_in}
 use Rattle.sgf_lines.proofs.Gathered.{comes, setup_names}
-use Rattle.sgf_lines.proofs.JudgedLines.{countable, ends, refuses, said, settles, starts, step_taken, stops, unsaid}
-use Rattle.sgf_lines.proofs.Judgements.{board_after}
+use Rattle.sgf_lines.proofs.JudgedLines.{TookOne, countable, ends, refuses, said, starts, step_taken, stops, unsaid}
+use Rattle.sgf_lines.proofs.Judgements.{board_after, settled_by, unsettled_by}
 use Rattle.sgf_lines.proofs.judging.judged.judge_sequence.Given.{Over}
 use Rattle.sgf_lines.proofs.judging.judged.judge_sequence.Goals as goal
 use Rattle.sgf_lines.proofs.judging.judged.judge_sequence.Goals.{In_ok-step}
@@ -51,33 +51,41 @@ module _ (g : Over) (c : In_ok-step g) where
   judged : c.take.new.self.judgement ≡ after c.steps.judge.judgement node
   judged = c.in_ok-step.ensures.judged node coming
 
+  one : TookOne c.steps.judge c.steps.nodes.nodes node c.take.new.nodes.nodes c.take.new.self
+  one = record { unsettled = c.steps.invariant.unsettled; first = first; judged = judged; plays = c.in_ok-step.ensures.plays }
+
   taken : (step : Option TakenStep) → c.in_ok-step.field-0 ≡ step → IsTakenFrom c.steps.judge.judgement node step
   taken step is = subst (IsTakenFrom c.steps.judge.judgement node) is (c.in_ok-step.ensures.step node coming)
 
 pub steps-init : goal.steps-init
-steps-init g c kind before h = starts c.args.nodes.nodes c.args.nodes.nodes c.args.judge.now.plays c.args.judge.now h refl refl
+steps-init g c = record {
+  going = λ kind before h. starts c.args.nodes.nodes c.args.nodes.nodes c.args.judge.now.plays c.args.judge.now h refl refl;
+  unsettled = c.requires.unsettled;
+}
 
 pub returns-clause-judged : goal.returns-clause-judged
-returns-clause-judged g c kind before h = ends (c.steps.invariant kind before h) (nil_from_length c.steps.nodes.nodes (eqb-true _ _ (sym c.is_empty.ensures ∙ c.steps-test.false)))
+returns-clause-judged g c kind before h = ends (c.steps.invariant.going kind before h) (nil_from_length c.steps.nodes.nodes (eqb-true _ _ (sym c.is_empty.ensures ∙ c.steps-test.false)))
 
-pub returns-then-is_settled-clause-judged : goal.returns-then-is_settled-clause-judged
-returns-then-is_settled-clause-judged g c kind before h = settles (c.steps.invariant kind before h) (c.is_settled.ensures c.if-is_settled.true)
-
-pub take-requires : goal.take-requires
-take-requires g c =
+pub take-requires-clause-countable : goal.take-requires-clause-countable
+take-requires-clause-countable g c =
     let (kind, before, h) = c.requires.known in
     let some = some_left c.steps.nodes c.next.new.self c.unwrap-next.result (rw c.unwrap-next.ensures at c.next.ensures) in
-    omega (arith, countable (c.steps.invariant kind before h), some, c.requires.countable)
+    omega (arith, countable (c.steps.invariant.going kind before h), some, c.requires.countable)
 
 pub returns-in_err-step-clause-refused : goal.returns-in_err-step-clause-refused
 returns-in_err-step-clause-refused g c kind before h =
     let plays = ap (λ (j : Judging). j.plays) c.in_err-step.ensures.unchanged in
-    on_err c.from_residual.result (stops (c.steps.invariant kind before h) [] c.steps.nodes.nodes refl c.take.new.self.plays (omega (arith, plays), omega (arith, plays)))
+    on_err c.from_residual.result (stops (c.steps.invariant.going kind before h) [] c.steps.nodes.nodes refl c.take.new.self.plays (omega (arith, plays), omega (arith, plays)))
 
 pub returns-in_default-clause-judged : goal.returns-in_default-clause-judged
 returns-in_default-clause-judged g c kind before h =
     let at = (goal.at.returns-in_default-clause-judged g c).In_ok-step in
-    refuses (c.steps.invariant kind before h) (node g at) c.take.new.nodes.nodes (first g at) c.take.new.self (judged g at) c.in_ok-step.ensures.plays (taken g at None c.in_default.is)
+    refuses (c.steps.invariant.going kind before h) (one g at) (taken g at None c.in_default.is)
+
+pub returns-in_default-clause-settled : goal.returns-in_default-clause-settled
+returns-in_default-clause-settled g c all =
+    let at = (goal.at.returns-in_default-clause-settled g c).In_ok-step in
+    subst IsSettled (sym (judged g at)) (settled_by c.steps.judge.judgement (node g at) (taken g at None c.in_default.is))
 
 pub unwrap-requires : goal.unwrap-requires
 unwrap-requires g c =
@@ -89,28 +97,31 @@ pub say-requires : goal.say-requires
 say-requires g c =
     let at = (goal.at.say-requires g c).In_ok-step in
     let (kind, before, h) = c.requires.known in
-    let going = c.steps.invariant kind before h in
+    let going = c.steps.invariant.going kind before h in
     let known = taken g at (Some c.in-Some.step) c.in-Some.is in
     let there = rw c.unwrap.ensures at c.board.ensures in (
       kind,
       _,
       _,
       going.on.has_judged.taken,
-      step_taken going (node g at) c.take.new.nodes.nodes (first g at) c.take.new.self (judged g at) c.in_ok-step.ensures.plays c.in-Some.step c.unwrap.result.now known there,
+      step_taken going (one g at) c.in-Some.step c.unwrap.result.now known there,
     )
 
 pub returns-in_err-say-clause-refused : goal.returns-in_err-say-clause-refused
 returns-in_err-say-clause-refused g c kind before h =
     let at = (goal.at.returns-in_err-say-clause-refused g c).In_ok-step in
     on_err c.from_residual-in_err-say.result
-    (unsaid (c.steps.invariant kind before h) (node g at) c.take.new.nodes.nodes (first g at) c.take.new.self (judged g at) c.in_ok-step.ensures.plays)
+    (unsaid (c.steps.invariant.going kind before h) (one g at))
 
 pub steps-preserved : goal.steps-preserved
-steps-preserved g c kind before h =
+steps-preserved g c =
     let at = (goal.at.steps-preserved g c).In_ok-step in
-    let going = c.steps.invariant kind before h in
     let known = taken g at (Some c.in-Some.step) c.in-Some.is in
     let there = rw c.unwrap.ensures at c.board.ensures in
-    let step = step_taken going (node g at) c.take.new.nodes.nodes (first g at) c.take.new.self (judged g at) c.in_ok-step.ensures.plays c.in-Some.step c.unwrap.result.now known there in
-    said going (node g at) c.take.new.nodes.nodes (first g at) c.take.new.self (judged g at) c.in_ok-step.ensures.plays c.in-Some.step c.unwrap.result.now known there
-    (g.K.StepKeeper.tells c.say.new.self) (c.in_ok-say.ensures _ _ _ going.on.has_judged.taken step)
+    record {
+      going = λ kind before h.
+          let going = c.steps.invariant.going kind before h in
+          let step = step_taken going (one g at) c.in-Some.step c.unwrap.result.now known there in
+          said going (one g at) c.in-Some.step c.unwrap.result.now known there (g.K.StepKeeper.tells c.say.new.self) (c.in_ok-say.ensures _ _ _ going.on.has_judged.taken step);
+      unsettled = subst IsUnsettled (sym (judged g at)) (unsettled_by c.steps.judge.judgement (node g at) known.0 known.1);
+    }
