@@ -11,6 +11,7 @@ use Rattle.sgf_tree.specs.inner.Progress.{ComesTo}
 use Rattle.sgf_properties.specs.Offsets.{IsSpan}
 use Rattle.sgf_tree.specs.inner.PropertiesRead.{StandsAfterNode, ArePropertiesRead, with_properties}
 use Rattle.sgf_tree.specs.inner.GamesRead.{StandsBetween}
+use Rattle.sgf_tree.specs.inner.NodesRead.{NodesSoFar}
 use Rattle.sgf_tree.proofs.Run.{run-take-step}
 use Rattle.sgf_tree.proofs.Skipping.{stays-opened}
 use Rattle.sgf_tree.proofs.Spans.{run-white}
@@ -45,20 +46,12 @@ module _ (t : List ℕ) where
   pub next-node : (end : ℕ) (whole : Started) → StandsAfterNode t end whole → end < length t → get_or t end 0 ≡ 59 → ComesTo t (end + 1) (new_node (ended whole) false end)
   next-node end whole stands lt e = grind (arith, common_steps, run-take-step)
 
-  -- nodes of a game were read: the last one is `whole`, and `last` is the game so far
-  pub record NodesSoFar (end : ℕ) (k : Stack) (last : OpenGame) : Type 0 where
-    pub whole : Started
-    pub stands : StandsAfterNode t end whole
-    pub stack_is : ended whole ≡ record { closed = k.closed; unclosed = last ∷ k.unclosed }
-    pub nothing_below : last.below ≡ no_games
-    pub not_white_space : end < length t → is_white_space (get_or t end 0) ≡ false
-
   -- the game with one more node
   abbrev pub with_node : OpenGame → Node → OpenGame
   with_node last n = record { first = last.first; more = last.more ++ n ∷ []; below = last.below }
 
   pub nodes-first : (Wrote : List ℕ → Type 0) (at place text_end end : ℕ) (k : Stack) → IsSpan is_white_space t at place → ComesTo t at (opened k) → place < length t → get_or t place 0 ≡ 59
-      → ArePropertiesRead Wrote t (place + 1) text_end end → (ps : List Property) × NodesSoFar end k (new_game (record { place = place; properties = ps })) × Wrote (flat_map property_text ps)
+      → ArePropertiesRead Wrote t (place + 1) text_end end → (ps : List Property) × NodesSoFar t end k (new_game (record { place = place; properties = ps })) × Wrote (flat_map property_text ps)
   nodes-first Wrote at place text_end end k white after lt e read =
       let n : Started = record { stack = k; opens = true; place = place; properties = [] } in
       let (ps, stands, wrote) = read.reached n refl (place-node at place k white after lt e) in (
@@ -73,8 +66,8 @@ module _ (t : List ℕ) where
         wrote,
       )
 
-  pub nodes-next : (Wrote : List ℕ → Type 0) (place text_end end : ℕ) (k : Stack) (last : OpenGame) → NodesSoFar place k last → place < length t → get_or t place 0 ≡ 59
-      → ArePropertiesRead Wrote t (place + 1) text_end end → (ps : List Property) × NodesSoFar end k (with_node last (record { place = place; properties = ps })) × Wrote (flat_map property_text ps)
+  pub nodes-next : (Wrote : List ℕ → Type 0) (place text_end end : ℕ) (k : Stack) (last : OpenGame) → NodesSoFar t place k last → place < length t → get_or t place 0 ≡ 59
+      → ArePropertiesRead Wrote t (place + 1) text_end end → (ps : List Property) × NodesSoFar t end k (with_node last (record { place = place; properties = ps })) × Wrote (flat_map property_text ps)
   nodes-next Wrote place text_end end k last so_far lt e read =
       let n : Started = record { stack = ended so_far.whole; opens = false; place = place; properties = [] } in
       let (ps, stands, wrote) = read.reached n refl (next-node place so_far.whole so_far.stands lt e) in (
@@ -90,12 +83,12 @@ module _ (t : List ℕ) where
       )
 
   -- no further node follows
-  pub nodes-done : (end : ℕ) (k : Stack) (last : OpenGame) → NodesSoFar end k last → (end < length t → get_or t end 0 ≢ 59)
+  pub nodes-done : (end : ℕ) (k : Stack) (last : OpenGame) → NodesSoFar t end k last → (end < length t → get_or t end 0 ≢ 59)
       → StandsBetween t end (record { closed = k.closed; unclosed = last ∷ k.unclosed })
   nodes-done end k last so_far other = grind (arith, common_steps, node-between, open-unaccepted)
 
   -- a further node's `;` begins a node
-  pub nodes-node : (end : ℕ) (k : Stack) (last : OpenGame) → NodesSoFar end k last → end < length t → get_or t end 0 ≡ 59
+  pub nodes-node : (end : ℕ) (k : Stack) (last : OpenGame) → NodesSoFar t end k last → end < length t → get_or t end 0 ≡ 59
       → (n : Started) × ((n.properties ≡ []) × ComesTo t (end + 1) (in_node n))
   nodes-node end k last so_far lt e = (
     record { stack = ended so_far.whole; opens = false; place = end; properties = [] },

@@ -10,5 +10,6 @@ pub mod Progress
 pub mod Lead
 pub mod PropertiesRead
 pub mod GamesRead
+pub mod NodesRead
 pub mod Counting
 pub mod Walking

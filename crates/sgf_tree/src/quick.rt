@@ -17,4 +17,5 @@
 pub(crate) mod front;
 pub(crate) mod lead;
 pub(crate) mod moves;
+pub(crate) mod nodes;
 pub(crate) mod properties;

@@ -19,7 +19,7 @@ mod fault;
 mod games;
 pub(crate) mod keeper;
 mod mark;
-mod own_nodes;
+pub(crate) mod own_nodes;
 pub(crate) mod properties;
 mod stretch;
 mod value;

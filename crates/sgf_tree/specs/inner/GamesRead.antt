@@ -76,8 +76,8 @@ ReadsOwnNodes kept keeps text at end =
     (stack : Stack) → ComesTo text at (opened stack) → kept stack nothing → open_count stack.closed stack.unclosed < at → IsGameRead keeps text end stack
 
 -- if `at` is just after a `(`, the fault is the first one of the text
-abbrev pub IsFaultInOpened : List ℕ → ℕ → PartFault → Type 0
-IsFaultInOpened text at fault = (stack : Stack) → ComesTo text at (opened stack) → IsTrueFault text fault
+abbrev pub IsFaultInOpened : (Stack → Coming → Type 0) → List ℕ → ℕ → PartFault → Type 0
+IsFaultInOpened kept text at fault = (stack : Stack) → ComesTo text at (opened stack) → kept stack nothing → IsTrueFault text fault
 
 -- the text spells a collection, which the keeper keeps
 pub record ReadsWhole (keeps : Stack → Coming → Type 0) (text : List ℕ) : Type 0 where

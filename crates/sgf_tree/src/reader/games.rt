@@ -1,21 +1,22 @@
 //! Reading games (SGF FF[4], EBNF: Collection, GameTree, Sequence). What is kept of them is up to a keeper.
 
-ghost use Rattle.std.specs.Prelude.{◌≡◌, ◌<◌, ◌≤◌, ◌+◌, ℕ, List, [], length, slice_range, IfOk, IfErr, OnOk};
+ghost use Rattle.std.specs.Prelude.{◌≡◌, ◌<◌, ◌≤◌, [], length, IfOk, IfErr, OnOk};
 ghost use Rattle.sgf_tree.specs.Tree.{no_games};
 ghost use Rattle.sgf_tree.specs.inner.Machine.{Stack, opened};
 ghost use Rattle.sgf_tree.specs.inner.Progress.{ComesTo, IsTrueFault};
 ghost use Rattle.sgf_properties.specs.KeptLengths.{AreKeptLengths};
-ghost use Rattle.sgf_tree.specs.inner.OwnNodes.{Coming, nothing, CopiesNode, MayGoOn};
+ghost use Rattle.sgf_tree.specs.inner.OwnNodes.{nothing};
 ghost use Rattle.sgf_tree.specs.inner.GamesRead.{open_count, StandsBetween, IsFaultInOpened, ReadsOwnNodes, ReadsWhole};
+ghost use Rattle.sgf_tree.specs.inner.NodesRead.{BeginsNode, AreNodesRead, IsFaultInNodes};
 
 use crate::fault::MAX_LENGTH;
 use crate::layout::OwnNodes;
-use crate::quick::moves::{TWO_MOVES, moves_in_place};
-use crate::quick::properties::short_properties;
+use crate::quick::nodes::near_nodes;
 use crate::reader::fault::PartFault;
 use crate::reader::keeper::Keeper;
+use crate::reader::own_nodes::{NodesRead, take_node};
 use crate::reader::properties::read_properties;
-use sgf_properties::{LongValue, MemoryFault, skip_white_space, stands_at};
+use sgf_properties::{LongValue, skip_white_space, stands_at};
 
 /// Reads all games, and tells `keeper` what comes: Collection = GameTree { GameTree }, and GameTree = `(` Sequence { GameTree } `)`. The first
 /// `(` is expected at `at`.
@@ -65,7 +66,6 @@ pub(crate) fn read_games<K: Keeper>(
 
 /// Reads the own nodes of the game whose `(` is just before `at`: Sequence = Node { Node }. Returns the offset after the nodes and the
 /// white space after them.
-// A glance shows two moves, or that a node begins with one. The plain way is `take_node` and then `read_properties`.
 fn read_sequence<K: Keeper>(
     text: &[u8],
     at: usize,
@@ -80,53 +80,45 @@ fn read_sequence<K: Keeper>(
     ensures read { IfOk result (ReadsOwnNodes (K.keeps text.now keeper.old) (K.keeps text.now keeper.new) text.now at) }
     ensures rises { IfOk result (λ end. at < end) }
     ensures within { IfOk result (λ end. end ≤ length text.now) }
-    ensures fault { IfErr result (IsFaultInOpened text.now at) }
+    ensures fault { IfErr result (IsFaultInOpened (K.keeps text.now keeper.old) text.now at) }
     ensures long { OnOk result (AreKeptLengths text.now long.new.items) }
 {
-    let mut next = skip_white_space(text, at);
-    let mut own = OwnNodes::none(next);
-    'nodes: while stands_at(text, next, b';') {
-        let in_place = moves_in_place(text, next);
-        if in_place == TWO_MOVES {
-            own = take_node(own, next, next + 6, keeper)?;
-            own = take_node(own, next + 6, next + 12, keeper)?;
-            next += 12;
-        } else if let Some(read) = short_properties(text, next + 1, in_place % 64 == 63) {
-            own = take_node(own, next, read.text_end, keeper)?;
-            next = read.end;
-        } else {
-            own = take_node(own, next, next + 1, keeper)?;
-            let read = read_properties(text, own.stretch, keeper, long)?;
-            own = own.with_stretch(read.stretch);
-            next = read.end;
-        }
+    let mut read = NodesRead::none(skip_white_space(text, at));
+    'nodes: while stands_at(text, read.end, b';') {
+        read = read_node(text, read, keeper, long)?;
     }
-    if own.count == 0 {
-        return Err(PartFault::NotSgf(next));
+    if read.own.count == 0 {
+        return Err(PartFault::NotSgf(read.end));
     }
-    keeper.own_nodes(own)?;
-    Ok(next)
+    keeper.own_nodes(read.own)?;
+    Ok(read.end)
 }
 
-/// Adds a node to the own nodes of a game, and tells `keeper` of it. The text of the node up to `end` is copied in one piece.
+/// Reads the node whose `;` stands where `before` ends: Node = `;` { Property }.
+// A shortcut reads nearly all nodes, and perhaps the node after this one, too.
 #[inline(always)]
-fn take_node<K: Keeper>(
-    own: OwnNodes,
-    place: usize,
-    end: usize,
+fn read_node<K: Keeper>(
+    text: &[u8],
+    before: NodesRead,
     keeper: &mut K,
-) -> Result<OwnNodes, MemoryFault>
-    requires stretch { MayGoOn own.stretch place end }
-    requires some { place < end }
-    requires few { (text : List ℕ) × (k : Stack) × (coming : Coming) × (K.keeps text keeper.old k coming)
-        × (open_count k.closed k.unclosed + length coming.places ≤ place) × (own.count ≡ length coming.places) }
-    ensures taken { IfOk result (λ next. next ≡ record { first = own.first; last = place; count = own.count + 1; stretch = next.stretch }) }
-    ensures rises { IfOk result (λ next. next.stretch.start ≤ next.stretch.end) }
-    ensures end { IfOk result (λ next. next.stretch.end ≡ end) }
-    ensures copied { IfOk result (λ next. (text : List ℕ) → end ≤ length text
-        → CopiesNode (K.keeps text keeper.old) (K.keeps text keeper.new) text place own.stretch next.stretch (slice_range text place end)) }
+    long: &mut Vec<LongValue>,
+) -> Result<NodesRead, PartFault>
+    requires begins { BeginsNode (K.keeps text.now keeper.old) text.now before }
+    requires long { AreKeptLengths text.now long.old.items }
+    ensures read { IfOk result (AreNodesRead (K.keeps text.now keeper.old) (K.keeps text.now keeper.new) text.now before) }
+    ensures fault { IfErr result (IsFaultInNodes (K.keeps text.now keeper.old) text.now before) }
+    ensures long { OnOk result (AreKeptLengths text.now long.new.items) }
 {
-    keeper.node(place)?;
-    let stretch = own.stretch.then(place, end, keeper)?;
-    Ok(own.with_node(place, stretch))
+    if let Some(read) = near_nodes(text, before, keeper)? {
+        return Ok(read);
+    }
+    let own = take_node(before.own, before.end, before.end + 1, keeper)?;
+    let properties = read_properties(text, own.stretch, keeper, long)?;
+    Ok(NodesRead {
+        own: OwnNodes {
+            stretch: properties.stretch,
+            ..own
+        },
+        end: properties.end,
+    })
 }

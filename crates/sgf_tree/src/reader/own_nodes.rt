@@ -1,17 +1,28 @@
 //! Putting together what is known of the own nodes of a game, one by one.
 
-ghost use Rattle.std.specs.Prelude.{◌≡◌, ◌<◌, ◌+◌};
-ghost use Rattle.sgf_tree.specs.inner.OwnNodes.{is_written};
+ghost use Rattle.std.specs.Prelude.{◌≡◌, ◌<◌, ◌≤◌, ◌+◌, ℕ, List, length, slice_range, IfOk};
+ghost use Rattle.sgf_tree.specs.inner.Machine.{Stack};
+ghost use Rattle.sgf_tree.specs.inner.GamesRead.{open_count};
+ghost use Rattle.sgf_tree.specs.inner.OwnNodes.{Coming, CopiesNode, MayGoOn, is_written};
 
-use crate::fault::MAX_LENGTH;
 use crate::layout::{OwnNodes, Stretch};
+use crate::reader::keeper::Keeper;
+use sgf_properties::MemoryFault;
 
-impl OwnNodes {
+/// The own nodes of a game, as far as they were read.
+#[derive(Clone, Copy)]
+pub(crate) struct NodesRead {
+    pub own: OwnNodes,
+    /// The offset after the white space that follows them.
+    pub end: usize,
+}
+
+impl NodesRead {
     /// No nodes yet. The first `;` is expected at `first`.
-    pub(crate) fn none(first: usize) -> OwnNodes
-        ensures { result ≡ record { first = first; last = first; count = 0; stretch = record { start = first; end = first } } }
+    pub(crate) fn none(first: usize) -> NodesRead
+        ensures { result ≡ record { own = record { first = first; last = first; count = 0; stretch = record { start = first; end = first } }; end = first } }
     {
-        OwnNodes {
+        let own = OwnNodes {
             first,
             last: first,
             count: 0,
@@ -19,38 +30,44 @@ impl OwnNodes {
                 start: first,
                 end: first,
             },
-        }
+        };
+        NodesRead { own, end: first }
     }
+}
 
-    /// One node more. Its `;` is at `place`, and `stretch` is the last stretch then.
-    pub(crate) fn with_node(self, place: usize, stretch: Stretch) -> OwnNodes
-        requires few { self.count < MAX_LENGTH }
-        ensures { result ≡ record { first = self.first; last = place; count = self.count + 1; stretch = stretch } }
-    {
-        OwnNodes {
-            first: self.first,
-            last: place,
-            count: self.count + 1,
-            stretch,
-        }
-    }
-
-    /// These nodes, with more of the last one read. `stretch` is the last stretch then.
-    pub(crate) fn with_stretch(self, stretch: Stretch) -> OwnNodes
-        ensures { result ≡ record { first = self.first; last = self.last; count = self.count; stretch = stretch } }
-    {
-        OwnNodes {
-            first: self.first,
-            last: self.last,
-            count: self.count,
-            stretch,
-        }
-    }
-
+impl OwnNodes {
     /// Whether the nodes are one stretch: the sgf form writes them as they stand in the text.
     pub(crate) fn is_written(&self) -> bool
         ensures { result ≡ is_written self.now }
     {
         self.stretch.start == self.first
     }
+}
+
+/// Adds a node to the own nodes of a game, and tells `keeper` of it. The text of the node up to `end` is copied in one piece.
+#[inline(always)]
+pub(crate) fn take_node<K: Keeper>(
+    own: OwnNodes,
+    place: usize,
+    end: usize,
+    keeper: &mut K,
+) -> Result<OwnNodes, MemoryFault>
+    requires stretch { MayGoOn own.stretch place end }
+    requires some { place < end }
+    requires few { (text : List ℕ) × (k : Stack) × (coming : Coming) × (K.keeps text keeper.old k coming)
+        × (open_count k.closed k.unclosed + length coming.places ≤ place) × (own.count ≡ length coming.places) }
+    ensures taken { IfOk result (λ next. next ≡ record { first = own.first; last = place; count = own.count + 1; stretch = next.stretch }) }
+    ensures rises { IfOk result (λ next. next.stretch.start ≤ next.stretch.end) }
+    ensures end { IfOk result (λ next. next.stretch.end ≡ end) }
+    ensures copied { IfOk result (λ next. (text : List ℕ) → end ≤ length text
+        → CopiesNode (K.keeps text keeper.old) (K.keeps text keeper.new) text place own.stretch next.stretch (slice_range text place end)) }
+{
+    keeper.node(place)?;
+    let stretch = own.stretch.then(place, end, keeper)?;
+    Ok(OwnNodes {
+        last: place,
+        count: own.count + 1,
+        stretch,
+        ..own
+    })
 }

@@ -16,7 +16,7 @@ returns-in_err-at-in-40-clause-fault g c =
     let p = err_from_is_err_and c.from_residual.result c.from_residual.ensures.1 in
     let so_far = c.games.invariant.so_far in
     rw (p.1, p.2)
-    (c.in_err-at-in-40.ensures.fault so_far.stack (games-open c.args.text.now c.games.at so_far.stack so_far.stands c.games-test.true c.in-40.is))
+    (c.in_err-at-in-40.ensures.fault so_far.stack (games-open c.args.text.now c.games.at so_far.stack so_far.stands c.games-test.true c.in-40.is) so_far.kept)
 
 pub overflow_add-depth : goal.overflow_add-depth
 overflow_add-depth g c = grind (arith, common_steps, depth-within)

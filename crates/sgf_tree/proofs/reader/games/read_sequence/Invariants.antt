@@ -1,13 +1,16 @@
 use Rattle.std.proofs.Common.{◌-◌, length}
+use Rattle.sgf_tree.specs.inner.Machine.{Stack, opened}
+use Rattle.sgf_tree.specs.inner.Progress.{ComesTo}
+use Rattle.sgf_tree.specs.inner.OwnNodes.{nothing}
+use Rattle.sgf_tree.specs.inner.NodesRead.{AreOwnRead}
 use Rattle.sgf_properties.specs.KeptLengths.{AreKeptLengths}
-use Rattle.sgf_tree.proofs.OwnRead.{OwnSoFar}
 use Rattle.sgf_tree.proofs.reader.games.read_sequence.Given as goal
 
 abbrev pub invariant-nodes : goal.invariant-nodes
 invariant-nodes g l = record {
-  so_far : OwnSoFar l.text l.at (g.K.Keeper.keeps l.text l.fn.keeper) (g.K.Keeper.keeps l.text l.keeper) l.next l.own;
+  so_far : (k : Stack) → ComesTo l.text l.at (opened k) → g.K.Keeper.keeps l.text l.fn.keeper k nothing → AreOwnRead (g.K.Keeper.keeps l.text l.keeper) l.text l.at k l.read;
   long : AreKeptLengths l.text l.long.items;
 }
 
 abbrev pub decreases-nodes : goal.decreases-nodes
-decreases-nodes g l = length l.text - l.next
+decreases-nodes g l = length l.text - l.read.end

@@ -1,0 +1,42 @@
+use Rattle.std.proofs.Common.{◌≡◌, ◌+◌, refl, sym, ap, subst, arith, rules}
+use Rattle.std.proofs.lemmas.Result.{err_from_is_err_and}
+use Rattle.sgf_tree.specs.inner.OwnNodes.{Copies}
+use Rattle.sgf_tree.specs.inner.NodesRead.{AreNodesRead}
+use Rattle.sgf_tree.specs.inner.Machine.{in_node}
+use Rattle.sgf_tree.specs.inner.Progress.{ComesTo}
+use Rattle.sgf_tree.specs.inner.PropertiesRead.{ArePropertiesRead}
+use Rattle.sgf_tree.specs.declared.layout.OwnNodes.{OwnNodes}
+use Rattle.sgf_tree.specs.declared.reader.own_nodes.NodesRead.{NodesRead}
+use Rattle.sgf_tree.proofs.OwnRead.{parts-copied, read-node, own-more}
+use Rattle.sgf_tree.proofs.reader.games.read_node.Goals as goal
+
+pub returns-clause-read : goal.returns-clause-read
+returns-clause-read g c =
+    let t = c.args.text.now in
+    let keeps = g.K.Keeper.keeps t in
+    let before = c.args.before in
+    let begun = c.in_ok-own in
+    let read = c.in_ok-properties in
+    let stretch = read.properties.stretch in
+    let same : c.near_nodes.new.keeper ≡ c.args.keeper.now = search rules in
+    let kept = keeps c.near_nodes.new.keeper in
+    let told = keeps c.take_node.new.keeper in
+    let after = keeps c.read_properties.new.keeper in
+    let own : OwnNodes = record { first = begun.own.first; last = begun.own.last; count = begun.own.count; stretch = stretch } in
+    let next : NodesRead = record { own = own; end = read.properties.end } in
+    let Wrote = Copies told after t begun.own.stretch stretch in
+    let properties : ArePropertiesRead Wrote t (before.end + 1) stretch.end read.properties.end = subst (λ i. ArePropertiesRead Wrote t i stretch.end read.properties.end) begun.ensures.end read.ensures.read in
+    subst (λ w. AreNodesRead (keeps w) after t before next) same
+    (own-more t kept after before next Wrote stretch.end c.requires.begins.inside c.requires.begins.begins properties
+    (parts-copied t before.end c.requires.begins.inside c.requires.begins.begins kept after before.own.stretch stretch told begun.own.stretch
+    (begun.ensures.copied t (omega (arith, c.requires.begins.inside))))
+    (ap (λ (o : OwnNodes). record { first = o.first; last = o.last; count = o.count; stretch = stretch }) begun.ensures.taken) refl)
+
+pub returns-in_err-properties-clause-fault : goal.returns-in_err-properties-clause-fault
+returns-in_err-properties-clause-fault g c =
+    let p = err_from_is_err_and c.from_residual-in_err-properties.result c.from_residual-in_err-properties.ensures.1 in
+    rw (p.1, p.2)
+    (λ at k own.
+    let begins = c.requires.begins in
+    let node = read-node c.args.text.now at k own.after c.args.before.end own.nodes own.to begins.inside begins.begins in
+    c.in_err-properties.ensures.fault node.0 node.1.0 (subst (λ i. ComesTo c.args.text.now i (in_node node.0)) (sym c.in_ok-own.ensures.end) node.1.1))
