@@ -8,7 +8,7 @@ use Rattle.sgf_tree.specs.Spelling.{is_white_space, is_upper}
 use Rattle.sgf_tree.specs.inner.Machine.{Stack, Started, MachineState, in_node, in_name, in_value, after_value, after_node, ended, next_state, accepted}
 use Rattle.sgf_tree.specs.inner.Progress.{ComesTo, IsTrueFault}
 use Rattle.sgf_tree.specs.inner.OwnNodes.{Coming, Copies}
-use Rattle.sgf_properties.specs.Offsets.{IsSpan, IsBracket, IsValueEnd, ArePlain}
+use Rattle.sgf_properties.specs.Offsets.{IsSpan, IsBracket, IsValueEnd, ArePlain, ArePoints}
 use Rattle.sgf_properties.specs.KeptLengths.{AreKeptLengths}
 use Rattle.sgf_properties.specs.declared.value.LongValue.{LongValue}
 use Rattle.sgf_tree.specs.declared.fault.TheConstants.{MAX_LENGTH}
@@ -39,6 +39,13 @@ pub record MayReadValue (text : List ℕ) (at : ℕ) (long : List LongValue) : T
 pub record IsValueRead (text : List ℕ) (at : ℕ) (long : List LongValue) (end : ℕ) : Type 0 where
   pub ends : IsValueEnd text at end
   pub kept : AreKeptLengths text long
+
+-- Values were read, of which the first begins with the `[` at `at`. The `]` of the last one is at `close`, and all before it are like `[pd]`.
+pub record AreValuesRead (text : List ℕ) (at : ℕ) (long : List LongValue) (close : ℕ) : Type 0 where
+  pub last : ℕ
+  pub points : ArePoints text at last
+  pub stands : IsBracket text last
+  pub value : IsValueRead text (last + 1) long close
 
 -- A property begins where the part before it ends, which is not before the end of its stretch. The text isn't too long.
 pub record BeginsProperty (text : List ℕ) (before : PartRead) : Type 0 where
@@ -98,6 +105,13 @@ pub record ArePropertiesRead (Wrote : List ℕ → Type 0) (text : List ℕ) (at
 abbrev pub IsFaultInValue : List ℕ → ℕ → PartFault → Type 0
 IsFaultInValue text at fault =
     (node : Started) (name : List ℕ) (before : List (List ℕ)) → ComesTo text at (in_value node name before []) → IsTrueFault text fault
+
+-- the same of a value after values like `[pd]` that begin at `at`, perhaps none
+pub record IsFaultInValues (text : List ℕ) (at : ℕ) (fault : PartFault) : Type 0 where
+  pub last : ℕ
+  pub points : ArePoints text at last
+  pub stands : IsBracket text last
+  pub in_value : IsFaultInValue text (last + 1) fault
 
 -- the same, if a name began with the letter at `start`
 abbrev pub IsFaultInProperty : List ℕ → ℕ → PartFault → Type 0

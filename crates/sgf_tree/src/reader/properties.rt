@@ -14,8 +14,7 @@ use crate::reader::fault::PartFault;
 use crate::reader::keeper::Keeper;
 use crate::reader::value::read_value;
 use sgf_properties::{
-    LongValue, MemoryFault, capital_at, letters_end, past_points, short_name_end, skip_white_space,
-    stands_at,
+    LongValue, MemoryFault, capital_at, letters_end, short_name_end, skip_white_space, stands_at,
 };
 
 /// How far a part of a node was read.
@@ -79,9 +78,7 @@ fn read_property<K: Keeper>(
     let name = read_name(text, before, keeper)?;
     let mut read = name;
     'values: loop {
-        // The values before `last` are points. It could be `read.end`.
-        let last = past_points(text, read.end);
-        let text_end = read_value(text, last + 1, long)? + 1;
+        let text_end = read_value(text, read.end, long)? + 1;
         let stretch = read.stretch.then(read.end, text_end, keeper)?;
         let end = skip_white_space(text, text_end);
         read = PartRead { stretch, end };

@@ -31,16 +31,17 @@ returns-then-not-stands_at-clause-read g c =
     let next = c.in_ok-stretch.stretch in
     let close = c.in_ok-text_end.field-0 in
     let end = c.skip_white_space-end in
-    let value = c.in_ok-text_end.ensures.read.ends in
+    let values_read = c.in_ok-text_end.ensures.read in
+    let value = values_read.value.ends in
     let Named = Copies (keeps c.args.keeper.now) (keeps c.read_name.new.keeper) t start.stretch name.stretch in
     let Valued = Copies (keeps c.read_name.new.keeper) (keeps c.then.new.keeper) t name.stretch next in
     let Wrote = Copies (keeps c.args.keeper.now) (keeps c.then.new.keeper) t start.stretch next in
-    let values = values-run t (Copies (keeps c.read_name.new.keeper) (keeps c.values.keeper) t name.stretch read.stretch) Valued name.end read.end c.past_points-last.result close end.result
-    so_far.so_far c.past_points-last.ensures.points (c.past_points-last.ensures.stands so_far.stands) value end.ensures
+    let values = values-run t (Copies (keeps c.read_name.new.keeper) (keeps c.values.keeper) t name.stretch read.stretch) Valued name.end read.end values_read.last close end.result
+    so_far.so_far values_read.points values_read.stands value end.ensures
     (λ w h. copies-then (keeps c.read_name.new.keeper) (keeps c.values.keeper) (keeps c.then.new.keeper) t name.stretch read.stretch next w _ h (c.in_ok-stretch.ensures.copied t (omega (arith, value.within)))) in
     subst (λ i. IsPropertyRead Wrote t start.end i end.result) (sym c.in_ok-stretch.ensures.end)
     (property-read Named Valued Wrote t start.end name.end (close + 1) end.result c.in_ok-name.ensures.read.name values
-    (omega (arith, so_far.so_far.rises, c.past_points-last.ensures.points.ends, value.rises)) end.ensures (c.stands_at.ensures.other c.if-not-stands_at.true)
+    (omega (arith, so_far.so_far.rises, values_read.points.ends, value.rises)) end.ensures (c.stands_at.ensures.other c.if-not-stands_at.true)
     (copies-then (keeps c.args.keeper.now) (keeps c.read_name.new.keeper) (keeps c.then.new.keeper) t start.stretch name.stretch next))
 
 pub values-preserved : goal.values-preserved
@@ -52,18 +53,19 @@ values-preserved g c =
     let so_far = c.values.invariant in
     let next = c.in_ok-stretch.stretch in
     let end = c.skip_white_space-end in
-    let value = c.in_ok-text_end.ensures.read.ends in
+    let values_read = c.in_ok-text_end.ensures.read in
+    let value = values_read.value.ends in
     let (within, bracket) = c.stands_at.ensures.stands c.if-not-stands_at.false in
     let Valued = Copies (keeps c.read_name.new.keeper) (keeps c.then.new.keeper) t name.stretch next in
-    let values = values-run t (Copies (keeps c.read_name.new.keeper) (keeps c.values.keeper) t name.stretch read.stretch) Valued name.end read.end c.past_points-last.result c.in_ok-text_end.field-0 end.result
-    so_far.so_far c.past_points-last.ensures.points (c.past_points-last.ensures.stands so_far.stands) value end.ensures
+    let values = values-run t (Copies (keeps c.read_name.new.keeper) (keeps c.values.keeper) t name.stretch read.stretch) Valued name.end read.end values_read.last c.in_ok-text_end.field-0 end.result
+    so_far.so_far values_read.points values_read.stands value end.ensures
     (λ w h. copies-then (keeps c.read_name.new.keeper) (keeps c.values.keeper) (keeps c.then.new.keeper) t name.stretch read.stretch next w _ h (c.in_ok-stretch.ensures.copied t (omega (arith, value.within)))) in
     record {
       rises = c.in_ok-stretch.ensures.rises;
       after = omega (arith, c.in_ok-stretch.ensures.end, end.ensures.rises);
       stands = record { within = within; bracket = bracket };
       so_far = values-more t Valued name.end end.result values within bracket;
-      kept = c.in_ok-text_end.ensures.read.kept;
+      kept = values_read.value.kept;
     }
 
 pub returns-in_err-text_end-clause-fault : goal.returns-in_err-text_end-clause-fault
@@ -72,7 +74,7 @@ returns-in_err-text_end-clause-fault g c =
     let keeps = g.K.Keeper.keeps t in
     let from = c.values.read.end in
     let Wrote = Copies (keeps c.read_name.new.keeper) (keeps c.values.keeper) t c.in_ok-name.name.stretch c.values.read.stretch in
-    let so_far = points-read t Wrote from c.in_ok-name.name.end from c.past_points-last.result (omega arith)
-    (values-as t Wrote (After Wrote t from from) c.in_ok-name.name.end from (after-none Wrote t from) c.values.invariant.so_far)
-    c.past_points-last.ensures.points (c.past_points-last.ensures.stands c.values.invariant.stands) in
-    search (rules, so_far)
+    let fault = c.in_err-text_end.ensures.fault in
+    let so_far = points-read t Wrote from c.in_ok-name.name.end from fault.last (omega arith)
+    (values-as t Wrote (After Wrote t from from) c.in_ok-name.name.end from (after-none Wrote t from) c.values.invariant.so_far) fault.points fault.stands in
+    search (rules, so_far, fault.in_value)
