@@ -142,10 +142,10 @@ module _ (t : List ℕ) (from k : ℕ) (run : IsSpan is_white_space t from k) wh
       (subst (λ b. IsValue (slice_range t (k + 1) end) (drop (k + 1) t) (b ∷ drop (end + 1) t)) close
       (subst (IsValue (slice_range t (k + 1) end) (drop (k + 1) t)) (byte-at t end inside) spelled))
 
--- one more value after others
-pub values-more : {vs : List (List ℕ)} {v s m r : List ℕ} → ArePropValues vs s m → IsPropValue v m r → ArePropValues (vs ++ v ∷ []) s r
-values-more no_value h = value h no_value
-values-more (value u us) h = value u (values-more us h)
+-- values after others
+pub values-joined : {us vs : List (List ℕ)} {s m r : List ℕ} → ArePropValues us s m → ArePropValues vs m r → ArePropValues (us ++ vs) s r
+values-joined no_value more = more
+values-joined (value u us) more = value u (values-joined us more)
 
 pub no-value : {s : List ℕ} → AreValuesIn s → IsNoPropValue s → values_in s ≡ []
 no-value {s} held none = grind (arith, common_steps, values-in)

@@ -173,13 +173,14 @@ fn value_at(text: &[u8], at: usize, long: Option<&Vec<LongValue>>) -> Option<(us
 }
 
 /// The end of the values at `at`. After the first value of a property there are usually no more.
+// A shortcut passes over points.
 fn values_end(text: &[u8], at: usize, long: &Vec<LongValue>) -> usize
     requires within { at ≤ length text.now }
     requires kept { AreKeptLengths text.now long.now.items }
     ensures { IsValuesEnd text.now at result }
 {
     if begins_value(text, at) {
-        far_values_end(text, at, long)
+        far_values_end(text, past_points(text, at), long)
     } else {
         at
     }
@@ -192,7 +193,7 @@ fn far_values_end(text: &[u8], at: usize, long: &Vec<LongValue>) -> usize
     requires kept { AreKeptLengths text.now long.now.items }
     ensures { IsValuesEnd text.now at result }
 {
-    let mut end = past_points(text, at);
+    let mut end = at;
     'values: while let Some((_start, close)) = value_at(text, end, Some(long)) {
         end = close + 1;
     }

@@ -1,13 +1,10 @@
 use Rattle.std.proofs.Common.{[], ◌∷◌, ◌++◌, slice_range, arith}
-use Rattle.sgf_properties.proofs.Iterating.{values-more}
-use Rattle.sgf_properties.proofs.Points.{points-spelled}
+use Rattle.sgf_properties.specs.Spelling.{no_value, value}
+use Rattle.sgf_properties.proofs.Iterating.{values-joined}
 use Rattle.sgf_properties.proofs.iter.far_values_end.Goals as goal
 
 pub values-init : goal.values-init
-values-init c =
-    let points = c.past_points-end.ensures.points in
-    let spelled = points-spelled c.args.text.now c.args.at c.past_points-end.result points in
-    record { rises = omega (arith, points.ends); within = c.past_points-end.ensures.within; values = spelled.0; spelled = spelled.1 }
+values-init c = record { rises = omega arith; within = c.requires.within; values = []; spelled = no_value }
 
 pub values-preserved : goal.values-preserved
 values-preserved c =
@@ -18,7 +15,7 @@ values-preserved c =
       rises = omega (arith, before.rises, next.begins, next.rises);
       within = omega (arith, next.within);
       values = before.values ++ slice_range t c.in-Some._start c.in-Some.close ∷ [];
-      spelled = values-more before.spelled next.spelled;
+      spelled = values-joined before.spelled (value next.spelled no_value);
     }
 
 pub returns : goal.returns
