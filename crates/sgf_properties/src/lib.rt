@@ -38,8 +38,8 @@
 //! | decoded text; numbers | `decode_front`, which `push_text` calls (`text`); `number` (`numbers`) |
 //! | a property in sgf form | `push_property`, `push_value` (`written`) |
 //!
-//! The plain code is complete without the shortcuts in `quick`, which may be skipped. A shortcut ensures no more than the plain function that
-//! it stands in for.
+//! The plain code is complete without the shortcuts in `quick`, which may be skipped: a first reader may take each call of one to find nothing,
+//! as if it returned None, false, 0, or the offset that it got. A shortcut ensures no more than the plain function that it stands in for.
 //! Outside `quick` these are there only for speed:
 //!
 //! - the kept lengths of long values (`long`), which a first reader may take to be empty;

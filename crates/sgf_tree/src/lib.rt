@@ -52,12 +52,13 @@
 //! | the byte order mark: its bytes; once, before white space | `mark_end` (`reader/mark`); `read_whole` (`reader`) |
 //! | the first fault | where these return `NotSgf`: `read_games`, `read_sequence` (`reader/games`), `read_far_name` (`reader/properties`), `read_far_value` (`reader/value`), `mark_end` (`reader/mark`); `reader/fault` says why that is the first |
 //! | at most 64 MiB | `read`, `read_outline`, `measure` (`reader`) |
-//! | a node in sgf form | `push_node` (`written`). A run copies stretches of the text instead: `read_sequence` (`reader/games`) finds them, and `copy_capitals` (`reader/properties`) leaves small letters of names out |
+//! | a node in sgf form | `push_node` (`written`). A run copies stretches of the text instead: `read_node` (`reader/games`) and `read_properties` find them, and `copy_capitals` (`reader/properties`) leaves small letters of names out |
 //!
 //! The same table in `sgf_properties` has the rules of names, raw values, decoded text, numbers, and the bytes of white space.
 //!
-//! The plain code is complete without the shortcuts in `quick`, which may be skipped. A shortcut ensures no more than the plain function that
-//! it stands in for.
+//! The plain code is complete without the shortcuts in `quick`, which may be skipped: a first reader may take each call of one to find nothing,
+//! as if it returned None, false, or the offset that it got. A shortcut ensures no more than the plain function that it stands in for. From
+//! `sgf_properties` come the shortcuts `short_name_end`, `short_value_end` and `past_points`.
 //! Outside `quick` two things are there only for speed: the lengths of long values (`long`), and what a glance shows of a node (`NextNode::Led`,
 //! `NextNode::Empty`, `NodeRef::front`). A first reader may take `long` to be empty.
 //!

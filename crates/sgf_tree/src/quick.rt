@@ -7,8 +7,9 @@
 //!
 //! | Shortcut | Stands in for |
 //! |---|---|
-//! | `moves`: two nodes such as `;B[pd]` are recognized by one comparison | `read_properties` of `reader::properties` |
-//! | `properties`: a property with a short name and a short value is read at once | `read_properties` and `read_property` of `reader::properties` |
+//! | `nodes`: a node is read at once that is a move and then short properties, or has no properties | `take_node` and `read_properties` in `read_node` of `reader::games` |
+//! | `moves`: two nodes such as `;B[pd]` are recognized by one comparison | the same, for both |
+//! | `properties`: a property with a short name and a short value is read at once | `read_property` of `reader::properties` |
 //! | `front`: the first property of a node such as `;B[pd]` is recognized | `Properties::next` of `sgf_properties` |
 //! | `lead`: a node is recognized that is a move and then short properties, or has no properties | `SequenceNodes::open` of `walk` |
 //!

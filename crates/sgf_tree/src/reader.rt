@@ -3,6 +3,9 @@
 //! The reader goes over the text once, and tells a keeper what comes. `read_outline` keeps the sequences, `read` keeps the place of each
 //! node too, and `measure` only counts. The length of each long value is kept in a vector.
 //! A fault is reported at the first byte that no text of the grammar can have there.
+//!
+//! The plain way goes from `read_whole` to `read_games`, `read_sequence`, `read_node` (`games`), `read_properties`, `read_property`,
+//! `read_far_name` (`properties`) and `read_far_value` (`value`).
 
 ghost use Rattle.std.specs.Prelude.{◌≡◌, ◌<◌, ◌≤◌, ◌↔◌, [], length, Err, IfOk, IfErr, OnOk};
 ghost use Rattle.sgf_tree.specs.Tree.{no_games};

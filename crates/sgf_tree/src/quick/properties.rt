@@ -1,5 +1,4 @@
-//! Properties with a name of one or two letters and a short value, in place of `read_properties`, `read_property` and `read_far_name` of
-//! `reader::properties`.
+//! Properties with a name of one or two letters and a short value, in place of `read_properties` and `read_property` of `reader::properties`.
 
 ghost use Rattle.std.specs.Prelude.{◌≡◌, ◌≢◌, ◌<◌, ◌≤◌, ◌+◌, ◌%◌, length, slice_index, IsTrue, IfSome};
 ghost use Rattle.std.specs.Int.Count.{count_trailing_zeros};

@@ -1,5 +1,4 @@
 use Rattle.std.proofs.Common.{arith}
-use Rattle.std.proofs.lemmas.Result.{err_from_is_err_and}
 use Rattle.sgf_tree.proofs.OwnRead.{read-faulty, own-start, own-game, own-done}
 use Rattle.sgf_tree.proofs.reader.games.read_sequence.Goals as goal
 
