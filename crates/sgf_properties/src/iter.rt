@@ -173,21 +173,30 @@ fn value_at(text: &[u8], at: usize, long: Option<&Vec<LongValue>>) -> Option<(us
 }
 
 /// The end of the values at `at`. After the first value of a property there are usually no more.
-// A shortcut passes over points.
 fn values_end(text: &[u8], at: usize, long: &Vec<LongValue>) -> usize
     requires within { at ≤ length text.now }
     requires kept { AreKeptLengths text.now long.now.items }
     ensures { IsValuesEnd text.now at result }
 {
     if begins_value(text, at) {
-        far_values_end(text, past_points(text, at), long)
+        more_values_end(text, at, long)
     } else {
         at
     }
 }
 
-/// The end of the values at `at`, however many there are. This is the plain way.
+/// The end of the values at `at`. A shortcut passes over points.
 #[inline(never)]
+fn more_values_end(text: &[u8], at: usize, long: &Vec<LongValue>) -> usize
+    requires within { at ≤ length text.now }
+    requires kept { AreKeptLengths text.now long.now.items }
+    ensures { IsValuesEnd text.now at result }
+{
+    far_values_end(text, past_points(text, at), long)
+}
+
+/// The end of the values at `at`, however many there are. This is the plain way.
+#[inline(always)]
 fn far_values_end(text: &[u8], at: usize, long: &Vec<LongValue>) -> usize
     requires within { at ≤ length text.now }
     requires kept { AreKeptLengths text.now long.now.items }

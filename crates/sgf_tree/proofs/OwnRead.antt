@@ -2,7 +2,7 @@
 use Rattle.std.proofs.lemmas.Grind.{flat_map-append}
 use Rattle.std.proofs.Common.{◌≡◌, ◌≢◌, ℕ, ◌+◌, ◌-◌, ◌<◌, ◌≤◌, true, List, [], ◌∷◌, ◌++◌, length, get_or, slice_range, refl, sym, ap, subst, ◌∙◌, arith, length-append, append_assoc, append-nil}
 use Rattle.std.proofs.Math.Seq.{get_or-append_seam}
-use Rattle.std.proofs.lemmas.List.{length-map, map-append}
+use Rattle.std.proofs.lemmas.List.{map-append}
 use Rattle.std.specs.List.{flat_map}
 use Rattle.sgf_tree.specs.Tree.{Property, Node, no_games, node_count}
 use Rattle.sgf_tree.specs.Spelling.{is_white_space}
@@ -13,7 +13,7 @@ use Rattle.sgf_tree.specs.inner.Progress.{ComesTo, IsMoveNode, EndsNode}
 use Rattle.sgf_properties.specs.Offsets.{IsSpan}
 use Rattle.sgf_tree.specs.inner.PropertiesRead.{StandsIn, ArePropertiesRead}
 use Rattle.sgf_tree.specs.inner.GamesRead.{open_count, IsGameRead}
-use Rattle.sgf_tree.specs.inner.NodesRead.{NodesSoFar, AreReadTo, AreOwnRead, BeginsNode, AreNodesRead}
+use Rattle.sgf_tree.specs.inner.NodesRead.{NodesSoFar, AreReadTo, AreOwnRead, AreNodesRead}
 use Rattle.sgf_tree.specs.inner.OwnNodes.{Coming, nothing, coming_of, places_of, own_of, with_game, IsCopied, Copies, CopiesNode, AreOwnNodes}
 use Rattle.sgf_tree.specs.declared.layout.OwnNodes.{OwnNodes}
 use Rattle.sgf_tree.specs.declared.layout.Stretch.{Stretch}
@@ -27,6 +27,12 @@ use Rattle.sgf_tree.proofs.SequencesRead.{nodes-first, nodes-next, nodes-node, n
 -- a node that a move begins ends the node before it
 pub move-ends : (t : List ℕ) (at : ℕ) → IsMoveNode t at → EndsNode t at
 move-ends t at node = record { within = omega (arith, node.move.value.within); above = omega (arith, node.begins); below = omega (arith, node.begins) }
+
+-- the properties of a node that is a move, as in `;B[pd]`
+pub move-read : (t : List ℕ) (place end : ℕ) → IsMoveNode t place → EndsNode t end → place + 6 ≡ end → ArePropertiesRead (StandsIn t (place + 1) end) t (place + 1) end end
+move-read t place end node ends to =
+    let six : place + 1 + 5 ≡ end = omega arith in
+    subst (λ i. ArePropertiesRead (StandsIn t (place + 1) i) t (place + 1) i i) six (lone-read t (place + 1) node.move (subst (EndsNode t) (sym six) ends))
 
 -- where the first node is, and where the last one is, if one more comes
 first-of : (nodes : List Node) (node default : Node) (first : ℕ) → (length nodes ≡ 0 → node.place ≡ first) → (0 < length nodes → (get_or nodes 0 default).place ≡ first)
@@ -98,15 +104,6 @@ module _ (t : List ℕ) where
         first = λ _. refl;
       }
 
-  -- there are no more nodes than bytes
-  pub own-few : (keeps : List ℕ → Stack → Coming → Type 0) (before : NodesRead) (begins : BeginsNode (keeps t) t before)
-      → (text : List ℕ) × (k : Stack) × (coming : Coming) × keeps text k coming × (open_count k.closed k.unclosed + length coming.places ≤ before.end)
-      × (before.own.count ≡ length coming.places)
-  own-few keeps before begins =
-      let read = begins.read in
-      let count : before.own.count ≡ length (places_of read.nodes) = read.are.counted ∙ sym (length-map read.nodes (λ (n : Node). n.place)) in
-      (t, begins.stack, coming_of read.nodes read.copied.told, read.copied.kept, omega (arith, begins.few, read.few, read.ends, count), count)
-
   module _ (kept keeps : Stack → Coming → Type 0) (before after : NodesRead) where
     -- one node more
     pub own-more : (Wrote : List ℕ → Type 0) (text_end : ℕ) → before.end < length t → get_or t before.end 0 ≡ 59 → ArePropertiesRead Wrote t (before.end + 1) text_end after.end
@@ -151,30 +148,6 @@ module _ (t : List ℕ) where
                 first = λ none. absurd (omega arith);
               };
         }
-
-    -- one move more, as in `;B[pd]`
-    pub own-move : IsMoveNode t before.end → EndsNode t after.end → before.end + 6 ≡ after.end
-        → CopiesNode kept keeps t before.end before.own.stretch after.own.stretch (slice_range t before.end after.end)
-        → after.own ≡ record { first = before.own.first; last = before.end; count = before.own.count + 1; stretch = after.own.stretch } → after.own.stretch.end ≡ after.end
-        → AreNodesRead kept keeps t before after
-    own-move node ends to copies is end_is =
-        let place : ℕ = before.end in
-        let end : ℕ = after.end in
-        let six : place + 1 + 5 ≡ end = omega arith in
-        let lt : place < length t = omega (arith, ends.within) in
-        let alone : ArePropertiesRead (StandsIn t (place + 1) end) t (place + 1) end end =
-        subst (λ i. ArePropertiesRead (StandsIn t (place + 1) i) t (place + 1) i i) six (lone-read t (place + 1) node.move (subst (EndsNode t) (sym six) ends)) in
-        own-more (StandsIn t (place + 1) end) end lt node.begins alone
-        (piece-copied t place lt node.begins kept keeps before.own.stretch after.own.stretch end (omega arith) copies) is end_is
-
-    -- nodes were read, and then others
-    pub nodes-then : (told : Stack → Coming → Type 0) (next : NodesRead) → AreNodesRead kept keeps t before after → AreNodesRead keeps told t after next → AreNodesRead kept told t before next
-    nodes-then told next one other = record { rises = omega (arith, one.rises, other.rises); more = λ at k read. other.more at k (one.more at k read) }
-
-    -- nodes were read, and another one begins after them
-    pub begins-next : BeginsNode kept t before → AreNodesRead kept keeps t before after → after.end < length t → get_or t after.end 0 ≡ 59 → BeginsNode keeps t after
-    begins-next begins read lt e =
-        record { short = begins.short; inside = lt; begins = e; at = begins.at; stack = begins.stack; read = read.more begins.at begins.stack begins.read; few = begins.few }
 
   module _ (keeps : Stack → Coming → Type 0) (at : ℕ) (k : Stack) (read : NodesRead) (own : AreOwnRead keeps t at k read) where
     -- the game with the nodes, of which there is one

@@ -1,10 +1,11 @@
 //! Nodes that are a move and perhaps short properties, and nodes without properties, in place of `take_node` and `read_properties` of `reader`.
 
-ghost use Rattle.std.specs.Prelude.{◌≡◌, IfOk, MatchOption};
+ghost use Rattle.std.specs.Prelude.{◌≡◌, ◌+◌, IfOk, MatchOption};
 ghost use Rattle.sgf_tree.specs.inner.NodesRead.{BeginsNode, AreNodesRead};
+ghost use Rattle.sgf_tree.specs.inner.PropertiesRead.{StandsIn, ArePropertiesRead};
 
 use crate::quick::moves::{TWO_MOVES, moves_in_place};
-use crate::quick::properties::short_properties;
+use crate::quick::properties::{ShortRead, short_properties};
 use crate::reader::keeper::Keeper;
 use crate::reader::own_nodes::{NodesRead, take_node};
 use sgf_properties::MemoryFault;
@@ -24,14 +25,32 @@ pub(crate) fn near_nodes<K: Keeper>(
     let place = before.end;
     let in_place = moves_in_place(text, place);
     if in_place == TWO_MOVES {
-        let own = take_node(before.own, place, place + 6, keeper)?;
-        let own = take_node(own, place + 6, place + 12, keeper)?;
-        let end = place + 12;
-        return Ok(Some(NodesRead { own, end }));
+        let first = take_whole(text, before, ShortRead::to(place + 6), keeper)?;
+        let second = take_whole(text, first, ShortRead::to(place + 12), keeper)?;
+        return Ok(Some(second));
     }
     let Some(read) = short_properties(text, place + 1, in_place % 64 == 63) else {
         return Ok(None);
     };
-    let own = take_node(before.own, place, read.text_end, keeper)?;
-    Ok(Some(NodesRead { own, end: read.end }))
+    Ok(Some(take_whole(text, before, read, keeper)?))
+}
+
+/// Takes the node whose `;` stands where `before` ends. Its properties were read, and are copied in one piece.
+#[inline(always)]
+fn take_whole<K: Keeper>(
+    text: &[u8],
+    before: NodesRead,
+    properties: ShortRead,
+    keeper: &mut K,
+) -> Result<NodesRead, MemoryFault>
+    requires begins { BeginsNode (K.keeps text.now keeper.old) text.now before }
+    requires read { ArePropertiesRead (StandsIn text.now (before.end + 1) properties.text_end) text.now (before.end + 1) properties.text_end properties.end }
+    ensures taken { IfOk result (AreNodesRead (K.keeps text.now keeper.old) (K.keeps text.now keeper.new) text.now before) }
+    ensures end { IfOk result (λ after. after.end ≡ properties.end) }
+{
+    let own = take_node(before.own, before.end, properties.text_end, keeper)?;
+    Ok(NodesRead {
+        own,
+        end: properties.end,
+    })
 }

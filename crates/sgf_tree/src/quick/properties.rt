@@ -26,7 +26,7 @@ pub(crate) struct ShortRead {
 
 impl ShortRead {
     /// A part that ends at `end`, with no white space after it.
-    fn to(end: usize) -> ShortRead
+    pub(crate) fn to(end: usize) -> ShortRead
         ensures { result ≡ record { text_end = end; end = end } }
     {
         ShortRead { text_end: end, end }

@@ -1,0 +1,21 @@
+use Rattle.std.proofs.Common.{◌+◌, arith}
+use Rattle.sgf_tree.specs.inner.PropertiesRead.{StandsIn}
+use Rattle.sgf_tree.specs.declared.reader.own_nodes.NodesRead.{NodesRead}
+use Rattle.sgf_tree.proofs.OwnRead.{piece-copied, own-more}
+use Rattle.sgf_tree.proofs.quick.nodes.take_whole.Goals as goal
+
+pub returns-clause-taken : goal.returns-clause-taken
+returns-clause-taken g c =
+    let t = c.args.text.now in
+    let before = c.args.before in
+    let properties = c.args.properties in
+    let begins = c.requires.begins in
+    let is = c.requires.read in
+    let own = c.in_ok-own in
+    let after : NodesRead = record { own = own.own; end = properties.end } in
+    let kept = g.K.Keeper.keeps t c.args.keeper.now in
+    let keeps = g.K.Keeper.keeps t c.take_node.new.keeper in
+    own-more t kept keeps before after (StandsIn t (before.end + 1) properties.text_end) properties.text_end begins.inside begins.begins is
+    (piece-copied t before.end begins.inside begins.begins kept keeps before.own.stretch own.own.stretch properties.text_end is.rises
+    (own.ensures.copied t (omega (arith, is.white_space.rises, is.white_space.within))))
+    own.ensures.taken own.ensures.end
