@@ -96,7 +96,7 @@ answer 'a huge name' '1 1 1 score 0 0 open' split
 answer 'a huge name as a game' '(;GM[1])' split --form sgf
 { printf '(;'; times 500000 'Aa'; printf '[1])'; } > input.sgf
 answer 'a name whose every second letter is in lower case' "(;$(times 500000 A)[1])" split --form sgf
-# As many stretches as there can be: half as many as a text of the greatest length has bytes. List form keeps them too.
+# As many segments as there can be: half as many as a text of the greatest length has bytes. List form keeps them too.
 { printf '(;'; times 33554429 'Aa'; printf '[1])'; } > input.sgf
 check 'such a name in the longest text' 67108864 "$(stat -c %s input.sgf)"
 answer 'such a name in the longest text' '1 1 1 score 0 0 open' split

@@ -38,24 +38,24 @@ has_all region here lacks word lacks_is none col there given =
       | inr gone ↦ none_in lacks word col none (lacks_is col ∙ and_from _ _ there (ap (λ b. not b) gone)) given
     ]
 
-given_but : (d : Direction) (region rows : List ℕ) (marks : ℕ) → HaveGiven d region rows marks → HaveGivenBut d region rows marks 0 0
-given_but d region rows marks given r n is free col there has = inl (given r n is free col there has)
+given_but : (d : Direction) (region rows : List ℕ) (flags : ℕ) → HaveGiven d region rows flags → HaveGivenBut d region rows flags 0 0
+given_but d region rows flags given r n is free col there has = inl (given r n is free col there has)
 
-given_all : (d : Direction) (region rows : List ℕ) (marks : ℕ) → HaveGivenBut d region rows marks 0 0 → HaveGiven d region rows marks
-given_all d region rows marks given r n is free col there has =
+given_all : (d : Direction) (region rows : List ℕ) (flags : ℕ) → HaveGivenBut d region rows flags 0 0 → HaveGiven d region rows flags
+given_all d region rows flags given r n is free col there has =
     elim (given r n is free col there has) [
       | inl taken ↦ taken
       | inr (_, none) ↦ absurd (false≢true (sym (has_bit-zero col) ∙ none))
     ]
 
--- once a direction has no marked rows left, the other one's turn comes
+-- once a direction has no flagged rows left, the other one's turn comes
 pub turned : (d : Direction) (region first rows : List ℕ) (back : ℕ) → IsFilledBut region first rows d 0 back 0 0 → IsFilledBut region first rows (opposite d) back 0 0 0
 turned Up region first rows back was = record {
   all = was.all;
   grows = was.grows;
   wide = was.wide;
-  marks_in = was.back_in;
-  back_in = was.marks_in;
+  flags_in = was.back_in;
+  back_in = was.flags_in;
   ahead = given_but Down region rows back was.behind;
   behind = given_all Up region rows 0 was.ahead;
 }
@@ -63,13 +63,13 @@ turned Down region first rows back was = record {
   all = was.all;
   grows = was.grows;
   wide = was.wide;
-  marks_in = was.back_in;
-  back_in = was.marks_in;
+  flags_in = was.back_in;
+  back_in = was.flags_in;
   ahead = given_but Up region rows back was.behind;
   behind = given_all Down region rows 0 was.ahead;
 }
 
--- with no row marked, all is filled
+-- with no row flagged, all is filled
 pub IsClosed-all : (region first rows : List ℕ) → IsFilledBut region first rows Up 0 0 0 0 → IsClosed (is_set region) (is_set rows)
 IsClosed-all region first rows done p q (inl (cols, inl up)) there is =
     given_all Up region rows 0 done.ahead q.row p.row up (has_bit-zero q.row) p.col there (ap (has_bit (slice_index rows q.row)) cols ∙ is)
@@ -78,33 +78,33 @@ IsClosed-all region first rows done p q (inl (cols, inr down)) there is =
 IsClosed-all region first rows done p q (inr (in_row, differ)) there is =
     done.wide p.row p.col q.col differ there (ap (λ r. has_bit (slice_index rows r) q.col) in_row ∙ is)
 
--- a marked row, before it gives all that it has
-pub IsFilledBut-first : (d : Direction) (region first rows : List ℕ) (marks left back row : ℕ) → IsFilledBut region first rows d marks back 0 0 → has_bit left row ≡ false → ((k : ℕ) → k ≢ row → has_bit left k ≡ has_bit marks k) → IsFilledBut region first rows d left back row (slice_index rows row)
-IsFilledBut-first d region first rows marks left back row was gone elsewhere = record {
+-- a flagged row, before it gives all that it has
+pub IsFilledBut-first : (d : Direction) (region first rows : List ℕ) (flags left back row : ℕ) → IsFilledBut region first rows d flags back 0 0 → has_bit left row ≡ false → ((k : ℕ) → k ≢ row → has_bit left k ≡ has_bit flags k) → IsFilledBut region first rows d left back row (slice_index rows row)
+IsFilledBut-first d region first rows flags left back row was gone elsewhere = record {
   all = was.all;
   grows = was.grows;
   wide = was.wide;
-  marks_in = λ r is.
+  flags_in = λ r is.
       elim (cases_eq r row) [
         | inl same ↦ absurd (false≢true (sym gone ∙ ap (has_bit left) (sym same) ∙ is))
-        | inr other ↦ was.marks_in r (sym (elsewhere r other) ∙ is)
+        | inr other ↦ was.flags_in r (sym (elsewhere r other) ∙ is)
       ];
   back_in = was.back_in;
   ahead = λ r n next free col there has.
       elim (cases_eq r row) [
         | inl same ↦ inr (same, ap (λ k. has_bit (slice_index rows k) col) (sym same) ∙ has)
-        | inr other ↦ inl (given_all d region rows marks was.ahead r n next (sym (elsewhere r other) ∙ free) col there has)
+        | inr other ↦ inl (given_all d region rows flags was.ahead r n next (sym (elsewhere r other) ∙ free) col there has)
       ];
   behind = was.behind;
 }
 
 -- a row that has given all that it had to give
-pub IsFilledBut-last : (d : Direction) (region first rows : List ℕ) (marks back row given : ℕ) → IsFilledBut region first rows d marks back row given → ((next : ℕ) → IsNext d row next → (col : ℕ) → has_bit (slice_index region next) col ≡ true → has_bit given col ≡ true → has_bit (slice_index rows next) col ≡ true) → IsFilledBut region first rows d marks back 0 0
-IsFilledBut-last d region first rows marks back row given was taken = record {
+pub IsFilledBut-last : (d : Direction) (region first rows : List ℕ) (flags back row given : ℕ) → IsFilledBut region first rows d flags back row given → ((next : ℕ) → IsNext d row next → (col : ℕ) → has_bit (slice_index region next) col ≡ true → has_bit given col ≡ true → has_bit (slice_index rows next) col ≡ true) → IsFilledBut region first rows d flags back 0 0
+IsFilledBut-last d region first rows flags back row given was taken = record {
   all = was.all;
   grows = was.grows;
   wide = was.wide;
-  marks_in = was.marks_in;
+  flags_in = was.flags_in;
   back_in = was.back_in;
   ahead = λ r n next free col there has.
       elim (was.ahead r n next free col there has) [
@@ -124,7 +124,7 @@ given_beside rows row next given given_in Down at col is =
     ∙ or_left _ _ (above_at rows next col (record { col = col; row = row }) at refl (given_in col is))
 
 -- A row gives columns to the next row: `here` has those that the next row lacks, and it takes `taken` of them.
-module _ (d : Direction) (region first rows : List ℕ) (marks back row next given here taken : ℕ) (was : IsFilledBut region first rows d marks back row given) (is_next : IsNext d row next) (below : next < length rows) (given_in : IsPart (has_bit given) (has_bit (slice_index rows row))) (here_is : (col : ℕ) → has_bit here col ≡ (has_bit (slice_index region next) col && not (has_bit (slice_index rows next) col))) (in_here : IsPart (has_bit taken) (has_bit here)) (kept : IsPart (has_bit (bit_and here given)) (has_bit taken)) (closed : HasBeside (has_bit here) (has_bit taken)) (least : (set : ℕ → Bool) → HasBeside (has_bit here) set → IsPart (has_bit (bit_and here given)) set → IsPart (has_bit taken) set) where
+module _ (d : Direction) (region first rows : List ℕ) (flags back row next given here taken : ℕ) (was : IsFilledBut region first rows d flags back row given) (is_next : IsNext d row next) (below : next < length rows) (given_in : IsPart (has_bit given) (has_bit (slice_index rows row))) (here_is : (col : ℕ) → has_bit here col ≡ (has_bit (slice_index region next) col && not (has_bit (slice_index rows next) col))) (in_here : IsPart (has_bit taken) (has_bit here)) (kept : IsPart (has_bit (bit_and here given)) (has_bit taken)) (closed : HasBeside (has_bit here) (has_bit taken)) (least : (set : ℕ → Bool) → HasBeside (has_bit here) set → IsPart (has_bit (bit_and here given)) set → IsPart (has_bit taken) set) where
   abbrev word : ℕ
   word = bit_or (slice_index rows next) taken
 
@@ -210,7 +210,7 @@ module _ (d : Direction) (region first rows : List ℕ) (marks back row next giv
 
   module _ (lacks more : ℕ) (lacks_is : (col : ℕ) → has_bit lacks col ≡ (has_bit (slice_index region row) col && not (has_bit (slice_index rows row) col))) (there : has_bit more next ≡ (has_bit back next || not (nat_eq (bit_and lacks taken) 0))) (elsewhere : (k : ℕ) → k ≢ next → has_bit more k ≡ has_bit back k) where
     -- the next row now gives what it took, and may give some of it back
-    pub IsFilledBut-give : IsFilledBut region first after d marks more next taken
+    pub IsFilledBut-give : IsFilledBut region first after d flags more next taken
     IsFilledBut-give = record {
       all = length-set rows next word ∙ was.all;
       grows = Grows-twice region first rows after was.grows Grows-give;
@@ -221,7 +221,7 @@ module _ (d : Direction) (region first rows : List ℕ) (marks back row next giv
                 ∙ shut col beside differ (ap (λ k. has_bit (slice_index region k) col) (sym same) ∙ room) (sym (at_next r beside same) ∙ is)
             | inr other ↦ at_other r col other ∙ was.wide r col beside differ room (sym (at_other r beside other) ∙ is)
           ];
-      marks_in = was.marks_in;
+      flags_in = was.flags_in;
       back_in = λ r is.
           elim (from_with back more next _ there elsewhere r is) [
             | inl old ↦ was.back_in r old
@@ -267,8 +267,8 @@ module _ (d : Direction) (region first rows : List ℕ) (marks back row next giv
           ];
     }
 
--- The first walk down: the first `count` rows are widened, and each of them has taken what the row above it gives. Of what they lack, the
--- marked rows can give some to the row above them.
+-- The first pass down: the first `count` rows are widened, and each of them has taken what the row above it gives. Of what they lack, the
+-- flagged rows can give some to the row above them.
 pub record IsSwept (region first rows : List ℕ) (ups count : ℕ) : Type 0 where
   pub all : length rows ≡ length region
   pub grows : Grows (is_set region) (is_set first) (is_set rows)
@@ -340,7 +340,7 @@ IsFilledBut-swept region first rows ups count was all_rows only_rows = record {
   all = was.all;
   grows = was.grows;
   wide = λ r col beside differ room is. let low = row_there rows r beside is in was.wide r (omega (arith, low, all_rows)) col beside differ room is;
-  marks_in = λ r is. let low = was.ups_in r is in omega (arith, low, only_rows, was.all);
+  flags_in = λ r is. let low = was.ups_in r is in omega (arith, low, only_rows, was.all);
   back_in = λ r is. absurd (false≢true (sym (has_bit-zero r) ∙ is));
   ahead = λ r n step free col room has.
       (let low = row_there rows r col has in inl (was.up r n step (omega (arith, low, all_rows)) free col room has));
@@ -350,23 +350,23 @@ IsFilledBut-swept region first rows ups count was all_rows only_rows = record {
 
 -- more points twice
 pub HaveMore-twice : (a b c : List ℕ) (first second third : ℕ) → HaveMore a b first second → HaveMore b c second third → HaveMore a c first third
-HaveMore-twice a b c first second third (inl (rows, marks)) (inl (more_rows, more_marks)) = inl (more_rows ∙ rows, more_marks ∙ marks)
-HaveMore-twice a b c first second third (inl (rows, marks)) (inr less) = inr (subst (λ l. lacking c < lacking l) rows less)
-HaveMore-twice a b c first second third (inr less) (inl (rows, marks)) = inr (subst (λ l. lacking l < lacking a) (sym rows) less)
+HaveMore-twice a b c first second third (inl (rows, flags)) (inl (more_rows, more_flags)) = inl (more_rows ∙ rows, more_flags ∙ flags)
+HaveMore-twice a b c first second third (inl (rows, flags)) (inr less) = inr (subst (λ l. lacking c < lacking l) rows less)
+HaveMore-twice a b c first second third (inr less) (inl (rows, flags)) = inr (subst (λ l. lacking l < lacking a) (sym rows) less)
 HaveMore-twice a b c first second third (inr less) (inr least) = inr (omega (arith, less, least))
 
 HaveMore-sum : (a b c : List ℕ) (downs next : ℕ) → HaveMore a b 0 downs → HaveMore b c 0 next → HaveMore a c 0 next
-HaveMore-sum a b c downs next up (inl (rows, marks)) =
+HaveMore-sum a b c downs next up (inl (rows, flags)) =
     elim up [
-      | inl (same, _) ↦ inl (rows ∙ same, marks)
+      | inl (same, _) ↦ inl (rows ∙ same, flags)
       | inr less ↦ inr (subst (λ l. lacking l < lacking a) (sym rows) less)
     ]
 HaveMore-sum a b c downs next (inl (same, _)) (inr less) = inr (subst (λ l. lacking c < lacking l) same less)
 HaveMore-sum a b c downs next (inr less) (inr least) = inr (omega (arith, less, least))
 
--- where two rounds change nothing, no row is marked
-pub fewer_marks : (a b c : List ℕ) (ups downs next : ℕ) → ups ≢ 0 → next < 2 ^ 64 → HaveMore a b 0 downs → HaveMore b c 0 next → lacking c * 2 ^ 64 + next < lacking a * 2 ^ 64 + ups
-fewer_marks a b c ups downs next some low up down =
+-- where two rounds change nothing, no row is flagged
+pub fewer_flags : (a b c : List ℕ) (ups downs next : ℕ) → ups ≢ 0 → next < 2 ^ 64 → HaveMore a b 0 downs → HaveMore b c 0 next → lacking c * 2 ^ 64 + next < lacking a * 2 ^ 64 + ups
+fewer_flags a b c ups downs next some low up down =
     elim (HaveMore-sum a b c downs next up down) [
       | inl (rows, none) ↦ let same : lacking c ≡ lacking a = ap lacking rows in omega (arith, same, none, some)
       | inr less ↦ omega (arith, less, low)
@@ -428,7 +428,7 @@ module _ (region rows : List ℕ) (next given here taken : ℕ) (below : next < 
       false≢true
       (sym (ap (λ b. not b) (ap (λ w. has_bit w lowest) (sym same) ∙ has_bit-or (slice_index rows next) taken lowest ∙ or_right _ _ (kept lowest there))) ∙ gone))
 
--- A row takes from `region` the columns that a row beside it gives: a step of a walk that doesn't look for what is lacking.
+-- A row takes from `region` the columns that a row beside it gives: a step of a pass that doesn't look for what is lacking.
 module _ (d : Direction) (region rows : List ℕ) (row next given taken : ℕ) (is_next : IsNext d row next) (below : next < length rows) (within : IsAmong (is_set rows) (is_set region)) (given_in : IsPart (has_bit given) (has_bit (slice_index rows row))) (in_room : IsPart (has_bit taken) (has_bit (slice_index region next))) (kept : IsPart (has_bit (bit_and (slice_index region next) given)) (has_bit taken)) (least : (set : ℕ → Bool) → HasBeside (has_bit (slice_index region next)) set → IsPart (has_bit (bit_and (slice_index region next) given)) set → IsPart (has_bit taken) set) where
   abbrev both_words : ℕ
   both_words = bit_or (slice_index rows next) taken

@@ -8,7 +8,7 @@ use Rattle.board_points.specs.declared.points.Point.{Point}
 use Rattle.board_points.specs.declared.liberty.RowStones.{RowStones}
 use Rattle.board_points.specs.Point.{IsOn, DifferByOne, AreAdjacent}
 use Rattle.board_points.specs.inner.Look.{IsInRowAround, IsRowAt, IsNextRow, AreFree, IsLookedAt}
-use Rattle.board_points.specs.Glance.{StaysOpen, Lives}
+use Rattle.board_points.specs.Glance.{KeepsLiberty, Lives}
 use Rattle.board_points.specs.Rows.{has_bit, is_set}
 use Rattle.board_points.specs.inner.Columns.{IsInOrBeside}
 use Rattle.board_points.proofs.WordLemmas.{in_the_other, has_bit-or, has_bit-and, has_bit-without, has_bit-zero, column_below}
@@ -81,8 +81,8 @@ apart p q (inr (e, inr d)) same = (let col = ap (λ (x : Point). x.col) same in 
 -- what a look at a row tells
 module _ (own others : List ℕ) (p : Point) (i above : ℕ) (row : RowStones) (below : ℕ) (is : IsLookedAt own others p i above row below) (near : ℕ) (from : (col : ℕ) → has_bit near col ≡ true → IsInOrBeside above row.free below col) where
   -- a point of the row has a free point beside it
-  pub stays_open : (q : Point) → q.row + 2 ≡ p.row + (i + 1) → has_bit near q.col ≡ true → StaysOpen own others p q
-  stays_open q at there =
+  pub keeps_liberty : (q : Point) → q.row + 2 ≡ p.row + (i + 1) → has_bit near q.col ≡ true → KeepsLiberty own others p q
+  keeps_liberty q at there =
       elim (from q.col there) [
         | inl up ↦ (let f = is.free_above q.col up in (f.0, f.2, f.3, inl (sym f.1.0, inr (omega (arith, f.1.1, at)))))
         | inr (inl down) ↦ (let f = is.free_below q.col down in (f.0, f.2, f.3, inl (sym f.1.0, inl (omega (arith, f.1.1, at)))))
@@ -96,10 +96,10 @@ module _ (own others : List ℕ) (p : Point) (i above : ℕ) (row : RowStones) (
   friend_there col next both =
       let parts = and_parts _ _ (sym (has_bit-and row.own near col) ∙ both) in
       let f = is.stones.are_own col parts.0 in
-      inr (f.0, f.2, next f.0 f.1, stays_open f.0 f.1.1 (ap (has_bit near) f.1.0 ∙ parts.1))
+      inr (f.0, f.2, next f.0 f.1, keeps_liberty f.0 f.1.1 (ap (has_bit near) f.1.0 ∙ parts.1))
 
   -- a stone of the opponent keeps a liberty
-  pub left_there : (q : Point) → row.others < 2 ^ 64 → near < 2 ^ 64 → ¬ (has_bit (bit_and row.others (bit_not w64 near)) q.col ≡ true) → q.row + 2 ≡ p.row + (i + 1) → is_set others q ≡ true → StaysOpen own others p q
+  pub left_there : (q : Point) → row.others < 2 ^ 64 → near < 2 ^ 64 → ¬ (has_bit (bit_and row.others (bit_not w64 near)) q.col ≡ true) → q.row + 2 ≡ p.row + (i + 1) → is_set others q ≡ true → KeepsLiberty own others p q
   left_there q low few none at set =
       let there = is.stones.has_others q at set in
-      stays_open q at (in_the_other _ _ there (sym (has_bit-without row.others near q.col few (column_below 64 row.others q.col low there)) ∙ false_from_ne_true _ none))
+      keeps_liberty q at (in_the_other _ _ there (sym (has_bit-without row.others near q.col few (column_below 64 row.others q.col low there)) ∙ false_from_ne_true _ none))

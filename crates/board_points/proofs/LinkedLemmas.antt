@@ -72,12 +72,12 @@ abbrev pub HasFree : List ℕ → List ℕ → ℕ → ℕ → ℕ → Type 0
 HasFree own others row i free =
     (p : Point) → p.row + 2 ≡ row + i → IsOn (length own) p → is_set own p ≡ false → is_set others p ≡ false → has_bit free p.col ≡ true
 
-pub open_beside : (own others : List ℕ) (row above here below : ℕ) → HasFree own others row 1 above → HasFree own others row 2 here → HasFree own others row 3 below → (p q : Point) → q.row ≡ row → IsOn (length own) p → AreAdjacent p q → is_set own p ≡ false → is_set others p ≡ false → IsInOrBeside above here below q.col
-open_beside own others row above here below is_above is_here is_below p q at on (inl (cols, inl up)) not_own not_other =
+pub liberty_beside : (own others : List ℕ) (row above here below : ℕ) → HasFree own others row 1 above → HasFree own others row 2 here → HasFree own others row 3 below → (p q : Point) → q.row ≡ row → IsOn (length own) p → AreAdjacent p q → is_set own p ≡ false → is_set others p ≡ false → IsInOrBeside above here below q.col
+liberty_beside own others row above here below is_above is_here is_below p q at on (inl (cols, inl up)) not_own not_other =
     inl (ap (has_bit above) (sym cols) ∙ is_above p (omega (arith, up, at)) on not_own not_other)
-open_beside own others row above here below is_above is_here is_below p q at on (inl (cols, inr down)) not_own not_other =
+liberty_beside own others row above here below is_above is_here is_below p q at on (inl (cols, inr down)) not_own not_other =
     inr (inl (ap (has_bit below) (sym cols) ∙ is_below p (omega (arith, down, at)) on not_own not_other))
-open_beside own others row above here below is_above is_here is_below p q at on (inr (rows, differ)) not_own not_other =
+liberty_beside own others row above here below is_above is_here is_below p q at on (inr (rows, differ)) not_own not_other =
     inr (inr (p.col, DifferByOne-sym p.col q.col differ, is_here p (omega (arith, rows, at)) on not_own not_other))
 
 -- at first the group is some stones of one row, and has all stones of its row beside them
@@ -96,16 +96,16 @@ module _ (own old : List ℕ) (row word : ℕ) (none : (p : Point) → is_set ol
       let w = in_first p is in ap (λ r. has_bit (slice_index own r) p.col) w.0 ∙ part p.col w.1
 
 -- a word has the stones of a row that have a liberty
-pub record AreAlive (own others : List ℕ) (row alive : ℕ) : Type 0 where
-  pub from : (col : ℕ) → has_bit alive col ≡ true → (has_bit (slice_index own row) col ≡ true) × HasLiberty own others (record { col = col; row = row })
-  pub to : (col : ℕ) → col < 64 → has_bit (slice_index own row) col ≡ true → HasLiberty own others (record { col = col; row = row }) → has_bit alive col ≡ true
+pub record HaveLibertyInRow (own others : List ℕ) (row found : ℕ) : Type 0 where
+  pub from : (col : ℕ) → has_bit found col ≡ true → (has_bit (slice_index own row) col ≡ true) × HasLiberty own others (record { col = col; row = row })
+  pub to : (col : ℕ) → col < 64 → has_bit (slice_index own row) col ≡ true → HasLiberty own others (record { col = col; row = row }) → has_bit found col ≡ true
 
-pub AreAlive-row : (own others : List ℕ) (row wide : ℕ) → ((col : ℕ) → has_bit wide col ≡ true → HasLiberty own others (record { col = col; row = row })) → ((col : ℕ) → col < 64 → HasLiberty own others (record { col = col; row = row }) → has_bit wide col ≡ true) → AreAlive own others row (bit_and (slice_index own row) wide)
-AreAlive-row own others row wide from to = grind (arith, common_steps, and_from, and_parts, has_bit-and, slice_index)
+pub HaveLibertyInRow-row : (own others : List ℕ) (row wide : ℕ) → ((col : ℕ) → has_bit wide col ≡ true → HasLiberty own others (record { col = col; row = row })) → ((col : ℕ) → col < 64 → HasLiberty own others (record { col = col; row = row }) → has_bit wide col ≡ true) → HaveLibertyInRow own others row (bit_and (slice_index own row) wide)
+HaveLibertyInRow-row own others row wide from to = grind (arith, common_steps, and_from, and_parts, has_bit-and, slice_index)
 
-pub HaveLiberty-all : (own others alive : List ℕ) → length alive ≡ length own → ((r : ℕ) → r < length own → AreAlive own others r (slice_index alive r)) → HaveLiberty own others alive
-HaveLiberty-all own others alive long each = record {
-  from = λ q is. (each q.row (rw (← long) (row_below alive q is))).from q.col is;
+pub HaveLiberty-all : (own others found : List ℕ) → length found ≡ length own → ((r : ℕ) → r < length own → HaveLibertyInRow own others r (slice_index found r)) → HaveLiberty own others found
+HaveLiberty-all own others found long each = record {
+  from = λ q is. (each q.row (rw (← long) (row_below found q is))).from q.col is;
   to = λ q low stone free. (each q.row (row_below own q stone)).to q.col low stone free;
 }
 

@@ -7,24 +7,24 @@ use Rattle.board_points.specs.Linked.{IsFree}
 use Rattle.board_points.specs.Rows.{is_set}
 
 -- once a stone is put on `point`, a free point is still beside the point `stone`
-abbrev pub StaysOpen : List ℕ → List ℕ → Point → Point → Type 0
-StaysOpen own others point stone = (free : Point) × IsFree own others free × (free ≢ point) × AreAdjacent stone free
+abbrev pub KeepsLiberty : List ℕ → List ℕ → Point → Point → Type 0
+KeepsLiberty own others point stone = (free : Point) × IsFree own others free × (free ≢ point) × AreAdjacent stone free
 
--- a player's stone on the point has a liberty, by itself or by a stone beside it
+-- a player's stone on the point is alive, by a liberty of its own or of a stone beside it
 abbrev pub Lives : List ℕ → List ℕ → Point → Type 0
 Lives own others point =
-    StaysOpen own others point point
-    ⊎ ((friend : Point) × IsTrue (is_set own friend) × AreAdjacent point friend × StaysOpen own others point friend)
+    KeepsLiberty own others point point
+    ⊎ ((friend : Point) × IsTrue (is_set own friend) × AreAdjacent point friend × KeepsLiberty own others point friend)
 
 -- the opponent's stones to the left and right of the point keep a liberty
 abbrev pub LeavesAlong : List ℕ → List ℕ → Point → Type 0
 LeavesAlong own others point =
-    (stone : Point) → IsTrue (is_set others stone) → (point.row ≡ stone.row) × DifferByOne point.col stone.col → StaysOpen own others point stone
+    (stone : Point) → IsTrue (is_set others stone) → (point.row ≡ stone.row) × DifferByOne point.col stone.col → KeepsLiberty own others point stone
 
 -- the opponent's stones above and below the point keep a liberty
 abbrev pub LeavesAcross : List ℕ → List ℕ → Point → Type 0
 LeavesAcross own others point =
-    (stone : Point) → IsTrue (is_set others stone) → (point.col ≡ stone.col) × DifferByOne point.row stone.row → StaysOpen own others point stone
+    (stone : Point) → IsTrue (is_set others stone) → (point.col ≡ stone.col) × DifferByOne point.row stone.row → KeepsLiberty own others point stone
 
 -- a player's stone on the point lives, and so do the opponent's stones beside it
 pub record LeavesAllAlive (own others : List ℕ) (point : Point) : Type 0 where

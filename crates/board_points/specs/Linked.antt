@@ -16,10 +16,10 @@ IsFree own others point = IsOn (length own) point × (is_set own point ≡ false
 abbrev pub HasLiberty : List ℕ → List ℕ → Point → Type 0
 HasLiberty own others stone = (point : Point) × IsFree own others point × AreAdjacent point stone
 
--- `alive` has the stones of `own` that have an empty point beside them
-pub record HaveLiberty (own others alive : List ℕ) : Type 0 where
-  pub from : (stone : Point) → IsTrue (is_set alive stone) → IsTrue (is_set own stone) × HasLiberty own others stone
-  pub to : (stone : Point) → stone.col < 64 → IsTrue (is_set own stone) → HasLiberty own others stone → IsTrue (is_set alive stone)
+-- `found` has the stones of `own` that have an empty point beside them
+pub record HaveLiberty (own others found : List ℕ) : Type 0 where
+  pub from : (stone : Point) → IsTrue (is_set found stone) → IsTrue (is_set own stone) × HasLiberty own others stone
+  pub to : (stone : Point) → stone.col < 64 → IsTrue (is_set own stone) → HasLiberty own others stone → IsTrue (is_set found stone)
 
 -- the first of two colours has a stone on the point
 pub record IsStone (own others : List ℕ) (point : Point) : Type 0 where

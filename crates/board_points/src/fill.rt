@@ -39,7 +39,7 @@ fn give_down_once(rows: &mut [u64], region: &[u64]) -> u64
     'rows: for row in 0..rows.len() {
         let (word, lacks) = widened((rows[row] | above) & region[row], region[row]);
         rows[row] = word;
-        ups = with_mark(ups, row, above_lacks & word != 0);
+        ups = with_flag(ups, row, above_lacks & word != 0);
         above = word;
         above_lacks = lacks;
     }
@@ -67,32 +67,32 @@ impl Direction {
         }
     }
 
-    /// The marked row that is farthest back.
+    /// The flagged row that is farthest back.
     #[inline(always)]
-    fn first(self, marks: u64) -> usize
-        requires { marks ≢ 0 }
-        ensures there { IsTrue (has_bit marks result) }
+    fn first(self, flags: u64) -> usize
+        requires { flags ≢ 0 }
+        ensures there { IsTrue (has_bit flags result) }
         ensures below { result < 64 }
     {
         match self {
-            Direction::Up => 63 - marks.leading_zeros() as usize,
-            Direction::Down => marks.trailing_zeros() as usize,
+            Direction::Up => 63 - flags.leading_zeros() as usize,
+            Direction::Down => flags.trailing_zeros() as usize,
         }
     }
 }
 
-/// Each marked row gives its points in a direction (`give`). Returns the rows that can give some back.
+/// Each flagged row gives its points in a direction (`give`). Returns the rows that can give some back.
 #[inline(always)]
-fn give_all(rows: &mut [u64], region: &[u64], marks: u64, direction: Direction) -> u64
+fn give_all(rows: &mut [u64], region: &[u64], flags: u64, direction: Direction) -> u64
     requires within { IsWithin rows.old region.now }
-    requires marks { AreRowsBelow (length region.now) marks }
-    ensures filled { (first : List ℕ) → IsFilledBut region.now first rows.old direction marks 0 0 0
+    requires flags { AreRowsBelow (length region.now) flags }
+    ensures filled { (first : List ℕ) → IsFilledBut region.now first rows.old direction flags 0 0 0
         → IsFilledBut region.now first rows.new direction 0 result 0 0 }
     ensures more { HaveMore rows.old rows.new 0 result }
 {
-    let mut waiting = marks;
+    let mut waiting = flags;
     let mut back = 0;
-    'marks: while waiting != 0 {
+    'flags: while waiting != 0 {
         let row = direction.first(waiting);
         waiting = without_column(waiting, row);
         back = give(rows, region, row, direction, back);
@@ -107,52 +107,52 @@ fn give(rows: &mut [u64], region: &[u64], first: usize, direction: Direction, ba
     requires within { IsWithin rows.old region.now }
     requires first { first < length rows.old }
     ensures within { IsWithin rows.new region.now }
-    ensures filled { (start : List ℕ) → (marks : ℕ)
-        → IsFilledBut region.now start rows.old direction marks back first (slice_index rows.old first)
-        → IsFilledBut region.now start rows.new direction marks result 0 0 }
+    ensures filled { (start : List ℕ) → (flags : ℕ)
+        → IsFilledBut region.now start rows.old direction flags back first (slice_index rows.old first)
+        → IsFilledBut region.now start rows.new direction flags result 0 0 }
     ensures more { HaveMore rows.old rows.new back result }
 {
     let mut row = first;
     let mut given = rows[row];
     let mut lacks = columns_apart(region[row], given);
-    let mut marks = back;
+    let mut flags = back;
     'rows: loop {
         let next = direction.next(row);
         if next >= rows.len() {
-            return marks;
+            return flags;
         }
         let here = columns_apart(region[next], rows[next]);
         if here & given == 0 {
-            return marks;
+            return flags;
         }
         let (taken, left) = widened(here & given, here);
         rows[next] |= taken;
-        marks = with_mark(marks, next, lacks & taken != 0);
+        flags = with_flag(flags, next, lacks & taken != 0);
         row = next;
         given = taken;
         lacks = left;
     }
 }
 
-/// The marked rows, and `row` if `mark` is true. Few rows are marked, and a branch to what marks them costs less than to do so each time.
+/// The flagged rows, and `row` if `flag` is true. Few rows are flagged, and a branch to what flags them costs less than to do so each time.
 #[inline(always)]
-fn with_mark(marks: u64, row: usize, mark: bool) -> u64
+fn with_flag(flags: u64, row: usize, flag: bool) -> u64
     requires { row < 64 }
-    ensures there { has_bit result row ≡ (has_bit marks row || mark) }
-    ensures elsewhere { (other : ℕ) → other ≢ row → has_bit result other ≡ has_bit marks other }
+    ensures there { has_bit result row ≡ (has_bit flags row || flag) }
+    ensures elsewhere { (other : ℕ) → other ≢ row → has_bit result other ≡ has_bit flags other }
 {
-    if mark { marked(marks, row) } else { marks }
+    if flag { flagged(flags, row) } else { flags }
 }
 
-/// The marked rows, and one more.
+/// The flagged rows, and one more.
 #[cold]
 #[inline(never)]
-fn marked(marks: u64, row: usize) -> u64
+fn flagged(flags: u64, row: usize) -> u64
     requires { row < 64 }
     ensures there { IsTrue (has_bit result row) }
-    ensures elsewhere { (other : ℕ) → other ≢ row → has_bit result other ≡ has_bit marks other }
+    ensures elsewhere { (other : ℕ) → other ≢ row → has_bit result other ≡ has_bit flags other }
 {
-    with_column(marks, row, true)
+    with_column(flags, row, true)
 }
 
 /// Widens a set of columns by the columns of the region beside it, until there are no more. Returns them, and the columns of the region that

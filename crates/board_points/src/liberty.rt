@@ -82,14 +82,14 @@ pub(crate) fn row_inside(own: &[u64], others: &[u64], all: u64, row: usize) -> R
     }
 }
 
-/// Writes to `alive` the stones of `own` that have an empty point beside them. This is the plain way; `quick` asks about one stone.
+/// Writes to `found` the stones of `own` that have an empty point beside them. This is the plain way; `quick` asks about one stone.
 /// `others` has the stones of the other colour. The three must have as many words as the board has rows.
-pub fn stones_with_liberty(own: &[u64], others: &[u64], alive: &mut [u64])
+pub fn stones_with_liberty(own: &[u64], others: &[u64], found: &mut [u64])
     requires rows { AreOfOneBoard own.now others.now }
-    requires alive { length alive.old ≡ length own.now }
-    ensures { HaveLiberty own.now others.now alive.new }
+    requires found { length found.old ≡ length own.now }
+    ensures { HaveLiberty own.now others.now found.new }
 {
     for row in 0..own.len() {
-        alive[row] = own[row] & columns_with_liberty(own, others, row);
+        found[row] = own[row] & columns_with_liberty(own, others, row);
     }
 }

@@ -14,7 +14,7 @@ use Rattle.go_board.specs.Colour.{same_cell, stone_of}
 use Rattle.board_points.specs.Point.{IsOn, index_of}
 use Rattle.go_board.specs.Grid.{Grid, cell_at, with_cell, grid_of}
 use Rattle.go_board.specs.Clearing.{play}
-use Rattle.go_board.specs.inner.Groups.{IsMove, TakesOff}
+use Rattle.go_board.specs.inner.Groups.{IsMove, Clears}
 use Rattle.go_board.specs.inner.Regions.{with_row}
 use Rattle.board_points.specs.Rows.{has_bit}
 use Rattle.go_board.specs.inner.Changes.{with_change, after_changes, AddsRow, AreOn, IsChangeOn, IsRowOf, IsSameRow, HasRow, KeepRows, MakeOne, step_back}
@@ -250,23 +250,23 @@ kept_rest {row = row} h count high same = record {
   ];
 }
 
--- a row that has neither the stone nor what it takes off
-pub row_kept : (g : Grid) (k : Colour) (p : Point) (taken : List ℕ) (row : ℕ) → IsMove g k p taken → row < g.side → row ≢ p.row → slice_index taken row ≡ 0 → IsSameRow g (play g k p) row
-row_kept g k p taken row move low other none = λ col left.
+-- a row that has neither the stone nor what it clears
+pub row_kept : (g : Grid) (k : Colour) (p : Point) (cleared : List ℕ) (row : ℕ) → IsMove g k p cleared → row < g.side → row ≢ p.row → slice_index cleared row ≡ 0 → IsSameRow g (play g k p) row
+row_kept g k p cleared row move low other none = λ col left.
     let q : Point = record { col = col; row = row } in
-    sym (move.taken.played.kept q (left, low) (λ gone. false≢true (sym (ap (λ w. has_bit w col) none ∙ has_bit-zero col) ∙ gone))
+    sym (move.cleared.played.kept q (left, low) (λ gone. false≢true (sym (ap (λ w. has_bit w col) none ∙ has_bit-zero col) ∙ gone))
     ∙ cell_at-with_cell_elsewhere g p q (stone_of k) move.on_board (left, low) (λ same. other (ap (λ (x : Point). x.row) same)))
 
-pub play_cells : (g : Grid) (k : Colour) (p : Point) (taken : List ℕ) → length g.cells ≡ g.side * g.side → TakesOff g k p taken → length (play g k p).cells ≡ (play g k p).side * (play g k p).side
-play_cells g k p taken all takes =
+pub play_cells : (g : Grid) (k : Colour) (p : Point) (cleared : List ℕ) → length g.cells ≡ g.side * g.side → Clears g k p cleared → length (play g k p).cells ≡ (play g k p).side * (play g k p).side
+play_cells g k p cleared all takes =
     takes.played.all ∙ length-set g.cells (index_of g.side p) (stone_of k) ∙ all ∙ ap (λ n. n * n) (sym takes.played.same_side)
 
--- a stone that takes nothing off, taken off again
-pub alone_back : (g : Grid) (k : Colour) (p : Point) (taken : List ℕ) → length g.cells ≡ g.side * g.side → IsMove g k p taken → length taken ≡ 0 → with_cell (play g k p) p Empty ≡ g
-alone_back g k p taken cells move none =
+-- a stone that clears nothing, removed again
+pub alone_back : (g : Grid) (k : Colour) (p : Point) (cleared : List ℕ) → length g.cells ≡ g.side * g.side → IsMove g k p cleared → length cleared ≡ 0 → with_cell (play g k p) p Empty ≡ g
+alone_back g k p cleared cells move none =
     let made = play g k p in
-    let side : made.side ≡ g.side = move.taken.played.same_side in
-    let all : length made.cells ≡ made.side * made.side = play_cells g k p taken cells move.taken in
+    let side : made.side ≡ g.side = move.cleared.played.same_side in
+    let all : length made.cells ≡ made.side * made.side = play_cells g k p cleared cells move.cleared in
     let on : IsOn made.side p = subst (λ n. IsOn n p) (sym side) move.on_board in
     one_colouring (with_cell made p Empty) g side (length-set made.cells (index_of made.side p) Empty ∙ all) cells
     (λ q at.
@@ -275,7 +275,7 @@ alone_back g k p taken cells move none =
       | inl same ↦ ap (cell_at (with_cell made p Empty)) same ∙ cell_at-with_cell made p Empty on all ∙ sym move.empty ∙ ap (cell_at g) (sym same)
       | inr other ↦
           cell_at-with_cell_elsewhere made p q Empty on at other
-          ∙ move.taken.played.kept q here (λ gone. absurd (omega (arith, none, row_below taken q gone)))
+          ∙ move.cleared.played.kept q here (λ gone. absurd (omega (arith, none, row_below cleared q gone)))
           ∙ cell_at-with_cell_elsewhere g p q (stone_of k) move.on_board here other
     ])
 

@@ -230,7 +230,7 @@ there-all held older changes start newest at (suc less) number d is =
     let upper = there-all held older changes start newest at less (number + 1) d (omega arith) in
     (_, _, step-side upper.1 (get_or older number d) (slice_range changes (get_or older number d).start (get_or older (number + 1) d).start) ∙ upper.2, there-back held older changes number (get_or older (number + 1) d).start upper.0 upper.1 d below upper.3)
 
--- so from the number at which a walk back begins, the colouring of that number is there
+-- so from the number at which a look back begins, the colouring of that number is there
 pub there-from : (newest : Grid) (start : ℕ) (older : List Older) (changes : List Change) (held : List Held) → all_held newest start (reverse older) changes ≡ held → IsPast newest start older changes → (number end count : ℕ) (d : Older) → number < length older → count ≡ length changes → IsEndOf older count number end
     → IsSomeThere newest held older changes number end
 there-from newest start older changes held same past number end count d lt is_count ends =

@@ -20,7 +20,7 @@ reached_through g k p q on at through way =
 
 -- a point that waited is looked at
 pub IsUnderWay-step : (g : Grid) (k : Cell) (s t u : Searched) (p : Point) → IsUnderWay g k s → IsOn g.side p → IsTrue (is_marked s.marking p) → s.waiting ≡ t.waiting ++ p ∷ [] → t.marking ≡ s.marking → Finds (ReachesThrough g k p) t u → IsUnderWay g k u
-IsUnderWay-step g k s t u p way on marked taken same finds = record {
+IsUnderWay-step g k s t u p way on marked cleared same finds = record {
   side = finds.side ∙ ap (λ m. m.side) same ∙ way.side;
   all = finds.all ∙ ap (λ m. length m.marks) same ∙ way.all;
   begun = λ q at there. kept q (way.begun q at there);
@@ -30,7 +30,7 @@ IsUnderWay-step g k s t u p way on marked taken same finds = record {
         | inl old ↦
             elim (way.closed a b at by old through) [
               | inl waits ↦
-                  elim (Contains-push_cases t.waiting p a (subst (λ l. Contains l a) taken waits)) [
+                  elim (Contains-push_cases t.waiting p a (subst (λ l. Contains l a) cleared waits)) [
                     | inl still ↦ inl (finds.waiting a still)
                     | inr it ↦ inr (finds.found b (on_t b by) (subst (λ x. ReachesThrough g k x b) (sym it) through))
                   ]

@@ -7,7 +7,7 @@ use Rattle.go_board.specs.Colour.{opponent, stone_of, same_cell}
 use Rattle.board_points.specs.Point.{IsOn}
 use Rattle.go_board.specs.Grid.{Grid, cell_at, with_cell}
 use Rattle.go_board.specs.Reaching.{Reaches}
-use Rattle.board_points.specs.Glance.{StaysOpen, LeavesAllAlive}
+use Rattle.board_points.specs.Glance.{KeepsLiberty, LeavesAllAlive}
 use Rattle.go_board.specs.inner.Groups.{AllLive}
 use Rattle.board_points.specs.Rows.{AreRowsOf}
 use Rattle.go_board.proofs.GridLemmas.{Decides-same_cell, cell_at-with_cell_elsewhere}
@@ -22,8 +22,8 @@ module _ (g : Grid) (k : Colour) (p : Point) (own others : List ℕ) (side : len
   abbrev after : Grid
   after = with_cell g p (stone_of k)
 
-  open_reaches : (q : Point) → IsOn g.side q → StaysOpen own others p q → Reaches after Empty q
-  open_reaches q on_q is =
+  kept_reaches : (q : Point) → IsOn g.side q → KeepsLiberty own others p q → Reaches after Empty q
+  kept_reaches q on_q is =
       let z = is.0 in
       let on_z = subst (λ n. IsOn n z) side is.1.0 in
       let empty = neither_stone k (cell_at g z) (sym (is_own.on z on_z) ∙ is.1.1) (sym (is_others.on z on_z) ∙ is.1.2) in
@@ -32,13 +32,13 @@ module _ (g : Grid) (k : Colour) (p : Point) (own others : List ℕ) (side : len
   pub all_live : LeavesAllAlive own others p → AllLive (with_cell g p (stone_of k)) k p
   all_live is = (
     λ stone. elim is.lives [
-      | inl way ↦ open_reaches p on way
+      | inl way ↦ kept_reaches p on way
       | inr (q, set, next, way) ↦
           let on_q = is_own.off q set in
           let same = cell_at-with_cell_elsewhere g p q (stone_of k) on on_q (apart p q next) ∙ (Decides-same_cell _ _).0 (sym (is_own.on q on_q) ∙ set) in
-          path_by_step after Empty p q on next on_q (inl (same ∙ sym stone)) (open_reaches q on_q way)
+          path_by_step after Empty p q on next on_q (inl (same ∙ sym stone)) (kept_reaches q on_q way)
     ],
     λ q on_q next stone.
         let set = is_others.on q on_q ∙ (Decides-same_cell _ _).1 (sym (cell_at-with_cell_elsewhere g p q (stone_of k) on on_q (apart p q next)) ∙ stone) in
-        open_reaches q on_q (elim next [ inl column ↦ is.across q set column | inr row ↦ is.along q set row ]),
+        kept_reaches q on_q (elim next [ inl column ↦ is.across q set column | inr row ↦ is.along q set row ]),
   )

@@ -1,4 +1,4 @@
--- A group without a liberty can be taken off before its colour is cleared: the cleared grid is the same.
+-- A group without a liberty can be removed before its colour is cleared: the cleared grid is the same.
 use Rattle.std.proofs.Common.{◌≡◌, ◌≢◌, ◌⊎◌, ℕ, ◌*◌, false, List, [], ◌∷◌, length, get_or, refl, sym, ap, subst, ◌∙◌, arith}
 use Rattle.std.proofs.lemmas.Grind.{common_steps}
 use Rattle.std.proofs.lemmas.Bool.{true≢false}

@@ -17,14 +17,14 @@ use Rattle.go_board.proofs.StoneRowsLemmas.{bit_same}
 key_at : (start print hash : ℕ) (grid : Grid) (index col : ℕ) → col < 64 → key_bits start print hash grid (64 * index + col) ≡ key_bit start print hash grid index col
 key_at start print hash grid index col low =
     let word : (64 * index + col) / 64 ≡ index = omega (arith, low) in
-    let place : (64 * index + col) % 64 ≡ col = omega (arith, low) in
-    ap (λ n. key_bit start print hash grid n ((64 * index + col) % 64)) word ∙ ap (λ n. key_bit start print hash grid index n) place
+    let position : (64 * index + col) % 64 ≡ col = omega (arith, low) in
+    ap (λ n. key_bit start print hash grid n ((64 * index + col) % 64)) word ∙ ap (λ n. key_bit start print hash grid index n) position
 
 -- the first bits of a key are those of its print
-pub print_bit : (start print hash : ℕ) (grid : Grid) (place : ℕ) → place < 64 → key_bits start print hash grid place ≡ has_bit print place
-print_bit start print hash grid place low =
-    let at : 64 * 0 + place ≡ place = omega arith in
-    ap (λ n. key_bits start print hash grid n) (sym at) ∙ key_at start print hash grid 0 place low
+pub print_bit : (start print hash : ℕ) (grid : Grid) (position : ℕ) → position < 64 → key_bits start print hash grid position ≡ has_bit print position
+print_bit start print hash grid position low =
+    let at : 64 * 0 + position ≡ position = omega arith in
+    ap (λ n. key_bits start print hash grid n) (sym at) ∙ key_at start print hash grid 0 position low
 
 module _ (start start' print print' hash hash' : ℕ) (grid grid' : Grid) where
   pub front_same : start < 2 ^ 64 → start' < 2 ^ 64 → print < 2 ^ 64 → print' < 2 ^ 64 → Agree (key_bits start print hash grid) (key_bits start' print' hash' grid') 128 → (start ≡ start') × (print ≡ print')

@@ -14,7 +14,7 @@ pub mod ScoreLemmas
 pub mod SweepLemmas
 pub mod ListPastLemmas
 pub mod EarlierLemmas
-pub mod AreaLemmas
+pub mod RectangleLemmas
 pub mod TurnLemmas
 pub mod RepeatLemmas
 pub mod PowerLemmas
@@ -31,4 +31,4 @@ pub mod KeyLemmas
 pub mod HashLemmas
 pub mod StoneRowsLemmas
 pub mod GlanceLemmas
-pub mod TakenLemmas
+pub mod ClearedLemmas

@@ -68,9 +68,9 @@ module _ (m : ℕ) where
       ∙ mod-add-mod (number * base) m digit
       ∙ ap (λ n. (n + digit) % m) (omega arith)
 
--- what is left if some is taken away
-taken_away : (all rest less m : ℕ) → less % m < m → all ≡ rest + less → (all % m + (m - less % m)) % m ≡ rest % m
-taken_away all rest less m small same =
+-- what is left if some is cleared
+cleared_away : (all rest less m : ℕ) → less % m < m → all ≡ rest + less → (all % m + (m - less % m)) % m ≡ rest % m
+cleared_away all rest less m small same =
     same_mod m (all % m + (m - less % m)) (all / m) rest (less / m + 1)
     (omega (arith, same, small, mod-add-div all m, mod-add-div less m))
 
@@ -216,35 +216,35 @@ in_base-split base (suc n) d a b is =
     let times : base * in_base base n d ≡ base * in_base base n a + base * in_base base n b = ap (λ x. base * x) before ∙ mul-add base (in_base base n a) (in_base base n b) in
     omega (arith, times, is n (omega arith))
 
--- a print without the stones that are taken off
-module _ (g full left : Grid) (taken : List ℕ) (full_side : full.side ≡ g.side) (left_side : left.side ≡ g.side) (gone : (p : Point) → IsOn g.side p → is_set taken p ≡ true → (cell_at left p ≡ Empty) × (cell_at full p ≡ cell_at g p)) (stays : (p : Point) → IsOn g.side p → is_set taken p ≡ false → cell_at full p ≡ cell_at left p) where
-  cell_left : (p : Point) → IsOn g.side p → code (cell_at full p) ≡ code (cell_at left p) + code (cond (is_set taken p) (cell_at g p) Empty)
+-- a print without the stones that are cleared
+module _ (g full left : Grid) (cleared : List ℕ) (full_side : full.side ≡ g.side) (left_side : left.side ≡ g.side) (gone : (p : Point) → IsOn g.side p → is_set cleared p ≡ true → (cell_at left p ≡ Empty) × (cell_at full p ≡ cell_at g p)) (stays : (p : Point) → IsOn g.side p → is_set cleared p ≡ false → cell_at full p ≡ cell_at left p) where
+  cell_left : (p : Point) → IsOn g.side p → code (cell_at full p) ≡ code (cell_at left p) + code (cond (is_set cleared p) (cell_at g p) Empty)
   cell_left p on =
-      elim (cases_Bool (is_set taken p)) [
+      elim (cases_Bool (is_set cleared p)) [
         | inl is ↦
             let both = gone p on is in
             omega (arith, ap code both.0, ap code both.1, ap (λ b. code (cond b (cell_at g p) Empty)) is)
         | inr none ↦ omega (arith, ap code (stays p on none), ap (λ b. code (cond b (cell_at g p) Empty)) none)
       ]
 
-  number_left : in_base (31 ^ g.side) g.side (row_number full) ≡ in_base (31 ^ g.side) g.side (row_number left) + number_within g taken
+  number_left : in_base (31 ^ g.side) g.side (row_number full) ≡ in_base (31 ^ g.side) g.side (row_number left) + number_within g cleared
   number_left =
-      in_base-split (31 ^ g.side) g.side (row_number full) (row_number left) (λ row. row_within g (slice_index taken row) row)
+      in_base-split (31 ^ g.side) g.side (row_number full) (row_number left) (λ row. row_within g (slice_index cleared row) row)
       (λ row low.
       ap (λ n. in_base 31 n (λ col. code (cell_at full (record { col = col; row = row })))) full_side
       ∙ in_base-split 31 g.side (λ col. code (cell_at full (record { col = col; row = row }))) (λ col. code (cell_at left (record { col = col; row = row })))
-      (λ col. code (cond (is_set taken (record { col = col; row = row })) (cell_at g (record { col = col; row = row })) Empty))
+      (λ col. code (cond (is_set cleared (record { col = col; row = row })) (cell_at g (record { col = col; row = row })) Empty))
       (λ col col_low. cell_left (record { col = col; row = row }) (col_low, low))
-      ∙ ap (λ n. in_base 31 n (λ col. code (cell_at left (record { col = col; row = row }))) + row_within g (slice_index taken row) row) (sym left_side))
+      ∙ ap (λ n. in_base 31 n (λ col. code (cell_at left (record { col = col; row = row }))) + row_within g (slice_index cleared row) row) (sym left_side))
 
-  pub print_left : length full.cells ≡ full.side * full.side → length left.cells ≡ left.side * left.side → (print less : ℕ) → print ≡ print_of full → less ≡ number_within g taken % 2 ^ 64 → (print + (2 ^ 64 - less)) % 2 ^ 64 ≡ print_of left
+  pub print_left : length full.cells ≡ full.side * full.side → length left.cells ≡ left.side * left.side → (print less : ℕ) → print ≡ print_of full → less ≡ number_within g cleared % 2 ^ 64 → (print + (2 ^ 64 - less)) % 2 ^ 64 ≡ print_of left
   print_left all all_left print less is less_is =
       let m = 2 ^ 64 in
       let number = in_base (31 ^ g.side) g.side (row_number full) in
       let rest = in_base (31 ^ g.side) g.side (row_number left) in
       ap (λ n. (n + (m - less)) % m) (is ∙ print_by_rows full all ∙ ap (λ n. in_base (31 ^ n) n (row_number full) % m) full_side)
       ∙ ap (λ n. (number % m + (m - n)) % m) less_is
-      ∙ taken_away number rest (number_within g taken) m (mod_below (number_within g taken) m (pow_pos 64)) number_left
+      ∙ cleared_away number rest (number_within g cleared) m (mod_below (number_within g cleared) m (pow_pos 64)) number_left
       ∙ ap (λ n. in_base (31 ^ n) n (row_number left) % m) (sym left_side)
       ∙ sym (print_by_rows left all_left)
 

@@ -28,7 +28,7 @@ emptied-if_back point made newest (earlier ∷ others) none stone (suc k, h, e) 
     let here = Decides-same_cell (cell_at earlier point) Empty in
     elim (cases_Bool (same_cell (cell_at earlier point) Empty)) [
       | inl free ↦ inr (emptied-if_back point made earlier others (here.0 free) stone (k, omega (arith, h), e))
-      | inr taken ↦ inl (λ is. false≢true (sym taken ∙ here.1 is), none)
+      | inr cleared ↦ inl (λ is. false≢true (sym cleared ∙ here.1 is), none)
     ]
 
 -- among the colourings of a stretch, as far as the second one
@@ -54,16 +54,16 @@ HasAllEmptied-more a b (later ∷ []) among all = tt
 HasAllEmptied-more a b (later ∷ (earlier ∷ others)) among all =
     (λ goes_on p on stone free. among p (all.0 goes_on p on stone free), HasAllEmptied-more a b (earlier ∷ others) among all.1)
 
--- a stone empties what it takes off, and no other point
+-- a stone empties what it clears, and no other point
 pub emptied_by_play : (g : Grid) (k : Colour) (p : Point) (rows : List ℕ) → IsMove g k p rows → HasEmptied (is_set rows) g (play g k p)
 emptied_by_play g k p rows move = λ q at stone free.
     elim (cases_Bool (is_set rows q)) [
-      | inl taken ↦ taken
+      | inl cleared ↦ cleared
       | inr left ↦
           absurd (elim (same_or_not q p) [
             | inl same ↦ stone (ap (cell_at g) same ∙ move.empty)
             | inr other ↦
-                stone (sym (cell_at-with_cell_elsewhere g p q (stone_of k) move.on_board at other) ∙ sym (move.taken.played.kept q at (λ taken. false≢true (sym left ∙ taken))) ∙ free)
+                stone (sym (cell_at-with_cell_elsewhere g p q (stone_of k) move.on_board at other) ∙ sym (move.cleared.played.kept q at (λ cleared. false≢true (sym left ∙ cleared))) ∙ free)
           ])
     ]
 
@@ -72,7 +72,7 @@ pub never_back : (past : PastColourings) (k : Colour) (p : Point) (rows emptied 
     → IsMove (newest_grid past) k p rows → is_set emptied p ≡ false → is_set rows p ≡ false → Contains (present_stretch past) (play (newest_grid past) k p) → ⊥
 never_back past k p rows emptied all sides kept move fresh stays has =
     let g = newest_grid past in
-    let there : cell_at (play g k p) p ≡ stone_of k = move.taken.played.kept p move.on_board (λ taken. false≢true (sym stays ∙ taken)) ∙ cell_at-with_cell g p (stone_of k) move.on_board all in
+    let there : cell_at (play g k p) p ≡ stone_of k = move.cleared.played.kept p move.on_board (λ cleared. false≢true (sym stays ∙ cleared)) ∙ cell_at-with_cell g p (stone_of k) move.on_board all in
     let was = emptied-if_back p (play g k p) g (cond past.newest.begins [] (stretch_of past.older)) move.empty (λ e. stone_of≢Empty k (sym there ∙ e)) has in
     false≢true (sym fresh ∙ was_in_set (is_set emptied) g.side p move.on_board (all_of past) sides kept was)
 
@@ -81,7 +81,7 @@ pub fresh_stone_put : (past : PastColourings) (k : Colour) (p : Point) (rows emp
     → IsMove (newest_grid past) k p rows → is_set emptied p ≡ false → is_set rows p ≡ false → IsFreshStone (with_next past (play (newest_grid past) k p) false) p
 fresh_stone_put past k p rows emptied all sides kept move fresh stays =
     let g = newest_grid past in
-    let there : cell_at (play g k p) p ≡ stone_of k = move.taken.played.kept p move.on_board (λ taken. false≢true (sym stays ∙ taken)) ∙ cell_at-with_cell g p (stone_of k) move.on_board all in
+    let there : cell_at (play g k p) p ≡ stone_of k = move.cleared.played.kept p move.on_board (λ cleared. false≢true (sym stays ∙ cleared)) ∙ cell_at-with_cell g p (stone_of k) move.on_board all in
     record {
       on = subst (λ n. IsOn n p) (sym (side_play g k p)) move.on_board;
       there = λ e. stone_of≢Empty k (sym there ∙ e);
@@ -89,23 +89,23 @@ fresh_stone_put past k p rows emptied all sides kept move fresh stays =
           let here = Decides-same_cell (cell_at grid p) Empty in
           elim (cases_Bool (same_cell (cell_at grid p) Empty)) [
             | inl free ↦ here.0 free
-            | inr taken ↦
-                let was = emptied-if_back p grid g (cond past.newest.begins [] (stretch_of past.older)) move.empty (λ is. false≢true (sym taken ∙ here.1 is)) has in
+            | inr cleared ↦
+                let was = emptied-if_back p grid g (cond past.newest.begins [] (stretch_of past.older)) move.empty (λ is. false≢true (sym cleared ∙ here.1 is)) has in
                 absurd (false≢true (sym fresh ∙ was_in_set (is_set emptied) g.side p move.on_board (all_of past) sides kept was))
           ];
     }
 
--- What a stone leaves on the grid that it makes, if it isn't taken off at once: itself, and each stone that it doesn't take off.
+-- What a stone leaves on the grid that it makes, if it isn't cleared at once: itself, and each stone that it doesn't clear.
 module _ (g : Grid) (k : Colour) (p : Point) (rows : List ℕ) (all : length g.cells ≡ g.side * g.side) (move : IsMove g k p rows) where
   pub stone_put : is_set rows p ≡ false → cell_at (play g k p) p ≢ Empty
   stone_put stays =
-      let there : cell_at (play g k p) p ≡ stone_of k = move.taken.played.kept p move.on_board (λ taken. false≢true (sym stays ∙ taken)) ∙ cell_at-with_cell g p (stone_of k) move.on_board all in
+      let there : cell_at (play g k p) p ≡ stone_of k = move.cleared.played.kept p move.on_board (λ cleared. false≢true (sym stays ∙ cleared)) ∙ cell_at-with_cell g p (stone_of k) move.on_board all in
       λ e. stone_of≢Empty k (sym there ∙ e)
 
   pub stone_left : (q : Point) → IsOn g.side q → cell_at g q ≢ Empty → is_set rows q ≡ false → cell_at (play g k p) q ≢ Empty
   stone_left q on there stays =
       let other : q ≢ p = λ same. there (ap (cell_at g) same ∙ move.empty) in
-      λ free. there (sym (cell_at-with_cell_elsewhere g p q (stone_of k) move.on_board on other) ∙ sym (move.taken.played.kept q on (λ taken. false≢true (sym stays ∙ taken))) ∙ free)
+      λ free. there (sym (cell_at-with_cell_elsewhere g p q (stone_of k) move.on_board on other) ∙ sym (move.cleared.played.kept q on (λ cleared. false≢true (sym stays ∙ cleared))) ∙ free)
 
 -- what becomes of a past when a stone is played: a stone is played, or memory is refused
 module _ {E : Type 0} (k : Colour) (p : Point) (old new : PastColourings) where

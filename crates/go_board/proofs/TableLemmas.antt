@@ -21,7 +21,7 @@ use Rattle.board_points.specs.Rows.{has_bit}
 use Rattle.go_board.specs.inner.Table.{HasRoomForNext, IsAsleepTable, IsAwakeTable, IsGap, IsPrintOfNext, IsTable, LinksNext, SameButHashes, most_to_link}
 use Rattle.key_trie.specs.declared.trie.Trie.{Trie}
 use Rattle.key_trie.specs.Key.{Agree}
-use Rattle.key_trie.specs.Trie.{nodes_of, item_count, room_of, IsTrie, IsNearest, IsOpening, IsParting}
+use Rattle.key_trie.specs.Trie.{nodes_of, item_count, capacity_of, IsTrie, IsNearest, IsOpening, IsParting}
 use Rattle.go_board.proofs.FilterLemmas.{filter_any, filter_more}
 use Rattle.go_board.proofs.NumberLemmas.{since-newest, since-older, at-newest, at-older, cases-number, start-since, start-before}
 pub use Rattle.go_board.proofs.NumberLemmas.{number_there, side-number, has_number, has_colouring}
@@ -52,12 +52,12 @@ key_of_number hashed (x ∷ xs) number g low is = elim (cases-number x xs number
 ]
 
 -- the first bits of a number's key are those of its print
-print_at : (hashed : Bool) (held : List Held) (number : ℕ) (g : Grid) → number < length held → IsNumber held number g → (place : ℕ) → place < 64 → keys_of hashed held number place ≡ has_bit (print_of g) place
-print_at hashed held number g low at place h =
-    ap (λ (x : ℕ → Bool). x place) (key_of_number hashed held number g low at) ∙ print_bit (start_of (since number held)) (print_of g) (hash_in_key hashed g) g place h
+print_at : (hashed : Bool) (held : List Held) (number : ℕ) (g : Grid) → number < length held → IsNumber held number g → (position : ℕ) → position < 64 → keys_of hashed held number position ≡ has_bit (print_of g) position
+print_at hashed held number g low at position h =
+    ap (λ (x : ℕ → Bool). x position) (key_of_number hashed held number g low at) ∙ print_bit (start_of (since number held)) (print_of g) (hash_in_key hashed g) g position h
 
-pub keys-print : (hashed : Bool) (next : Held) (held : List Held) (print place : ℕ) → print_of next.colouring ≡ print → place < 64 → keys_of hashed (next ∷ held) (length held) place ≡ has_bit print place
-keys-print hashed next held print place is h = print_at hashed (next ∷ held) (length held) next.colouring (omega arith) (at-newest next held) place h ∙ ap (λ m. has_bit m place) is
+pub keys-print : (hashed : Bool) (next : Held) (held : List Held) (print position : ℕ) → print_of next.colouring ≡ print → position < 64 → keys_of hashed (next ∷ held) (length held) position ≡ has_bit print position
+keys-print hashed next held print position is h = print_at hashed (next ∷ held) (length held) next.colouring (omega arith) (at-newest next held) position h ∙ ap (λ m. has_bit m position) is
 
 -- the key of a colouring that goes on with the present stretch
 pub keys-next : (hashed : Bool) (held : List Held) (g : Grid) → keys_of hashed (record { colouring = g; begins = false } ∷ held) (length held) ≡ key_bits (start_of held) (print_of g) (hash_in_key hashed g) g
@@ -112,24 +112,24 @@ module _ (held : List Held) (table : Table) (is : IsAwakeTable held table) where
       has_colouring held near grid (omega (arith, before, front.0, starts)) near_in (at ∙ ap (λ (x : Grid). Some x) (sym whole))
 
   -- Where the next colouring comes in, if its print parts it from the item that a look-up for the print finds.
-  pub gap_parts : (next : Held) (print near place : ℕ) (any : Grid) (key : ℕ → Bool) → print_of next.colouring ≡ print → item_count table.trie ≡ length held → key ≡ key_bits 0 print 0 any → IsNearest (keys_of table.hashed (next ∷ held)) table.trie key 64 near → place < 64
-      → ((p : ℕ) → p < place → bit_at (bit_xor print (get_or table.prints.items near 0)) p ≡ 0) → bit_at (bit_xor print (get_or table.prints.items near 0)) place ≡ 1
-      → Agree key (keys_of table.hashed (next ∷ held) (length held)) (place + 1) × IsParting (item_count table.trie) (keys_of table.hashed (next ∷ held)) (keys_of table.hashed (next ∷ held) (length held)) near place
-  gap_parts next print near place any key is_print all is_key n low same differ =
+  pub gap_parts : (next : Held) (print near position : ℕ) (any : Grid) (key : ℕ → Bool) → print_of next.colouring ≡ print → item_count table.trie ≡ length held → key ≡ key_bits 0 print 0 any → IsNearest (keys_of table.hashed (next ∷ held)) table.trie key 64 near → position < 64
+      → ((p : ℕ) → p < position → bit_at (bit_xor print (get_or table.prints.items near 0)) p ≡ 0) → bit_at (bit_xor print (get_or table.prints.items near 0)) position ≡ 1
+      → Agree key (keys_of table.hashed (next ∷ held) (length held)) (position + 1) × IsParting (item_count table.trie) (keys_of table.hashed (next ∷ held)) (keys_of table.hashed (next ∷ held) (length held)) near position
+  gap_parts next print near position any key is_print all is_key n low same differ =
       let other = get_or table.prints.items near 0 in
       let near_in : near < length held = omega (arith, n.there, all) in
       let there = number_there held near near_in in
       let key_print : (p : ℕ) → p < 64 → key p ≡ has_bit print p = λ p h. ap (λ (x : ℕ → Bool). x p) is_key ∙ print_bit 0 print 0 any p h in
       let near_print : (p : ℕ) → p < 64 → keys_of table.hashed (next ∷ held) near p ≡ has_bit other p = λ p h.
       print_at table.hashed (next ∷ held) near there.0 (omega (arith, near_in)) (at-older next held near_in there.1) p h ∙ ap (λ m. has_bit m p) (sym (print_there near there.0 near_in there.1)) in
-      parts_as n (keys_of table.hashed (next ∷ held) (length held)) (keys_of table.hashed (next ∷ held) near) place low
+      parts_as n (keys_of table.hashed (next ∷ held) (length held)) (keys_of table.hashed (next ∷ held) near) position low
       (record { each = λ p h. key_print p h ∙ sym (keys-print table.hashed next held print p is_print h) }) (agree_self (keys_of table.hashed (next ∷ held) near) 64)
       (record { each = λ p h. key_print p (omega (arith, h, low)) ∙ same_bit print other p (same p h) ∙ sym (near_print p (omega (arith, h, low))) })
-      (λ e. other_bits print other place differ (sym (key_print place low) ∙ e ∙ near_print place low))
+      (λ e. other_bits print other position differ (sym (key_print position low) ∙ e ∙ near_print position low))
 
 -- the same prints, and a trie of as many colourings or of more
 pub tabled_with : (held : List Held) (table after : Table) → IsAwakeTable held table → after.prints.items ≡ table.prints.items → after.filter ≡ table.filter → after.hashes ≡ table.hashes → after.room_asleep ≡ table.room_asleep
-    → length table.prints.items ≤ room_of after.trie → room_of after.trie < 2 ^ 32 → item_count after.trie ≤ length table.prints.items → IsTrie WIDTH (keys_of after.hashed held) after.trie → IsAwakeTable held after
+    → length table.prints.items ≤ capacity_of after.trie → capacity_of after.trie < 2 ^ 32 → item_count after.trie ≤ length table.prints.items → IsTrie WIDTH (keys_of after.hashed held) after.trie → IsAwakeTable held after
 tabled_with held table after is prints filter hashes awake room most few trie = record {
   awake = awake ∙ is.awake;
   printed = rw prints is.printed;
@@ -167,7 +167,7 @@ same_both one two three a b = record { trie = b.trie ∙ a.trie; prints = b.prin
 
 -- one colouring more is in the trie of a table whose hashes alone differ from those of another one
 pub links_with : (held : List Held) (old now : Table) (trie : Trie) → IsAwakeTable held now → SameButHashes old now → item_count old.trie < length old.prints.items
-    → room_of trie ≡ room_of now.trie → item_count trie ≡ item_count now.trie + 1 → IsTrie WIDTH (keys_of old.hashed held) trie → LinksNext held old (record now { trie = trie })
+    → capacity_of trie ≡ capacity_of now.trie → item_count trie ≡ item_count now.trie + 1 → IsTrie WIDTH (keys_of old.hashed held) trie → LinksNext held old (record now { trie = trie })
 links_with held old now trie is same more room next linked =
     let count : item_count trie ≡ item_count old.trie + 1 = next ∙ ap (λ (x : Trie). item_count x + 1) same.trie in
     let prints : length now.prints.items ≡ length old.prints.items = ap (λ (xs : List ℕ). length xs) same.prints in
@@ -201,7 +201,7 @@ in_key hashed grid on = ap (λ (t : Bool). if t then hash_of grid else 0) (sym o
 
 -- one colouring more
 pub tabled_more : (held : List Held) (table after : Table) (next : Held) (print : ℕ) → IsAwakeTable held table → print ≡ print_of next.colouring → after.prints.items ≡ table.prints.items ++ print ∷ [] → after.filter ≡ table.filter → after.room_asleep ≡ table.room_asleep
-    → length table.prints.items < room_of after.trie → room_of after.trie < 2 ^ 32 → item_count after.trie ≤ length table.prints.items + 1 → IsTrie WIDTH (keys_of after.hashed (next ∷ held)) after.trie → HasHashes (next ∷ held) after.hashes → IsAwakeTable (next ∷ held) after
+    → length table.prints.items < capacity_of after.trie → capacity_of after.trie < 2 ^ 32 → item_count after.trie ≤ length table.prints.items + 1 → IsTrie WIDTH (keys_of after.hashed (next ∷ held)) after.trie → HasHashes (next ∷ held) after.hashes → IsAwakeTable (next ∷ held) after
 tabled_more held table after next print is printed pushed filter awake room most few trie kept =
     let count : length after.prints.items ≡ length table.prints.items + 1 = ap (λ (xs : List ℕ). length xs) pushed ∙ length-append table.prints.items (print ∷ []) in
     record {
@@ -257,7 +257,7 @@ gap_lacks held table g gap is has =
     keys-older table.hashed next held h.0 h.1 ∙ key_of_number table.hashed held h.0 g h.1 h.3
     ∙ ap (λ n. key_bits n (print_of g) (hash_in_key table.hashed g) g) (start-since held h.0 h.2 h.1)
     ∙ sym (keys-next table.hashed held g) in
-    is.opens.part.best h.0 (omega (arith, is.all, h.1)) (subst (λ x. Agree (keys_of table.hashed (next ∷ held) h.0) x (gap.place + 1)) same (agree_self (keys_of table.hashed (next ∷ held) h.0) (gap.place + 1)))
+    is.opens.part.best h.0 (omega (arith, is.all, h.1)) (subst (λ x. Agree (keys_of table.hashed (next ∷ held) h.0) x (gap.position + 1)) same (agree_self (keys_of table.hashed (next ∷ held) h.0) (gap.position + 1)))
 
 -- so a stone that makes it brings no colouring back
 pub gap_never : (was past : PastColourings) (k : Colour) (p : Point) (table : Table) (gap : Gap) → was ≡ past → IsGap (all_of was) table (with_next was (play (newest_grid was) k p) false).newest gap
@@ -271,8 +271,8 @@ gap_same held one other next None same keys is = is
 gap_same held one other next (Some gap) same keys is = record {
   all = rw same is.all;
   within = is.within;
-  opens = subst (λ hashed. IsOpening (keys_of hashed (next ∷ held)) other.trie (keys_of hashed (next ∷ held) (length held)) gap.slot gap.place) (sym keys) (opening_same same is.opens);
-  bit = subst (λ hashed. keys_of hashed (next ∷ held) (length held) gap.place ≡ gap.bit) (sym keys) is.bit;
+  opens = subst (λ hashed. IsOpening (keys_of hashed (next ∷ held)) other.trie (keys_of hashed (next ∷ held) (length held)) gap.slot gap.position) (sym keys) (opening_same same is.opens);
+  bit = subst (λ hashed. keys_of hashed (next ∷ held) (length held) gap.position ≡ gap.bit) (sym keys) is.bit;
   hash = is.hash;
 }
 
@@ -305,8 +305,8 @@ awoken held old new is printed trie filter hashes awake =
       printed = printed;
       few = omega (arith, none);
       linked = rw trie (rw is.no_items refl);
-      room = omega (arith, ap room_of trie, is.fits, is.room, same_length held new.prints.items printed);
-      most = omega (arith, ap room_of trie, is.most);
+      room = omega (arith, ap capacity_of trie, is.fits, is.room, same_length held new.prints.items printed);
+      most = omega (arith, ap capacity_of trie, is.most);
       filtered = rw filter (filter_any new.prints.items old.filter is.filtered);
       kept = rw hashes (is.kept held);
     }

@@ -24,7 +24,7 @@ use Rattle.go_board.specs.inner.Earlier.{MayOnlyRepeat}
 use Rattle.go_board.proofs.GridLemmas.{one_grid, Decides-same_cell}
 use Rattle.go_board.proofs.RuleLemmas.{false_from_Decides}
 use Rattle.go_board.proofs.SettledLemmas.{side_play}
-use Rattle.go_board.proofs.AreaLemmas.{side-with_areas}
+use Rattle.go_board.proofs.RectangleLemmas.{side-with_rectangles}
 
 pub Decides-grids : (g h : Grid) → Decides (same_grid g h) (g ≡ h)
 Decides-grids g h =
@@ -183,7 +183,7 @@ no_reason s k x =
 -- setups and turns leave the side
 pub side-set_up : (s : State) (ops : List SetupOp) (player : Option Colour) → (set_up s ops player).colouring.side ≡ s.colouring.side
 side-set_up s [] player = refl
-side-set_up s (op ∷ ops) player = side-with_areas s.colouring (op ∷ ops)
+side-set_up s (op ∷ ops) player = side-with_rectangles s.colouring (op ∷ ops)
 
 pub side-turned : (s : State) (k : Colour) (x : Play) → (turned s k x).colouring.side ≡ s.colouring.side
 side-turned s k Pass = refl

@@ -16,7 +16,7 @@ cleared_cell grid colour point =
     if same_cell (cell_at grid point) (stone_of colour) && not (reaches grid Empty point) then Empty
     else cell_at grid point
 
--- The grid after a colour was cleared, which takes off its groups without a liberty. Each point of the colour that doesn't
+-- The grid after a colour was cleared, which captures its groups without a liberty. Each point of the colour that doesn't
 -- reach empty is made empty. All points are tested on the grid as it was.
 unfoldable pub clear : Grid → Colour → Grid
 clear grid colour = grid_of grid.side (cleared_cell grid colour)
@@ -27,7 +27,7 @@ clear grid colour = grid_of grid.side (cleared_cell grid colour)
 unfoldable pub play : Grid → Colour → Point → Grid
 play grid colour point = clear (clear (with_cell grid point (stone_of colour)) (opponent colour)) colour
 
--- some stone has no liberty, so it doesn't reach empty
+-- some stone is shut, so it doesn't reach empty
 abbrev pub HasUnreaching : Grid → Type 0
 HasUnreaching grid =
     (point : Point) × IsOn grid.side point × (cell_at grid point ≢ Empty) × (¬ (Reaches grid Empty point))

@@ -36,17 +36,17 @@ is_in area point =
     (nat_le area.first.col point.col && nat_le point.col area.last.col)
     && (nat_le area.first.row point.row && nat_le point.row area.last.row)
 
--- the grid with the area's points coloured, whatever stood there
-unfoldable pub with_area : Grid → SetupOp → Grid
-with_area grid op = grid_of grid.side (λ point. if is_in op.area point then op.cell else cell_at grid point)
+-- the grid with the rectangle's points coloured, whatever stood there
+unfoldable pub with_rectangle : Grid → SetupOp → Grid
+with_rectangle grid op = grid_of grid.side (λ point. if is_in op.area point then op.cell else cell_at grid point)
 
--- The state after a setup. The setup's areas are coloured in order, and nothing is captured. The list of
+-- The state after a setup. The setup's rectangles are coloured in order, and nothing is captured. The list of
 -- colourings begins anew, so a ko doesn't reach back over a setup. Passes are 0, and the player who must
--- move is the given one, or None. If there are no areas, the player is set and all else stays.
+-- move is the given one, or None. If there are no rectangles, the player is set and all else stays.
 abbrev pub set_up : State → List SetupOp → Option Colour → State
 set_up state [] player = record state { player = player }
 set_up state (op ∷ ops) player =
-    let grid : Grid = fold with_area state.colouring (op ∷ ops) in
+    let grid : Grid = fold with_rectangle state.colouring (op ∷ ops) in
     record { colouring = grid; seen = grid ∷ []; player = player; passes = 0; turns = state.turns }
 
 -- the point of a stone is on the board of that side

@@ -12,8 +12,8 @@ ghost use Rattle.go_board.specs.Score.{score_of};
 ghost use Rattle.board_points.specs.Rows.{has_bit};
 ghost use Rattle.go_board.specs.inner.Regions.{AreStones, grid_with, with_columns, with_row};
 
-mod areas;
 mod flood;
+mod rectangles;
 pub(crate) mod regions;
 pub(crate) mod stone_rows;
 
@@ -33,7 +33,7 @@ pub struct Board {
     black: [u64; MAX_ROWS],
     /// The points with a white stone.
     white: [u64; MAX_ROWS],
-    /// Whether every stone is known to have a liberty. `quick` and `has_unreaching` use it. A change of a point clears it. `PrintPast`
+    /// Whether every stone is known to be alive. `quick` and `has_unreaching` use it. A change of a point clears it. `PrintPast`
     /// sets it after a move, and works it out after a setup.
     settled: bool,
 }
@@ -219,7 +219,7 @@ impl Board {
     /// Makes a whole move (Tromp-Taylor). The point, which must be empty and on the board, takes the player's colour. Then the
     /// opponent's colour is cleared, which is capture, and then the player's own, which is suicide.
     ///
-    /// This is the plain way. `PrintPast` finds what a stone takes off near the stone alone (`find_taken`).
+    /// This is the plain way. `PrintPast` finds what a stone clears near the stone alone (`find_cleared`).
     #[tactic(auto, unfolding(crate::specs::Clearing::play))]
     pub fn place(&mut self, colour: Colour, point: Point)
         requires on_board { IsOn self.old.side point }

@@ -16,7 +16,7 @@ ghost use Rattle.go_board.specs.Grid.{Grid, cell_at, with_cell};
 ghost use Rattle.go_board.specs.Reaching.{Reaches, reaches};
 ghost use Rattle.go_board.specs.Clearing.{clear, play, HasUnreaching, has_unreaching};
 ghost use Rattle.go_board.specs.Score.{CountsFor, counts_for};
-ghost use Rattle.go_board.specs.State.{State, is_in, with_area, set_up, turned};
+ghost use Rattle.go_board.specs.State.{State, is_in, with_rectangle, set_up, turned};
 ghost use Rattle.go_board.specs.Reason.{Forbids, IsFirstReason, WasEmptied, reason_of};
 
 pub use board_points::laws::{listing, naming};
@@ -75,7 +75,7 @@ pub fn unreaching()
     ensures { (grid : Grid) → (IsTrue (has_unreaching grid) ↔ HasUnreaching grid) }
 {}
 
-/// After a move every stone has a liberty, whatever stood on the grid before.
+/// After a move every stone is alive (reaches empty), whatever stood on the grid before.
 pub fn moving()
     ensures { (grid : Grid) (colour : Colour) (point : Point)
         → ¬ HasUnreaching (play grid colour point) }
@@ -97,10 +97,10 @@ pub fn repeating()
         → Forbids state colour (Stone point) Repeat → WasEmptied point state.seen }
 {}
 
-/// Colouring an area colours its points and no others.
+/// Colouring a rectangle colours its points and no others.
 pub fn areas()
     ensures { (grid : Grid) (op : SetupOp) (point : Point) → IsOn grid.side point
-        → cell_at (with_area grid op) point
+        → cell_at (with_rectangle grid op) point
         ≡ (if is_in op.area point then op.cell else cell_at grid point) }
 {}
 

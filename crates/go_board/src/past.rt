@@ -13,7 +13,7 @@ ghost use Rattle.go_board.specs.declared.stones.Cell.TheVariants.{Empty};
 ghost use Rattle.board_points.specs.Point.{IsOn, IsRectOn};
 ghost use Rattle.go_board.specs.Grid.{cell_at};
 ghost use Rattle.go_board.specs.Clearing.{play};
-ghost use Rattle.go_board.specs.State.{with_area};
+ghost use Rattle.go_board.specs.State.{with_rectangle};
 ghost use Rattle.go_board.specs.Past.{PastColourings, newest_grid, only, with_next, present_stretch, HaveSide, IsPlayed};
 
 use crate::board::Board;
@@ -25,8 +25,8 @@ pub use list_past::ListPast;
 pub use print_past::PrintPast;
 use std::alloc::Global;
 
-/// The colourings that a game has been through, at least one. Each is marked if it begins a stretch.
-/// The present stretch is the newest colouring with a mark, and all colourings after it.
+/// The colourings that a game has been through, at least one. Some of them begin a stretch.
+/// The present stretch is the newest of these, and all colourings after it.
 ///
 /// The boards given to `holds`, `push` and `restart` must have the size of these
 /// colourings. A call that fails with `MemoryFault` leaves the past unchanged.
@@ -91,7 +91,7 @@ pub trait Past: Drop {
         Ok(true)
     }
 
-    /// Plays a stone as `play` does, if a short look shows that it takes nothing off and that the colouring is new, and if no memory is
+    /// Plays a stone as `play` does, if a short look shows that it clears nothing and that the colouring is new, and if no memory is
     /// needed. Returns whether it was played. False says nothing, and then nothing is changed.
     ///
     /// This is a shortcut. A past that has none answers false, as this body does.
@@ -108,16 +108,16 @@ pub trait Past: Drop {
         false
     }
 
-    /// Colours areas of the newest colouring, in order, whatever stood there. Adds the result, which begins a stretch.
+    /// Colours rectangles of the newest colouring, in order, whatever stood there. Adds the result, which begins a stretch.
     fn set_up(&mut self, ops: &[SetupOp]) -> Result<(), MemoryFault>
         requires one_side { HaveSide (newest_grid (held self.old)).side (held self.old) }
         requires areas { All (λ op. IsRectOn (newest_grid (held self.old)).side op.area) ops.now }
         ensures ok { OnOk result (held self.new
-            ≡ with_next (held self.old) (fold with_area (newest_grid (held self.old)) ops.now) true) }
+            ≡ with_next (held self.old) (fold with_rectangle (newest_grid (held self.old)) ops.now) true) }
         ensures err { OnErr result (held self.new ≡ held self.old) }
     {
         let mut made = self.newest().copy();
-        made.colour_areas(ops);
+        made.colour_rectangles(ops);
         self.restart(&made)
     }
 

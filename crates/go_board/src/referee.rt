@@ -233,7 +233,7 @@ impl<P: Past> Referee<P> {
         self.turns
     }
 
-    /// Whether the game is over: two passes in a row end it (`take_pass` counts them).
+    /// Whether the game is over: two passes in a row end it (`play_pass` counts them).
     pub fn over(&self) -> bool
         ensures value { result ≡ is_over self.now.present }
         ensures at_most { self.now.present.passes ≤ 2 }

@@ -7,75 +7,76 @@ use Rattle.key_trie.specs.declared.node.Node.{Node}
 use Rattle.key_trie.specs.declared.trie.Slot.{Slot}
 use Rattle.key_trie.specs.declared.trie.Trie.{Trie}
 use Rattle.key_trie.specs.Key.{Agree}
-use Rattle.key_trie.specs.Trie.{IsUnder, IsSlot, IsKid, IsTree, IsParting, IsOpening, IsTrieOf, IsTrie, nodes_of, item_count, no_node, node_at, depth_of, kid_of, named, with_kid, with_named, displaced, without_newest}
+use Rattle.key_trie.specs.Trie.{IsUnder, IsSlot, IsChild, IsTree, IsParting, IsOpening, IsTrieOf, IsTrie, nodes_of, item_count, no_node, node_at, depth_of, child_of, named, with_child, with_named, displaced, without_newest}
 use Rattle.key_trie.proofs.TrieLemmas.{agree_back, agree_less, agree_more, agree_on, agree_self, cases_same, inner_reach, not_itself, other_bit, same_tree, stop_reach, trie_tree, two_slots, under_as, under_both, under_same}
 
 -- One item more.
 
 -- a slot that keeps what it names
-grown : {w n : ℕ} {b : ℕ → ℕ → Bool} {d : ℕ → ℕ} {o r : ℕ} {t : Bool} (kid : IsKid w n b d o t r) → (IsUnder b d o t n → Agree (b n) (b r) kid.reach) → IsKid w (n + 1) b d o t r
-grown {w} {n} {b} {d} {o} {r} {t} kid new = record {
-  there = omega (arith, kid.there);
-  under = kid.under;
-  reach = kid.reach;
-  far = kid.far;
+grown : {w n : ℕ} {b : ℕ → ℕ → Bool} {d : ℕ → ℕ} {o r : ℕ} {t : Bool} (child : IsChild w n b d o t r) → (IsUnder b d o t n → Agree (b n) (b r) child.reach) → IsChild w (n + 1) b d o t r
+grown {w} {n} {b} {d} {o} {r} {t} child new = record {
+  there = omega (arith, child.there);
+  under = child.under;
+  reach = child.reach;
+  far = child.far;
   alike = λ j h u. elim (cases_lt j n) [
-    | inl low ↦ kid.alike j low u
-    | inr high ↦ let e : j ≡ n = omega (arith, high, h) in subst (λ x. Agree (b x) (b r) kid.reach) (sym e) (new (subst (λ x. IsUnder b d o t x) e u))
+    | inl low ↦ child.alike j low u
+    | inr high ↦ let e : j ≡ n = omega (arith, high, h) in subst (λ x. Agree (b x) (b r) child.reach) (sym e) (new (subst (λ x. IsUnder b d o t x) e u))
   ];
 }
 
--- Item `n` parts from item `l` at place `p`, and from no item later. The slot is where the walk by its bits ends before that place.
+-- Item `n` parts from item `l` at position `p`, and from no item later. The slot is where the descent by its bits ends before that
+-- position.
 module _ {w n : ℕ} {b : ℕ → ℕ → Bool} {d : ℕ → ℕ} {k : ℕ → Bool → ℕ} (tree : IsTree w n b d k) {i l p : ℕ} {s : Bool} (slot : IsSlot n d i s) (low : d i ≤ p) (stop : d i < d (k i s) → p < d (k i s)) (under : IsUnder b d i s l) (part : IsParting n b (b n) l p) (within : p < w) (depth : d n ≡ p + 1) where
-  near : p ≤ (tree.kids i s slot).reach
-  near = stop_reach p (tree.kids i s slot).far stop (omega (arith, within))
+  near : p ≤ (tree.children i s slot).reach
+  near = stop_reach p (tree.children i s slot).far stop (omega (arith, within))
 
   front : (j : ℕ) → j < n → IsUnder b d i s j → Agree (b j) (b n) p
   front j h u =
-      let kid = tree.kids i s slot in
-      agree_on (agree_less p near (agree_on (kid.alike j h u) (agree_back (kid.alike l part.there under)))) part.same
+      let child = tree.children i s slot in
+      agree_on (agree_less p near (agree_on (child.alike j h u) (agree_back (child.alike l part.there under)))) part.same
 
-  -- no node is at that place behind the same bits
+  -- no node is at that position behind the same bits
   no_node_there : (o : ℕ) → o < n → d o ≡ p + 1 → Agree (b o) (b n) p → ⊥
   no_node_there o h e a =
       let side = b n p in
-      let kid = tree.kids o side (record { there = h; real = λ x. omega (arith, e); one = λ x. absurd (omega (arith, e, x)) }) in
-      let place : d o - 1 ≡ p = omega (arith, e) in
-      part.best (k o side) kid.there
-      (agree_more (p + 1) (omega arith) (agree_on (agree_less p (omega (arith, place)) kid.under.path) a)
-      (subst (λ m. b (k o side) m ≡ side) place (kid.under.turn (omega (arith, e)))))
+      let child = tree.children o side (record { there = h; real = λ x. omega (arith, e); one = λ x. absurd (omega (arith, e, x)) }) in
+      let position : d o - 1 ≡ p = omega (arith, e) in
+      part.best (k o side) child.there
+      (agree_more (p + 1) (omega arith) (agree_on (agree_less p (omega (arith, position)) child.under.path) a)
+      (subst (λ m. b (k o side) m ≡ side) position (child.under.turn (omega (arith, e)))))
 
   deep : d i < d (k i s) → p + 1 < d (k i s)
   deep inner =
-      let kid = tree.kids i s slot in
+      let child = tree.children i s slot in
       elim (cases_lt (p + 1) (d (k i s))) [
         | inl below ↦ below
-        | inr high ↦ absurd (no_node_there (k i s) kid.there (omega (arith, high, stop inner)) (front (k i s) kid.there kid.under))
+        | inr high ↦ absurd (no_node_there (k i s) child.there (omega (arith, high, stop inner)) (front (k i s) child.there child.under))
       ]
 
   turned : b (k i s) p ≡ not (b n p)
   turned =
-      let kid = tree.kids i s slot in
-      let past : p < kid.reach = elim kid.far [ inl is ↦ omega (arith, deep is.0, is.1) | inr is ↦ omega (arith, within, is.1) ] in
-      sym ((kid.alike l part.there under).each p past) ∙ other_bit (b l p) (b n p) part.differ
+      let child = tree.children i s slot in
+      let past : p < child.reach = elim child.far [ inl is ↦ omega (arith, deep is.0, is.1) | inr is ↦ omega (arith, within, is.1) ] in
+      sym ((child.alike l part.there under).each p past) ∙ other_bit (b l p) (b n p) part.differ
 
   -- another slot over the new item
-  elsewhere : (o : ℕ) (t : Bool) (other : IsSlot n d o t) → (i ≡ o → s ≢ t) → IsUnder b d o t n → Agree (b n) (b (k o t)) (tree.kids o t other).reach
+  elsewhere : (o : ℕ) (t : Bool) (other : IsSlot n d o t) → (i ≡ o → s ≢ t) → IsUnder b d o t n → Agree (b n) (b (k o t)) (tree.children o t other).reach
   elsewhere o t other apart new =
-      let kid = tree.kids o t other in
+      let child = tree.children o t other in
       let few : d o ≤ p = elim (cases_lt p (d o)) [
-        | inl far ↦ absurd (part.best (k o t) kid.there (agree_less (p + 1) (omega (arith, far)) (under_both kid.under new)))
+        | inl far ↦ absurd (part.best (k o t) child.there (agree_less (p + 1) (omega (arith, far)) (under_both child.under new)))
         | inr few ↦ few
       ] in
       let over : IsUnder b d o t l = under_as l new (agree_less (d o) few part.same) in
       elim (two_slots tree slot other under over apart) [
         | inl x ↦ absurd (omega (arith, stop x.1, x.2, few))
         | inr x ↦
-            let reach : kid.reach ≡ d (k o t) - 1 = inner_reach kid.far x.1 in
-            agree_on (agree_less kid.reach (omega (arith, reach, x.2, low)) (agree_back part.same)) (kid.alike l part.there over)
+            let reach : child.reach ≡ d (k o t) - 1 = inner_reach child.far x.1 in
+            agree_on (agree_less child.reach (omega (arith, reach, x.2, low)) (agree_back part.same)) (child.alike l part.there over)
       ]
 
-  here : IsKid w (n + 1) b d i s n
+  here : IsChild w (n + 1) b d i s n
   here = record {
     there = omega arith;
     under = under_as n under (agree_less (d i) low (agree_back part.same));
@@ -87,44 +88,44 @@ module _ {w n : ℕ} {b : ℕ → ℕ → Bool} {d : ℕ → ℕ} {k : ℕ → B
     ];
   }
 
-  own : IsKid w (n + 1) b d n (b n p) n
+  own : IsChild w (n + 1) b d n (b n p) n
   own =
-      let place : d n - 1 ≡ p = omega (arith, depth) in
+      let position : d n - 1 ≡ p = omega (arith, depth) in
       record {
         there = omega arith;
-        under = record { path = agree_self (b n) (d n - 1); turn = λ some. ap (b n) place };
+        under = record { path = agree_self (b n) (d n - 1); turn = λ some. ap (b n) position };
         reach = w;
         far = inr (omega arith, refl);
         alike = λ j h u. elim (cases_lt j n) [
-          | inl before ↦ absurd (part.best j before (agree_more (p + 1) (omega arith) (subst (λ m. Agree (b j) (b n) m) place u.path) (subst (λ m. b j m ≡ b n p) place (u.turn (omega (arith, depth))))))
+          | inl before ↦ absurd (part.best j before (agree_more (p + 1) (omega arith) (subst (λ m. Agree (b j) (b n) m) position u.path) (subst (λ m. b j m ≡ b n p) position (u.turn (omega (arith, depth))))))
           | inr high ↦ let e : j ≡ n = omega (arith, high, h) in subst (λ x. Agree (b x) (b n) w) (sym e) (agree_self (b n) w)
         ];
       }
 
-  rest : IsKid w (n + 1) b d n (not (b n p)) (k i s)
+  rest : IsChild w (n + 1) b d n (not (b n p)) (k i s)
   rest =
       let r = k i s in
-      let kid = tree.kids i s slot in
-      let place : d n - 1 ≡ p = omega (arith, depth) in
+      let child = tree.children i s slot in
+      let position : d n - 1 ≡ p = omega (arith, depth) in
       let old : (j : ℕ) → j < n + 1 → IsUnder b d n (not (b n p)) j → (j < n) × IsUnder b d i s j = λ j h u.
-      let turn : b j p ≡ not (b n p) = subst (λ m. b j m ≡ not (b n p)) place (u.turn (omega (arith, depth))) in
+      let turn : b j p ≡ not (b n p) = subst (λ m. b j m ≡ not (b n p)) position (u.turn (omega (arith, depth))) in
       elim (cases_lt j n) [
-        | inl before ↦ (before, under_as j under (agree_less (d i) low (agree_on (subst (λ m. Agree (b j) (b n) m) place u.path) (agree_back part.same))))
+        | inl before ↦ (before, under_as j under (agree_less (d i) low (agree_on (subst (λ m. Agree (b j) (b n) m) position u.path) (agree_back part.same))))
         | inr high ↦ let e : j ≡ n = omega (arith, high, h) in absurd (not_itself (b n p) (subst (λ x. b x p ≡ not (b n p)) e turn))
       ]
       in
       record {
-        there = omega (arith, kid.there);
+        there = omega (arith, child.there);
         under = record {
-          path = agree_less (d n - 1) (omega (arith, place)) (front r kid.there kid.under);
-          turn = λ some. subst (λ m. b r m ≡ not (b n p)) (sym place) turned;
+          path = agree_less (d n - 1) (omega (arith, position)) (front r child.there child.under);
+          turn = λ some. subst (λ m. b r m ≡ not (b n p)) (sym position) turned;
         };
-        reach = kid.reach;
-        far = elim kid.far [
+        reach = child.reach;
+        far = elim child.far [
           | inl is ↦ inl (omega (arith, depth, deep is.0), is.1)
           | inr is ↦ inr (omega (arith, depth, low, is.0), is.1)
         ];
-        alike = λ j h u. let under_old = old j h u in kid.alike j under_old.0 under_old.1;
+        alike = λ j h u. let under_old = old j h u in child.alike j under_old.0 under_old.1;
       }
 
   pub parted_tree : (k' : ℕ → Bool → ℕ) → k' i s ≡ n → k' n (b n p) ≡ n → k' n (not (b n p)) ≡ k i s
@@ -135,27 +136,27 @@ module _ {w n : ℕ} {b : ℕ → ℕ → Bool} {d : ℕ → ℕ} {k : ℕ → B
       | inl before ↦ tree.within o before
       | inr high ↦ let e : o ≡ n = omega (arith, high, h) in subst (λ x. d x ≤ w) (sym e) (omega (arith, depth, within))
     ];
-    kids = λ o t at. elim (cases_lt o n) [
+    children = λ o t at. elim (cases_lt o n) [
       | inl before ↦
           let old : IsSlot n d o t = record { there = before; real = at.real; one = at.one } in
-          let kept : (i ≡ o → s ≢ t) → IsKid w (n + 1) b d o t (k' o t) = λ apart.
-          subst (λ x. IsKid w (n + 1) b d o t x) (sym (others o t before apart)) (grown (tree.kids o t old) (elsewhere o t old apart))
+          let kept : (i ≡ o → s ≢ t) → IsChild w (n + 1) b d o t (k' o t) = λ apart.
+          subst (λ x. IsChild w (n + 1) b d o t x) (sym (others o t before apart)) (grown (tree.children o t old) (elsewhere o t old apart))
           in
           elim (cases_eq i o) [
             | inr apart ↦ kept (λ e. absurd (apart e))
             | inl same_node ↦ elim (cases_same s t) [
               | inr apart ↦ kept (λ e. apart)
               | inl same_side ↦
-                  let goes : IsKid w (n + 1) b d i s (k' i s) = subst (λ x. IsKid w (n + 1) b d i s x) (sym to_new) here in
-                  subst (λ x. IsKid w (n + 1) b d x t (k' x t)) same_node (subst (λ x. IsKid w (n + 1) b d i x (k' i x)) same_side goes)
+                  let goes : IsChild w (n + 1) b d i s (k' i s) = subst (λ x. IsChild w (n + 1) b d i s x) (sym to_new) here in
+                  subst (λ x. IsChild w (n + 1) b d x t (k' x t)) same_node (subst (λ x. IsChild w (n + 1) b d i x (k' i x)) same_side goes)
             ]
           ]
       | inr high ↦
           let e : o ≡ n = omega (arith, high, at.there) in
-          subst (λ x. IsKid w (n + 1) b d x t (k' x t)) (sym e)
+          subst (λ x. IsChild w (n + 1) b d x t (k' x t)) (sym e)
           (elim (cases_same t (b n p)) [
-            | inl same ↦ subst (λ x. IsKid w (n + 1) b d n x (k' n x)) (sym same) (subst (λ x. IsKid w (n + 1) b d n (b n p) x) (sym to_own) own)
-            | inr other ↦ subst (λ x. IsKid w (n + 1) b d n x (k' n x)) (sym (other_bit t (b n p) other)) (subst (λ x. IsKid w (n + 1) b d n (not (b n p)) x) (sym to_rest) rest)
+            | inl same ↦ subst (λ x. IsChild w (n + 1) b d n x (k' n x)) (sym same) (subst (λ x. IsChild w (n + 1) b d n (b n p) x) (sym to_own) own)
+            | inr other ↦ subst (λ x. IsChild w (n + 1) b d n x (k' n x)) (sym (other_bit t (b n p) other)) (subst (λ x. IsChild w (n + 1) b d n (not (b n p)) x) (sym to_rest) rest)
           ])
     ];
     alone = λ one other h g some same a. elim (cases_lt one n) [
@@ -185,13 +186,13 @@ repeated_tree {w} {n} {b} {d} {k} tree {l} there same depth k' kept = record {
     | inl before ↦ tree.within o before
     | inr high ↦ let e : o ≡ n = omega (arith, high, h) in subst (λ x. d x ≤ w) (sym e) (omega (arith, depth))
   ];
-  kids = λ o t at. elim (cases_lt o n) [
+  children = λ o t at. elim (cases_lt o n) [
     | inl before ↦
         let old : IsSlot n d o t = record { there = before; real = at.real; one = at.one } in
-        let kid = tree.kids o t old in
-        let few : kid.reach ≤ w = elim kid.far [ inl is ↦ omega (arith, is.1, tree.within (k o t) kid.there) | inr is ↦ omega (arith, is.1) ] in
-        subst (λ x. IsKid w (n + 1) b d o t x) (sym (kept o t before)) (grown kid (λ new.
-        agree_on (agree_less kid.reach few (agree_back same)) (kid.alike l there (under_as l new (agree_less (d o) (tree.within o before) same)))))
+        let child = tree.children o t old in
+        let few : child.reach ≤ w = elim child.far [ inl is ↦ omega (arith, is.1, tree.within (k o t) child.there) | inr is ↦ omega (arith, is.1) ] in
+        subst (λ x. IsChild w (n + 1) b d o t x) (sym (kept o t before)) (grown child (λ new.
+        agree_on (agree_less child.reach few (agree_back same)) (child.alike l there (under_as l new (agree_less (d o) (tree.within o before) same)))))
     | inr high ↦
         let e : o ≡ n = omega (arith, high, at.there) in
         absurd (omega (arith, at.real (omega (arith, e, there)), ap d e, depth))
@@ -210,10 +211,10 @@ pub first_tree : (w : ℕ) (b : ℕ → ℕ → Bool) (d : ℕ → ℕ) (k : ℕ
 first_tree w b d k depth named = record {
   root = λ some. depth;
   within = λ o h. let e : o ≡ 0 = omega (arith, h) in subst (λ x. d x ≤ w) (sym e) (omega (arith, depth));
-  kids = λ o t at.
+  children = λ o t at.
       let e : o ≡ 0 = omega (arith, at.there) in
       let side : t ≡ false = at.one (ap d e ∙ depth) in
-      subst (λ x. IsKid w 1 b d x t (k x t)) (sym e) (subst (λ x. IsKid w 1 b d 0 x (k 0 x)) (sym side) (subst (λ x. IsKid w 1 b d 0 false x) (sym named) (record {
+      subst (λ x. IsChild w 1 b d x t (k x t)) (sym e) (subst (λ x. IsChild w 1 b d 0 x (k 0 x)) (sym side) (subst (λ x. IsChild w 1 b d 0 false x) (sym named) (record {
         there = omega arith;
         under = record { path = agree_self (b 0) (d 0 - 1); turn = λ some. absurd (omega (arith, some, depth)) };
         reach = w;
@@ -223,32 +224,32 @@ first_tree w b d k depth named = record {
   alone = λ one other h g some same a. omega (arith, h, g);
 }
 
-depth-with_kid : (node : Node) (s : Bool) (x : ℕ) → (with_kid node s x).depth ≡ node.depth
-depth-with_kid node true x = refl
-depth-with_kid node false x = refl
+depth-with_child : (node : Node) (s : Bool) (x : ℕ) → (with_child node s x).depth ≡ node.depth
+depth-with_child node true x = refl
+depth-with_child node false x = refl
 
-named-with_kid : (node : Node) (s : Bool) (x : ℕ) → named (with_kid node s x) s ≡ x
-named-with_kid node true x = refl
-named-with_kid node false x = refl
+named-with_child : (node : Node) (s : Bool) (x : ℕ) → named (with_child node s x) s ≡ x
+named-with_child node true x = refl
+named-with_child node false x = refl
 
-named-with_other : (node : Node) (s t : Bool) (x : ℕ) → s ≢ t → named (with_kid node s x) t ≡ named node t
+named-with_other : (node : Node) (s t : Bool) (x : ℕ) → s ≢ t → named (with_child node s x) t ≡ named node t
 named-with_other node true true x apart = absurd (apart refl)
 named-with_other node true false x apart = refl
 named-with_other node false true x apart = refl
 named-with_other node false false x apart = absurd (apart refl)
 
-with_kid-back : (node : Node) (s : Bool) (x : ℕ) → with_kid (with_kid node s x) s (named node s) ≡ node
-with_kid-back node true x = refl
-with_kid-back node false x = refl
+with_child-back : (node : Node) (s : Bool) (x : ℕ) → with_child (with_child node s x) s (named node s) ≡ node
+with_child-back node true x = refl
+with_child-back node false x = refl
 
 -- what a slot named, named again
-named-back : (nodes : List Node) (i : ℕ) (s : Bool) (x : ℕ) → i < length nodes → with_named (with_named nodes i s x) i s (kid_of nodes i s) ≡ nodes
+named-back : (nodes : List Node) (i : ℕ) (s : Bool) (x : ℕ) → i < length nodes → with_named (with_named nodes i s x) i s (child_of nodes i s) ≡ nodes
 named-back nodes i s x h =
     let node = node_at nodes i in
-    let changed : node_at (with_named nodes i s x) i ≡ with_kid node s x = get_or-set_same nodes i (with_kid node s x) no_node h in
-    ap (λ (one : Node). slice_set (with_named nodes i s x) i (with_kid one s (kid_of nodes i s))) changed
-    ∙ ap (λ (one : Node). slice_set (with_named nodes i s x) i one) (with_kid-back node s x)
-    ∙ set-set nodes i (with_kid node s x) node
+    let changed : node_at (with_named nodes i s x) i ≡ with_child node s x = get_or-set_same nodes i (with_child node s x) no_node h in
+    ap (λ (one : Node). slice_set (with_named nodes i s x) i (with_child one s (child_of nodes i s))) changed
+    ∙ ap (λ (one : Node). slice_set (with_named nodes i s x) i one) (with_child-back node s x)
+    ∙ set-set nodes i (with_child node s x) node
     ∙ set-get_or nodes i no_node
 
 abbrev undone : ℕ → Node → List Node → List Node
@@ -265,13 +266,13 @@ without_last older node n count =
     ∙ ap (λ (one : Node). undone n one (take n nodes)) newest
     ∙ ap (λ (xs : List Node). undone n node xs) rest
 
--- the node of an item that parts from the others at a place, at the end of the walk by its bits
-pub record IsParted (nodes : List Node) (key : ℕ → Bool) (place i : ℕ) (s : Bool) (node : Node) : Type 0 where
-  pub depth : node.depth ≡ place + 1
+-- the node of an item that parts from the others at a position, at the end of the descent by its bits
+pub record IsParted (nodes : List Node) (key : ℕ → Bool) (position i : ℕ) (s : Bool) (node : Node) : Type 0 where
+  pub depth : node.depth ≡ position + 1
   pub up : node.up ≡ i
   pub up_side : node.up_side ≡ s
-  pub own : named node (key place) ≡ length nodes
-  pub rest : named node (not (key place)) ≡ kid_of nodes i s
+  pub own : named node (key position) ≡ length nodes
+  pub rest : named node (not (key position)) ≡ child_of nodes i s
 
 displaced-parted : (node : Node) (side : Bool) (n r : ℕ) → named node side ≡ n → named node (not side) ≡ r → r < n → displaced n node ≡ r
 displaced-parted node true n r own rest less =
@@ -292,42 +293,42 @@ module _ {w : ℕ} (keys : ℕ → ℕ → Bool) (before : Trie) (trie : IsTrie 
       let new = front ++ node ∷ [] in
       let d = depth_of new in
       let old = opening.there in
-      let all : length front ≡ n = length-set nodes i (with_kid (node_at nodes i) s n) in
+      let all : length front ≡ n = length-set nodes i (with_child (node_at nodes i) s n) in
       let at : (o : ℕ) → o < n → node_at new o ≡ node_at front o = λ o h. get_or_append_left front (node ∷ []) no_node o (omega (arith, h, all)) in
-      let changed : node_at front i ≡ with_kid (node_at nodes i) s n = get_or-set_same nodes i (with_kid (node_at nodes i) s n) no_node old.there in
-      let other : (o : ℕ) → o ≢ i → node_at front o ≡ node_at nodes o = λ o apart. get_or-set_other nodes i o (with_kid (node_at nodes i) s n) no_node apart in
+      let changed : node_at front i ≡ with_child (node_at nodes i) s n = get_or-set_same nodes i (with_child (node_at nodes i) s n) no_node old.there in
+      let other : (o : ℕ) → o ≢ i → node_at front o ≡ node_at nodes o = λ o apart. get_or-set_other nodes i o (with_child (node_at nodes i) s n) no_node apart in
       let last : node_at new n ≡ node = subst (λ m. node_at new m ≡ node) all (get_or-append_seam front node [] no_node) in
       let depths : (o : ℕ) → o < n → depth_of nodes o ≡ d o = λ o h. sym (ap (λ (x : Node). x.depth) (at o h) ∙ elim (cases_eq o i) [
-        | inl same ↦ ap (λ m. depth_of front m) same ∙ ap (λ (x : Node). x.depth) changed ∙ depth-with_kid (node_at nodes i) s n ∙ ap (λ m. depth_of nodes m) (sym same)
+        | inl same ↦ ap (λ m. depth_of front m) same ∙ ap (λ (x : Node). x.depth) changed ∙ depth-with_child (node_at nodes i) s n ∙ ap (λ m. depth_of nodes m) (sym same)
         | inr apart ↦ ap (λ (x : Node). x.depth) (other o apart)
       ]) in
-      let to_new : kid_of new i s ≡ n = ap (λ (x : Node). named x s) (at i old.there ∙ changed) ∙ named-with_kid (node_at nodes i) s n in
-      let others : (o : ℕ) (t : Bool) → o < n → (i ≡ o → s ≢ t) → kid_of new o t ≡ kid_of nodes o t = λ o t h apart. ap (λ (x : Node). named x t) (at o h) ∙ elim (cases_eq o i) [
-        | inl same ↦ ap (λ m. kid_of front m t) same ∙ ap (λ (x : Node). named x t) changed ∙ named-with_other (node_at nodes i) s t n (apart (sym same)) ∙ ap (λ m. kid_of nodes m t) (sym same)
+      let to_new : child_of new i s ≡ n = ap (λ (x : Node). named x s) (at i old.there ∙ changed) ∙ named-with_child (node_at nodes i) s n in
+      let others : (o : ℕ) (t : Bool) → o < n → (i ≡ o → s ≢ t) → child_of new o t ≡ child_of nodes o t = λ o t h apart. ap (λ (x : Node). named x t) (at o h) ∙ elim (cases_eq o i) [
+        | inl same ↦ ap (λ m. child_of front m t) same ∙ ap (λ (x : Node). named x t) changed ∙ named-with_other (node_at nodes i) s t n (apart (sym same)) ∙ ap (λ m. child_of nodes m t) (sym same)
         | inr elsewhere_too ↦ ap (λ (x : Node). named x t) (other o elsewhere_too)
       ] in
       let depth_new : d n ≡ p + 1 = ap (λ (x : Node). x.depth) last ∙ parted.depth in
-      let to_own : kid_of new n (keys n p) ≡ n = ap (λ (x : Node). named x (keys n p)) last ∙ parted.own in
-      let to_rest : kid_of new n (not (keys n p)) ≡ kid_of nodes i s = ap (λ (x : Node). named x (not (keys n p))) last ∙ parted.rest in
+      let to_own : child_of new n (keys n p) ≡ n = ap (λ (x : Node). named x (keys n p)) last ∙ parted.own in
+      let to_rest : child_of new n (not (keys n p)) ≡ child_of nodes i s = ap (λ (x : Node). named x (not (keys n p))) last ∙ parted.rest in
       let tree_new = same_tree {b' = keys} {d' = d} tree (λ j h. refl) depths in
       let here_depth = depths i old.there in
-      let kid = tree.kids i s old in
-      let kid_depth = depths (kid_of nodes i s) kid.there in
+      let child = tree.children i s old in
+      let child_depth = depths (child_of nodes i s) child.there in
       let at_slot : IsSlot n d i s = record { there = old.there; real = λ h. omega (arith, old.real h, here_depth); one = λ e. old.one (omega (arith, e, here_depth)) } in
       let under : IsUnder keys d i s opening.item = under_same refl refl here_depth opening.under in
-      let grown_tree : IsTree w (n + 1) keys d (kid_of new) = parted_tree tree_new at_slot (omega (arith, opening.low, here_depth)) (λ inner. omega (arith, opening.stop (omega (arith, inner, here_depth, kid_depth)), kid_depth)) under opening.part within depth_new
-      (kid_of new) to_new to_own to_rest others in
+      let grown_tree : IsTree w (n + 1) keys d (child_of new) = parted_tree tree_new at_slot (omega (arith, opening.low, here_depth)) (λ inner. omega (arith, opening.stop (omega (arith, inner, here_depth, child_depth)), child_depth)) under opening.part within depth_new
+      (child_of new) to_new to_own to_rest others in
       let undo : without_newest new ≡ nodes =
       without_last front node n all
       ∙ ap (λ (t : Bool). if t then front else with_named front node.up node.up_side (displaced n node)) (ne_eqb node.up n (λ e. omega (arith, e, parted.up, old.there)))
       ∙ ap (λ m. with_named front m node.up_side (displaced n node)) parted.up
       ∙ ap (λ (t : Bool). with_named front i t (displaced n node)) parted.up_side
-      ∙ ap (λ m. with_named front i s m) (displaced-parted node (keys n p) n (kid_of nodes i s) parted.own parted.rest kid.there)
+      ∙ ap (λ m. with_named front i s m) (displaced-parted node (keys n p) n (child_of nodes i s) parted.own parted.rest child.there)
       ∙ named-back nodes i s n old.there in
       let next : n + 1 ≡ suc n = omega arith in
       subst (λ m. IsTrieOf w m keys new) (sym next) (
         omega (arith, length-append front (node ∷ []), all),
-        subst (λ m. IsTree w m keys d (kid_of new)) next grown_tree,
+        subst (λ m. IsTree w m keys d (child_of new)) next grown_tree,
         subst (λ (x : Node). x.up ≤ n) (sym last) (omega (arith, parted.up, old.there)),
         subst (λ (xs : List Node). IsTrieOf w n keys xs) (sym undo) trie,
       )
@@ -342,18 +343,18 @@ module _ {w : ℕ} (keys : ℕ → ℕ → Bool) (before : Trie) (trie : IsTrie 
       let at : (o : ℕ) → o < n → node_at new o ≡ node_at nodes o = λ o h. get_or_append_left nodes (node ∷ []) no_node o h in
       let last : node_at new n ≡ node = get_or-append_seam nodes node [] no_node in
       let tree_new = same_tree {b' = keys} {d' = d} (trie_tree n keys nodes trie some) (λ j h. refl) (λ o h. sym (ap (λ (x : Node). x.depth) (at o h))) in
-      let grown_tree = repeated_tree tree_new there same (ap (λ (x : Node). x.depth) last ∙ depth) (kid_of new) (λ o t h. ap (λ (x : Node). named x t) (at o h)) in
+      let grown_tree = repeated_tree tree_new there same (ap (λ (x : Node). x.depth) last ∙ depth) (child_of new) (λ o t h. ap (λ (x : Node). named x t) (at o h)) in
       let undo : without_newest new ≡ nodes =
       without_last nodes node n refl
       ∙ ap (λ (t : Bool). if t then nodes else with_named nodes node.up node.up_side (displaced n node)) (eq-eqb node.up n up) in
       let next : n + 1 ≡ suc n = omega arith in
       subst (λ m. IsTrieOf w m keys new) (sym next) (
         omega (arith, length-append nodes (node ∷ [])),
-        subst (λ m. IsTree w m keys d (kid_of new)) next grown_tree,
+        subst (λ m. IsTree w m keys d (child_of new)) next grown_tree,
         subst (λ (x : Node). x.up ≤ n) (sym last) (omega (arith, up)),
         subst (λ (xs : List Node). IsTrieOf w n keys xs) (sym undo) trie,
       )
 
 pub trie_first : (w : ℕ) (keys : ℕ → ℕ → Bool) (node : Node) → node.depth ≡ 0 → node.up ≡ 0 → node.off ≡ 0 → IsTrieOf w 1 keys (node ∷ [])
 trie_first w keys node depth up off =
-    (refl, first_tree w keys (depth_of (node ∷ [])) (kid_of (node ∷ [])) depth off, omega (arith, up), without_last [] node 0 refl ∙ ap (λ (t : Bool). if t then [] else with_named [] node.up node.up_side (displaced 0 node)) (eq-eqb node.up 0 up))
+    (refl, first_tree w keys (depth_of (node ∷ [])) (child_of (node ∷ [])) depth off, omega (arith, up), without_last [] node 0 refl ∙ ap (λ (t : Bool). if t then [] else with_named [] node.up node.up_side (displaced 0 node)) (eq-eqb node.up 0 up))

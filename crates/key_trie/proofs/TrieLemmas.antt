@@ -1,11 +1,11 @@
--- The trie: walks, and the nodes as they are kept.
+-- The trie: descents, and the nodes as they are kept.
 use Rattle.std.proofs.Common.{◌≡◌, ◌≢◌, ◌⊎◌, ℕ, zero, suc, ◌+◌, ◌-◌, ◌<◌, ◌≤◌, Bool, true, false, not, List, length, inl, inr, refl, sym, ap, subst, ◌∙◌, arith}
 use Rattle.std.proofs.lemmas.Bool.{cases_lt, cases_order, false≢true, true≢false}
 use Rattle.key_trie.specs.declared.node.Node.{Node}
 use Rattle.key_trie.specs.declared.trie.Slot.{Slot}
 use Rattle.key_trie.specs.declared.trie.Trie.{Trie}
 use Rattle.key_trie.specs.Key.{Agree}
-use Rattle.key_trie.specs.Trie.{IsUnder, IsSlot, IsReach, IsKid, IsTree, IsOnWay, IsWayTo, IsNearest, IsParting, IsOpening, IsTrieOf, IsTrie, nodes_of, item_count, kid_at, depth_of, kid_of, without_newest}
+use Rattle.key_trie.specs.Trie.{IsUnder, IsSlot, IsReach, IsChild, IsTree, IsOnWay, IsWayTo, IsNearest, IsParting, IsOpening, IsTrieOf, IsTrie, nodes_of, item_count, child_at, depth_of, child_of, without_newest}
 
 -- Keys.
 
@@ -48,7 +48,7 @@ cases_same false false = inl refl
 pub inner_reach : {w above below reach : ℕ} → IsReach w above below reach → above < below → reach ≡ below - 1
 inner_reach {w} {above} {below} {reach} far inner = elim far [ inl is ↦ is.1 | inr other ↦ absurd (omega (arith, other.0, inner)) ]
 
--- a walk that stops before a place ends where all items under the slot are alike up to it
+-- a descent that stops before a position ends where all items under the slot are alike up to it
 pub stop_reach : {w above below reach : ℕ} (end : ℕ) → IsReach w above below reach → (above < below → end < below) → end ≤ w → end ≤ reach
 stop_reach {w} {above} {below} {reach} end far stop within = elim far [
   | inl is ↦ omega (arith, stop is.0, is.0, is.1)
@@ -79,7 +79,7 @@ module _ {b : ℕ → ℕ → Bool} {d : ℕ → ℕ} {i : ℕ} {s : Bool} where
 
 -- What a trie tells.
 module _ {w n : ℕ} {b : ℕ → ℕ → Bool} {d : ℕ → ℕ} {k : ℕ → Bool → ℕ} (tree : IsTree w n b d k) where
-  -- The walk.
+  -- The descent.
 
   pub way_begins : (key : ℕ → Bool) (end : ℕ) → 0 < n → IsOnWay n b d key end 0 false
   way_begins key end some =
@@ -98,12 +98,12 @@ module _ {w n : ℕ} {b : ℕ → ℕ → Bool} {d : ℕ → ℕ} {k : ℕ → B
   pub way_goes_on : {key : ℕ → Bool} {end i : ℕ} {s : Bool} (below : ℕ) (side : Bool) → IsOnWay n b d key end i s
       → below ≡ k i s → d i < d below → d below ≤ end → side ≡ key (d below - 1) → IsOnWay n b d key end below side
   way_goes_on {key} {end} {i} {s} below side way is deeper within turn =
-      let kid : IsKid w n b d i s below = subst (λ x. IsKid w n b d i s x) (sym is) (tree.kids i s way.slot) in
-      let reach : kid.reach ≡ d below - 1 = inner_reach kid.far deeper in
-      let front : (j : ℕ) → j < n → IsUnder b d i s j → Agree (b j) (b below) (d below - 1) = λ j h u. agree_less (d below - 1) (omega (arith, reach)) (kid.alike j h u) in
-      let higher : (j : ℕ) → IsUnder b d below side j → IsUnder b d i s j = λ j u. under_as j kid.under (agree_less (d i) (omega (arith, deeper)) u.path) in
+      let child : IsChild w n b d i s below = subst (λ x. IsChild w n b d i s x) (sym is) (tree.children i s way.slot) in
+      let reach : child.reach ≡ d below - 1 = inner_reach child.far deeper in
+      let front : (j : ℕ) → j < n → IsUnder b d i s j → Agree (b j) (b below) (d below - 1) = λ j h u. agree_less (d below - 1) (omega (arith, reach)) (child.alike j h u) in
+      let higher : (j : ℕ) → IsUnder b d below side j → IsUnder b d i s j = λ j u. under_as j child.under (agree_less (d i) (omega (arith, deeper)) u.path) in
       record {
-        slot = record { there = kid.there; real = λ h. omega (arith, deeper); one = λ e. absurd (omega (arith, deeper, e)) };
+        slot = record { there = child.there; real = λ h. omega (arith, deeper); one = λ e. absurd (omega (arith, deeper, e)) };
         low = within;
         all = λ j h a. record {
           path = front j h (way.all j h a);
@@ -125,27 +125,27 @@ module _ {w n : ℕ} {b : ℕ → ℕ → Bool} {d : ℕ → ℕ} {k : ℕ → B
 
   -- what the slot names is an item, or its node
   pub way_names : {key : ℕ → Bool} {end i : ℕ} {s : Bool} → IsOnWay n b d key end i s → k i s < n
-  way_names {key} {end} {i} {s} way = (tree.kids i s way.slot).there
+  way_names {key} {end} {i} {s} way = (tree.children i s way.slot).there
 
-  -- where a walk ends, an item that is as the key is as what the slot names
+  -- where a descent ends, an item that is as the key is as what the slot names
   pub way_equal : {key : ℕ → Bool} {end i : ℕ} {s : Bool} → IsOnWay n b d key end i s → (d i < d (k i s) → end < d (k i s)) → end ≤ w
       → (j : ℕ) → j < n → Agree (b j) key end → Agree (b (k i s)) key end
   way_equal {key} {end} {i} {s} way stop within j h a =
-      let kid = tree.kids i s way.slot in
-      agree_on (agree_less end (stop_reach end kid.far stop within) (agree_back (kid.alike j h (way.all j h a)))) a
+      let child = tree.children i s way.slot in
+      agree_on (agree_less end (stop_reach end child.far stop within) (agree_back (child.alike j h (way.all j h a)))) a
 
   -- and if what the slot names parts from the key, no item is as the key any farther
-  pub way_parts : {key : ℕ → Bool} {end i : ℕ} {s : Bool} (place : ℕ) → IsOnWay n b d key end i s → (d i < d (k i s) → end < d (k i s)) → end ≤ w
-      → place < end → Agree (b (k i s)) key place → b (k i s) place ≢ key place → IsParting n b key (k i s) place
-  way_parts {key} {end} {i} {s} place way stop within low same differ =
-      let kid = tree.kids i s way.slot in
+  pub way_parts : {key : ℕ → Bool} {end i : ℕ} {s : Bool} (position : ℕ) → IsOnWay n b d key end i s → (d i < d (k i s) → end < d (k i s)) → end ≤ w
+      → position < end → Agree (b (k i s)) key position → b (k i s) position ≢ key position → IsParting n b key (k i s) position
+  way_parts {key} {end} {i} {s} position way stop within low same differ =
+      let child = tree.children i s way.slot in
       record {
-        there = kid.there;
+        there = child.there;
         same = same;
         differ = differ;
-        best = λ j h a. elim (way.best j (place + 1) h a) [
-          | inl under ↦ differ (sym ((kid.alike j h under).each place (omega (arith, low, stop_reach end kid.far stop within))) ∙ a.each place (omega arith))
-          | inr other ↦ differ ((other (k i s) kid.there kid.under).each place (omega arith))
+        best = λ j h a. elim (way.best j (position + 1) h a) [
+          | inl under ↦ differ (sym ((child.alike j h under).each position (omega (arith, low, stop_reach end child.far stop within))) ∙ a.each position (omega arith))
+          | inr other ↦ differ ((other (k i s) child.there child.under).each position (omega arith))
         ];
       }
 
@@ -154,22 +154,22 @@ module _ {w n : ℕ} {b : ℕ → ℕ → Bool} {d : ℕ → ℕ} {k : ℕ → B
   -- if one is at a deeper node, the other names a node that is no deeper than that
   above : {i o l : ℕ} {s t : Bool} → IsSlot n d i s → IsSlot n d o t → IsUnder b d i s l → IsUnder b d o t l → d i < d o → (d i < d (k i s)) × (d (k i s) ≤ d o)
   above {i} {o} {l} {s} {t} slot other u v less =
-      let place = d o - 1 in
-      let kid = tree.kids i s slot in
+      let position = d o - 1 in
+      let child = tree.children i s slot in
       let at : (side : Bool) → IsSlot n d o side = λ side. record { there = other.there; real = other.real; one = λ e. absurd (omega (arith, e, less)) } in
-      let on = tree.kids o true (at true) in
-      let off = tree.kids o false (at false) in
-      let under : (j : ℕ) → Agree (b j) (b o) place → IsUnder b d i s j = λ j a. under_as j u (agree_less (d i) (omega (arith, less)) (agree_on a (agree_back v.path))) in
-      let near : kid.reach ≤ place = elim (cases_lt place kid.reach) [
+      let on = tree.children o true (at true) in
+      let off = tree.children o false (at false) in
+      let under : (j : ℕ) → Agree (b j) (b o) position → IsUnder b d i s j = λ j a. under_as j u (agree_less (d i) (omega (arith, less)) (agree_on a (agree_back v.path))) in
+      let near : child.reach ≤ position = elim (cases_lt position child.reach) [
         | inr near ↦ near
         | inl far ↦ absurd (true≢false (
             sym (on.under.turn (omega (arith, less)))
-            ∙ (kid.alike (k o true) on.there (under (k o true) on.under.path)).each place far
-            ∙ sym ((kid.alike (k o false) off.there (under (k o false) off.under.path)).each place far)
+            ∙ (child.alike (k o true) on.there (under (k o true) on.under.path)).each position far
+            ∙ sym ((child.alike (k o false) off.there (under (k o false) off.under.path)).each position far)
             ∙ off.under.turn (omega (arith, less))
             ))
       ] in
-      elim kid.far [
+      elim child.far [
         | inl inner ↦ (inner.0, omega (arith, inner.1, inner.0, near, less))
         | inr leaf ↦ absurd (omega (arith, leaf.1, near, less, tree.within o other.there))
       ]
@@ -217,17 +217,17 @@ pub same_tree : {w n : ℕ} {b b' : ℕ → ℕ → Bool} {d d' : ℕ → ℕ} {
 same_tree {w} {n} {b} {b'} {d} {d'} {k} tree keys depths = record {
   root = λ some. sym (depths 0 some) ∙ tree.root some;
   within = λ o h. subst (λ m. m ≤ w) (depths o h) (tree.within o h);
-  kids = λ o t slot.
+  children = λ o t slot.
       let depth = depths o slot.there in
-      let kid = tree.kids o t (record { there = slot.there; real = λ some. omega (arith, slot.real some, depth); one = λ e. slot.one (omega (arith, e, depth)) }) in
+      let child = tree.children o t (record { there = slot.there; real = λ some. omega (arith, slot.real some, depth); one = λ e. slot.one (omega (arith, e, depth)) }) in
       let r = k o t in
       record {
-        there = kid.there;
-        under = under_same (keys r kid.there) (keys o slot.there) depth kid.under;
-        reach = kid.reach;
-        far = subst (λ m. IsReach w (d' o) m kid.reach) (depths r kid.there) (subst (λ m. IsReach w m (d r) kid.reach) depth kid.far);
-        alike = λ j h u. subst (λ x. Agree x (b' r) kid.reach) (keys j h) (subst (λ x. Agree (b j) x kid.reach) (keys r kid.there)
-            (kid.alike j h (under_same (sym (keys j h)) (sym (keys o slot.there)) (sym depth) u)));
+        there = child.there;
+        under = under_same (keys r child.there) (keys o slot.there) depth child.under;
+        reach = child.reach;
+        far = subst (λ m. IsReach w (d' o) m child.reach) (depths r child.there) (subst (λ m. IsReach w m (d r) child.reach) depth child.far);
+        alike = λ j h u. subst (λ x. Agree x (b' r) child.reach) (keys j h) (subst (λ x. Agree (b j) x child.reach) (keys r child.there)
+            (child.alike j h (under_same (sym (keys j h)) (sym (keys o slot.there)) (sym depth) u)));
       };
   alone = λ one other h g some same a. tree.alone one other h g (omega (arith, some, depths one h)) (depths one h ∙ same ∙ sym (depths other g))
       (subst (λ x. Agree x (b other) (d one - 1)) (sym (keys one h)) (subst (λ x. Agree (b' one) x (d one - 1)) (sym (keys other g)) (subst (λ m. Agree (b' one) (b' other) (m - 1)) (sym (depths one h)) a)));
@@ -236,7 +236,7 @@ same_tree {w} {n} {b} {b'} {d} {d'} {k} tree keys depths = record {
 -- The nodes as they are kept.
 
 -- nodes that are a trie of some items make a tree of them
-pub trie_tree : {w : ℕ} (n : ℕ) (keys : ℕ → ℕ → Bool) (nodes : List Node) → IsTrieOf w n keys nodes → 0 < n → IsTree w n keys (depth_of nodes) (kid_of nodes)
+pub trie_tree : {w : ℕ} (n : ℕ) (keys : ℕ → ℕ → Bool) (nodes : List Node) → IsTrieOf w n keys nodes → 0 < n → IsTree w n keys (depth_of nodes) (child_of nodes)
 trie_tree {w} zero keys nodes trie some = absurd (omega (arith, some))
 trie_tree {w} (suc n) keys nodes trie some = trie.1
 
@@ -259,58 +259,58 @@ trie_same w zero keys others nodes same trie = trie
 trie_same w (suc n) keys others nodes same trie =
     (trie.0, same_tree trie.1 same (λ i h. refl), trie.2, trie_same w n keys others (without_newest nodes) (λ i h. same i (omega (arith, h))) trie.3)
 
--- where a walk by the bits of an item ends before the place where the item parts, it comes in
-pub way_opens : {keys : ℕ → ℕ → Bool} {trie : Trie} {key bits : ℕ → Bool} {item : ℕ} (slot : Slot) (place : ℕ) → IsWayTo keys trie key place slot
-    → Agree key bits (place + 1) → IsParting (item_count trie) keys bits item place → IsOpening keys trie bits slot place
-way_opens {keys} {trie} {key} {bits} {item} slot place walk same part = record {
+-- where a descent by the bits of an item ends before the position where the item parts, it comes in
+pub way_opens : {keys : ℕ → ℕ → Bool} {trie : Trie} {key bits : ℕ → Bool} {item : ℕ} (slot : Slot) (position : ℕ) → IsWayTo keys trie key position slot
+    → Agree key bits (position + 1) → IsParting (item_count trie) keys bits item position → IsOpening keys trie bits slot position
+way_opens {keys} {trie} {key} {bits} {item} slot position descent same part = record {
   item = item;
-  there = walk.way.slot;
-  low = walk.way.low;
-  under = walk.way.all item part.there (agree_on part.same (agree_back (agree_less place (omega arith) same)));
-  stop = walk.stop;
+  there = descent.way.slot;
+  low = descent.way.low;
+  under = descent.way.all item part.there (agree_on part.same (agree_back (agree_less position (omega arith) same)));
+  stop = descent.stop;
   part = part;
 }
 
-module _ (w : ℕ) (keys : ℕ → ℕ → Bool) (trie : Trie) (is : IsTrie w keys trie) {key : ℕ → Bool} {end : ℕ} (slot : Slot) (walk : IsWayTo keys trie key end slot) where
-  tree : IsTree w (item_count trie) keys (depth_of (nodes_of trie)) (kid_of (nodes_of trie))
-  tree = trie_tree (item_count trie) keys (nodes_of trie) is (omega (arith, walk.way.slot.there))
+module _ (w : ℕ) (keys : ℕ → ℕ → Bool) (trie : Trie) (is : IsTrie w keys trie) {key : ℕ → Bool} {end : ℕ} (slot : Slot) (descent : IsWayTo keys trie key end slot) where
+  tree : IsTree w (item_count trie) keys (depth_of (nodes_of trie)) (child_of (nodes_of trie))
+  tree = trie_tree (item_count trie) keys (nodes_of trie) is (omega (arith, descent.way.slot.there))
 
-  -- and so does an item that parts behind the last node of the walk
-  pub end_opens : {bits : ℕ → Bool} (place : ℕ) → place < end → depth_of (nodes_of trie) slot.node ≤ place → IsParting (item_count trie) keys bits (kid_at trie slot) place → IsOpening keys trie bits slot place
-  end_opens {bits} place before low part = record {
-    item = kid_at trie slot;
-    there = walk.way.slot;
+  -- and so does an item that parts behind the last node of the descent
+  pub end_opens : {bits : ℕ → Bool} (position : ℕ) → position < end → depth_of (nodes_of trie) slot.node ≤ position → IsParting (item_count trie) keys bits (child_at trie slot) position → IsOpening keys trie bits slot position
+  end_opens {bits} position before low part = record {
+    item = child_at trie slot;
+    there = descent.way.slot;
     low = low;
-    under = (tree.kids slot.node slot.side walk.way.slot).under;
-    stop = λ inner. omega (arith, walk.stop inner, before);
+    under = (tree.children slot.node slot.side descent.way.slot).under;
+    stop = λ inner. omega (arith, descent.stop inner, before);
     part = part;
   }
 
   -- what the slot at its end names is as the key at least as far as any other item is
-  pub way_nearest : end ≤ w → IsNearest keys trie key end (kid_at trie slot)
+  pub way_nearest : end ≤ w → IsNearest keys trie key end (child_at trie slot)
   way_nearest within = record {
-    there = way_names tree walk.way;
-    equal = λ j h a. way_equal tree walk.way walk.stop within j h a;
-    parts = λ place low same differ. way_parts tree place walk.way walk.stop within low same differ;
+    there = way_names tree descent.way;
+    equal = λ j h a. way_equal tree descent.way descent.stop within j h a;
+    parts = λ position low same differ. way_parts tree position descent.way descent.stop within low same differ;
   }
 
 -- Where an item parts, of whose bits and of the nearest item's only those before the end are known.
-pub parts_as : {keys : ℕ → ℕ → Bool} {trie : Trie} {key : ℕ → Bool} {end near : ℕ} → IsNearest keys trie key end near → (bits other : ℕ → Bool) (place : ℕ) → place < end → Agree key bits end → Agree other (keys near) end
-    → Agree key other place → key place ≢ other place → Agree key bits (place + 1) × IsParting (item_count trie) keys bits near place
-parts_as {keys} {trie} {key} {end} {near} n bits other place low as_bits as_near same differ =
-    let parting = n.parts place low (agree_back (agree_on same (agree_less place (omega (arith, low)) as_near))) (λ e. differ (sym (as_near.each place low ∙ e))) in
-    let so_far = agree_less (place + 1) (omega (arith, low)) as_bits in (
+pub parts_as : {keys : ℕ → ℕ → Bool} {trie : Trie} {key : ℕ → Bool} {end near : ℕ} → IsNearest keys trie key end near → (bits other : ℕ → Bool) (position : ℕ) → position < end → Agree key bits end → Agree other (keys near) end
+    → Agree key other position → key position ≢ other position → Agree key bits (position + 1) × IsParting (item_count trie) keys bits near position
+parts_as {keys} {trie} {key} {end} {near} n bits other position low as_bits as_near same differ =
+    let parting = n.parts position low (agree_back (agree_on same (agree_less position (omega (arith, low)) as_near))) (λ e. differ (sym (as_near.each position low ∙ e))) in
+    let so_far = agree_less (position + 1) (omega (arith, low)) as_bits in (
       so_far,
       record {
         there = parting.there;
-        same = agree_on parting.same (agree_less place (omega (arith, low)) as_bits);
-        differ = λ e. parting.differ (e ∙ sym (as_bits.each place low));
+        same = agree_on parting.same (agree_less position (omega (arith, low)) as_bits);
+        differ = λ e. parting.differ (e ∙ sym (as_bits.each position low));
         best = λ j h a. parting.best j h (agree_on a (agree_back so_far));
       },
     )
 
 -- with the same nodes, an item comes in at the same slot
-pub opening_same : {keys : ℕ → ℕ → Bool} {bits : ℕ → Bool} {slot : Slot} {place : ℕ} {one other : Trie} → nodes_of other ≡ nodes_of one → IsOpening keys one bits slot place → IsOpening keys other bits slot place
+pub opening_same : {keys : ℕ → ℕ → Bool} {bits : ℕ → Bool} {slot : Slot} {position : ℕ} {one other : Trie} → nodes_of other ≡ nodes_of one → IsOpening keys one bits slot position → IsOpening keys other bits slot position
 opening_same same opening = record {
   item = opening.item;
   there = rw same opening.there;

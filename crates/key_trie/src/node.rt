@@ -9,7 +9,7 @@ use crate::trie::Slot;
 /// The node of an item: where the item parted from all earlier items, and what is to be found from there on.
 #[derive(Clone, Copy)]
 pub(crate) struct Node {
-    /// 1 more than the place of the bit; 0 if the item parted nowhere: the first item, and one that equals an earlier item.
+    /// 1 more than the position of the bit; 0 if the item parted nowhere: the first item, and one that equals an earlier item.
     pub depth: u16,
     /// Whether the slot that named this node, when it was added, is that of the set bits.
     pub up_side: bool,
@@ -36,10 +36,10 @@ pub(crate) fn lone_node(number: u32) -> Node
     }
 }
 
-/// The node of item `number`, which parts at a place, has that bit there, and comes between a slot and what that slot names.
-pub(crate) fn parted_node(place: u32, slot: Slot, bit: bool, number: u32, below: u32) -> Node
-    requires { place < MAX_WIDTH }
-    ensures depth { result.depth ≡ place + 1 }
+/// The node of item `number`, which parts at a position, has that bit there, and comes between a slot and what that slot names.
+pub(crate) fn parted_node(position: u32, slot: Slot, bit: bool, number: u32, below: u32) -> Node
+    requires { position < MAX_WIDTH }
+    ensures depth { result.depth ≡ position + 1 }
     ensures up { result.up ≡ slot.node }
     ensures side { result.up_side ≡ slot.side }
     ensures own { named result bit ≡ number }
@@ -51,7 +51,7 @@ pub(crate) fn parted_node(place: u32, slot: Slot, bit: bool, number: u32, below:
         (number, below)
     };
     Node {
-        depth: place as u16 + 1,
+        depth: position as u16 + 1,
         up_side: slot.side,
         up: slot.node,
         off,

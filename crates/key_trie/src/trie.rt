@@ -1,9 +1,9 @@
-//! The trie: walks down it, and one item more or less.
+//! The trie: descents, and one item more or less.
 
 ghost use Rattle.std.specs.Prelude.{◌≡◌, ℕ, ◌+◌, ◌-◌, ◌*◌, ◌<◌, ◌≤◌, ◌^◌, min, ◌↔◌, Bool, length, IsTrue, IfOk, MatchOption, OnOk, OnErr};
 ghost use Rattle.std.specs.Vec.{vec_capacity};
 ghost use Rattle.key_trie.specs.Key.{Agree};
-ghost use Rattle.key_trie.specs.Trie.{nodes_of, item_count, room_of, kid_of, IsIn, kid_at, HasRoom, IsTrie, IsWayTo, Passes, IsNearest, IsParting, IsOpening, with_named, without_newest};
+ghost use Rattle.key_trie.specs.Trie.{nodes_of, item_count, capacity_of, child_of, IsIn, child_at, HasRoom, IsTrie, IsWayTo, Passes, IsNearest, IsParting, IsOpening, with_named, without_newest};
 
 use crate::key::{Key, MAX_WIDTH};
 use crate::node::{Node, lone_node, parted_node};
@@ -33,7 +33,7 @@ impl Trie {
     pub fn new(alloc: Global) -> Result<Trie, AllocError>
         ensures trie { IfOk result (λ trie. (width : ℕ) (keys : ℕ → ℕ → Bool) → IsTrie width keys trie) }
         ensures none { IfOk result (λ trie. item_count trie ≡ 0) }
-        ensures room { IfOk result (λ trie. (256 ≤ room_of trie) × (room_of trie < 2 ^ 32)) }
+        ensures room { IfOk result (λ trie. (256 ≤ capacity_of trie) × (capacity_of trie < 2 ^ 32)) }
     {
         Ok(Trie {
             nodes: Vec::with_capacity(alloc, FIRST_ROOM)?,
@@ -48,8 +48,8 @@ impl Trie {
     }
 
     /// The number of items that there is room for, those in the trie included.
-    pub fn room(&self) -> usize
-        ensures { result ≡ room_of self.now }
+    pub fn capacity(&self) -> usize
+        ensures { result ≡ capacity_of self.now }
     {
         self.nodes.capacity()
     }
@@ -57,11 +57,11 @@ impl Trie {
     /// Makes room for more items: for twice as many and 256 more, but for 2^32 - 1 at most. `AllocError` comes if memory for this was refused,
     /// and if there is room for the most already. Then nothing is changed.
     pub fn make_room(&mut self) -> Result<(), AllocError>
-        requires { room_of self.old < 2 ^ 32 }
+        requires { capacity_of self.old < 2 ^ 32 }
         ensures items { nodes_of self.new ≡ nodes_of self.old }
-        ensures ok { OnOk result (room_of self.old < room_of self.new) }
-        ensures err { OnErr result (room_of self.new ≡ room_of self.old) }
-        ensures most { room_of self.new < 2 ^ 32 }
+        ensures ok { OnOk result (capacity_of self.old < capacity_of self.new) }
+        ensures err { OnErr result (capacity_of self.new ≡ capacity_of self.old) }
+        ensures most { capacity_of self.new < 2 ^ 32 }
     {
         let Some(wanted) = more_room(self.nodes.capacity()) else {
             return Err(AllocError);
@@ -74,20 +74,20 @@ impl Trie {
     pub fn clear(&mut self)
         ensures trie { (width : ℕ) (keys : ℕ → ℕ → Bool) → IsTrie width keys self.new }
         ensures none { item_count self.new ≡ 0 }
-        ensures room { room_of self.new ≡ room_of self.old }
+        ensures room { capacity_of self.new ≡ capacity_of self.old }
     {
         self.nodes.clear();
     }
 
     /// What a slot names: the number of a node, which is also that of its item.
-    pub fn kid(&self, slot: Slot) -> u32
+    pub fn child(&self, slot: Slot) -> u32
         requires { IsIn self.now slot }
-        ensures { result ≡ kid_at self.now slot }
+        ensures { result ≡ child_at self.now slot }
     {
-        kid(&self.nodes, slot)
+        child(&self.nodes, slot)
     }
 
-    /// The slot where the walk by the bits of a key ends, before the place `end`. The walk takes at most `end` steps.
+    /// The slot where the descent by the bits of a key ends, before the position `end`. The descent takes at most `end` steps.
     pub fn descend<K: Key>(&self, key: &K, end: u32) -> Slot
         requires trie { (width : ℕ) × (keys : ℕ → ℕ → Bool) × IsTrie width keys self.now }
         requires some { 0 < item_count self.now }
@@ -100,7 +100,7 @@ impl Trie {
             side: false,
         };
         let mut depth: u32 = 0;
-        let mut below = kid(nodes, slot);
+        let mut below = child(nodes, slot);
         let mut deeper = u32::from(nodes[below as usize].depth);
         'down: while depth < deeper && deeper <= end {
             slot = Slot {
@@ -108,13 +108,14 @@ impl Trie {
                 side: key.bit(deeper - 1),
             };
             depth = deeper;
-            below = kid(nodes, slot);
+            below = child(nodes, slot);
             deeper = u32::from(nodes[below as usize].depth);
         }
         slot
     }
 
-    /// Whether the walk by the bits of a key passes at least `count` nodes before the place `end`. The look takes at most `count` steps.
+    /// Whether the descent by the bits of a key passes at least `count` nodes before the position `end`. The look takes at most `count`
+    /// steps.
     pub fn passes<K: Key>(&self, key: &K, end: u32, count: u32) -> bool
         requires trie { (width : ℕ) × (keys : ℕ → ℕ → Bool) × IsTrie width keys self.now }
         requires some { 0 < item_count self.now }
@@ -122,7 +123,7 @@ impl Trie {
     {
         let nodes = self.nodes.as_slice();
         let mut depth: u32 = 0;
-        let mut below = kid(
+        let mut below = child(
             nodes,
             Slot {
                 node: 0,
@@ -139,83 +140,84 @@ impl Trie {
                 side: key.bit(deeper - 1),
             };
             depth = deeper;
-            below = kid(nodes, slot);
+            below = child(nodes, slot);
         }
         true
     }
 
-    /// The slot where an item comes in that parts at a place. Up to that place, the item has the bits of `key`; `from` is where the walk by
-    /// them ends before some place behind. This takes at most one walk.
-    pub fn opening<K: Key>(&self, key: &K, from: Slot, place: u32) -> Slot
+    /// The slot where an item comes in that parts at a position. Up to that position, the item has the bits of `key`; `from` is where the
+    /// descent by them ends before some position behind. This takes at most one descent.
+    pub fn opening<K: Key>(&self, key: &K, from: Slot, position: u32) -> Slot
         requires trie { (width : ℕ) × (keys : ℕ → ℕ → Bool) × IsTrie width keys self.now }
         requires from { IsIn self.now from }
         ensures there { IsIn self.now result }
         ensures opening { (width : ℕ) (keys : ℕ → ℕ → Bool) (bits : ℕ → Bool) (end : ℕ) → IsTrie width keys self.now
-            → IsWayTo keys self.now (K.bits key.now) end from → place < end → Agree (K.bits key.now) bits (place + 1)
-            → IsParting (item_count self.now) keys bits (kid_at self.now from) place
-            → IsOpening keys self.now bits result place }
+            → IsWayTo keys self.now (K.bits key.now) end from → position < end → Agree (K.bits key.now) bits (position + 1)
+            → IsParting (item_count self.now) keys bits (child_at self.now from) position
+            → IsOpening keys self.now bits result position }
     {
-        // mostly the item parts from the others behind all places of the walk
-        if u32::from(self.nodes[from.node as usize].depth) <= place {
+        // mostly the item parts from the others behind all positions of the descent
+        if u32::from(self.nodes[from.node as usize].depth) <= position {
             return from;
         }
-        self.descend(key, place)
+        self.descend(key, position)
     }
 
     /// Adds the first item. There must be room for it.
-    pub fn plant(&mut self)
+    pub fn insert_first(&mut self)
         requires none { item_count self.old ≡ 0 }
-        requires room { 0 < room_of self.old }
+        requires room { 0 < capacity_of self.old }
         ensures trie { (width : ℕ) (keys : ℕ → ℕ → Bool) → IsTrie width keys self.new }
         ensures one { item_count self.new ≡ 1 }
-        ensures room { room_of self.new ≡ room_of self.old }
+        ensures room { capacity_of self.new ≡ capacity_of self.old }
     {
         self.nodes.push_reserved(lone_node(0));
     }
 
     /// Adds an item whose key equals that of an earlier one. There must be room for it.
-    pub fn repeat(&mut self)
+    pub fn insert_equal(&mut self)
         requires some { 0 < item_count self.old }
         requires room { HasRoom self.old }
         ensures trie { (width : ℕ) (keys : ℕ → ℕ → Bool) (item : ℕ) → IsTrie width keys self.old → item < item_count self.old
             → Agree (keys item) (keys (item_count self.old)) width → IsTrie width keys self.new }
         ensures more { item_count self.new ≡ item_count self.old + 1 }
-        ensures room { room_of self.new ≡ room_of self.old }
+        ensures room { capacity_of self.new ≡ capacity_of self.old }
     {
         let number = self.nodes.len() as u32;
         self.nodes.push_reserved(lone_node(number));
     }
 
-    /// Adds an item that parts from the others at a place. Up to that place, the item has the bits of `key`; `from` is where the walk by
-    /// them ends before some place behind. There must be room for it. This takes at most one walk.
-    pub fn part<K: Key>(&mut self, key: &K, from: Slot, place: u32)
+    /// Adds an item that parts from the others at a position. Up to that position, the item has the bits of `key`; `from` is where the
+    /// descent by them ends before some position behind. There must be room for it. This takes at most one descent.
+    pub fn insert_parted<K: Key>(&mut self, key: &K, from: Slot, position: u32)
         requires trie { (width : ℕ) × (keys : ℕ → ℕ → Bool) × IsTrie width keys self.old }
         requires from { IsIn self.old from }
         requires room { HasRoom self.old }
-        requires within { place < MAX_WIDTH }
-        ensures trie { (width : ℕ) (keys : ℕ → ℕ → Bool) (end : ℕ) → IsTrie width keys self.old → place < width
-            → IsWayTo keys self.old (K.bits key.now) end from → place < end → Agree (K.bits key.now) (keys (item_count self.old)) (place + 1)
-            → IsParting (item_count self.old) keys (keys (item_count self.old)) (kid_at self.old from) place → IsTrie width keys self.new }
+        requires within { position < MAX_WIDTH }
+        ensures trie { (width : ℕ) (keys : ℕ → ℕ → Bool) (end : ℕ) → IsTrie width keys self.old → position < width
+            → IsWayTo keys self.old (K.bits key.now) end from → position < end → Agree (K.bits key.now) (keys (item_count self.old)) (position + 1)
+            → IsParting (item_count self.old) keys (keys (item_count self.old)) (child_at self.old from) position → IsTrie width keys self.new }
         ensures more { item_count self.new ≡ item_count self.old + 1 }
-        ensures room { room_of self.new ≡ room_of self.old }
+        ensures room { capacity_of self.new ≡ capacity_of self.old }
     {
-        let slot = self.opening(key, from, place);
-        self.insert(slot, place, key.bit(place));
+        let slot = self.opening(key, from, position);
+        self.insert(slot, position, key.bit(position));
     }
 
-    /// Adds an item that comes in at a slot: there it parts from the others at a place. It has that bit there. There must be room for it.
-    pub fn insert(&mut self, slot: Slot, place: u32, bit: bool)
+    /// Adds an item that comes in at a slot: there it parts from the others at a position. It has that bit there. There must be room for
+    /// it.
+    pub fn insert(&mut self, slot: Slot, position: u32, bit: bool)
         requires slot { IsIn self.old slot }
         requires room { HasRoom self.old }
-        requires within { place < MAX_WIDTH }
-        ensures trie { (width : ℕ) (keys : ℕ → ℕ → Bool) → IsTrie width keys self.old → place < width
-            → IsOpening keys self.old (keys (item_count self.old)) slot place → keys (item_count self.old) place ≡ bit
+        requires within { position < MAX_WIDTH }
+        ensures trie { (width : ℕ) (keys : ℕ → ℕ → Bool) → IsTrie width keys self.old → position < width
+            → IsOpening keys self.old (keys (item_count self.old)) slot position → keys (item_count self.old) position ≡ bit
             → IsTrie width keys self.new }
         ensures more { item_count self.new ≡ item_count self.old + 1 }
-        ensures room { room_of self.new ≡ room_of self.old }
+        ensures room { capacity_of self.new ≡ capacity_of self.old }
     {
         let number = self.nodes.len() as u32;
-        let node = parted_node(place, slot, bit, number, self.kid(slot));
+        let node = parted_node(position, slot, bit, number, self.child(slot));
         name(&mut self.nodes, slot, number);
         self.nodes.push_reserved(node);
     }
@@ -228,7 +230,7 @@ impl Trie {
         ensures back { nodes_of self.new ≡ without_newest (nodes_of self.old) }
         ensures trie { (width : ℕ) (keys : ℕ → ℕ → Bool) → IsTrie width keys self.old → IsTrie width keys self.new }
         ensures fewer { item_count self.old ≡ item_count self.new + 1 }
-        ensures room { room_of self.new ≡ room_of self.old }
+        ensures room { capacity_of self.new ≡ capacity_of self.old }
     {
         let newest = self.nodes.pop().unwrap();
         let number = self.nodes.len() as u32;
@@ -249,25 +251,25 @@ impl Trie {
 }
 
 /// What a slot names.
-fn kid(nodes: &[Node], slot: Slot) -> u32
+fn child(nodes: &[Node], slot: Slot) -> u32
     requires { slot.node < length nodes.now }
-    ensures { result ≡ kid_of nodes.now slot.node slot.side }
+    ensures { result ≡ child_of nodes.now slot.node slot.side }
 {
     let node = nodes[slot.node as usize];
     if slot.side { node.on } else { node.off }
 }
 
 /// Lets a slot name something else.
-fn name(nodes: &mut Vec<Node>, slot: Slot, kid: u32)
+fn name(nodes: &mut Vec<Node>, slot: Slot, child: u32)
     requires { slot.node < length nodes.old.items }
-    ensures named { nodes.new.items ≡ with_named nodes.old.items slot.node slot.side kid }
+    ensures named { nodes.new.items ≡ with_named nodes.old.items slot.node slot.side child }
     ensures room { vec_capacity nodes.new ≡ vec_capacity nodes.old }
 {
     let node = &mut nodes[slot.node as usize];
     if slot.side {
-        node.on = kid;
+        node.on = child;
     } else {
-        node.off = kid;
+        node.off = child;
     }
 }
 

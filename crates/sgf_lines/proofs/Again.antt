@@ -9,7 +9,7 @@ use Rattle.sgf_lines.specs.declared.verdict.Verdict.TheVariants.{Illegal}
 use Rattle.sgf_lines.specs.NodeContents.{moves_in, stones_in, players_in}
 use Rattle.sgf_lines.specs.JudgedGames.{GameKind, not_go, bad_size, board, root_properties}
 use Rattle.sgf_lines.specs.Step.{step_by, step}
-use Rattle.sgf_lines.specs.Walk.{TakenNode, IllegalNode, Walk, stepped, next, walk}
+use Rattle.sgf_lines.specs.Walk.{LegalNode, IllegalNode, Walk, stepped, next, walk}
 use Rattle.sgf_lines.specs.Verdict.{score_in, verdict_with, verdict_at, verdict_by, verdict_of}
 use Rattle.sgf_lines.proofs.Walking.{after_illegal}
 use Rattle.sgf_lines.specs.SplitAgain.{HaveSame, SaysSame, scored, illegal_at, another_game, another_size, IsKept}
@@ -38,16 +38,16 @@ step_same : (s : State) (n m : Node) → HaveSame n m → step s n ≡ step s m
 step_same s n m e = ap (λ (ps : List Property). step_by s (flat_map moves_in ps) (flat_map stones_in ps) (flat_map players_in ps)) e
 
 -- a walk that has met no illegal node
-abbrev going : List TakenNode → State → Walk
+abbrev going : List LegalNode → State → Walk
 going taken state = record { taken = taken; state = state; illegal = None }
 
-step_alike : (ts us : List TakenNode) (s : State) (n m : Node) (ns ms : List Node) (a b : Result State Reason) → a ≡ b
-    → ((ts us : List TakenNode) (t : State) → Alike (fold next (going ts t) ns) (fold next (going us t) ms) ns ms)
+step_alike : (ts us : List LegalNode) (s : State) (n m : Node) (ns ms : List Node) (a b : Result State Reason) → a ≡ b
+    → ((ts us : List LegalNode) (t : State) → Alike (fold next (going ts t) ns) (fold next (going us t) ms) ns ms)
     → Alike (fold next (stepped (going ts s) n a) ns) (fold next (stepped (going us s) m b) ms) (n ∷ ns) (m ∷ ms)
 step_alike ts us s n m ns ms (Ok t) (Ok u) e goes =
     let same : t ≡ u = cc in
     let left = ts ++ record { node = n; after = t } ∷ [] in
-    let right : State → List TakenNode = λ x. us ++ record { node = m; after = x } ∷ [] in
+    let right : State → List LegalNode = λ x. us ++ record { node = m; after = x } ∷ [] in
     later (fold next (going left t) ns) (fold next (going (right u) u) ms) n m ns ms
     (subst (λ x. Alike (fold next (going left t) ns) (fold next (going (right u) x) ms) ns ms) same (goes left (right u) t))
 step_alike ts us s n m ns ms (Err r) (Err q) e goes =
@@ -62,7 +62,7 @@ step_alike ts us s n m ns ms (Err r) (Err q) e goes =
 step_alike ts us s n m ns ms (Ok t) (Err q) e goes = absurd cc
 step_alike ts us s n m ns ms (Err r) (Ok u) e goes = absurd cc
 
-alike : (ns ms : List Node) → AllZip HaveSame ns ms → (ts us : List TakenNode) (s : State) → Alike (fold next (going ts s) ns) (fold next (going us s) ms) ns ms
+alike : (ns ms : List Node) → AllZip HaveSame ns ms → (ts us : List LegalNode) (s : State) → Alike (fold next (going ts s) ns) (fold next (going us s) ms) ns ms
 alike [] [] h ts us s = legal refl refl refl
 alike [] (m ∷ ms) h ts us s = absurd h
 alike (n ∷ ns) [] h ts us s = absurd h

@@ -6,7 +6,7 @@ use Rattle.board_points.specs.Point.{points}
 use Rattle.go_board.specs.Reaching.{reaches, reaching_within, spread}
 use Rattle.go_board.specs.Clearing.{clear, play, cleared_cell}
 use Rattle.go_board.specs.Score.{score_of, counts_for}
-use Rattle.go_board.specs.State.{with_area}
+use Rattle.go_board.specs.State.{with_rectangle}
 use Rattle.board_points.specs.Values.{point_value, rect_value}
 use Rattle.tree_lines.specs.Lines.{lines}
 use Rattle.sgf_lines.specs.Page.{page}
@@ -77,7 +77,7 @@ judged =
     []
 
 each_judged : map (λ e. all_judged_places (lines e.0)) judged ≡ map (λ e. e.1) judged
-unfolding reaching_within spread points reaches clear cleared_cell play score_of counts_for with_area point_value rect_value
+unfolding reaching_within spread points reaches clear cleared_cell play score_of counts_for with_rectangle point_value rect_value
 each_judged = refl
 
 -- forms, places and games, and how many nodes are played
@@ -98,5 +98,5 @@ played =
     []
 
 each_played : map (λ e. plays e.0 e.1 e.2) played ≡ map (λ e. Some e.3) played
-unfolding reaching_within spread points reaches clear cleared_cell play score_of counts_for with_area point_value rect_value
+unfolding reaching_within spread points reaches clear cleared_cell play score_of counts_for with_rectangle point_value rect_value
 each_played = refl

@@ -8,7 +8,7 @@ use Rattle.board_points.specs.Point.{points}
 use Rattle.go_board.specs.Reaching.{reaches, reaching_within, spread}
 use Rattle.go_board.specs.Clearing.{clear, play, cleared_cell, has_unreaching}
 use Rattle.go_board.specs.Score.{score_of, counts_for}
-use Rattle.go_board.specs.State.{with_area}
+use Rattle.go_board.specs.State.{with_rectangle}
 use Rattle.board_points.specs.Values.{point_value, rect_value}
 use Rattle.board_points.specs.Vertex.{vertex_of}
 use Rattle.sgf_lines.specs.declared.verdict.Verdict.{Verdict}
@@ -104,7 +104,7 @@ verdicts =
     []
 
 each_verdict : map (λ e. verdict_of e.0) verdicts ≡ map (λ e. e.1) verdicts
-unfolding reaching_within spread points reaches clear cleared_cell play score_of counts_for with_area point_value rect_value
+unfolding reaching_within spread points reaches clear cleared_cell play score_of counts_for with_rectangle point_value rect_value
 each_verdict = refl
 
 -- forms and lines, and their records
@@ -131,7 +131,7 @@ records =
     []
 
 each_record : map (λ e. record_of e.0 (in_game e.1)) records ≡ map (λ e. e.2) records
-unfolding reaching_within spread points reaches clear cleared_cell play score_of counts_for with_area point_value rect_value has_unreaching vertex_of digits
+unfolding reaching_within spread points reaches clear cleared_cell play score_of counts_for with_rectangle point_value rect_value has_unreaching vertex_of digits
 each_record = refl
 
 -- lines, and the places of their judged nodes
@@ -146,5 +146,5 @@ judged =
     []
 
 each_judged : map (λ e. map (λ (n : Node). n.place) (judged_nodes (in_game e.0))) judged ≡ map (λ e. e.1) judged
-unfolding reaching_within spread points reaches clear cleared_cell play score_of counts_for with_area point_value rect_value
+unfolding reaching_within spread points reaches clear cleared_cell play score_of counts_for with_rectangle point_value rect_value
 each_judged = refl

@@ -11,10 +11,10 @@ use Rattle.std.proofs.lemmas.Bool.{cases_Bool, false_from_ne_true}
 use Rattle.std.proofs.lemmas.Slice.Eq.{bytes_eq-Decides}
 use Rattle.std.proofs.lemmas.List.Elements.{All-nil, All-head, All-tail, All-weaker}
 use Rattle.sgf_tree.specs.Tree.{Property, Node, values, lone_property, told_property}
-use Rattle.sgf_tree.specs.declared.walk.NextNode.{NextNode}
-use Rattle.sgf_tree.specs.declared.walk.NextNode.TheVariants.{Led, Empty as EmptyNode, Open}
+use Rattle.sgf_tree.specs.declared.traversal.NextNode.{NextNode}
+use Rattle.sgf_tree.specs.declared.traversal.NextNode.TheVariants.{Led, Empty as EmptyNode, Unread}
 use Rattle.sgf_tree.specs.Lead.{IsOtherName, IsLedBy}
-use Rattle.sgf_tree.specs.Walk.{IsTakenOff}
+use Rattle.sgf_tree.specs.Traversal.{IsTakenOff}
 use Rattle.go_board.specs.declared.stones.Colour.{Colour}
 use Rattle.go_board.specs.declared.stones.Cell.{Cell}
 use Rattle.board_points.specs.declared.points.Rect.{Rect}
@@ -30,7 +30,7 @@ use Rattle.sgf_lines.specs.declared.judging.contents.Kind.{Kind}
 use Rattle.sgf_lines.specs.declared.judging.contents.Kind.TheVariants.{Move as move_kind, Stones as stones_kind, Player as player_kind, Comment as comment_kind}
 use Rattle.sgf_lines.specs.NodeContents.{Move, Stones, moves_in, moves_by, stones_in, stones_of, players_in, is_named, first_value}
 use Rattle.sgf_lines.specs.NodeValues.{player_value, operations, last_player}
-use Rattle.sgf_lines.specs.inner.Gathered.{kind_of, AreMoves, IsSetup, setup_with_stones, setup_with_player, AddsAreas, HoldsAlone, IsGathered, ComesAs}
+use Rattle.sgf_lines.specs.inner.Gathered.{kind_of, AreMoves, IsSetup, setup_with_stones, setup_with_player, AddsRectangles, HoldsAlone, IsGathered, ComesAs}
 
 -- one operation before others, and all of two lists, where each is there
 abbrev before_all : Option SetupOp → Option (List SetupOp) → Option (List SetupOp)
@@ -62,14 +62,14 @@ last_player-append before (r ∷ rs) qs = each (λ k. last_player-append (Some k
     each h (Some k) = h k
 
 -- values that are rectangles of the board, and one more or one that is none
-pub areas_more : (side : ℕ) (cell : Cell) (front : List (List ℕ)) (raw : List ℕ) (area : Rect) (ops : List SetupOp)
+pub rectangles_more : (side : ℕ) (cell : Cell) (front : List (List ℕ)) (raw : List ℕ) (area : Rect) (ops : List SetupOp)
     → operations (map (λ r. record { cell = cell; raw = r }) front) side ≡ Some ops → rect_value raw side ≡ Some area
     → operations (map (λ r. record { cell = cell; raw = r }) (front ++ raw ∷ [])) side ≡ Some (ops ++ record { cell = cell; area = area } ∷ [])
-areas_more side cell front raw area ops are is = first_of (search rules, grind (arith, common_steps, map-append, operations-append))
+rectangles_more side cell front raw area ops are is = first_of (search rules, grind (arith, common_steps, map-append, operations-append))
 
-pub areas_stop : (side : ℕ) (cell : Cell) (front : List (List ℕ)) (raw : List ℕ) (left all : List (List ℕ)) → front ++ raw ∷ left ≡ all → rect_value raw side ≡ None
+pub rectangles_stop : (side : ℕ) (cell : Cell) (front : List (List ℕ)) (raw : List ℕ) (left all : List (List ℕ)) → front ++ raw ∷ left ≡ all → rect_value raw side ≡ None
     → operations (map (λ r. record { cell = cell; raw = r }) all) side ≡ None
-areas_stop side cell front raw left all whole is = first_of (search rules, grind (arith, common_steps, both_none, map-append, operations-append))
+rectangles_stop side cell front raw left all whole is = first_of (search rules, grind (arith, common_steps, both_none, map-append, operations-append))
 
 -- one value of a player later
 pub later_player : (last : Colour) (raw : List ℕ) (left all : List (List ℕ)) (o : Option Colour) → all ≡ raw ∷ left → o ≡ player_value raw
@@ -81,7 +81,7 @@ module _ (side : ℕ) (ops new : List SetupOp) (stones more : List Stones) (play
   not_all : operations more side ≡ None → IsSetup side Faulty new (stones ++ more) players
   not_all bad = inl (operations-append side stones more ∙ ap (both (operations stones side)) bad ∙ both_none (operations stones side))
 
-  pub more_stones : (setup : Setup) (good : Bool) → IsSetup side setup ops stones players → AddsAreas side more ops new good → IsSetup side (setup_with_stones setup good) new (stones ++ more) players
+  pub more_stones : (setup : Setup) (good : Bool) → IsSetup side setup ops stones players → AddsRectangles side more ops new good → IsSetup side (setup_with_stones setup good) new (stones ++ more) players
   more_stones setup good known known2 = first_of (search rules, grind (arith, common_steps, length-append, not_all, operations-append))
 
 -- players more
@@ -179,7 +179,7 @@ module _ (side : ℕ) (ps : List Property) (ops : List SetupOp) (old : Contents)
   pub gathered_moves : (k : Colour) (moves : Moves) → kind_of p ≡ Some (move_kind k) → AreMoves moves (flat_map moves_in ps ++ moves_by k p) → IsGathered side (ps ++ p ∷ []) ops (record old { moves = moves })
   gathered_moves k moves is are = gathered_more (Some (move_kind k)) ops (record old { moves = moves }) is are setup_stays (no_comment (option_copied old.comment)) h.on_board
 
-  pub gathered_stones : (cell : Cell) (new_ops : List SetupOp) (good : Bool) → kind_of p ≡ Some (stones_kind cell) → AddsAreas side (stones_of cell p) ops new_ops good
+  pub gathered_stones : (cell : Cell) (new_ops : List SetupOp) (good : Bool) → kind_of p ≡ Some (stones_kind cell) → AddsRectangles side (stones_of cell p) ops new_ops good
       → IsGathered side (ps ++ p ∷ []) new_ops (record old { setup = setup_with_stones old.setup good })
   gathered_stones cell new_ops good is adds =
       gathered_more (Some (stones_kind cell)) new_ops (record old { setup = setup_with_stones old.setup good }) is moves_stay
@@ -236,7 +236,7 @@ led_alone first properties led = first_of (search rules, grind (arith, common_st
 pub comes : (node : Node) (left : List Property) (next : NextNode) → IsTakenOff setup_names node left next → ComesAs node left next
 comes node left (Led place letter value) is = (is.0, led_alone (lone_property letter value.now) node.properties is.1)
 comes node left (EmptyNode place) is = (is.0, is.1)
-comes node left (Open place front) is = is
+comes node left (Unread place front) is = is
 
 -- there is a node that comes so
 pub coming : (left : List Property) (next : NextNode) → (node : Node) × ComesAs node left next
@@ -244,4 +244,4 @@ coming left (Led place letter value) =
     let lone : Property = lone_property letter value.now in
     (record { place = place; properties = lone ∷ [] }, (refl, record { rest = []; all = refl; nothing = All-nil (λ (p : Property). kind_of p ≡ None) }))
 coming left (EmptyNode place) = (record { place = place; properties = [] }, (refl, refl))
-coming left (Open place front) = (record { place = place; properties = told_property front ++ left }, (refl, refl))
+coming left (Unread place front) = (record { place = place; properties = told_property front ++ left }, (refl, refl))

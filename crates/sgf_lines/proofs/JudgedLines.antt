@@ -5,15 +5,15 @@ use Rattle.std.proofs.lemmas.List.{length-take, length-take-le, take-append-drop
 use Rattle.std.specs.Result.{IsErr}
 use Rattle.sgf_tree.specs.Tree.{Node}
 use Rattle.go_board.specs.Grid.{Grid}
-use Rattle.sgf_lines.specs.declared.judging.step.TakenStep.{TakenStep}
+use Rattle.sgf_lines.specs.declared.judging.step.LegalStep.{LegalStep}
 use Rattle.sgf_lines.specs.JudgedGames.{GameKind, game_kind, root_properties}
-use Rattle.sgf_lines.specs.Walk.{TakenNode, taken_on}
+use Rattle.sgf_lines.specs.Walk.{LegalNode, legal_on}
 use Rattle.sgf_lines.specs.Verdict.{judged_on}
-use Rattle.sgf_lines.specs.inner.Judging.{Judging, IsSettled, IsStepTaken, IsTakenFrom, IsUnsettled, after, begun_game, board_in, judging, state_after}
+use Rattle.sgf_lines.specs.inner.Judging.{Judging, IsDecided, IsLegalStep, IsStepFrom, IsUnsettled, after, begun_game, board_in, judging, state_after}
 use Rattle.sgf_lines.specs.inner.Keeping.{HasJudged, PlaysUpTo, WentOn, fresh_plays, plays_for}
-use Rattle.sgf_lines.proofs.Judgements.{judging_more, plays_one, settled_all, settled_by}
+use Rattle.sgf_lines.proofs.Judgements.{judging_more, plays_one, decided_all, decided_by}
 use Rattle.sgf_lines.proofs.Keeping.{judging_front}
-use Rattle.sgf_lines.proofs.TakenNodes.{is_taken, taken_settled, told_last, untaken}
+use Rattle.sgf_lines.proofs.LegalNodes.{is_taken, taken_decided, told_last, untaken}
 use Rattle.sgf_lines.proofs.Walking.{judged_of_front}
 
 -- the judgement before the root is that of its game
@@ -48,13 +48,13 @@ on_none P (Ok x) is = absurd cc
 on_none P (Err e) is = tt
 
 -- a judge went on by the first of these nodes, and the rest of them is left
-pub record Going (holds : GameKind → List TakenNode → Type 0) (kind : GameKind) (before all rest : List Node) (old : ℕ) (judge : Judging) : Type 0 where
+pub record Going (holds : GameKind → List LegalNode → Type 0) (kind : GameKind) (before all rest : List Node) (old : ℕ) (judge : Judging) : Type 0 where
   pub done : List Node
   pub whole : done ++ rest ≡ all
   pub on : WentOn holds kind before done old judge
 
 -- before the first of them
-pub starts : {holds : GameKind → List TakenNode → Type 0} {kind : GameKind} {before : List Node} (all rest : List Node) (old : ℕ) (judge : Judging) → HasJudged holds kind before judge.judgement → judge.plays ≡ old
+pub starts : {holds : GameKind → List LegalNode → Type 0} {kind : GameKind} {before : List Node} (all rest : List Node) (old : ℕ) (judge : Judging) → HasJudged holds kind before judge.judgement → judge.plays ≡ old
     → rest ≡ all → Going holds kind before all rest old judge
 starts {holds} {kind} {before} all rest old judge has plays is = record {
   done = [];
@@ -65,7 +65,7 @@ starts {holds} {kind} {before} all rest old judge has plays is = record {
   };
 }
 
-module _ {holds : GameKind → List TakenNode → Type 0} {kind : GameKind} {before all rest : List Node} {old : ℕ} {judge : Judging} (h : Going holds kind before all rest old judge) where
+module _ {holds : GameKind → List LegalNode → Type 0} {kind : GameKind} {before all rest : List Node} {old : ℕ} {judge : Judging} (h : Going holds kind before all rest old judge) where
   pub countable : judge.plays + length rest ≤ old + length all
   countable = omega (arith, h.on.plays, few kind before h.done, ap length h.whole, length-append h.done rest)
 
@@ -74,16 +74,16 @@ module _ {holds : GameKind → List TakenNode → Type 0} {kind : GameKind} {bef
   ends none = subst (λ nodes. WentOn holds kind before nodes old judge) (sym (append-nil h.done) ∙ ap (λ nodes. h.done ++ nodes) (sym none) ∙ h.whole) h.on
 
   -- or the rest changes nothing, since the verdict is known
-  pub settles : IsSettled judge.judgement → WentOn holds kind before all old judge
-  settles settled =
+  pub decides : IsDecided judge.judgement → WentOn holds kind before all old judge
+  decides decided =
       let nodes = before ++ h.done in
-      let known = subst IsSettled h.on.has_judged.judged settled in
-      let on = settled_all kind nodes rest known in
+      let known = subst IsDecided h.on.has_judged.judged decided in
+      let on = decided_all kind nodes rest known in
       let same : before ++ all ≡ nodes ++ rest = ap (λ nodes. before ++ nodes) (sym h.whole) ∙ sym (append_assoc before h.done rest) in
       record {
         has_judged = record {
           judged = h.on.has_judged.judged ∙ sym (ap (judging kind) same ∙ on.0);
-          taken = subst (holds kind) (sym (ap (taken_on kind) same ∙ taken_settled kind nodes rest known)) h.on.has_judged.taken;
+          taken = subst (holds kind) (sym (ap (legal_on kind) same ∙ taken_decided kind nodes rest known)) h.on.has_judged.taken;
         };
         plays = omega (arith, h.on.plays, ap (judged_count kind) same, on.1);
       }
@@ -93,7 +93,7 @@ module _ {holds : GameKind → List TakenNode → Type 0} {kind : GameKind} {bef
     whole = append_assoc h.done more others ∙ ap (λ nodes. h.done ++ nodes) (sym is) ∙ h.whole
 
     -- the judge goes on by more of them
-    pub goes_on : (tells : GameKind → List TakenNode → Type 0) (new : Judging) → WentOn tells kind (before ++ h.done) more judge.plays new → Going tells kind before all others old new
+    pub goes_on : (tells : GameKind → List LegalNode → Type 0) (new : Judging) → WentOn tells kind (before ++ h.done) more judge.plays new → Going tells kind before all others old new
     goes_on tells new on = record {
       done = h.done ++ more;
       whole = whole;
@@ -118,9 +118,9 @@ pub record TookOne (judge : Judging) (rest : List Node) (node : Node) (others : 
   pub plays : new.plays ≡ judge.plays + 1
 
 -- by one node
-module _ {holds : GameKind → List TakenNode → Type 0} {kind : GameKind} {before all rest : List Node} {old : ℕ} {judge : Judging} (h : Going holds kind before all rest old judge)
+module _ {holds : GameKind → List LegalNode → Type 0} {kind : GameKind} {before all rest : List Node} {old : ℕ} {judge : Judging} (h : Going holds kind before all rest old judge)
     {node : Node} {others : List Node} {new : Judging} (one : TookOne judge rest node others new) where
-  by_node : (tells : GameKind → List TakenNode → Type 0) → tells kind (taken_on kind ((before ++ h.done) ++ node ∷ [])) → Going tells kind before all others old new
+  by_node : (tells : GameKind → List LegalNode → Type 0) → tells kind (legal_on kind ((before ++ h.done) ++ node ∷ [])) → Going tells kind before all others old new
   by_node tells told =
       let nodes = before ++ h.done in
       goes_on h (node ∷ []) others one.first tells new (record {
@@ -131,21 +131,21 @@ module _ {holds : GameKind → List TakenNode → Type 0} {kind : GameKind} {bef
   -- which wasn't taken
   pub refuses : state_after judge.judgement node ≡ None → WentOn holds kind before all old new
   refuses none =
-      settles (by_node holds (subst (holds kind) (untaken kind (before ++ h.done) node judge.judgement h.on.has_judged.judged none) h.on.has_judged.taken)) (rw one.judged (settled_by judge.judgement node none))
+      decides (by_node holds (subst (holds kind) (untaken kind (before ++ h.done) node judge.judgement h.on.has_judged.judged none) h.on.has_judged.taken)) (rw one.judged (decided_by judge.judgement node none))
 
   -- or whose step wasn't told, for want of memory
   pub unsaid : (old ≤ new.plays) × (new.plays ≤ old + plays_for kind before all)
   unsaid = stops (by_node (λ _ _. Unit {0}) tt) [] others refl new.plays (omega arith, omega arith)
 
   -- or whose step was told
-  module _ (step : TakenStep) (grid : Grid) (taken : IsTakenFrom judge.judgement node (Some step)) (there : Some grid ≡ board_in new.judgement) where
-    abbrev pub taken_node : TakenNode
+  module _ (step : LegalStep) (grid : Grid) (taken : IsStepFrom judge.judgement node (Some step)) (there : Some grid ≡ board_in new.judgement) where
+    abbrev pub taken_node : LegalNode
     taken_node = record { node = node; after = taken.0 }
 
-    pub step_taken : IsStepTaken kind grid step taken_node
+    pub step_taken : IsLegalStep kind grid step taken_node
     step_taken = is_taken kind (before ++ h.done) node judge.judgement h.on.has_judged.judged step grid taken (there ∙ ap board_in one.judged)
 
-    pub said : (tells : GameKind → List TakenNode → Type 0) → tells kind (taken_on kind (before ++ h.done) ++ taken_node ∷ []) → Going tells kind before all others old new
+    pub said : (tells : GameKind → List LegalNode → Type 0) → tells kind (legal_on kind (before ++ h.done) ++ taken_node ∷ []) → Going tells kind before all others old new
     said tells told = by_node tells (subst (tells kind) (told_last kind (before ++ h.done) node judge.judgement h.on.has_judged.judged taken.0 taken.1) told)
 
 -- a line was judged, whose front was judged before
@@ -156,7 +156,7 @@ module _ (nodes : List Node) (held : ℕ) (le : held ≤ length nodes) {A E : Ty
   fresh : plays_for kind_of (take held nodes) (drop held nodes) ≡ fresh_plays nodes held
   fresh = omega (arith, judged_first kind_of (take held nodes) (drop held nodes), ap (judged_count kind_of) (take-append-drop held nodes), length-take-le held nodes le)
 
-  pub finish : (tells : GameKind → List TakenNode → Type 0) (old : ℕ) (judge : Judging) → WentOn tells kind_of (take held nodes) (drop held nodes) old judge
+  pub finish : (tells : GameKind → List LegalNode → Type 0) (old : ℕ) (judge : Judging) → WentOn tells kind_of (take held nodes) (drop held nodes) old judge
       → record { judged : OnOk r (HasJudged tells kind_of nodes judge.judgement); plays : PlaysUpTo old judge.plays (fresh_plays nodes held) r }
   finish tells old judge on = record {
     judged = on_any r (subst (λ ns. HasJudged tells kind_of ns judge.judgement) (take-append-drop held nodes) on.has_judged);

@@ -3,7 +3,7 @@ use Rattle.std.proofs.Common.{◌≡◌, ℕ, ◌<◌, ◌≤◌, List, [], ◌�
 use Rattle.std.proofs.lemmas.Grind.{common_steps}
 use Rattle.std.proofs.lemmas.Bool.{le-leb, lt-leb}
 use Rattle.go_board.specs.State.{State, States, followed_by}
-use Rattle.sgf_lines.specs.inner.Judging.{back_from, back_to, Judgement, Judging, IsSettled, IsUnsettled, unjudged, judged, judgement_of, side_in, begun_game, stepped, after, judging, back, verdict_in, board_in, state_after, state_of, taken_by}
+use Rattle.sgf_lines.specs.inner.Judging.{back_from, back_to, Judgement, Judging, IsDecided, IsUnsettled, unjudged, judged, judgement_of, side_in, begun_game, stepped, after, judging, back, verdict_in, board_in, state_after, state_of, legal_by}
 use Rattle.std.specs.Prelude.{fold}
 use Rattle.std.proofs.lemmas.List.{take_all, take-append-le, take-append-drop, length-take-le}
 use Rattle.std.proofs.lemmas.List.Sums.{fold-append}
@@ -13,7 +13,7 @@ use Rattle.sgf_lines.specs.declared.verdict.Verdict.{Verdict}
 use Rattle.sgf_lines.specs.declared.verdict.Verdict.TheVariants.{Illegal, NotGo, BadSize}
 use Rattle.sgf_lines.specs.JudgedGames.{GameKind, not_go, bad_size, board}
 use Rattle.sgf_lines.specs.Step.{step}
-use Rattle.sgf_lines.specs.Walk.{TakenNode, IllegalNode, Walk, before_root, next_by, next, walk, taken_on, judged_by}
+use Rattle.sgf_lines.specs.Walk.{LegalNode, IllegalNode, Walk, before_root, next_by, next, walk, legal_on, judged_by}
 use Rattle.sgf_lines.specs.Verdict.{verdict_at, verdict_by, judged_on}
 use Rattle.sgf_lines.proofs.Walking.{StandsAfter, scores_there, next_is, one_judged}
 use Rattle.sgf_lines.specs.Walk as along
@@ -140,18 +140,18 @@ judging_verdict kind nodes = first_of (search rules, grind (arith, common_steps,
 walk_step : (side : ℕ) (nodes : List Node) (node : Node) → walk side (nodes ++ node ∷ []) ≡ next (walk side nodes) node
 walk_step side nodes node = fold-append next (before_root side) nodes (node ∷ [])
 
-taken_next : (j : Judgement) (walked : Walk) (node : Node) → IsOfWalk j walked → (next walked node).taken ≡ walked.taken ++ taken_by (state_after j node) node
+taken_next : (j : Judgement) (walked : Walk) (node : Node) → IsOfWalk j walked → (next walked node).taken ≡ walked.taken ++ legal_by (state_after j node) node
 taken_next j walked node known = first_of (search rules, grind (arith, common_steps, append-nil, next_is, next_none))
 
-walk_takes : (side : ℕ) (nodes : List Node) (node : Node) → (walk side (nodes ++ node ∷ [])).taken ≡ (walk side nodes).taken ++ taken_by (state_after (judging (board side) nodes) node) node
+walk_takes : (side : ℕ) (nodes : List Node) (node : Node) → (walk side (nodes ++ node ∷ [])).taken ≡ (walk side nodes).taken ++ legal_by (state_after (judging (board side) nodes) node) node
 walk_takes side nodes node = first_of (search rules, grind (arith, common_steps, of_walk, taken_next, walk_step))
 
-pub taken_more : (kind : GameKind) (nodes : List Node) (node : Node) → taken_on kind (nodes ++ node ∷ []) ≡ taken_on kind nodes ++ taken_by (state_after (judging kind nodes) node) node
+pub taken_more : (kind : GameKind) (nodes : List Node) (node : Node) → legal_on kind (nodes ++ node ∷ []) ≡ legal_on kind nodes ++ legal_by (state_after (judging kind nodes) node) node
 taken_more not_go nodes node = rw (unjudged_stays NotGo nodes) refl
 taken_more bad_size nodes node = rw (unjudged_stays BadSize nodes) refl
 taken_more (board side) nodes node = walk_takes side nodes node
 
-take_none : (count : ℕ) → (let none : List TakenNode = [] in take count none ≡ [])
+take_none : (count : ℕ) → (let none : List LegalNode = [] in take count none ≡ [])
 take_none count = first_of (search rules, grind (arith, common_steps))
 
 -- those of a longer walk begin with them
@@ -161,7 +161,7 @@ taken_further count walked (n ∷ ns) h = (let one = by walked.illegal refl in t
   where
     by_step : (r : Result State Reason) → count ≤ length walked.taken → let w = along.stepped walked n r in (w.illegal ≡ None → count ≤ length w.taken) × (take count w.taken ≡ take count walked.taken)
     by_step (Ok s) le =
-        let one : List TakenNode = record { node = n; after = s } ∷ [] in
+        let one : List LegalNode = record { node = n; after = s } ∷ [] in
         (λ none. omega (arith, le, length-append walked.taken one), take-append-le count walked.taken one le)
     by_step (Err reason) le = (λ none. le, refl)
 
@@ -180,7 +180,7 @@ walk_cut side nodes count le =
     ap (λ ns. take count (walk side ns).taken) (sym (take-append-drop count nodes)) ∙ ap (λ (w : Walk). take count w.taken) (fold-append next (before_root side) (take count nodes) (drop count nodes))
     ∙ taken_further count front (drop count nodes) counted.1 ∙ take_all count front.taken counted.0)
 
-pub taken_cut : (kind : GameKind) (nodes : List Node) (count : ℕ) → count ≤ length nodes → taken_on kind (take count nodes) ≡ take count (taken_on kind nodes)
+pub taken_cut : (kind : GameKind) (nodes : List Node) (count : ℕ) → count ≤ length nodes → legal_on kind (take count nodes) ≡ take count (legal_on kind nodes)
 taken_cut not_go nodes count le = sym (take_none count)
 taken_cut bad_size nodes count le = sym (take_none count)
 taken_cut (board side) nodes count le = walk_cut side nodes count le
@@ -223,27 +223,27 @@ pub unsettled_by : (j : Judgement) (node : Node) (s : State) → state_after j n
 unsettled_by j node s some = first_of (search rules, grind (arith, common_steps))
 
 -- none, once the verdict is known
-settled_stays : (j : Judgement) (node : Node) → IsSettled j → after j node ≡ j
-settled_stays j node known = first_of (search rules, grind (arith, common_steps))
+decided_stays : (j : Judgement) (node : Node) → IsDecided j → after j node ≡ j
+decided_stays j node known = first_of (search rules, grind (arith, common_steps))
 
-pub settled_by : (j : Judgement) (node : Node) → state_after j node ≡ None → IsSettled (after j node)
-settled_by j node none = first_of (search rules, grind (arith, common_steps))
+pub decided_by : (j : Judgement) (node : Node) → state_after j node ≡ None → IsDecided (after j node)
+decided_by j node none = first_of (search rules, grind (arith, common_steps))
 
-pub settled_none : (j : Judgement) (node : Node) → IsSettled j → (state_after j node ≡ None) × (next_plays j ≡ 0)
-settled_none j node known = first_of (search rules, grind (arith, common_steps))
+pub decided_none : (j : Judgement) (node : Node) → IsDecided j → (state_after j node ≡ None) × (next_plays j ≡ 0)
+decided_none j node known = first_of (search rules, grind (arith, common_steps))
 
-pub settled_more : (kind : GameKind) (nodes : List Node) (node : Node) → IsSettled (judging kind nodes) → judging kind (nodes ++ node ∷ []) ≡ judging kind nodes
-settled_more kind nodes node h = judging_more kind nodes node ∙ settled_stays (judging kind nodes) node h
+pub decided_more : (kind : GameKind) (nodes : List Node) (node : Node) → IsDecided (judging kind nodes) → judging kind (nodes ++ node ∷ []) ≡ judging kind nodes
+decided_more kind nodes node h = judging_more kind nodes node ∙ decided_stays (judging kind nodes) node h
 
-pub settled_all : (kind : GameKind) (nodes more : List Node) → IsSettled (judging kind nodes)
+pub decided_all : (kind : GameKind) (nodes more : List Node) → IsDecided (judging kind nodes)
     → (judging kind (nodes ++ more) ≡ judging kind nodes) × (length (judged_on kind (nodes ++ more)) ≡ length (judged_on kind nodes))
-settled_all kind nodes [] h = (ap (judging kind) (append-nil nodes), ap (λ ns. length (judged_on kind ns)) (append-nil nodes))
-settled_all kind nodes (n ∷ ns) h =
-    let same = settled_more kind nodes n h in
-    let on = settled_all kind (nodes ++ n ∷ []) ns (subst IsSettled (sym same) h) in
+decided_all kind nodes [] h = (ap (judging kind) (append-nil nodes), ap (λ ns. length (judged_on kind ns)) (append-nil nodes))
+decided_all kind nodes (n ∷ ns) h =
+    let same = decided_more kind nodes n h in
+    let on = decided_all kind (nodes ++ n ∷ []) ns (subst IsDecided (sym same) h) in
     let split : nodes ++ n ∷ ns ≡ (nodes ++ n ∷ []) ++ ns = sym (append_assoc nodes (n ∷ []) ns) in (
       ap (judging kind) split ∙ on.0 ∙ same,
-      ap (λ ms. length (judged_on kind ms)) split ∙ on.1 ∙ plays_more kind nodes n ∙ omega (arith, (settled_none (judging kind nodes) n h).1),
+      ap (λ ms. length (judged_on kind ms)) split ∙ on.1 ∙ plays_more kind nodes n ∙ omega (arith, (decided_none (judging kind nodes) n h).1),
     )
 
 -- no verdict is held while it isn't known
@@ -282,7 +282,7 @@ module _ (ended : Option Verdict) (referee : Option States) (r : States) (plays 
     leads_on node new took added =
         ap (judged new) none ∙ ap (λ s. judged s None) added ∙ sym (ap (λ j. after j node) open_before ∙ ap (stepped r node) took)
 
-    -- a step that was refused settles the verdict
+    -- a step that was refused decides the verdict
     pub refused : (node : Node) (reason : Reason) (turn place : ℕ) (new : States) → step r.present node ≡ Err reason → new ≡ r → turn ≡ new.present.turns → node.place ≡ place
         → judged new (Some (Illegal (turn + 1) place reason)) ≡ after now.judgement node
     refused node reason turn place new took same turn_is place_is = first_of (search rules, grind (arith, common_steps, open_before))

@@ -8,11 +8,11 @@ use Rattle.sgf_tree.specs.FileOrder.{node_at}
 use Rattle.tree_lines.specs.Lines.{lines}
 use Rattle.tree_lines.specs.Cursor.{CursorState, advanced}
 use Rattle.sgf_lines.specs.JudgedGames.{GameKind, game_kind, root_properties}
-use Rattle.sgf_lines.specs.Walk.{TakenNode, taken_on}
+use Rattle.sgf_lines.specs.Walk.{LegalNode, legal_on}
 use Rattle.tree_lines.specs.declared.sequence_cursor.Front.{Front}
 use Rattle.sgf_lines.specs.inner.Judging.{Judgement, back, judging}
 use Rattle.sgf_lines.specs.inner.Pieces.{PiecesState, cut}
-use Rattle.sgf_lines.specs.inner.Recording.{open_record, whole_record}
+use Rattle.sgf_lines.specs.inner.Recording.{unclosed_record, whole_record}
 use Rattle.tree_lines.specs.Following.{Continues, line_in, line_before, nodes_before, path_before}
 use Rattle.sgf_lines.specs.inner.Keeping.{HoldsLine}
 use Rattle.tree_lines.specs.Sequences.{SequencesState, RiseTo, SharesFront}
@@ -24,21 +24,21 @@ use Rattle.sgf_lines.proofs.Judgements.{judging_back, taken_cut}
 use Rattle.tree_lines.proofs.LineNodes.{named_in, as_long}
 use Rattle.sgf_lines.proofs.Recordings.{record_back}
 
--- the judgement on a line after its first nodes, and the taken ones of them
+-- the judgement on a line after its first nodes, and the legal ones of them
 abbrev pub judging_front : List Node → ℕ → Judgement
 judging_front nodes count = judging (game_kind (root_properties nodes)) (take count nodes)
 
-abbrev pub taken_front : List Node → ℕ → List TakenNode
-taken_front nodes count = taken_on (game_kind (root_properties nodes)) (take count nodes)
+abbrev pub taken_front : List Node → ℕ → List LegalNode
+taken_front nodes count = legal_on (game_kind (root_properties nodes)) (take count nodes)
 
 -- a judgement can be cut back to the first `count` of a line's nodes; if `count` is 0, nothing is known
 abbrev pub KeepsJudgement : List Node → ℕ → Judgement → Type 0
 KeepsJudgement nodes count judgement = 0 < count → back count judgement ≡ judging_front nodes count
 
--- taken nodes are kept that begin with those of a line's first `count` nodes; if `count` is 0, nothing is known
-abbrev pub KeepsTaken : (GameKind → List TakenNode → Type 0) → List Node → ℕ → Type 0
+-- legal nodes are kept that begin with those of a line's first `count` nodes; if `count` is 0, nothing is known
+abbrev pub KeepsTaken : (GameKind → List LegalNode → Type 0) → List Node → ℕ → Type 0
 KeepsTaken keeps nodes count =
-    0 < count → (taken : List TakenNode) × keeps (game_kind (root_properties nodes)) taken × (take count taken ≡ taken_front nodes count)
+    0 < count → (taken : List LegalNode) × keeps (game_kind (root_properties nodes)) taken × (take count taken ≡ taken_front nodes count)
 
 some_inj : (xs ys : List Node) → map Some xs ≡ map Some ys → xs ≡ ys
 some_inj [] [] e = refl
@@ -62,14 +62,14 @@ module _ (old nodes : List Node) (count : ℕ) (some : 0 < count) (within : coun
   judged_same : (judgement : Judgement) → judgement ≡ judging (game_kind (root_properties old)) old → back count judgement ≡ judging_front nodes count
   judged_same judgement h = first_of (search rules, grind (arith, common_steps, judging_back, kinds))
 
-  taken_same : (keeps : GameKind → List TakenNode → Type 0) → keeps (game_kind (root_properties old)) (taken_on (game_kind (root_properties old)) old)
-      → (taken : List TakenNode) × keeps (game_kind (root_properties nodes)) taken × (take count taken ≡ taken_front nodes count)
+  taken_same : (keeps : GameKind → List LegalNode → Type 0) → keeps (game_kind (root_properties old)) (legal_on (game_kind (root_properties old)) old)
+      → (taken : List LegalNode) × keeps (game_kind (root_properties nodes)) taken × (take count taken ≡ taken_front nodes count)
   taken_same keeps h =
       let kind = game_kind (root_properties old) in
-      let taken = taken_on kind old in (
+      let taken = legal_on kind old in (
         taken,
         subst (λ k. keeps k taken) kinds h,
-        sym (taken_cut kind old count within) ∙ ap (taken_on kind) same ∙ ap (λ k. taken_on k (take count nodes)) kinds,
+        sym (taken_cut kind old count within) ∙ ap (legal_on kind) same ∙ ap (λ k. legal_on k (take count nodes)) kinds,
       )
 
 -- the cursor went on by a line
@@ -118,7 +118,7 @@ module _ (holds : SequencesState → Type 0) (cursor : SequencesState) (front : 
   some_front : 0 < front.nodes → 0 < front.sequences
   some_front known = first_of (search rules, grind (arith, common_steps))
 
-  module _ (keeps : GameKind → List TakenNode → Type 0) (j : Judgement) (of : (old : SequencesState) → holds old → HoldsLine keeps j old) where
+  module _ (keeps : GameKind → List LegalNode → Type 0) (j : Judgement) (of : (old : SequencesState) → holds old → HoldsLine keeps j old) where
     pub judgement_kept : KeepsJudgement (nodes_before cursor.at) front.nodes j
     judgement_kept some =
         by_old (back front.nodes j ≡ judging_front (nodes_before cursor.at) front.nodes) (some_front some) (λ old h moved shares.
@@ -128,15 +128,15 @@ module _ (holds : SequencesState → Type 0) (cursor : SequencesState) (front : 
     pub taken_kept : KeepsTaken keeps (nodes_before cursor.at) front.nodes
     taken_kept some =
         let nodes = nodes_before cursor.at in
-        by_old ((taken : List TakenNode) × keeps (game_kind (root_properties nodes)) taken × (take front.nodes taken ≡ taken_front nodes front.nodes)) (some_front some) (λ old h moved shares.
+        by_old ((taken : List LegalNode) × keeps (game_kind (root_properties nodes)) taken × (take front.nodes taken ≡ taken_front nodes front.nodes)) (some_front some) (λ old h moved shares.
         taken_same (nodes_before old.at) nodes front.nodes some (within_old old.at cursor.at front.nodes moved shares.nodes) (same_nodes old.at cursor.at front.nodes moved shares.nodes) keeps (of old h).taken)
 
   pub record_kept : (game : PiecesState) → ((old : SequencesState) → holds old → game ≡ whole_record (sequences_before old)) → RiseTo 0 cursor.ends (length (nodes_before cursor.at))
-      → 0 < front.sequences → cut (front.sequences + 1) game ≡ open_record (take front.sequences (sequences_before cursor))
+      → 0 < front.sequences → cut (front.sequences + 1) game ≡ unclosed_record (take front.sequences (sequences_before cursor))
   record_kept game of rise some =
-      by_old (cut (front.sequences + 1) game ≡ open_record (take front.sequences (sequences_before cursor))) some (λ old h moved shares.
+      by_old (cut (front.sequences + 1) game ≡ unclosed_record (take front.sequences (sequences_before cursor))) some (λ old h moved shares.
       let nodes = same_nodes old.at cursor.at front.nodes moved shares.nodes in
       let count : front.nodes ≡ end_of 0 cursor.ends front.sequences - 0 = omega (arith, (has_front old cursor front shares).count) in
       let same : take front.sequences (sequences_before cursor) ≡ take front.sequences (sequences_before old) =
       alike 0 cursor.ends old.ends (nodes_before cursor.at) (nodes_before old.at) (length (nodes_before cursor.at)) front.sequences rise (omega (arith, shares.more)) shares.ends (rw (← count) (sym nodes)) in
-      ap (cut (front.sequences + 1)) (of old h) ∙ record_back (sequences_before old) front.sequences ∙ ap (λ ps. open_record ps) (sym same))
+      ap (cut (front.sequences + 1)) (of old h) ∙ record_back (sequences_before old) front.sequences ∙ ap (λ ps. unclosed_record ps) (sym same))

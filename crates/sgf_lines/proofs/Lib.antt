@@ -11,7 +11,7 @@ pub mod Gathered
 pub mod Judgements
 pub mod PieceTexts
 pub mod Recordings
-pub mod TakenNodes
+pub mod LegalNodes
 pub mod Scripts
 pub mod Along
 pub mod Again

@@ -6,7 +6,7 @@ use Rattle.std.proofs.lemmas.List.{take-map, map-append}
 use Rattle.sgf_tree.specs.Tree.{Node}
 use Rattle.sgf_lines.specs.Record.{node_text, sgf_record}
 use Rattle.sgf_lines.specs.inner.Pieces.{PiecesState, pushed, closed, cut}
-use Rattle.sgf_lines.specs.inner.Recording.{open_record, whole_record}
+use Rattle.sgf_lines.specs.inner.Recording.{unclosed_record, whole_record}
 use Rattle.tree_lines.specs.Sequences.{RiseTo, sequences_of}
 use Rattle.tree_lines.proofs.Fronts.{parts_text}
 use Rattle.tree_lines.proofs.Lists.{front_more}
@@ -17,13 +17,13 @@ of_pieces pieces = record { pieces = codes "(" ∷ pieces; begun = [] }
 
 -- one sequence more
 pub record_more : (sequences : List (List Node)) (i : ℕ) (nodes : List Node) → slice_get sequences i ≡ Some nodes
-    → closed (pushed (open_record (take i sequences)) (flat_map node_text nodes)) ≡ open_record (take (i + 1) sequences)
+    → closed (pushed (unclosed_record (take i sequences)) (flat_map node_text nodes)) ≡ unclosed_record (take (i + 1) sequences)
 record_more sequences i nodes e =
     let text = flat_map node_text in
     ap of_pieces (sym (map-append text (take i sequences) (nodes ∷ [])) ∙ ap (map text) (sym (front_more sequences i nodes e)))
 
 -- back to the first sequences of a line
-pub record_back : (sequences : List (List Node)) (k : ℕ) → cut (k + 1) (whole_record sequences) ≡ open_record (take k sequences)
+pub record_back : (sequences : List (List Node)) (k : ℕ) → cut (k + 1) (whole_record sequences) ≡ unclosed_record (take k sequences)
 record_back sequences k =
     let next : k + 1 ≡ suc k = add-one k in
     ap (λ n. cut n (whole_record sequences)) next ∙ ap of_pieces (take-map (flat_map node_text) k sequences)

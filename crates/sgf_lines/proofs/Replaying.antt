@@ -20,16 +20,16 @@ use Rattle.board_points.specs.Point.{IsOn, points}
 use Rattle.go_board.specs.Grid.{Grid, empty_grid}
 use Rattle.go_board.specs.Clearing.{play, has_unreaching}
 use Rattle.board_points.specs.Values.{coordinate, point_value}
-use Rattle.go_board.specs.State.{State, with_area, set_up, turned}
+use Rattle.go_board.specs.State.{State, with_rectangle, set_up, turned}
 use Rattle.go_board.specs.Reason.{reason_of}
 use Rattle.tree_lines.specs.Lines.{Line}
 use Rattle.sgf_lines.specs.NodeContents.{Move, Stones, moves, stones, players, first_value}
 use Rattle.sgf_lines.specs.NodeValues.{move_value, operations, last_player}
 use Rattle.sgf_lines.specs.JudgedGames.{board, side_of, game_kind, root_properties}
 use Rattle.sgf_lines.specs.Step.{side_in, turn_step, move_step, setup_step, step_by, step}
-use Rattle.sgf_lines.specs.Walk.{TakenNode, IllegalNode, Walk, before_root, stepped, next_by, next, walk}
+use Rattle.sgf_lines.specs.Walk.{LegalNode, IllegalNode, Walk, before_root, stepped, next_by, next, walk}
 use Rattle.sgf_lines.specs.ListRow.{list_row}
-use Rattle.sgf_lines.specs.Script.{comment_row, comment_text, play_command, setup_commands, move_commands, node_script, taken_script, leaves_unreaching_by, leaves_unreaching, has_no_commands, board_commands, commands_by, script}
+use Rattle.sgf_lines.specs.Script.{comment_row, comment_text, play_command, setup_commands, move_commands, node_script, legal_script, leaves_unreaching_by, leaves_unreaching, has_no_commands, board_commands, commands_by, script}
 use Rattle.sgf_lines.specs.Replay.{Engine, no_board, sized, shows, refused, after_command, after_row, after_text, replayed}
 use Rattle.tree_lines.proofs.Lists.{Each}
 use Rattle.sgf_lines.proofs.ScriptRows.{IsWithin, Carries, takes_row, takes_nothing, takes_both, takes_comment, takes_text_rows, row_within, decimal_within, within_both, size_reads}
@@ -83,13 +83,13 @@ module _ (laws : BoardLaws) (side : ℕ) (small : side ≤ 25) where
   unfolding play
   play_full g k p full = grind (arith, common_steps)
 
-  setup_full : (g : Grid) (ops : List SetupOp) → IsFull side g → IsFull side (fold with_area g ops)
-  unfolding with_area
+  setup_full : (g : Grid) (ops : List SetupOp) → IsFull side g → IsFull side (fold with_rectangle g ops)
+  unfolding with_rectangle
   setup_full g [] full = full
   setup_full g (op ∷ ops) full =
       let listed : (colour : Point → Cell) → length (map colour (points g.side)) ≡ side * side =
       λ colour. length-map (points g.side) colour ∙ laws.listed g.side ∙ ap (λ n. n * n) full.0 in
-      setup_full (with_area g op) ops (full.0, listed _)
+      setup_full (with_rectangle g op) ops (full.0, listed _)
 
   set_full : (s : State) (ops : List SetupOp) (player : Option Colour) → IsFull side s.colouring → IsFull side (set_up s ops player).colouring
   set_full s [] player full = full
@@ -160,19 +160,19 @@ module _ (laws : BoardLaws) (side : ℕ) (small : side ≤ 25) where
   -- what the walk so far says in commands leads to its board
   abbrev IsSaid : Walk → Type 0
   IsSaid w = list_any leaves_unreaching w.taken ≡ false
-      → Carries (shows (empty_grid side)) (flat_map taken_script w.taken) (shows w.state.colouring) × IsFull side w.state.colouring
+      → Carries (shows (empty_grid side)) (flat_map legal_script w.taken) (shows w.state.colouring) × IsFull side w.state.colouring
 
   stepped_said : (w : Walk) (n : Node) (result : Result State Reason) → step w.state n ≡ result → IsSaid w → IsSaid (stepped w n result)
   stepped_said w n (Err reason) e said = said
   stepped_said w n (Ok t) e said = λ settled.
-      let p : TakenNode = record { node = n; after = t } in
+      let p : LegalNode = record { node = n; after = t } in
       let parts = any_append leaves_unreaching w.taken (p ∷ []) settled in
       let before = said parts.0 in
       let one = node_leads w.state t n before.1 (or_parts (leaves_unreaching p) false parts.1).0 e in
       let empty = shows (empty_grid side) in
-      let both = takes_both empty (shows w.state.colouring) (shows t.colouring) (flat_map taken_script w.taken) (node_script t n) before.0 one.0 in
-      let texts : flat_map taken_script (w.taken ++ p ∷ []) ≡ flat_map taken_script w.taken ++ node_script t n =
-      flat_map-append taken_script w.taken (p ∷ []) ∙ ap (λ x. flat_map taken_script w.taken ++ x) (append-nil (node_script t n)) in
+      let both = takes_both empty (shows w.state.colouring) (shows t.colouring) (flat_map legal_script w.taken) (node_script t n) before.0 one.0 in
+      let texts : flat_map legal_script (w.taken ++ p ∷ []) ≡ flat_map legal_script w.taken ++ node_script t n =
+      flat_map-append legal_script w.taken (p ∷ []) ∙ ap (λ x. flat_map legal_script w.taken ++ x) (append-nil (node_script t n)) in
       (subst (λ x. Carries empty x (shows t.colouring)) (sym texts) both, one.1)
 
   next_said : (w : Walk) (met : Option IllegalNode) (n : Node) → IsSaid w → IsSaid (next_by w met n)
@@ -214,7 +214,7 @@ script_replayed laws line side opens says =
     let small : side ≤ 25 = grind (arith, nat_tests, parts.0) in
     let empty = shows (empty_grid side) in
     let said = walk_said laws side small (before_root side) line.nodes (begun_said laws side small) parts.1 in
-    let played = flat_map taken_script w.taken in
+    let played = flat_map legal_script w.taken in
     let all : Carries no_board (board_commands side ++ played) (shows w.state.colouring) =
     grind (arith, common_steps, takes_both, takes_commands, has_point) in
     let commands : commands_by (game_kind (root_properties line.nodes)) line.nodes ≡ board_commands side ++ played =

@@ -11,7 +11,7 @@ use Rattle.sgf_lines.specs.Script.{comment_row, commands_by}
 use Rattle.sgf_lines.specs.Verdict.{verdict_of, verdict, IsVerdictAt, IsVerdictOf}
 use Rattle.tree_lines.specs.Cursor.{CursorState, IsAfterPlace}
 use Rattle.sgf_lines.specs.JudgedGames.{game_kind, root_properties}
-use Rattle.sgf_lines.specs.Walk.{taken_on}
+use Rattle.sgf_lines.specs.Walk.{legal_on}
 use Rattle.sgf_lines.specs.declared.verdict.Verdict.{Verdict}
 use Rattle.sgf_lines.specs.declared.options.Form.{Form}
 use Rattle.sgf_lines.specs.declared.options.Form.TheVariants.{Sgf as sgf_form, Gtp as gtp_form}
@@ -45,11 +45,11 @@ module _ (at : CursorState) (own : Line) (before : line_before at ≡ Some own) 
 
   -- in gtp form: its row as a comment, its commands, and an empty row
   pub made_script : (v : Verdict) → v ≡ verdict_of (nodes_before at) → (row : List ℕ) → row ≡ comment_row (row_of own v)
-      → (script : ScriptState) → script ≡ script_of (game_kind (root_properties (nodes_before at))) (taken_on (game_kind (root_properties (nodes_before at))) (nodes_before at)) → row ++ (script_text script ++ codes "\n") ≡ record_of gtp_form own
+      → (script : ScriptState) → script ≡ script_of (game_kind (root_properties (nodes_before at))) (legal_on (game_kind (root_properties (nodes_before at))) (nodes_before at)) → row ++ (script_text script ++ codes "\n") ≡ record_of gtp_form own
   made_script v told row is script said =
       let kind = game_kind (root_properties own.nodes) in
-      let same : script ≡ script_of kind (taken_on kind own.nodes) =
-      said ∙ ap (λ (ns : List Node). script_of (game_kind (root_properties ns)) (taken_on (game_kind (root_properties ns)) ns)) nodes_are in
+      let same : script ≡ script_of kind (legal_on kind own.nodes) =
+      said ∙ ap (λ (ns : List Node). script_of (game_kind (root_properties ns)) (legal_on (game_kind (root_properties ns)) ns)) nodes_are in
       ap (λ t. t ++ (script_text script ++ codes "\n")) (is ∙ ap comment_row (row_is v told))
       ∙ ap (λ t. comment_row (list_row own) ++ (t ++ codes "\n")) (ap script_text same ∙ script_put kind own.nodes)
       ∙ sym (append_assoc (comment_row (list_row own)) (commands_by kind own.nodes) (codes "\n"))

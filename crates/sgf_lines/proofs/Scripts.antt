@@ -11,12 +11,12 @@ use Rattle.go_board.specs.Grid.{Grid}
 use Rattle.go_board.specs.State.{State}
 use Rattle.sgf_lines.specs.declared.judging.step.Effect.{Effect}
 use Rattle.sgf_lines.specs.declared.judging.step.Effect.TheVariants.{Nothing, Stones as stones_set, Play as one_play}
-use Rattle.sgf_lines.specs.declared.judging.step.TakenStep.{TakenStep}
+use Rattle.sgf_lines.specs.declared.judging.step.LegalStep.{LegalStep}
 use Rattle.sgf_lines.specs.JudgedGames.{GameKind, not_go, bad_size, board}
 use Rattle.sgf_lines.specs.NodeContents.{Move, Stones, moves, stones}
-use Rattle.sgf_lines.specs.Walk.{TakenNode, Walk, taken_on}
-use Rattle.sgf_lines.specs.Script.{comment_rows, setup_commands, move_commands, taken_script, text_rows, comment_text, leaves_unreaching, leaves_unreaching_by, commands_of, commands_by}
-use Rattle.sgf_lines.specs.inner.Judging.{IsEffectBy, IsStepOf, IsStepTaken}
+use Rattle.sgf_lines.specs.Walk.{LegalNode, Walk, legal_on}
+use Rattle.sgf_lines.specs.Script.{comment_rows, setup_commands, move_commands, legal_script, text_rows, comment_text, leaves_unreaching, leaves_unreaching_by, commands_of, commands_by}
+use Rattle.sgf_lines.specs.inner.Judging.{IsEffectBy, IsStepOf, IsLegalStep}
 use Rattle.sgf_lines.specs.inner.Scripting.{effect_script, step_script, is_unreaching, no_script, said_on, script_back, script_text, script_along, script_of}
 use Rattle.sgf_lines.proofs.Recordings.{joined}
 
@@ -24,24 +24,24 @@ use Rattle.sgf_lines.proofs.Recordings.{joined}
 lt_suc : (a n : ℕ) → nat_lt (suc a) (suc n) ≡ nat_lt a n
 lt_suc a n = first_of (search rules, grind (arith, common_steps, le-ltb, lt-ltb))
 
-any_is : (ts : List TakenNode) → nat_lt (position_or_len leaves_unreaching ts) (length ts) ≡ list_any leaves_unreaching ts
+any_is : (ts : List LegalNode) → nat_lt (position_or_len leaves_unreaching ts) (length ts) ≡ list_any leaves_unreaching ts
 any_is [] = refl
 any_is (t ∷ ts) = first_of (search rules, grind (arith, common_steps, lt-ltb, lt_suc, any_is ts))
 
-position_front : (n : ℕ) (ts : List TakenNode) → position_or_len leaves_unreaching (take n ts) ≡ min n (position_or_len leaves_unreaching ts)
+position_front : (n : ℕ) (ts : List LegalNode) → position_or_len leaves_unreaching (take n ts) ≡ min n (position_or_len leaves_unreaching ts)
 position_front zero ts = omega arith
 position_front (suc n) [] = omega arith
 position_front (suc n) (t ∷ ts) = first_of (search rules, grind (arith, common_steps, position_front n ts))
 
--- one taken node more
-along_more : (side : ℕ) (ts : List TakenNode) (t : TakenNode) → said_on (script_along side ts) (leaves_unreaching t) (taken_script t) ≡ script_along side (ts ++ t ∷ [])
+-- one legal node more
+along_more : (side : ℕ) (ts : List LegalNode) (t : LegalNode) → said_on (script_along side ts) (leaves_unreaching t) (legal_script t) ≡ script_along side (ts ++ t ∷ [])
 along_more side ts t = first_of (search rules, grind (arith, common_steps, length-map, map-append, position_or_len_push))
 
 -- back to the first ones
 no_script_back : (n : ℕ) → script_back n no_script ≡ no_script
 no_script_back n = first_of (search rules, grind (arith, common_steps, add-one))
 
-along_back : (side n : ℕ) (ts : List TakenNode) → script_back n (script_along side ts) ≡ script_along side (take n ts)
+along_back : (side n : ℕ) (ts : List LegalNode) → script_back n (script_along side ts) ≡ script_along side (take n ts)
 along_back side n ts = first_of (search rules, grind (arith, common_steps, add-one, no_script_back, position_front, take-map))
 
 -- what is put of it
@@ -49,23 +49,23 @@ along_text : (side : ℕ) (walked : Walk) → script_text (script_along side wal
 along_text side walked = first_of (search rules, grind (arith, common_steps, any_is, joined, length-map, lt_suc))
 
 -- the script of a game whose root says this
-pub script_put : (kind : GameKind) (nodes : List Node) → script_text (script_of kind (taken_on kind nodes)) ≡ commands_by kind nodes
+pub script_put : (kind : GameKind) (nodes : List Node) → script_text (script_of kind (legal_on kind nodes)) ≡ commands_by kind nodes
 script_put kind nodes = first_of (search rules, grind (arith, common_steps, along_text))
 
-pub script_cut : (kind : GameKind) (taken : List TakenNode) (n : ℕ) → script_back n (script_of kind taken) ≡ script_of kind (take n taken)
+pub script_cut : (kind : GameKind) (taken : List LegalNode) (n : ℕ) → script_back n (script_of kind taken) ≡ script_of kind (take n taken)
 script_cut kind taken n = first_of (search rules, grind (arith, common_steps, along_back, no_script_back))
 
-script_more : (kind : GameKind) (taken : List TakenNode) (t : TakenNode) → said_on (script_of kind taken) (leaves_unreaching t) (taken_script t) ≡ script_of kind (taken ++ t ∷ [])
+script_more : (kind : GameKind) (taken : List LegalNode) (t : LegalNode) → said_on (script_of kind taken) (leaves_unreaching t) (legal_script t) ≡ script_of kind (taken ++ t ∷ [])
 script_more not_go taken t = refl
 script_more bad_size taken t = refl
 script_more (board side) taken t = along_more side taken t
 
 -- what a step says of its node
-module _ (s : State) (n : Node) (taken : TakenStep) (h : IsStepOf s.colouring.side n taken) where
+module _ (s : State) (n : Node) (taken : LegalStep) (h : IsStepOf s.colouring.side n taken) where
   comment : text_rows (comment_text (option_copied taken.comment)) ≡ comment_rows n
   comment = ap (λ o. text_rows (comment_text o)) h.comment_is
 
-  step_says : step_script s.colouring taken ≡ taken_script (record { node = n; after = s })
+  step_says : step_script s.colouring taken ≡ legal_script (record { node = n; after = s })
   step_says =
       ap (λ bs. bs ++ effect_script s.colouring taken.effect) comment ∙ by taken.effect (moves n) (stones n) h.effect_is
     where
@@ -83,9 +83,9 @@ module _ (s : State) (n : Node) (taken : TakenStep) (h : IsStepOf s.colouring.si
       by effect ms ts known = first_of (search rules, grind (arith, common_steps))
 
 -- a step that was taken
-module _ (kind : GameKind) (grid : Grid) (step : TakenStep) (t : TakenNode) (h : IsStepTaken kind grid step t) where
+module _ (kind : GameKind) (grid : Grid) (step : LegalStep) (t : LegalNode) (h : IsLegalStep kind grid step t) where
   on_side : IsStepOf t.after.colouring.side t.node step
   on_side = subst (λ (g : Grid). IsStepOf g.side t.node step) h.board_is h.step_is
 
-  pub says : (taken : List TakenNode) → said_on (script_of kind taken) (is_unreaching grid step.effect) (step_script grid step) ≡ script_of kind (taken ++ t ∷ [])
+  pub says : (taken : List LegalNode) → said_on (script_of kind taken) (is_unreaching grid step.effect) (step_script grid step) ≡ script_of kind (taken ++ t ∷ [])
   says taken = rw (h.board_is, step_unreaching t.after t.node step on_side, step_says t.after t.node step on_side) (script_more kind taken t)

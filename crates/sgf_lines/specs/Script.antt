@@ -21,7 +21,7 @@ use Rattle.tree_lines.specs.Lines.{Line}
 use Rattle.sgf_lines.specs.NodeContents.{Move, Stones, moves, stones, first_value}
 use Rattle.sgf_lines.specs.NodeValues.{move_value}
 use Rattle.sgf_lines.specs.JudgedGames.{GameKind, not_go, bad_size, board, game_kind, root_properties}
-use Rattle.sgf_lines.specs.Walk.{TakenNode, Walk, walk}
+use Rattle.sgf_lines.specs.Walk.{LegalNode, Walk, walk}
 use Rattle.sgf_lines.specs.ListRow.{list_row}
 
 -- a row that is a comment
@@ -88,15 +88,15 @@ node_script after node =
     let grid : Grid = after.colouring in
     comment_rows node ++ setup_commands grid (stones node) ++ move_commands grid.side (moves node)
 
-abbrev pub taken_script : TakenNode → List ℕ
-taken_script taken = node_script taken.after taken.node
+abbrev pub legal_script : LegalNode → List ℕ
+legal_script taken = node_script taken.after taken.node
 
 -- whether a node's setup leaves a stone without a liberty on the board; no moves lead to such a board
 abbrev pub leaves_unreaching_by : Grid → List Stones → Bool
 leaves_unreaching_by grid [] = false
 leaves_unreaching_by grid (value ∷ values) = has_unreaching grid
 
-abbrev pub leaves_unreaching : TakenNode → Bool
+abbrev pub leaves_unreaching : LegalNode → Bool
 leaves_unreaching taken = leaves_unreaching_by taken.after.colouring (stones taken.node)
 
 -- whether a walk can't be written as commands: the board has more columns than
@@ -111,7 +111,7 @@ board_commands side = codes "boardsize " ++ decimal side ++ codes "\nclear_board
 -- the commands of a walk: those of all nodes before the illegal one
 abbrev pub commands_of : ℕ → Walk → List ℕ
 commands_of side walked =
-    if has_no_commands side walked then [] else board_commands side ++ flat_map taken_script walked.taken
+    if has_no_commands side walked then [] else board_commands side ++ flat_map legal_script walked.taken
 
 -- a line that isn't judged has no commands
 abbrev pub commands_by : GameKind → List Node → List ℕ

@@ -6,8 +6,8 @@ use Rattle.go_board.specs.State.{State, starting}
 use Rattle.sgf_lines.specs.JudgedGames.{GameKind, not_go, bad_size, board}
 use Rattle.sgf_lines.specs.Step.{step}
 
--- a node whose step was taken, and the state after it
-pub record TakenNode : Type 0 where
+-- a node whose step was taken, so it is legal, and the state after it
+pub record LegalNode : Type 0 where
   pub node : Node
   pub after : State
 
@@ -18,7 +18,7 @@ pub record IllegalNode : Type 0 where
 
 -- the nodes whose steps were taken; the state after them; and the illegal node, if one was met
 pub record Walk : Type 0 where
-  pub taken : List TakenNode
+  pub taken : List LegalNode
   pub state : State
   pub illegal : Option IllegalNode
 
@@ -45,15 +45,15 @@ abbrev pub walk : ℕ → List Node → Walk
 walk side nodes = fold next (before_root side) nodes
 
 -- the nodes of a game of this kind whose steps were taken; none if the game isn't judged
-abbrev pub taken_on : GameKind → List Node → List TakenNode
-taken_on not_go nodes = []
-taken_on bad_size nodes = []
-taken_on (board side) nodes = (walk side nodes).taken
+abbrev pub legal_on : GameKind → List Node → List LegalNode
+legal_on not_go nodes = []
+legal_on bad_size nodes = []
+legal_on (board side) nodes = (walk side nodes).taken
 
 -- the nodes that were judged: those whose steps were taken, and the illegal one
 abbrev pub judged_by : Walk → List Node
 judged_by walked =
-    map (λ (taken : TakenNode). taken.node) walked.taken ++ map (λ (met : IllegalNode). met.node) (option_to_list walked.illegal)
+    map (λ (taken : LegalNode). taken.node) walked.taken ++ map (λ (met : IllegalNode). met.node) (option_to_list walked.illegal)
 
 -- the state after nodes whose steps are taken one after another, from the state `from` on
 pub data IsAfter : State → List Node → State → Type 0 where

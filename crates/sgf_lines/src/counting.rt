@@ -9,7 +9,7 @@ use crate::fault::RunFault;
 use crate::form::text_row::TextRow;
 use crate::run::read_all;
 use byte_streams::{Sink, SinkFault, Source, put_all};
-use sgf_tree::{MAX_LENGTH, measure};
+use sgf_tree::{MAX_LENGTH, read_extent};
 use std::alloc::Global;
 
 /// The counts of a collection.
@@ -50,7 +50,7 @@ pub fn count<S: Source>(alloc: Global, source: &mut S) -> Result<Counts, RunFaul
 fn count_text(alloc: Global, text: &[u8]) -> Result<Counts, RunFault>
     ensures { (source new_source : SourceState) → HasReadAll source new_source text.now → IsCount source new_source result }
 {
-    match measure(alloc, text) {
+    match read_extent(alloc, text) {
         Ok(extent) => Ok(Counts {
             games: extent.games as u64,
             nodes: extent.nodes as u64,

@@ -57,17 +57,17 @@
 //! | at most 64 MiB of a source | `read_some` (`run`) |
 //! | which values are moves, stones and players; that KM, HA and others have no effect | `kind_of`; `Contents::of_lone` for a node that is recognized at a glance; `NEEDED_NAMES` says which names no such node has (`judging/contents`) |
 //! | which games are judged: GM; SZ | `is_go`; `size`; of several the first counts: `game_and_side` (`judging/root`) |
-//! | the first reason of a node: `mixed`, `two-moves` or `bad-setup`; then `bad-point` | `effect_of`; `take_move` (`judging/step`); a faulty value of a setup: `push_areas`, `last_player` (`judging/contents`) |
+//! | the first reason of a node: `mixed`, `two-moves` or `bad-setup`; then `bad-point` | `effect_of`; `take_move` (`judging/step`); a faulty value of a setup: `push_rectangles`, `last_player` (`judging/contents`) |
 //! | which values are passes; the last value of PL, which counts | `is_pass` (`node_values`); `last_player`, `with_player` (`judging/contents`); what PL does then: `Referee::setup` of `go_board` |
 //! | the other reasons | `Referee::reason_before_repeat` of `go_board` (`referee/turn`); for `repeat` `Past::play` of `go_board` (`past`) |
 //! | TURN, PLACE and REASON of the first illegal node | `Judge::take` (`judging/judge`) |
 //! | the verdict of a line; `over` or `open` | `Judge::verdict` (`judging/judge`); `Game::verdict` (`judging/game`), which keeps the score of a board while no node changes it |
 //! | PLACE, GAME and NODES of a row | `SequenceCursor::place`, `SequenceCursor::game`, `SequenceCursor::len` of `tree_lines` (`sequence_cursor`) |
-//! | a row; the row of counts | `TextRow::lay_out`; `TextRow::lay_out_counts` (`form/text_row`); the counts: `measure` of `sgf_tree` (`reader`) |
+//! | a row; the row of counts | `TextRow::lay_out`; `TextRow::lay_out_counts` (`form/text_row`); the counts: `read_extent` of `sgf_tree` (`reader`) |
 //! | that a script stops before an illegal node | `judge_sequence` (`judging/judged`) |
 //! | which lines have no commands: not judged, or over side 25; a setup leaves a stone without a liberty | `Script::keep`; `leaves_unreaching`, `Script::text` (`form/script`) |
 //! | a script; a node's commands | `Script::begin`, `Script::say`, `Script::text` (`form/script`); `push_step` (`form/commands`) |
-//! | a game without variations | `SgfForm::follow` (`form/sgf`); its nodes: `Outline::push_sequence` of `sgf_tree` (`outline`); what it leaves out: `Stretch::then` of `sgf_tree` (`reader/stretch`), `copy_capitals` of `sgf_tree` (`reader/properties`) |
+//! | a game without variations | `SgfForm::follow` (`form/sgf`); its nodes: `Outline::push_sequence` of `sgf_tree` (`outline`); what it leaves out: `Segment::then` of `sgf_tree` (`reader/segment`), `copy_capitals` of `sgf_tree` (`reader/properties`) |
 //!
 //! A run reads from a [`Source`] and writes to a [`Sink`], both of the crate `byte_streams`.
 //!

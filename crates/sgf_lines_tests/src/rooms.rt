@@ -4,7 +4,7 @@
 
 use crate::seen::Seen;
 use crate::tree::collection;
-use sgf_tree::{Collection, Extent, ReadFault, measure};
+use sgf_tree::{Collection, Extent, ReadFault, read_extent};
 use std::alloc::Global;
 
 /// The number of bytes of the longest text of many nodes.
@@ -137,7 +137,7 @@ fn measures(alloc: Global, text: &[u8], counts: (usize, usize, usize), seen: &mu
         leaves,
     };
     seen.call();
-    let is_so = measure(alloc, text) == Ok(extent);
+    let is_so = read_extent(alloc, text) == Ok(extent);
     seen.right(is_so, "the extent of a text without long values");
 }
 
@@ -169,10 +169,10 @@ fn measures_long(alloc: Global, text: &[u8], seen: &mut Seen) {
         leaves: 1,
     };
     seen.call();
-    let measured = match measure(alloc, text) {
+    let measured = match read_extent(alloc, text) {
         Err(ReadFault::Memory) => {
             seen.want();
-            measure(alloc, text)
+            read_extent(alloc, text)
         }
         measured => measured,
     };

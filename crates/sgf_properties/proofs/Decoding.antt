@@ -2,7 +2,7 @@
 use Rattle.std.proofs.Common.{◌≡◌, ◌≢◌, ℕ, Bool, true, false, ◌==◌, if◌then◌else◌, ◌-◌, ◌≤◌, List, [], ◌∷◌, ◌++◌, length, get_or, take, drop, refl, sym, ap, subst, ◌∙◌, append-nil, arith, rules}
 use Rattle.std.proofs.lemmas.Bool.{eqb-true}
 use Rattle.std.proofs.lemmas.List.{take_rest}
-use Rattle.sgf_properties.specs.Text.{is_break, is_pair, MakesNoPair, IsDecoded, nothing, last_backslash, escaped_pair, escaped_break, escaped_byte, pair, line_break, plain_byte, spaced, unescaped, after_backslash, text_of}
+use Rattle.sgf_properties.specs.Text.{is_break, is_pair, MakesNoPair, IsDecoded, nothing, last_backslash, escaped_pair, escaped_break, escaped_byte, pair, line_break, ordinary_byte, spaced, unescaped, after_backslash, text_of}
 
 no_backslash : (b : ℕ) → (b == 92) ≡ false → b ≢ 92
 no_backslash b h = grind arith
@@ -25,7 +25,7 @@ front-byte b rest text h none d = by (is_break b) refl
   where
     by : (c : Bool) → is_break b ≡ c → IsDecoded (b ∷ rest) (unescaped b ∷ text)
     by true e = rw e (line_break e none d)
-    by false e = rw e (plain_byte (no_backslash b h) e d)
+    by false e = rw e (ordinary_byte (no_backslash b h) e d)
 
 -- a byte after a `\`
 after-byte : (b : ℕ) (rest text : List ℕ) → MakesNoPair b rest → IsDecoded rest text → IsDecoded (92 ∷ b ∷ rest) (after_backslash b ++ text)
@@ -100,4 +100,4 @@ decoded-is (escaped_break {byte} {rest} h none d) = sym (text-after byte rest no
 decoded-is (escaped_byte {byte} {rest} h d) = search (rules, text-after, no-pair, (decoded-is d))
 decoded-is (pair {first} {second} {rest} h d) = ap (λ t. 10 ∷ t) (decoded-is d) ∙ sym (text-pair first second rest h)
 decoded-is (line_break {byte} {rest} h none d) = search (rules, text-front, break_no_backslash, (decoded-is d))
-decoded-is (plain_byte {byte} {rest} other h d) = search (rules, text-front, not_backslash, no-pair, (decoded-is d))
+decoded-is (ordinary_byte {byte} {rest} other h d) = search (rules, text-front, not_backslash, no-pair, (decoded-is d))

@@ -3,7 +3,7 @@ use Rattle.std.proofs.lemmas.Grind.{common_steps}
 use Rattle.std.proofs.Common.{◌≡◌, ℕ, ◌+◌, ◌-◌, ◌≤◌, List, ◌∷◌, length, drop, sym, ap, ◌∙◌, arith}
 use Rattle.std.proofs.lemmas.List.{drop-drop}
 use Rattle.sgf_properties.specs.Property.{Property}
-use Rattle.sgf_properties.specs.RawValue.{IsValue, no_unit, plain, escaped}
+use Rattle.sgf_properties.specs.RawValue.{IsValue, no_unit, ordinary, escaped}
 use Rattle.sgf_properties.specs.Spelling.{WhiteSpace, no_white_space, white_space, Letters, no_letter, upper, lower, IsPropValue, prop_value, ArePropValues, no_value, value, IsProperty, property, AreProperties, no_property, properties}
 
 -- s is the end of t
@@ -30,7 +30,7 @@ module _ {t : List ℕ} where
 
   pub end-IsValue : {v s r : List ℕ} → IsValue v s r → IsEnd t s → IsEnd t r
   end-IsValue no_unit e = e
-  end-IsValue (plain x y v) e = end-IsValue v (tail e)
+  end-IsValue (ordinary x y v) e = end-IsValue v (tail e)
   end-IsValue (escaped v) e = end-IsValue v (tail (tail e))
 
   pub end-IsPropValue : {v s r : List ℕ} → IsPropValue v s r → IsEnd t s → IsEnd t r

@@ -3,7 +3,7 @@ use Rattle.std.proofs.lemmas.Grind.{common_steps}
 use Rattle.std.proofs.Common.{◌≡◌, ℕ, zero, suc, ◌+◌, ◌<◌, ◌≤◌, Bool, true, false, ◌==◌, if◌then◌else◌, IsTrue, List, [], ◌∷◌, length, filter, refl, sym, ap, subst, ◌∙◌, ◌⊎◌, inl, inr, arith, ne_eqb, rules}
 use Rattle.std.proofs.lemmas.Bool.{false≢true, or_right}
 use Rattle.sgf_properties.specs.Property.{Property}
-use Rattle.sgf_properties.specs.RawValue.{IsValue, no_unit, plain, escaped}
+use Rattle.sgf_properties.specs.RawValue.{IsValue, no_unit, ordinary, escaped}
 use Rattle.sgf_properties.specs.Spelling.{is_white_space, is_upper, WhiteSpace, no_white_space, white_space, Letters, no_letter, upper, lower, IsPropValue, prop_value, ArePropValues, no_value, value, IsProperty, property, AreProperties, no_property, properties}
 use Rattle.sgf_properties.specs.Front.{is_letter, left_after, front, raw_value, after_raw_value, by_front, values_up_to, after_values_up_to, values_in, property_from, name_in, properties_up_to, properties_in, NoValueFollows, NoPropertyFollows}
 use Rattle.sgf_properties.specs.inner.Iterating.{IsNoPropValue}
@@ -84,8 +84,8 @@ value-parts : {v s r : List ℕ} → IsValue v s (93 ∷ r) → (raw_value s ≡
 unfolding raw_value after_raw_value
 value-parts {r = []} no_unit = (refl, refl)
 value-parts {r = b ∷ r} no_unit = (refl, refl)
-value-parts {s = b ∷ []} (plain x y h) = elim h [ ]
-value-parts {s = b ∷ c ∷ s} (plain x y h) = search (rules, ne_eqb, (value-parts h))
+value-parts {s = b ∷ []} (ordinary x y h) = elim h [ ]
+value-parts {s = b ∷ c ∷ s} (ordinary x y h) = search (rules, ne_eqb, (value-parts h))
 value-parts (escaped {b} h) = let k = value-parts h in (ap (λ u. 92 ∷ b ∷ u) k.0, k.1)
 
 -- no value in front

@@ -2,13 +2,13 @@
 use Rattle.std.proofs.lemmas.Grind.{common_steps}
 use Rattle.std.proofs.Common.{◌≡◌, ◌∙◌, ℕ, zero, suc, ◌+◌, ◌*◌, ◌/◌, ◌%◌, ◌^◌, ◌<◌, ◌≤◌, List, [], ◌∷◌, length, get_or, refl, sym, ap, subst, IsTrue, arith}
 use Rattle.std.proofs.lemmas.Bool.{cases_lt}
-use Rattle.sgf_properties.specs.Offsets.{is_plain, IsPoint, ArePoints}
+use Rattle.sgf_properties.specs.Offsets.{is_ordinary, IsPoint, ArePoints}
 use Rattle.sgf_properties.proofs.PlacedBytes
 use Rattle.sgf_properties.proofs.PlacedBytes.{above}
-use Rattle.sgf_properties.proofs.ValueEnds.{other-plain}
+use Rattle.sgf_properties.proofs.ValueEnds.{other-ordinary}
 
-pub other-than : (b : ℕ) → b < 256 → above b 94 ≤ 253 → IsTrue (is_plain b)
-other-than b fits h = other-plain b (λ e. omega (arith, h)) (λ e. omega (arith, h))
+pub other-than : (b : ℕ) → b < 256 → above b 94 ≤ 253 → IsTrue (is_ordinary b)
+other-than b fits h = other-ordinary b (λ e. omega (arith, h)) (λ e. omega (arith, h))
 
 -- a byte that is in place, which stands at `j`
 pub in-place : (least most : List ℕ) (wide : length least ≡ 16) (wide' : length most ≡ 16) (t : List ℕ) (at : ℕ) (room : at + 16 ≤ length t) (i j : ℕ) → j ≡ at + i → i < 16

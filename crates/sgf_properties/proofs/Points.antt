@@ -5,7 +5,7 @@ use Rattle.sgf_properties.specs.Spelling.{IsPropValue, ArePropValues, no_value, 
 use Rattle.sgf_properties.specs.Offsets.{IsValueEnd, IsPoint, ArePoints, IsBracket}
 use Rattle.sgf_properties.proofs.Iterating.{first-value}
 use Rattle.sgf_properties.proofs.NameEnds.{bracket-here}
-use Rattle.sgf_properties.proofs.ValueUnits.{no-units, plain-units, units-ended}
+use Rattle.sgf_properties.proofs.ValueUnits.{no-units, ordinary-units, units-ended}
 
 module _ (t : List ℕ) where
   -- the first three of four more
@@ -32,7 +32,7 @@ module _ (t : List ℕ) where
   value-end at point =
       let pair = point.value in
       let same : at + 1 + 2 ≡ at + 3 = omega arith in
-      subst (IsValueEnd t (at + 1)) same (units-ended t (at + 1) (at + 1 + 2) (plain-units t (at + 1) (at + 1) (at + 1 + 2) (no-units t (at + 1)) pair.plain) pair.within pair.bracket)
+      subst (IsValueEnd t (at + 1)) same (units-ended t (at + 1) (at + 1 + 2) (ordinary-units t (at + 1) (at + 1) (at + 1 + 2) (no-units t (at + 1)) pair.ordinary) pair.within pair.bracket)
 
   -- the first of the values, and those after it
   pub first-point : (at end count : ℕ) → at + 4 * suc count ≡ end → ((i : ℕ) → i < suc count → IsPoint t (at + 4 * i)) → IsPoint t at

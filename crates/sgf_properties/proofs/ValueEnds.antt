@@ -7,7 +7,7 @@ use Rattle.std.proofs.lemmas.Bool.{and_parts, not-true, eqb-false, eq-eqb}
 use Rattle.memchr.specs.Find.{IsFirstByte, is_byte}
 use Rattle.std.proofs.lemmas.List.{drop-drop}
 use Rattle.sgf_properties.specs.inner.Searches.{HasNoBracket, IsNextBracket}
-use Rattle.sgf_properties.specs.Offsets.{is_plain}
+use Rattle.sgf_properties.specs.Offsets.{is_ordinary}
 
 pub drop-span : {A : Type 0} (t : List A) (a b : ℕ) → a ≤ b → drop (b - a) (drop a t) ≡ drop b t
 drop-span t a b le = let e : a + (b - a) ≡ b = omega arith in drop-drop (b - a) a t ∙ ap (λ k. drop k t) e
@@ -18,13 +18,13 @@ span-join t a b c le le' =
     let e : c - a ≡ (b - a) + (c - b) = omega arith in
     rw e (sym (take-add (b - a) (c - b) (drop a t) ∙ ap (λ xs. take (b - a) (drop a t) ++ take (c - b) xs) (drop-span t a b le)))
 
--- a plain byte is neither `]` nor `\`
-pub plain-other : (b : ℕ) → is_plain b ≡ true → (b ≢ 93) × (b ≢ 92)
-plain-other b h = grind (arith, common_steps, and_parts, not, eqb-false, not-true)
+-- an ordinary byte is neither `]` nor `\`
+pub ordinary-other : (b : ℕ) → is_ordinary b ≡ true → (b ≢ 93) × (b ≢ 92)
+ordinary-other b h = grind (arith, common_steps, and_parts, not, eqb-false, not-true)
 
--- and a byte that is neither is plain
-pub other-plain : (b : ℕ) → b ≢ 93 → b ≢ 92 → is_plain b ≡ true
-other-plain b x y = rw (ne_eqb b 93 x, ne_eqb b 92 y)
+-- and a byte that is neither is ordinary
+pub other-ordinary : (b : ℕ) → b ≢ 93 → b ≢ 92 → is_ordinary b ≡ true
+other-ordinary b x y = rw (ne_eqb b 93 x, ne_eqb b 92 y)
 
 span-at : (t : List ℕ) (end i : ℕ) → end ≤ i → i < length t → get_or (slice_range t end (length t)) (i - end) 0 ≡ get_or t i 0
 span-at t end i le lt = grind (arith, common_steps, get_or-take, get_or-drop)

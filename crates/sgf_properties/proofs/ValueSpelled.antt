@@ -2,23 +2,23 @@
 use Rattle.std.proofs.lemmas.Grind.{common_steps}
 use Rattle.std.proofs.Common.{◌≡◌, ◌≢◌, ℕ, zero, suc, ◌+◌, ◌-◌, ◌<◌, ◌≤◌, List, [], ◌∷◌, ◌++◌, length, get_or, take, drop, slice_range, refl, sym, ap, subst, ◌∙◌, arith, length-drop, get_or-drop}
 use Rattle.std.proofs.lemmas.List.{drop-drop}
-use Rattle.sgf_properties.specs.RawValue.{IsValue, no_unit, plain, escaped}
-use Rattle.sgf_properties.specs.Offsets.{ArePlain, SpellsValue}
+use Rattle.sgf_properties.specs.RawValue.{IsValue, no_unit, ordinary, escaped}
+use Rattle.sgf_properties.specs.Offsets.{AreOrdinary, SpellsValue}
 use Rattle.sgf_properties.specs.inner.Searches.{SpellsNoValue}
-use Rattle.sgf_properties.proofs.ValueEnds.{drop-span, span-join, plain-other}
+use Rattle.sgf_properties.proofs.ValueEnds.{drop-span, span-join, ordinary-other}
 
 -- units after units
 value-join : {u v s m r : List ℕ} → IsValue u s m → IsValue v m r → IsValue (u ++ v) s r
 value-join no_unit k = k
-value-join (plain x y h) k = plain x y (value-join h k)
+value-join (ordinary x y h) k = ordinary x y (value-join h k)
 value-join (escaped h) k = escaped (value-join h k)
 
--- plain bytes are units
-plain-units : (n : ℕ) (s : List ℕ) → n ≤ length s → ((i : ℕ) → i < n → (get_or s i 0 ≢ 93) × (get_or s i 0 ≢ 92)) → IsValue (take n s) s (drop n s)
-plain-units zero s le h = no_unit
-plain-units (suc n) [] le h = absurd (omega arith)
-plain-units (suc n) (b ∷ s) le h =
-    let here = h 0 (omega arith) in plain here.0 here.1 (plain-units n s (omega arith) (λ i lt. h (suc i) (omega arith)))
+-- ordinary bytes are units
+ordinary-units : (n : ℕ) (s : List ℕ) → n ≤ length s → ((i : ℕ) → i < n → (get_or s i 0 ≢ 93) × (get_or s i 0 ≢ 92)) → IsValue (take n s) s (drop n s)
+ordinary-units zero s le h = no_unit
+ordinary-units (suc n) [] le h = absurd (omega arith)
+ordinary-units (suc n) (b ∷ s) le h =
+    let here = h 0 (omega arith) in ordinary here.0 here.1 (ordinary-units n s (omega arith) (λ i lt. h (suc i) (omega arith)))
 
 -- and so is a `\` with the byte after it
 escape-unit : (s : List ℕ) → 2 ≤ length s → get_or s 0 0 ≡ 92 → IsValue (take 2 s) s (drop 2 s)
@@ -33,14 +33,14 @@ module _ (t : List ℕ) (at : ℕ) where
   spelled-more : (a b : ℕ) → at ≤ a → a ≤ b → SpellsValue t at a → SpellsValue t a b → SpellsValue t at b
   spelled-more a b low le h k = rw (← span-join t at a b low le) (value-join h k)
 
-  pub spelled-plain : (a b : ℕ) → at ≤ a → SpellsValue t at a → ArePlain t a b → SpellsValue t at b
-  spelled-plain a b low h run =
+  pub spelled-ordinary : (a b : ℕ) → at ≤ a → SpellsValue t at a → AreOrdinary t a b → SpellsValue t at b
+  spelled-ordinary a b low h run =
       let le : a ≤ b = run.rises in
       let units : IsValue (take (b - a) (drop a t)) (drop a t) (drop (b - a) (drop a t)) =
-      plain-units (b - a) (drop a t) (omega (arith, run.within, length-drop a t))
+      ordinary-units (b - a) (drop a t) (omega (arith, run.within, length-drop a t))
       (λ i lt.
       let same : get_or (drop a t) i 0 ≡ get_or t (a + i) 0 = get_or-drop a t i 0 in
-      subst (λ c. (c ≢ 93) × (c ≢ 92)) (sym same) (plain-other (get_or t (a + i) 0) (run.passing (a + i) (omega arith) (omega arith)))) in
+      subst (λ c. (c ≢ 93) × (c ≢ 92)) (sym same) (ordinary-other (get_or t (a + i) 0) (run.passing (a + i) (omega arith) (omega arith)))) in
       spelled-more a b low le h (subst (IsValue (slice_range t a b) (drop a t)) (drop-span t a b le) units)
 
   pub spelled-escape : (a : ℕ) → at ≤ a → a + 1 < length t → get_or t a 0 ≡ 92 → SpellsValue t at a → SpellsValue t at (a + 2)
@@ -54,29 +54,29 @@ module _ (t : List ℕ) (at : ℕ) where
 -- a value has one end
 pub value-same : {u v s q r : List ℕ} → IsValue u s (93 ∷ q) → IsValue v s (93 ∷ r) → (u ≡ v) × (q ≡ r)
 value-same no_unit no_unit = (refl, refl)
-value-same no_unit (plain x y k) = absurd (x refl)
-value-same (plain x y h) no_unit = absurd (x refl)
-value-same (plain {b} x y h) (plain z w k) = let both = value-same h k in (ap (λ c. b ∷ c) both.0, both.1)
-value-same (plain x y h) (escaped k) = absurd (y refl)
-value-same (escaped h) (plain z w k) = absurd (w refl)
+value-same no_unit (ordinary x y k) = absurd (x refl)
+value-same (ordinary x y h) no_unit = absurd (x refl)
+value-same (ordinary {b} x y h) (ordinary z w k) = let both = value-same h k in (ap (λ c. b ∷ c) both.0, both.1)
+value-same (ordinary x y h) (escaped k) = absurd (y refl)
+value-same (escaped h) (ordinary z w k) = absurd (w refl)
 value-same (escaped {b} h) (escaped k) = let both = value-same h k in (ap (λ c. 92 ∷ b ∷ c) both.0, both.1)
 
 -- and none where the text ends in it
 pub value-unended : {u v s r : List ℕ} → IsValue u s [] → ¬ IsValue v s (93 ∷ r)
 value-unended no_unit k = elim k [ ]
-value-unended (plain x y h) no_unit = x refl
-value-unended (plain x y h) (plain z w k) = value-unended h k
-value-unended (plain x y h) (escaped k) = y refl
-value-unended (escaped h) (plain z w k) = w refl
+value-unended (ordinary x y h) no_unit = x refl
+value-unended (ordinary x y h) (ordinary z w k) = value-unended h k
+value-unended (ordinary x y h) (escaped k) = y refl
+value-unended (escaped h) (ordinary z w k) = w refl
 value-unended (escaped h) (escaped k) = value-unended h k
 
 -- or after a `\`
 value-cut : {u v s r : List ℕ} → IsValue u s (92 ∷ []) → ¬ IsValue v s (93 ∷ r)
-value-cut no_unit (plain z w k) = w refl
-value-cut (plain x y h) no_unit = x refl
-value-cut (plain x y h) (plain z w k) = value-cut h k
-value-cut (plain x y h) (escaped k) = y refl
-value-cut (escaped h) (plain z w k) = w refl
+value-cut no_unit (ordinary z w k) = w refl
+value-cut (ordinary x y h) no_unit = x refl
+value-cut (ordinary x y h) (ordinary z w k) = value-cut h k
+value-cut (ordinary x y h) (escaped k) = y refl
+value-cut (escaped h) (ordinary z w k) = w refl
 value-cut (escaped h) (escaped k) = value-cut h k
 
 pub none-cut : (t : List ℕ) (at a : ℕ) → a + 1 ≡ length t → get_or t a 0 ≡ 92 → SpellsValue t at a → SpellsNoValue t at

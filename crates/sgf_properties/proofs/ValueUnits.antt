@@ -4,10 +4,10 @@ use Rattle.std.proofs.Common.{◌≡◌, ◌≢◌, ℕ, zero, suc, ◌+◌, ◌
 use Rattle.std.proofs.lemmas.Bool.{cases_eq}
 use Rattle.std.proofs.Math.Seq.{drop-length}
 use Rattle.sgf_properties.specs.RawValue.{IsValue}
-use Rattle.sgf_properties.specs.Offsets.{ArePlain, SpellsValue, IsValueEnd, IsUnended, in_units, in_escape}
+use Rattle.sgf_properties.specs.Offsets.{AreOrdinary, SpellsValue, IsValueEnd, IsUnended, in_units, in_escape}
 use Rattle.sgf_properties.specs.inner.Searches.{HasNoBracket, IsNextBracket, AreBackslashesBefore, AreEscapes, SpellsNoValue}
-use Rattle.sgf_properties.proofs.ValueEnds.{other-plain}
-use Rattle.sgf_properties.proofs.ValueSpelled.{spelled-none, spelled-plain, spelled-escape, value-unended, none-cut}
+use Rattle.sgf_properties.proofs.ValueEnds.{other-ordinary}
+use Rattle.sgf_properties.proofs.ValueSpelled.{spelled-none, spelled-ordinary, spelled-escape, value-unended, none-cut}
 
 -- whole units of a value stand from `at` to `end`
 pub record AreValueUnits (t : List ℕ) (at end : ℕ) : Type 0 where
@@ -26,11 +26,11 @@ module _ (t : List ℕ) (at : ℕ) where
   pub no-units : AreValueUnits t at at
   no-units = record { rises = omega arith; spelled = spelled-none t at }
 
-  pub plain-units : (a b : ℕ) → AreValueUnits t at a → ArePlain t a b → AreValueUnits t at b
-  plain-units a b units plain = grind (arith, common_steps, spelled-plain)
+  pub ordinary-units : (a b : ℕ) → AreValueUnits t at a → AreOrdinary t a b → AreValueUnits t at b
+  ordinary-units a b units ordinary = grind (arith, common_steps, spelled-ordinary)
 
-  one-plain : (a : ℕ) → a < length t → get_or t a 0 ≢ 93 → get_or t a 0 ≢ 92 → AreValueUnits t at a → AreValueUnits t at (a + 1)
-  one-plain a lt x y units = grind (arith, common_steps, plain-units, other-plain)
+  one-ordinary : (a : ℕ) → a < length t → get_or t a 0 ≢ 93 → get_or t a 0 ≢ 92 → AreValueUnits t at a → AreValueUnits t at (a + 1)
+  one-ordinary a lt x y units = grind (arith, common_steps, ordinary-units, other-ordinary)
 
   escape-units : (a : ℕ) → a + 1 < length t → get_or t a 0 ≡ 92 → AreValueUnits t at a → AreValueUnits t at (a + 2)
   escape-units a lt e units = grind (arith, common_steps, spelled-escape)
@@ -39,12 +39,12 @@ module _ (t : List ℕ) (at : ℕ) where
   units-to : (n start end : ℕ) → start + n ≡ end → end ≤ length t → HasNoBracket t start end → AreValueUnits t at start
       → AreValueUnits t at end ⊎ AreCutUnits t at start end
   units-to zero start end e within none units = let same : start ≡ end = omega arith in inl (subst (AreValueUnits t at) same units)
-  units-to (suc zero) start end e within none units = grind (arith, common_steps, cases_eq, one-plain)
+  units-to (suc zero) start end e within none units = grind (arith, common_steps, cases_eq, one-ordinary)
   units-to (suc (suc n)) start end e within none units =
       elim (cases_eq (get_or t start 0) 92) [
         | inl is ↦ from-further (start + 2) (omega arith) (units-to n (start + 2) end (omega arith) within (λ i low high. none i (omega arith) high) (escape-units start (omega arith) is units))
         | inr other ↦ from-further (start + 1) (omega arith)
-            (units-to (suc n) (start + 1) end (omega arith) within (λ i low high. none i (omega arith) high) (one-plain start (omega arith) (none start (omega arith) (omega arith)) other units))
+            (units-to (suc n) (start + 1) end (omega arith) within (λ i low high. none i (omega arith) high) (one-ordinary start (omega arith) (none start (omega arith) (omega arith)) other units))
       ]
     where
       from-further : (further : ℕ) → start ≤ further → AreValueUnits t at end ⊎ AreCutUnits t at further end → AreValueUnits t at end ⊎ AreCutUnits t at start end

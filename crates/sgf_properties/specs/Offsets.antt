@@ -12,14 +12,14 @@ pub record IsSpan (test : ℕ → Bool) (text : List ℕ) (at end : ℕ) : Type 
   pub stops : end < length text → test (slice_index text end) ≡ false
 
 -- a byte of a value that neither ends it nor begins an escape
-abbrev pub is_plain : ℕ → Bool
-is_plain byte = not (byte == close_bracket) && not (byte == backslash)
+abbrev pub is_ordinary : ℕ → Bool
+is_ordinary byte = not (byte == close_bracket) && not (byte == backslash)
 
--- the bytes from `at` to `end` are plain
-pub record ArePlain (text : List ℕ) (at end : ℕ) : Type 0 where
+-- the bytes from `at` to `end` are ordinary
+pub record AreOrdinary (text : List ℕ) (at end : ℕ) : Type 0 where
   pub rises : at ≤ end
   pub within : end ≤ length text
-  pub passing : (index : ℕ) → at ≤ index → index < end → IsTrue (is_plain (slice_index text index))
+  pub passing : (index : ℕ) → at ≤ index → index < end → IsTrue (is_ordinary (slice_index text index))
 
 -- a `[` stands at `at`
 pub record IsBracket (text : List ℕ) (at : ℕ) : Type 0 where
@@ -42,16 +42,16 @@ pub data IsUnended (text : List ℕ) (at : ℕ) : Type 0 where
   in_units : SpellsValue text at (length text) → IsUnended text at
   in_escape : (last : ℕ) → at ≤ last → last + 1 ≡ length text → slice_index text last ≡ backslash → SpellsValue text at last → IsUnended text at
 
--- two plain bytes and a `]`
-pub record IsTwoPlain (text : List ℕ) (at : ℕ) : Type 0 where
+-- two ordinary bytes and a `]`
+pub record IsTwoOrdinary (text : List ℕ) (at : ℕ) : Type 0 where
   pub within : at + 2 < length text
-  pub plain : ArePlain text at (at + 2)
+  pub ordinary : AreOrdinary text at (at + 2)
   pub bracket : slice_index text (at + 2) ≡ close_bracket
 
 -- a value like `[pd]` stands at `at`
 pub record IsPoint (text : List ℕ) (at : ℕ) : Type 0 where
   pub begins : slice_index text at ≡ open_bracket
-  pub value : IsTwoPlain text (at + 1)
+  pub value : IsTwoOrdinary text (at + 1)
 
 -- values like `[pd]` stand from `from` to `end`, one after the other
 pub record ArePoints (text : List ℕ) (from end : ℕ) : Type 0 where

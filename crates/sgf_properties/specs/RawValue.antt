@@ -7,5 +7,5 @@ use Rattle.sgf_properties.specs.Bytes.{backslash, close_bracket}
 -- a raw value: units, each of which is one byte other than `]` and `\`, or a `\` and any byte
 pub data IsValue : List ℕ → List ℕ → List ℕ → Type 0 where
   no_unit : {s : List ℕ} → IsValue [] s s
-  plain : {b : ℕ} {value s r : List ℕ} → b ≢ close_bracket → b ≢ backslash → IsValue value s r → IsValue (b ∷ value) (b ∷ s) r
+  ordinary : {b : ℕ} {value s r : List ℕ} → b ≢ close_bracket → b ≢ backslash → IsValue value s r → IsValue (b ∷ value) (b ∷ s) r
   escaped : {b : ℕ} {value s r : List ℕ} → IsValue value s r → IsValue (backslash ∷ b ∷ value) (backslash ∷ b ∷ s) r

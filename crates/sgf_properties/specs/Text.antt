@@ -33,7 +33,7 @@ pub data IsDecoded : List ℕ → List ℕ → Type 0 where
   pair : {first second : ℕ} {rest text : List ℕ} → IsTrue (is_pair first second) → IsDecoded rest text → IsDecoded (first ∷ second ∷ rest) (line_feed ∷ text)
   line_break : {byte : ℕ} {rest text : List ℕ} → IsTrue (is_break byte) → MakesNoPair byte rest → IsDecoded rest text → IsDecoded (byte ∷ rest) (line_feed ∷ text)
   -- another byte: that byte, spaced
-  plain_byte : {byte : ℕ} {rest text : List ℕ} → byte ≢ backslash → is_break byte ≡ false → IsDecoded rest text → IsDecoded (byte ∷ rest) (spaced byte ∷ text)
+  ordinary_byte : {byte : ℕ} {rest text : List ℕ} → byte ≢ backslash → is_break byte ≡ false → IsDecoded rest text → IsDecoded (byte ∷ rest) (spaced byte ∷ text)
 
 -- what an unescaped byte becomes: an LF for a line break, else `spaced` of the byte
 abbrev pub unescaped : ℕ → ℕ

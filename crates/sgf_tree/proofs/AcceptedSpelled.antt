@@ -3,7 +3,7 @@ use Rattle.std.proofs.Common.{◌≡◌, ℕ, ◌+◌, List, [], ◌∷◌, ◌+
 use Rattle.std.proofs.lemmas.Option.{none-some, same_Some, option_and_then_some}
 use Rattle.sgf_tree.specs.Tree.{Games, no_games, game}
 use Rattle.sgf_tree.specs.Spelling.{no_white_space, no_game, Spells, spells}
-use Rattle.sgf_tree.specs.inner.Machine.{OpenGame, MachineState, start, whole_games, next_state, run, accepted, collection_of}
+use Rattle.sgf_tree.specs.inner.Machine.{UnclosedGame, MachineState, start, whole_games, next_state, run, accepted, collection_of}
 use Rattle.sgf_tree.proofs.Transitions.{transition}
 use Rattle.sgf_tree.proofs.Completion.{followed-none, Rest, ends, Completes}
 use Rattle.sgf_tree.proofs.Prepending.{prepend}
@@ -19,7 +19,7 @@ module _ (whole : ℕ) (c : Games) where
       prepend whole c at z b x (t ++ r) (transition at z b x s) e (prepend-run (at + 1) x y t r (omega arith) g k))
 
   -- no byte completes a state where a text may end
-  whole-rest : (closed : Games) (unclosed : List OpenGame) → whole_games closed unclosed ≡ Some c → Rest whole c closed unclosed []
+  whole-rest : (closed : Games) (unclosed : List UnclosedGame) → whole_games closed unclosed ≡ Some c → Rest whole c closed unclosed []
   whole-rest no_games unclosed e = absurd (none-some c e)
   whole-rest (game f m b h) [] e = ends no_game no_white_space (rw (followed-none h) e)
   whole-rest (game f m b h) (g ∷ gs) e = absurd (none-some c e)

@@ -1,7 +1,7 @@
 -- What a text spells, it spells before and after another text too, with the places counted anew.
 use Rattle.std.proofs.Common.{◌≡◌, ℕ, ◌+◌, List, ◌++◌, length, map, refl, sym, subst, arith, length-append}
 use Rattle.sgf_tree.specs.Tree.{Property, Node, Games, game, joined}
-use Rattle.sgf_properties.specs.RawValue.{IsValue, no_unit, plain, escaped}
+use Rattle.sgf_properties.specs.RawValue.{IsValue, no_unit, ordinary, escaped}
 use Rattle.sgf_tree.specs.Spelling.{WhiteSpace, no_white_space, white_space, Letters, no_letter, upper, lower, IsPropValue, prop_value, ArePropValues, no_value, value, IsProperty, property, AreProperties, no_property, properties, IsNode, node, AreNodes, no_node, nodes, AreGames, no_game, games, ByteOrderMark, no_byte_order_mark, byte_order_mark, Spells, spells}
 use Rattle.sgf_tree.specs.Appending.{raised_node, raised, BeginsWithByteOrderMark}
 use Rattle.sgf_properties.proofs.FrontSpelled.{white-join}
@@ -19,7 +19,7 @@ Letters-before u (lower h l) = lower h (Letters-before u l)
 
 IsValue-before : {v s r : List ℕ} (u : List ℕ) → IsValue v s r → IsValue v (s ++ u) (r ++ u)
 IsValue-before u no_unit = no_unit
-IsValue-before u (plain h k v) = plain h k (IsValue-before u v)
+IsValue-before u (ordinary h k v) = ordinary h k (IsValue-before u v)
 IsValue-before u (escaped v) = escaped (IsValue-before u v)
 
 IsPropValue-before : {v s r : List ℕ} (u : List ℕ) → IsPropValue v s r → IsPropValue v (s ++ u) (r ++ u)

@@ -7,7 +7,7 @@ use Rattle.sgf_tree.specs.inner.Machine.{Stack, start, first_of_mark, second_of_
 use Rattle.sgf_tree.specs.Refusal.{IsFaultyAt}
 use Rattle.sgf_tree.specs.inner.Progress.{ComesTo}
 use Rattle.sgf_properties.specs.Offsets.{IsSpan}
-use Rattle.sgf_tree.specs.inner.GamesRead.{StandsBetween, IsMarkRead}
+use Rattle.sgf_tree.specs.inner.GamesRead.{StandsBetween, IsByteOrderMarkRead}
 use Rattle.sgf_tree.proofs.GamesLoop.{game-next}
 use Rattle.sgf_tree.proofs.Run.{run-take-none, run-take-step}
 use Rattle.sgf_tree.proofs.Skipping.{stays-after_game}
@@ -20,7 +20,7 @@ nothing = record { closed = no_games; unclosed = [] }
 
 module _ (t : List ℕ) where
   -- no mark
-  pub mark_none : (0 < length t → get_or t 0 0 ≢ 239) → IsMarkRead t 0
+  pub mark_none : (0 < length t → get_or t 0 0 ≢ 239) → IsByteOrderMarkRead t 0
   unfolding next_state accepted
   mark_none other = search (rules, run-take-none, ne_eqb)
 
@@ -33,7 +33,7 @@ module _ (t : List ℕ) where
   second-reached lt e f = run-take-step t 1 first_of_mark second_of_mark (first-reached (omega arith) e) lt (rw f)
 
   -- the whole mark
-  pub mark_read : 2 < length t → get_or t 0 0 ≡ 239 → get_or t 1 0 ≡ 187 → get_or t 2 0 ≡ 191 → IsMarkRead t 3
+  pub mark_read : 2 < length t → get_or t 0 0 ≡ 239 → get_or t 1 0 ≡ 187 → get_or t 2 0 ≡ 191 → IsByteOrderMarkRead t 3
   unfolding next_state
   mark_read lt e f g =
       record {
@@ -54,7 +54,7 @@ module _ (t : List ℕ) where
   second_faulty lt e f other = stops-faulty t 2 second_of_mark (omega arith) (second-reached lt e f) refl (λ h. rw (ne_eqb (get_or t 2 0) 191 (other h)))
 
   -- the white space before the first game
-  pub games_begin : (mark at : ℕ) → IsMarkRead t mark → IsSpan is_white_space t mark at → StandsBetween t at nothing
+  pub games_begin : (mark at : ℕ) → IsByteOrderMarkRead t mark → IsSpan is_white_space t mark at → StandsBetween t at nothing
   games_begin mark at read white =
       let low : mark ≤ at = white.rises in
       elim (cases_lt mark at) [

@@ -3,12 +3,12 @@ use Rattle.std.proofs.Common.{◌≡◌, ℕ, ◌+◌, ◌<◌, suc, Bool, false
 use Rattle.std.proofs.lemmas.List.Elements.{All-nil, All-cons, All-replicate}
 use Rattle.std.proofs.lemmas.Option.{none-some, same_Some, option_and_then_some}
 use Rattle.sgf_tree.specs.Tree.{Property, Node, Games, no_games, game}
-use Rattle.sgf_tree.specs.inner.Machine.{OpenGame, Stack, Started, MachineState, start, first_of_mark, second_of_mark, opened, in_node, in_name, after_name, in_value, after_escape, after_value, after_game, joined, property_of, with_property, add_node, new_game, new_node, ended, whole_game, close_in, whole_games, next_state, run, accepted}
-use Rattle.sgf_tree.proofs.Transitions.{Between, white_between, opens_game, closes_game, AfterNode, next_node, opens_below, closes_nodes, no_stack, IsTransition, mark_first, mark_second, mark_third, at_start, at_game, white_opened, first_node, white_node, first_name, ends_bare, upper_name, lower_name, white_name, first_value, white_after_name, later_value, ends_value, escapes, plain_byte, escaped_byte, white_value, next_value, next_name, ends_node, transition}
+use Rattle.sgf_tree.specs.inner.Machine.{UnclosedGame, Stack, Started, MachineState, start, first_of_mark, second_of_mark, opened, in_node, in_name, after_name, in_value, after_escape, after_value, after_game, joined, property_of, with_property, add_node, new_game, new_node, ended, whole_game, close_in, whole_games, next_state, run, accepted}
+use Rattle.sgf_tree.proofs.Transitions.{Between, white_between, opens_game, closes_game, AfterNode, next_node, opens_below, closes_nodes, no_stack, IsTransition, mark_first, mark_second, mark_third, at_start, at_game, white_opened, first_node, white_node, first_name, ends_bare, upper_name, lower_name, white_name, first_value, white_after_name, later_value, ends_value, escapes, ordinary_byte, escaped_byte, white_value, next_value, next_name, ends_node, transition}
 use Rattle.sgf_tree.proofs.Completion.{closed-in}
 
--- a node begins a game, or a game is open around it
-abbrev pub Within : Bool → List OpenGame → Type 0
+-- a node begins a game, or a game is unclosed around it
+abbrev pub Within : Bool → List UnclosedGame → Type 0
 Within true gs = Unit {0}
 Within false [] = ⊥
 Within false (g ∷ gs) = Unit {0}
@@ -26,13 +26,13 @@ Reached (after_escape n name before value) = WithinGame n
 Reached (after_value n p) = WithinGame n
 Reached _ = Unit {0}
 
-reached-close : (closed : Games) (unclosed : List OpenGame) (y : MachineState) → close_in closed unclosed ≡ Some y → Reached y
+reached-close : (closed : Games) (unclosed : List UnclosedGame) (y : MachineState) → close_in closed unclosed ≡ Some y → Reached y
 reached-close closed unclosed y h = search (rules, none-some, same_Some, closed-in)
 
 reached-between : {k : Stack} {b : ℕ} {y : MachineState} → Between k b y → Reached y
 reached-between h = search (rules, white_between, opens_game, closes_game, reached-close)
 
-within-next : (opens : Bool) (gs : List OpenGame) (n m : Node) → Within opens gs
+within-next : (opens : Bool) (gs : List UnclosedGame) (n m : Node) → Within opens gs
     → Within false (if opens then record { first = n; more = []; below = no_games } ∷ gs else add_node gs m)
 within-next opens gs n m h = search rules
 
@@ -58,7 +58,7 @@ reached-step (white_after_name w) h = h
 reached-step later_value h = h
 reached-step ends_value h = h
 reached-step escapes h = h
-reached-step (plain_byte x y) h = h
+reached-step (ordinary_byte x y) h = h
 reached-step escaped_byte h = h
 reached-step (white_value w) h = h
 reached-step next_value h = h
@@ -84,29 +84,29 @@ via : (z : MachineState) (b : ℕ) (y : MachineState) → b < 256 → ((at : ℕ
 unfolding run
 via z b y lt s (r, all, k) = (b ∷ r, All-cons (λ x. x < 256) b r lt all, λ at. let (c, h) = k (at + 1) in (c, rw (s at) h))
 
-whole-some : (closed : Games) (g : OpenGame) → (c : Games) × (whole_games (joined closed (whole_game g)) [] ≡ Some c)
+whole-some : (closed : Games) (g : UnclosedGame) → (c : Games) × (whole_games (joined closed (whole_game g)) [] ≡ Some c)
 whole-some no_games g = (whole_game g, refl)
 whole-some (game f m b h) g = (game f m b (joined h (whole_game g)), refl)
 
--- a `)` for each open game, where a node or a game may end
-closing : (z : MachineState) (closed : Games) (g : OpenGame) (gs : List OpenGame) → ((at : ℕ) → next_state at z 41 ≡ close_in closed (g ∷ gs)) → Completes z (replicate (suc (length gs)) 41)
+-- a `)` for each unclosed game, where a node or a game may end
+closing : (z : MachineState) (closed : Games) (g : UnclosedGame) (gs : List UnclosedGame) → ((at : ℕ) → next_state at z 41 ≡ close_in closed (g ∷ gs)) → Completes z (replicate (suc (length gs)) 41)
 unfolding run next_state accepted
 closing z closed g [] s at = let (c, h) = whole-some closed g in (c, rw (s at) h)
 closing z closed g (a ∷ gs) s at =
-    let around : OpenGame = record { first = a.first; more = a.more; below = joined a.below (whole_game g) } in
+    let around : UnclosedGame = record { first = a.first; more = a.more; below = joined a.below (whole_game g) } in
     let (c, h) = closing (after_game (record { closed = closed; unclosed = around ∷ gs })) closed around gs (λ _. refl) (at + 1) in
     (c, rw (s at) h)
 
-complete-open : (z : MachineState) (closed : Games) (gs : List OpenGame) → ((at : ℕ) → next_state at z 41 ≡ close_in closed gs) → Within false gs → Completable z
-complete-open z closed [] s h = absurd h
-complete-open z closed (g ∷ gs) s h = (replicate (suc (length gs)) 41, All-replicate (λ b. b < 256) (suc (length gs)) 41 (lit< tt), closing z closed g gs s)
+complete-unclosed : (z : MachineState) (closed : Games) (gs : List UnclosedGame) → ((at : ℕ) → next_state at z 41 ≡ close_in closed gs) → Within false gs → Completable z
+complete-unclosed z closed [] s h = absurd h
+complete-unclosed z closed (g ∷ gs) s h = (replicate (suc (length gs)) 41, All-replicate (λ b. b < 256) (suc (length gs)) 41 (lit< tt), closing z closed g gs s)
 
 complete-property : (n : Started) (p : Property) → WithinGame n → Completable (after_value n p)
 unfolding next_state
 complete-property n p h =
     let m : Started = with_property n p in
     let whole : Node = record { place = m.place; properties = m.properties } in
-    complete-open (after_value n p) n.stack.closed (ended m).unclosed (λ _. refl) (within-next m.opens m.stack.unclosed whole whole h)
+    complete-unclosed (after_value n p) n.stack.closed (ended m).unclosed (λ _. refl) (within-next m.opens m.stack.unclosed whole whole h)
 
 complete-value : (n : Started) (name : List ℕ) (before : List (List ℕ)) (value : List ℕ) → WithinGame n → Completable (in_value n name before value)
 unfolding next_state
@@ -122,11 +122,11 @@ complete-opened k =
       λ at. closing (new_node k true at) k.closed (new_game (record { place = at; properties = [] })) k.unclosed (λ _. refl) (at + 1),
     )
 
-complete-game : (closed : Games) (gs : List OpenGame) → Completable (after_game (record { closed = closed; unclosed = gs }))
+complete-game : (closed : Games) (gs : List UnclosedGame) → Completable (after_game (record { closed = closed; unclosed = gs }))
 unfolding run next_state accepted
 complete-game no_games [] = via (after_game no_stack) 40 (opened no_stack) (lit< tt) (λ _. refl) (complete-opened no_stack)
 complete-game (game f m b h) [] = ([], All-nil (λ b. b < 256), λ at. (game f m b h, refl))
-complete-game closed (g ∷ gs) = complete-open (after_game (record { closed = closed; unclosed = g ∷ gs })) closed (g ∷ gs) (λ _. refl) tt
+complete-game closed (g ∷ gs) = complete-unclosed (after_game (record { closed = closed; unclosed = g ∷ gs })) closed (g ∷ gs) (λ _. refl) tt
 
 complete-mark : Completable second_of_mark
 unfolding next_state
@@ -141,7 +141,7 @@ complete second_of_mark h = complete-mark
 complete (opened k) h = complete-opened k
 complete (in_node n) h =
     let whole : Node = record { place = n.place; properties = n.properties } in
-    complete-open (in_node n) n.stack.closed (ended n).unclosed (λ _. refl) (within-next n.opens n.stack.unclosed whole whole h)
+    complete-unclosed (in_node n) n.stack.closed (ended n).unclosed (λ _. refl) (within-next n.opens n.stack.unclosed whole whole h)
 complete (in_name n name) h = via (in_name n name) 91 (in_value n name [] []) (lit< tt) (λ _. refl) (complete-value n name [] [] h)
 complete (after_name n name) h = via (after_name n name) 91 (in_value n name [] []) (lit< tt) (λ _. refl) (complete-value n name [] [] h)
 complete (in_value n name before value) h = complete-value n name before value h

@@ -3,16 +3,16 @@ use Rattle.std.proofs.Common.{◌≡◌, ℕ, ◌+◌, true, List, [], ◌∷◌
 use Rattle.sgf_tree.specs.Tree.{Property, Node, Games, no_games, game}
 use Rattle.sgf_properties.specs.RawValue.{IsValue}
 use Rattle.sgf_tree.specs.Spelling.{WhiteSpace, Letters, ArePropValues, AreProperties, AreNodes, AreGames, ByteOrderMark}
-use Rattle.sgf_tree.specs.inner.Machine.{OpenGame, Stack, Started, MachineState, start, first_of_mark, second_of_mark, opened, in_node, in_name, after_name, in_value, after_escape, after_value, after_game, joined, property_of, with_property, add_node, ended, whole_game, close_in, whole_games}
+use Rattle.sgf_tree.specs.inner.Machine.{UnclosedGame, Stack, Started, MachineState, start, first_of_mark, second_of_mark, opened, in_node, in_name, after_name, in_value, after_escape, after_value, after_game, joined, property_of, with_property, add_node, ended, whole_game, close_in, whole_games}
 
--- games at the end of the innermost open game, or of all
-abbrev pub add_games : Games → List OpenGame → Games → Stack
+-- games at the end of the innermost unclosed game, or of all
+abbrev pub add_games : Games → List UnclosedGame → Games → Stack
 add_games closed [] others = record { closed = joined closed others; unclosed = [] }
 add_games closed (g ∷ gs) others =
     record { closed = closed; unclosed = record { first = g.first; more = g.more; below = joined g.below others } ∷ gs }
 
--- nodes at the end of the innermost open game
-abbrev pub add_nodes : List OpenGame → List Node → List OpenGame
+-- nodes at the end of the innermost unclosed game
+abbrev pub add_nodes : List UnclosedGame → List Node → List UnclosedGame
 add_nodes [] ns = []
 add_nodes (g ∷ gs) ns = record { first = g.first; more = g.more ++ ns; below = g.below } ∷ gs
 
@@ -24,14 +24,14 @@ pub followed_assoc : (a b c : Games) → joined (joined a b) c ≡ joined a (joi
 followed_assoc no_games b c = refl
 followed_assoc (game f m i h) b c = ap (game f m i) (followed_assoc h b c)
 
-pub closed-in : (closed : Games) (g : OpenGame) (gs : List OpenGame)
+pub closed-in : (closed : Games) (g : UnclosedGame) (gs : List UnclosedGame)
     → close_in closed (g ∷ gs) ≡ Some (after_game (add_games closed gs (whole_game g)))
 closed-in closed g gs = search rules
 
-pub nodes-none : (gs : List OpenGame) → add_nodes gs [] ≡ gs
+pub nodes-none : (gs : List UnclosedGame) → add_nodes gs [] ≡ gs
 nodes-none gs = search (rules, append-nil)
 
-pub nodes-more : (gs : List OpenGame) (n : Node) (ns : List Node) → add_nodes (add_node gs n) ns ≡ add_nodes gs (n ∷ ns)
+pub nodes-more : (gs : List UnclosedGame) (n : Node) (ns : List Node) → add_nodes (add_node gs n) ns ≡ add_nodes gs (n ∷ ns)
 nodes-more gs n ns = search (rules, append_assoc)
 
 -- a property with more values
@@ -42,11 +42,11 @@ with_values p vs = record { name = p.name; first = p.first; more = p.more ++ vs 
 abbrev pub with_properties : Started → List Property → Started
 with_properties n ps = record { stack = n.stack; opens = n.opens; place = n.place; properties = n.properties ++ ps }
 
--- after a game, or after the nodes of one: games, and the ends of the open ones
-pub data Rest (whole : ℕ) (c : Games) : Games → List OpenGame → List ℕ → Type 0 where
+-- after a game, or after the nodes of one: games, and the ends of the unclosed ones
+pub data Rest (whole : ℕ) (c : Games) : Games → List UnclosedGame → List ℕ → Type 0 where
   ends : {closed others : Games} {t r : List ℕ} → AreGames whole others t r → WhiteSpace r []
       → whole_games (joined closed others) [] ≡ Some c → Rest whole c closed [] t
-  closes : {closed below : Games} {g : OpenGame} {gs : List OpenGame} {t r x : List ℕ} → AreGames whole below t r → WhiteSpace r (41 ∷ x)
+  closes : {closed below : Games} {g : UnclosedGame} {gs : List UnclosedGame} {t r x : List ℕ} → AreGames whole below t r → WhiteSpace r (41 ∷ x)
       → Rest whole c (add_games closed gs (game g.first g.more (joined g.below below) no_games)).closed
       (add_games closed gs (game g.first g.more (joined g.below below) no_games)).unclosed x
       → Rest whole c closed (g ∷ gs) t

@@ -3,12 +3,12 @@ use Rattle.std.proofs.lemmas.Grind.{common_steps}
 use Rattle.std.proofs.Common.{◌≡◌, ℕ, ◌+◌, ◌≤◌, false, cond, List, [], ◌∷◌, length, Some, refl, arith, rules}
 use Rattle.std.proofs.Math.Dec.{eqb}
 use Rattle.sgf_tree.specs.Tree.{Games, no_games, game, joined, node_count, leaf_count}
-use Rattle.sgf_tree.specs.inner.Machine.{OpenGame, Stack, after_game, whole_game, close}
-use Rattle.sgf_tree.specs.inner.GamesRead.{open_count}
-use Rattle.sgf_tree.specs.inner.Counting.{open_leaves, are_none, is_bare, IsTallyOf}
+use Rattle.sgf_tree.specs.inner.Machine.{UnclosedGame, Stack, after_game, whole_game, close}
+use Rattle.sgf_tree.specs.inner.GamesRead.{unclosed_count}
+use Rattle.sgf_tree.specs.inner.Counting.{unclosed_leaves, are_none, is_bare, IsTallyOf}
 use Rattle.sgf_tree.specs.declared.reader.counting.Tally.{Tally}
 use Rattle.sgf_tree.proofs.Completion.{add_games}
-use Rattle.sgf_tree.proofs.GameEnds.{game-ends, open_count-closed, game_count-closed}
+use Rattle.sgf_tree.proofs.GameEnds.{game-ends, unclosed_count-closed, game_count-closed}
 
 leaf_count-followed : (a b : Games) → leaf_count (joined a b) ≡ leaf_count a + leaf_count b
 leaf_count-followed no_games b = omega arith
@@ -20,32 +20,32 @@ leaf_count-least no_games = omega arith
 leaf_count-least (game first more no_games after) = omega (arith, leaf_count-least after)
 leaf_count-least (game first more (game first' more' below' after') after) = search (rules, (leaf_count-least (game first' more' below' after')), (leaf_count-least after))
 
-open_leaves-least : (closed : Games) (gs : List OpenGame) → open_leaves closed gs ≤ open_count closed gs
-open_leaves-least closed [] = leaf_count-least closed
-open_leaves-least closed (g ∷ gs) = omega (arith, open_leaves-least closed gs, leaf_count-least g.below)
+unclosed_leaves-least : (closed : Games) (gs : List UnclosedGame) → unclosed_leaves closed gs ≤ unclosed_count closed gs
+unclosed_leaves-least closed [] = leaf_count-least closed
+unclosed_leaves-least closed (g ∷ gs) = omega (arith, unclosed_leaves-least closed gs, leaf_count-least g.below)
 
--- where a game is open, there are fewer leaves than nodes
-pub fewer-leaves : (closed : Games) (gs : List OpenGame) (depth : ℕ) → length gs ≡ depth + 1 → open_leaves closed gs + 1 ≤ open_count closed gs
-fewer-leaves closed [] depth is_open = absurd (omega arith)
-fewer-leaves closed (g ∷ gs) depth is_open = omega (arith, open_leaves-least closed gs, leaf_count-least g.below)
+-- where a game is unclosed, there are fewer leaves than nodes
+pub fewer-leaves : (closed : Games) (gs : List UnclosedGame) (depth : ℕ) → length gs ≡ depth + 1 → unclosed_leaves closed gs + 1 ≤ unclosed_count closed gs
+fewer-leaves closed [] depth is_unclosed = absurd (omega arith)
+fewer-leaves closed (g ∷ gs) depth is_unclosed = omega (arith, unclosed_leaves-least closed gs, leaf_count-least g.below)
 
 -- a game without games below it is one leaf more
-leaves-whole : (g : OpenGame) → leaf_count (whole_game g) ≡ leaf_count g.below + cond (are_none g.below) 1 0
+leaves-whole : (g : UnclosedGame) → leaf_count (whole_game g) ≡ leaf_count g.below + cond (are_none g.below) 1 0
 leaves-whole g = grind (arith, common_steps)
 
-joined-some : (a : Games) (g : OpenGame) → are_none (joined a (whole_game g)) ≡ false
+joined-some : (a : Games) (g : UnclosedGame) → are_none (joined a (whole_game g)) ≡ false
 joined-some no_games g = refl
 joined-some (game first more below after) g = refl
 
 -- a game that ends
-module _ (closed : Games) (g : OpenGame) where
-  abbrev after : List OpenGame → Stack
+module _ (closed : Games) (g : UnclosedGame) where
+  abbrev after : List UnclosedGame → Stack
   after gs = add_games closed gs (whole_game g)
 
-  open_leaves-closed : (gs : List OpenGame) → open_leaves (after gs).closed (after gs).unclosed ≡ open_leaves closed (g ∷ gs) + cond (are_none g.below) 1 0
-  open_leaves-closed gs = search (rules, leaf_count-followed, leaves-whole)
+  unclosed_leaves-closed : (gs : List UnclosedGame) → unclosed_leaves (after gs).closed (after gs).unclosed ≡ unclosed_leaves closed (g ∷ gs) + cond (are_none g.below) 1 0
+  unclosed_leaves-closed gs = search (rules, leaf_count-followed, leaves-whole)
 
-  bare-closed : (gs : List OpenGame) → is_bare (after gs).unclosed ≡ false
+  bare-closed : (gs : List UnclosedGame) → is_bare (after gs).unclosed ≡ false
   bare-closed gs = search (rules, joined-some)
 
 -- the tally of a game that ends
@@ -56,4 +56,4 @@ module _ (tally : Tally) (depth one_game one_leaf : ℕ) where
       → IsTallyOf next (record { games = tally.games + one_game; nodes = tally.nodes; leaves = tally.leaves + one_leaf; is_bare = false })
 
   pub tally-closed : (k next : Stack) → close k ≡ Some (after_game next) → Counts k next
-  tally-closed = game-ends Counts (λ closed g gs counts is_open is_game is_leaf. grind (arith, common_steps, game_count-closed, open_count-closed, open_leaves-closed, bare-closed))
+  tally-closed = game-ends Counts (λ closed g gs counts is_unclosed is_game is_leaf. grind (arith, common_steps, game_count-closed, unclosed_count-closed, unclosed_leaves-closed, bare-closed))

@@ -3,8 +3,8 @@ use Rattle.std.proofs.lemmas.Grind.{common_steps}
 use Rattle.std.proofs.Common.{◌≡◌, ℕ, ◌+◌, ◌≤◌, Bool, true, false, cond, List, [], ◌∷◌, length, Some, arith, ne_eqb, rules}
 use Rattle.std.proofs.Math.Dec.{eqb}
 use Rattle.sgf_tree.specs.Tree.{Games, no_games, game, game_count, node_count}
-use Rattle.sgf_tree.specs.inner.Machine.{OpenGame, Stack, after_game, whole_game, close}
-use Rattle.sgf_tree.specs.inner.GamesRead.{open_count}
+use Rattle.sgf_tree.specs.inner.Machine.{UnclosedGame, Stack, after_game, whole_game, close}
+use Rattle.sgf_tree.specs.inner.GamesRead.{unclosed_count}
 use Rattle.sgf_tree.proofs.Completion.{add_games, closed-in}
 use Rattle.sgf_tree.proofs.Stacks.{node_count-followed, game_count-followed}
 
@@ -17,7 +17,7 @@ at_most_1 b = search rules
 
 -- what holds of each game that ends holds of the stack before and the stack after a `)`
 pub game-ends : (P : Stack → Stack → Type 0)
-    → ((closed : Games) (g : OpenGame) (gs : List OpenGame) → P (record { closed = closed; unclosed = g ∷ gs }) (add_games closed gs (whole_game g)))
+    → ((closed : Games) (g : UnclosedGame) (gs : List UnclosedGame) → P (record { closed = closed; unclosed = g ∷ gs }) (add_games closed gs (whole_game g)))
     → (k next : Stack) → close k ≡ Some (after_game next) → P k next
 game-ends P each k next = grind (arith, common_steps, add_games, closed-in)
 
@@ -26,19 +26,19 @@ game_count-least no_games = omega arith
 game_count-least (game first more below after) = omega (arith, game_count-least after)
 
 -- there are no more games than nodes
-pub open_games-least : (closed : Games) (gs : List OpenGame) → game_count closed ≤ open_count closed gs
-open_games-least closed [] = game_count-least closed
-open_games-least closed (g ∷ gs) = omega (arith, open_games-least closed gs)
+pub unclosed_games-least : (closed : Games) (gs : List UnclosedGame) → game_count closed ≤ unclosed_count closed gs
+unclosed_games-least closed [] = game_count-least closed
+unclosed_games-least closed (g ∷ gs) = omega (arith, unclosed_games-least closed gs)
 
-pub fewer-games : (closed : Games) (gs : List OpenGame) (depth : ℕ) → length gs ≡ depth + 1 → game_count closed + 1 ≤ open_count closed gs
-fewer-games closed [] depth is_open = absurd (omega arith)
-fewer-games closed (g ∷ gs) depth is_open = omega (arith, open_games-least closed gs)
+pub fewer-games : (closed : Games) (gs : List UnclosedGame) (depth : ℕ) → length gs ≡ depth + 1 → game_count closed + 1 ≤ unclosed_count closed gs
+fewer-games closed [] depth is_unclosed = absurd (omega arith)
+fewer-games closed (g ∷ gs) depth is_unclosed = omega (arith, unclosed_games-least closed gs)
 
-module _ (closed : Games) (g : OpenGame) where
-  pub open_count-closed : (gs : List OpenGame) → open_count (add_games closed gs (whole_game g)).closed (add_games closed gs (whole_game g)).unclosed ≡ open_count closed (g ∷ gs)
-  open_count-closed gs = search (rules, node_count-followed)
+module _ (closed : Games) (g : UnclosedGame) where
+  pub unclosed_count-closed : (gs : List UnclosedGame) → unclosed_count (add_games closed gs (whole_game g)).closed (add_games closed gs (whole_game g)).unclosed ≡ unclosed_count closed (g ∷ gs)
+  unclosed_count-closed gs = search (rules, node_count-followed)
 
-  -- one game more, if no other is open
-  pub game_count-closed : (gs : List OpenGame) (depth : ℕ) → length (g ∷ gs) ≡ depth + 1
+  -- one game more, if no other is unclosed
+  pub game_count-closed : (gs : List UnclosedGame) (depth : ℕ) → length (g ∷ gs) ≡ depth + 1
       → game_count (add_games closed gs (whole_game g)).closed ≡ game_count closed + cond (eqb depth 0) 1 0
   game_count-closed gs depth h = search (rules, game_count-followed, ne_eqb)

@@ -3,11 +3,11 @@ use Rattle.std.proofs.lemmas.Grind.{common_steps}
 use Rattle.std.proofs.Common.{◌≡◌, ◌≢◌, ℕ, ◌+◌, ◌<◌, ◌≤◌, false, List, [], ◌∷◌, length, get_or, Some, None, refl, ap, subst, ◌∙◌, arith, ne_eqb}
 use Rattle.sgf_tree.specs.Tree.{Games, no_games, game, game_count}
 use Rattle.sgf_tree.specs.Spelling.{is_white_space}
-use Rattle.sgf_tree.specs.inner.Machine.{OpenGame, Stack, opened, after_game, between_games, close_in, whole_game, next_state, accepted}
+use Rattle.sgf_tree.specs.inner.Machine.{UnclosedGame, Stack, opened, after_game, between_games, close_in, whole_game, next_state, accepted}
 use Rattle.sgf_tree.specs.Refusal.{IsFaultyAt}
 use Rattle.sgf_tree.specs.inner.Progress.{ComesTo}
 use Rattle.sgf_properties.specs.Offsets.{IsSpan}
-use Rattle.sgf_tree.specs.inner.GamesRead.{open_count, StandsBetween}
+use Rattle.sgf_tree.specs.inner.GamesRead.{unclosed_count, StandsBetween}
 use Rattle.sgf_tree.proofs.Completion.{add_games, closed-in}
 use Rattle.sgf_tree.proofs.Run.{run-take-step}
 use Rattle.sgf_tree.proofs.Skipping.{stays-after_game}
@@ -33,37 +33,37 @@ some-accepted (game first more below after) h = refl
 between-refused : (k : Stack) (b : ℕ) → is_white_space b ≡ false → b ≢ 40 → b ≢ 41 → between_games k b ≡ None
 between-refused k b white ne40 ne41 = rw (white, ne_eqb b 40 ne40, ne_eqb b 41 ne41)
 
--- how many nodes there are, and how many games are open, after a game ends
-pub open_count-closed : (closed : Games) (g : OpenGame) (gs : List OpenGame)
-    → open_count (add_games closed gs (whole_game g)).closed (add_games closed gs (whole_game g)).unclosed ≡ open_count closed (g ∷ gs)
-open_count-closed closed g [] = omega (arith, node_count-followed closed (whole_game g))
-open_count-closed closed g (h ∷ hs) = omega (arith, node_count-followed h.below (whole_game g))
+-- how many nodes there are, and how many games are unclosed, after a game ends
+pub unclosed_count-closed : (closed : Games) (g : UnclosedGame) (gs : List UnclosedGame)
+    → unclosed_count (add_games closed gs (whole_game g)).closed (add_games closed gs (whole_game g)).unclosed ≡ unclosed_count closed (g ∷ gs)
+unclosed_count-closed closed g [] = omega (arith, node_count-followed closed (whole_game g))
+unclosed_count-closed closed g (h ∷ hs) = omega (arith, node_count-followed h.below (whole_game g))
 
-pub depth-closed : (closed : Games) (g : OpenGame) (gs : List OpenGame) → length (add_games closed gs (whole_game g)).unclosed ≡ length gs
+pub depth-closed : (closed : Games) (g : UnclosedGame) (gs : List UnclosedGame) → length (add_games closed gs (whole_game g)).unclosed ≡ length gs
 depth-closed closed g [] = refl
 depth-closed closed g (h ∷ hs) = refl
 
--- an open game has a node
-pub depth-within : (closed : Games) (gs : List OpenGame) → length gs ≤ open_count closed gs
+-- an unclosed game has a node
+pub depth-within : (closed : Games) (gs : List UnclosedGame) → length gs ≤ unclosed_count closed gs
 depth-within closed [] = omega arith
 depth-within closed (g ∷ gs) = omega (arith, depth-within closed gs)
 
 module _ (t : List ℕ) where
   module _ (at : ℕ) (k : Stack) (stands : StandsBetween t at k) where
     -- a `(`
-    pub games-open : at < length t → get_or t at 0 ≡ 40 → ComesTo t (at + 1) (opened k)
-    games-open lt e = grind (arith, common_steps, run-take-step)
+    pub games-unclosed : at < length t → get_or t at 0 ≡ 40 → ComesTo t (at + 1) (opened k)
+    games-unclosed lt e = grind (arith, common_steps, run-take-step)
 
     -- another byte
     pub games-faulty : at < length t → get_or t at 0 ≢ 40 → get_or t at 0 ≢ 41 → IsFaultyAt t at
     games-faulty lt ne40 ne41 = grind (arith, common_steps, refused-faulty, between-refused)
 
-    -- a `)` with no game open
+    -- a `)` with no game unclosed
     pub close-faulty : at < length t → get_or t at 0 ≡ 41 → k.unclosed ≡ [] → IsFaultyAt t at
     close-faulty lt e none = grind (arith, common_steps, refused-faulty)
 
     -- a `)` that ends a game
-    pub close-stands : (g : OpenGame) (gs : List OpenGame) (next : ℕ) → k.unclosed ≡ g ∷ gs → at < length t → get_or t at 0 ≡ 41 → IsSpan is_white_space t (at + 1) next
+    pub close-stands : (g : UnclosedGame) (gs : List UnclosedGame) (next : ℕ) → k.unclosed ≡ g ∷ gs → at < length t → get_or t at 0 ≡ 41 → IsSpan is_white_space t (at + 1) next
         → StandsBetween t next (add_games k.closed gs (whole_game g))
     close-stands g gs next is lt e white =
         let k' : Stack = add_games k.closed gs (whole_game g) in

@@ -1,40 +1,40 @@
--- What is kept of all nodes: with one more open game, and after a game that ends.
+-- What is kept of all nodes: with one more unclosed game, and after a game that ends.
 use Rattle.std.proofs.lemmas.Grind.{common_steps}
 use Rattle.std.proofs.Common.{◌≡◌, ℕ, ◌+◌, ◌-◌, List, [], ◌∷◌, ◌++◌, length, set, Some, refl, sym, ap, ◌∙◌, arith, append-nil}
 use Rattle.std.proofs.lemmas.List.{length-map, map-append, set_at}
 use Rattle.sgf_tree.specs.Tree.{Node, Games, no_games, node_count}
 use Rattle.sgf_tree.specs.FileOrder.{further_nodes}
-use Rattle.sgf_tree.specs.inner.Machine.{OpenGame, Stack, after_game, whole_game, close}
-use Rattle.sgf_tree.specs.inner.GamesRead.{open_count, open_nodes, lasts, open_lasts}
+use Rattle.sgf_tree.specs.inner.Machine.{UnclosedGame, Stack, after_game, whole_game, close}
+use Rattle.sgf_tree.specs.inner.GamesRead.{unclosed_count, unclosed_nodes, lasts, unclosed_lasts}
 use Rattle.sgf_tree.specs.inner.OwnNodes.{Coming, nothing, own_of, places_of, coming_of, with_game}
 use Rattle.sgf_tree.specs.inner.Outlining.{HoldsSequences}
 use Rattle.sgf_tree.specs.inner.Placing.{ordered_places, HoldsNodes}
 use Rattle.sgf_tree.specs.declared.numbered.Numbered.{Numbered}
 use Rattle.sgf_tree.proofs.Completion.{add_games}
 use Rattle.sgf_tree.proofs.GameEnds.{game-ends}
-use Rattle.sgf_tree.proofs.Listed.{before, open_lasts-listed}
-use Rattle.sgf_tree.proofs.Stacks.{length-open_nodes, open_nodes-closed, open_lasts-closed}
+use Rattle.sgf_tree.proofs.Listed.{before, unclosed_lasts-listed}
+use Rattle.sgf_tree.proofs.Stacks.{length-unclosed_nodes, unclosed_nodes-closed, unclosed_lasts-closed}
 
 further-places : (last : ℕ) (ns : List Node) → ordered_places (further_nodes last ns) ≡ places_of ns
 further-places last [] = refl
 further-places last (n ∷ ns) = ap (λ ps. n.place ∷ ps) (further-places (last + 1) ns)
 
--- the places of one more open game
-places-opened : (closed : Games) (gs : List OpenGame) (g : OpenGame) → g.below ≡ no_games
-    → ordered_places (open_nodes closed gs) ++ places_of (own_of g) ≡ ordered_places (open_nodes closed (g ∷ gs)) ++ []
+-- the places of one more unclosed game
+places-opened : (closed : Games) (gs : List UnclosedGame) (g : UnclosedGame) → g.below ≡ no_games
+    → ordered_places (unclosed_nodes closed gs) ++ places_of (own_of g) ≡ ordered_places (unclosed_nodes closed (g ∷ gs)) ++ []
 places-opened closed gs g none = grind (arith, common_steps, further-places, map-append, append-nil)
 
 module _ (text : List ℕ) (kept : Numbered) where
   -- there are as many places as nodes
-  pub length-places : (k : Stack) → HoldsNodes text kept k nothing → length kept.places.items ≡ open_count k.closed k.unclosed
-  length-places k holds = grind (arith, common_steps, append-nil, length-map, length-open_nodes)
+  pub length-places : (k : Stack) → HoldsNodes text kept k nothing → length kept.places.items ≡ unclosed_count k.closed k.unclosed
+  length-places k holds = grind (arith, common_steps, append-nil, length-map, length-unclosed_nodes)
 
   -- and a last node for each sequence
   pub length-lasts : (k : Stack) (coming : Coming) → HoldsNodes text kept k coming → length kept.last_nodes.items ≡ length kept.sequences.table.items
-  length-lasts k coming holds = ap length holds.lasts_are ∙ open_lasts-listed k.closed k.unclosed ∙ sym holds.sequences.are.count
+  length-lasts k coming holds = ap length holds.lasts_are ∙ unclosed_lasts-listed k.closed k.unclosed ∙ sym holds.sequences.are.count
 
-  -- one more game is open
-  pub nodes-opened : (after : Numbered) (k : Stack) (g : OpenGame) (told : List ℕ) → HoldsNodes text kept k (coming_of (own_of g) told) → g.below ≡ no_games
+  -- one more game is unclosed
+  pub nodes-opened : (after : Numbered) (k : Stack) (g : UnclosedGame) (told : List ℕ) → HoldsNodes text kept k (coming_of (own_of g) told) → g.below ≡ no_games
       → HoldsSequences text after.sequences (with_game k g) nothing → after.places ≡ kept.places → after.last_nodes.items ≡ kept.last_nodes.items ++ 0 ∷ []
       → HoldsNodes text after (with_game k g) nothing
   nodes-opened after k g told holds none sequences places lasts_are = grind (arith, common_steps, places-opened)
@@ -46,22 +46,22 @@ module _ (text : List ℕ) (kept : Numbered) where
     abbrev Ends : Stack → Stack → Type 0
     Ends k next = HoldsNodes text kept k nothing → HoldsSequences text after.sequences next nothing → HoldsNodes text after next nothing
 
-    each-ended : (closed : Games) (g : OpenGame) (gs : List OpenGame) → Ends (record { closed = closed; unclosed = g ∷ gs }) (add_games closed gs (whole_game g))
+    each-ended : (closed : Games) (g : UnclosedGame) (gs : List UnclosedGame) → Ends (record { closed = closed; unclosed = g ∷ gs }) (add_games closed gs (whole_game g))
     each-ended closed g gs holds sequences =
         let i : ℕ = length (before closed gs) in
-        let at : ℕ = open_count closed gs in
+        let at : ℕ = unclosed_count closed gs in
         let later : List ℕ = lasts (at + 1 + length g.more) g.below in
         let last : length kept.places.items - 1 ≡ at + length g.more + node_count g.below =
         omega (arith, length-places (record { closed = closed; unclosed = g ∷ gs }) holds) in
         let (places, lasts_are) = closes i holds.sequences.innermost_is in
         record {
           sequences = sequences;
-          places_are = rw places (holds.places_are ∙ ap (λ ns. ordered_places ns ++ []) (sym (open_nodes-closed closed g gs)));
+          places_are = rw places (holds.places_are ∙ ap (λ ns. ordered_places ns ++ []) (sym (unclosed_nodes-closed closed g gs)));
           places_within = rw places holds.places_within;
           lasts_are =
               lasts_are ∙ ap (λ ls. set ls i (length kept.places.items - 1)) holds.lasts_are
-              ∙ set_at (open_lasts closed gs) 0 later (length kept.places.items - 1) i (open_lasts-listed closed gs)
-              ∙ ap (λ n. open_lasts closed gs ++ n ∷ later) last ∙ sym (open_lasts-closed closed g gs);
+              ∙ set_at (unclosed_lasts closed gs) 0 later (length kept.places.items - 1) i (unclosed_lasts-listed closed gs)
+              ∙ ap (λ n. unclosed_lasts closed gs ++ n ∷ later) last ∙ sym (unclosed_lasts-closed closed g gs);
         }
 
     pub nodes-ended : (k next : Stack) → close k ≡ Some (after_game next) → Ends k next

@@ -12,12 +12,12 @@ use Rattle.sgf_properties.specs.Front.{properties_in}
 use Rattle.sgf_tree.specs.inner.NodeText.{node_in}
 use Rattle.sgf_properties.specs.Offsets.{IsValueEnd}
 use Rattle.sgf_tree.specs.inner.Progress.{EndsNode, IsNodeEnd}
-use Rattle.sgf_tree.specs.inner.Walking.{nodes_between, IsWalk}
+use Rattle.sgf_tree.specs.inner.Traversing.{nodes_between, IsTraversal}
 use Rattle.sgf_properties.proofs.Iterating.{byte-at}
 use Rattle.sgf_tree.proofs.LoneNodes.{lone, spelled, ends-node}
 use Rattle.sgf_tree.proofs.NodeEnds.{nothing-skipped}
 use Rattle.sgf_properties.proofs.FrontSpelled.{properties-in}
-use Rattle.sgf_tree.proofs.Walking.{past-node}
+use Rattle.sgf_tree.proofs.Traversing.{past-node}
 use Rattle.sgf_properties.proofs.FirstProperty.{properties-more}
 
 -- a name of two capitals, and a value
@@ -81,11 +81,11 @@ module _ (names : List (List ℕ)) (s : List ℕ) (next : ℕ) (is : IsLedNode n
   pub led-properties : IsLedBy names (lone s is.front) (properties_in (drop 1 s))
   led-properties = search (rules, properties-in, all-spelled, ends-node)
 
--- a walk goes on past it, and past a node without properties, in a text in which the node is at `at`
-module _ (t : List ℕ) (at number end : ℕ) (w : IsWalk t at number end) (more : number < end) where
+-- a traversal goes on past it, and past a node without properties, in a text in which the node is at `at`
+module _ (t : List ℕ) (at number end : ℕ) (w : IsTraversal t at number end) (more : number < end) where
   abbrev Passed : ℕ → Type 0
   Passed next =
-      (nodes_between (games_in t) number end ≡ node_in t at ∷ nodes_between (games_in t) (number + 1) end) × IsWalk t (at + next) (number + 1) end × (properties_in (drop (at + next) t) ≡ [])
+      (nodes_between (games_in t) number end ≡ node_in t at ∷ nodes_between (games_in t) (number + 1) end) × IsTraversal t (at + next) (number + 1) end × (properties_in (drop (at + next) t) ≡ [])
 
   pub led-next : (names : List (List ℕ)) (next : ℕ) → IsLedNode names (drop at t) next → Passed next
   led-next names next is = past-node t at number end w more is.others.end next is.begins (all-spelled names (drop at t) next is) is.others.ends

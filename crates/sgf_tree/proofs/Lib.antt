@@ -38,7 +38,7 @@ pub mod Skipping
 pub mod Spans
 pub mod Examples
 pub mod NodesSpelled
-pub mod Walking
+pub mod Traversing
 pub mod PlacesKept
 pub mod Points
 pub mod LoneNodes
@@ -47,4 +47,4 @@ pub mod ShortBytes
 pub mod ShortProperties
 pub mod ListedNodes
 pub mod Outlined
-pub mod StretchesKept
+pub mod SegmentsKept

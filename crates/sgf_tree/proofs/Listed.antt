@@ -1,10 +1,10 @@
--- The listing of sequences: games side by side, one more open game, and a game that ends.
+-- The listing of sequences: games side by side, one more unclosed game, and a game that ends.
 use Rattle.std.proofs.lemmas.Grind.{common_steps}
 use Rattle.std.proofs.Common.{◌≡◌, ℕ, ◌+◌, ◌≤◌, List, [], ◌∷◌, ◌++◌, length, Option, Some, None, refl, arith, append_assoc, append-nil, length-append, rules}
 use Rattle.sgf_tree.specs.Tree.{Games, no_games, game, joined, game_count, node_count}
-use Rattle.sgf_tree.specs.inner.Machine.{OpenGame, whole_game}
-use Rattle.sgf_tree.specs.inner.GamesRead.{open_count, lasts, open_lasts}
-use Rattle.sgf_tree.specs.inner.Listing.{Listed, listed, open_list}
+use Rattle.sgf_tree.specs.inner.Machine.{UnclosedGame, whole_game}
+use Rattle.sgf_tree.specs.inner.GamesRead.{unclosed_count, lasts, unclosed_lasts}
+use Rattle.sgf_tree.specs.inner.Listing.{Listed, listed, unclosed_list}
 use Rattle.sgf_tree.proofs.Completion.{add_games}
 use Rattle.sgf_tree.proofs.ListedNodes.{length-listed, starts-rise}
 use Rattle.sgf_tree.proofs.Rises.{rises-count}
@@ -30,38 +30,38 @@ lasts-listed : (at index number : ℕ) (outer : Option ℕ) (ordinal : ℕ) (a :
 lasts-listed at index number outer ordinal a = omega (arith, length-lasts at number a, length-listed index number outer ordinal a)
 
 module _ (closed : Games) where
-  -- the sequences of some open games, in their order
-  abbrev pub before : List OpenGame → List Listed
-  before gs = (open_list closed gs).sequences
+  -- the sequences of some unclosed games, in their order
+  abbrev pub before : List UnclosedGame → List Listed
+  before gs = (unclosed_list closed gs).sequences
 
-  -- what an open game adds
-  abbrev pub own : OpenGame → List OpenGame → List Listed
+  -- what an unclosed game adds
+  abbrev pub own : UnclosedGame → List UnclosedGame → List Listed
   own g gs =
-      record { first = g.first; more = g.more; number = (open_list closed gs).nodes; outer = (open_list closed gs).innermost; ordinal = (open_list closed gs).next_ordinal }
-      ∷ listed (length (before gs) + 1) ((open_list closed gs).nodes + 1 + length g.more) (Some (length (before gs))) 1 g.below
+      record { first = g.first; more = g.more; number = (unclosed_list closed gs).nodes; outer = (unclosed_list closed gs).innermost; ordinal = (unclosed_list closed gs).next_ordinal }
+      ∷ listed (length (before gs) + 1) ((unclosed_list closed gs).nodes + 1 + length g.more) (Some (length (before gs))) 1 g.below
 
-  pub open_list-least : (gs : List OpenGame) → length (open_list closed gs).sequences ≤ open_count closed gs
-  open_list-least [] = listed-least 0 0 None 1 closed
-  open_list-least (g ∷ gs) = search (rules, length-append, listed-least, (open_list-least gs))
+  pub unclosed_list-least : (gs : List UnclosedGame) → length (unclosed_list closed gs).sequences ≤ unclosed_count closed gs
+  unclosed_list-least [] = listed-least 0 0 None 1 closed
+  unclosed_list-least (g ∷ gs) = search (rules, length-append, listed-least, (unclosed_list-least gs))
 
-  pub open_list-nodes : (gs : List OpenGame) → (open_list closed gs).nodes ≡ open_count closed gs
-  open_list-nodes [] = refl
-  open_list-nodes (g ∷ gs) = omega (arith, open_list-nodes gs)
+  pub unclosed_list-nodes : (gs : List UnclosedGame) → (unclosed_list closed gs).nodes ≡ unclosed_count closed gs
+  unclosed_list-nodes [] = refl
+  unclosed_list-nodes (g ∷ gs) = omega (arith, unclosed_list-nodes gs)
 
-  pub open_lasts-listed : (gs : List OpenGame) → length (open_lasts closed gs) ≡ length (open_list closed gs).sequences
-  open_lasts-listed [] = lasts-listed 0 0 0 None 1 closed
-  open_lasts-listed (g ∷ gs) = search (rules, length-append, lasts-listed, (open_lasts-listed gs))
+  pub unclosed_lasts-listed : (gs : List UnclosedGame) → length (unclosed_lasts closed gs) ≡ length (unclosed_list closed gs).sequences
+  unclosed_lasts-listed [] = lasts-listed 0 0 0 None 1 closed
+  unclosed_lasts-listed (g ∷ gs) = search (rules, length-append, lasts-listed, (unclosed_lasts-listed gs))
 
-  -- a game that ends is listed as the open game was, and the game around it is innermost then
-  module _ (g : OpenGame) where
+  -- a game that ends is listed as the unclosed game was, and the game around it is innermost then
+  module _ (g : UnclosedGame) where
     -- the game alone
     alone : (index number : ℕ) (outer : Option ℕ) (ordinal : ℕ)
         → listed index number outer ordinal (whole_game g)
         ≡ record { first = g.first; more = g.more; number = number; outer = outer; ordinal = ordinal } ∷ listed (index + 1) (number + 1 + length g.more) (Some index) 1 g.below
     alone index number outer ordinal = grind (arith, common_steps, append-nil)
 
-    pub list-closed : (gs : List OpenGame) → (open_list (add_games closed gs (whole_game g)).closed (add_games closed gs (whole_game g)).unclosed).sequences ≡ (open_list closed (g ∷ gs)).sequences
+    pub list-closed : (gs : List UnclosedGame) → (unclosed_list (add_games closed gs (whole_game g)).closed (add_games closed gs (whole_game g)).unclosed).sequences ≡ (unclosed_list closed (g ∷ gs)).sequences
     list-closed gs = search (rules, listed-joined, alone, length-append, append_assoc)
 
-    pub innermost-closed : (gs : List OpenGame) → (open_list (add_games closed gs (whole_game g)).closed (add_games closed gs (whole_game g)).unclosed).innermost ≡ (open_list closed gs).innermost
+    pub innermost-closed : (gs : List UnclosedGame) → (unclosed_list (add_games closed gs (whole_game g)).closed (add_games closed gs (whole_game g)).unclosed).innermost ≡ (unclosed_list closed gs).innermost
     innermost-closed gs = search rules

@@ -2,13 +2,13 @@
 use Rattle.std.proofs.lemmas.Grind.{common_steps}
 use Rattle.std.proofs.Common.{◌≡◌, ◌≢◌, ℕ, false, List, ◌∷◌, get_or, take, drop, slice_range, sym, ap, subst, arith}
 use Rattle.sgf_tree.specs.Tree.{Property, lone_property}
-use Rattle.sgf_properties.specs.RawValue.{no_unit, plain}
+use Rattle.sgf_properties.specs.RawValue.{no_unit, ordinary}
 use Rattle.sgf_tree.specs.Spelling.{is_upper, no_white_space, no_letter, prop_value, no_value, IsProperty, property}
 use Rattle.sgf_properties.specs.Front.{properties_in, NoValueFollows, NoPropertyFollows, ArePropertiesIn}
 use Rattle.sgf_tree.specs.inner.Progress.{IsNodeEnd, IsMove, IsLoneFront}
 use Rattle.sgf_properties.proofs.Classes.{between-not_upper, white-not_bracket, white-not_upper}
 use Rattle.sgf_properties.proofs.Iterating.{byte-at}
-use Rattle.sgf_properties.proofs.ValueEnds.{plain-other}
+use Rattle.sgf_properties.proofs.ValueEnds.{ordinary-other}
 use Rattle.sgf_properties.proofs.FirstProperty.{follows-at, ends-at, left-after}
 
 -- a node ends where a byte before the letters follows white space
@@ -37,11 +37,11 @@ module _ (s : List ℕ) (is : IsMove s 1) where
 
   pub spelled : IsProperty lone (drop 1 s) rest
   spelled =
-      let (p, q) = plain-other (get_or s 3 0) (is.value.plain.passing 3 (omega arith) (omega arith)) in
-      let (u, v) = plain-other (get_or s 4 0) (is.value.plain.passing 4 (omega arith) (omega arith)) in
+      let (p, q) = ordinary-other (get_or s 3 0) (is.value.ordinary.passing 3 (omega arith) (omega arith)) in
+      let (u, v) = ordinary-other (get_or s 4 0) (is.value.ordinary.passing 4 (omega arith) (omega arith)) in
       subst (λ t. IsProperty lone t rest) (sym here)
       (subst (λ v. IsProperty (lone_property letter v) (letter ∷ 91 ∷ get_or s 3 0 ∷ get_or s 4 0 ∷ 93 ∷ rest) rest) (ap (take 2) (sym value-here))
-      (property no_white_space is.capital no_letter (prop_value no_white_space (plain p q (plain u v no_unit))) no_value))
+      (property no_white_space is.capital no_letter (prop_value no_white_space (ordinary p q (ordinary u v no_unit))) no_value))
 
 -- no value follows the first property of a node
 pub lone-ends : (s : List ℕ) → IsLoneFront s → NoValueFollows (drop 6 s)

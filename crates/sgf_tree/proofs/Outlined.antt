@@ -13,8 +13,8 @@ use Rattle.sgf_tree.specs.FileOrder.{OrderedNode, further_nodes, ordered_nodes, 
 use Rattle.sgf_tree.specs.inner.Machine.{games_in}
 use Rattle.sgf_tree.specs.inner.NodeText.{node_in, IsNodeIn}
 use Rattle.sgf_tree.specs.inner.Listing.{Listed, sequences_of}
-use Rattle.sgf_tree.specs.inner.Outlining.{outer_by, game_by, is_written_by, nodes_of, HasStretches, IsKept, AreKept, IsOutlined}
-use Rattle.sgf_tree.specs.declared.sequences.KeptStretch.{KeptStretch}
+use Rattle.sgf_tree.specs.inner.Outlining.{outer_by, game_by, is_written_by, nodes_of, HasSegments, IsKept, AreKept, IsOutlined}
+use Rattle.sgf_tree.specs.declared.sequences.KeptSegment.{KeptSegment}
 use Rattle.sgf_tree.specs.declared.sequences.Sequence.{Sequence}
 use Rattle.sgf_tree.specs.declared.sequences.Sequences.{Sequences}
 use Rattle.sgf_tree.proofs.Lists.{slice_get-left, slice_get-right}
@@ -56,14 +56,14 @@ module _ (text : List ℕ) (kept : Sequences) (outlined : IsOutlined text kept) 
   node-in = node-told text g spelled-by
 
 -- what an entry of the table says of a sequence
-pub record IsEntryOf (text : List ℕ) (stretches : List KeptStretch) (g : Games) (i : ℕ) (entry : Sequence) : Type 0 where
+pub record IsEntryOf (text : List ℕ) (segments : List KeptSegment) (g : Games) (i : ℕ) (entry : Sequence) : Type 0 where
   pub number_is : entry.number ≡ sequence_start g i
   pub first_is : place_at g (sequence_start g i) ≡ Some entry.first
   pub last_is : place_at g (sequence_end g i - 1) ≡ Some entry.last
   pub rises : is_written_by entry ≡ true → entry.first ≤ entry.end
   pub in_text : is_written_by entry ≡ true → entry.end ≤ length text
   pub written : is_written_by entry ≡ true → slice_range text entry.first entry.end ≡ flat_map node_text (nodes_at g (sequence_numbers g i))
-  pub stretched : is_written_by entry ≡ false → HasStretches text stretches entry.end (nodes_at g (sequence_numbers g i))
+  pub segmented : is_written_by entry ≡ false → HasSegments text segments entry.end (nodes_at g (sequence_numbers g i))
   pub root_is : outer_by entry ≡ None → (parent_at g (sequence_start g i) ≡ Some None) × (game_of g (sequence_start g i) ≡ game_by entry)
   pub outer_is : (outer : ℕ) → outer_by entry ≡ Some outer → (outer < i) × (parent_at g (sequence_start g i) ≡ Some (Some (sequence_end g outer - 1)))
 
@@ -262,20 +262,20 @@ module _ (g : Games) where
   starts-few = omega (arith, rises-count 0 _ (sequence_starts g) rise)
 
 module _ (text : List ℕ) (kept : Sequences) (outlined : IsOutlined text kept) (g : Games) (is : games_in text ≡ g) where
-  kept-by : AreKept text kept.stretches.items kept.table.items (sequences_of g)
-  kept-by = subst (λ c. AreKept text kept.stretches.items kept.table.items (sequences_of c)) is outlined.held.are
+  kept-by : AreKept text kept.segments.items kept.table.items (sequences_of g)
+  kept-by = subst (λ c. AreKept text kept.segments.items kept.table.items (sequences_of c)) is outlined.held.are
 
   -- there is an entry for each sequence
   pub table-length : length kept.table.items ≡ length (sequence_starts g)
   table-length = kept-by.count ∙ sym (length-map (sequences_of g) number_of) ∙ ap length (listed-starts g)
 
-  pub entry-in : (i : ℕ) (entry : Sequence) → i < length (sequence_starts g) → entry ≡ get_or kept.table.items i entry → IsEntryOf text kept.stretches.items g i entry
+  pub entry-in : (i : ℕ) (entry : Sequence) → i < length (sequence_starts g) → entry ≡ get_or kept.table.items i entry → IsEntryOf text kept.segments.items g i entry
   entry-in i entry lt here =
       let one = one-listed g i lt in of one.0 one.1
     where
-      of : (s : Listed) → slice_get (sequences_of g) i ≡ Some s → IsEntryOf text kept.stretches.items g i entry
+      of : (s : Listed) → slice_get (sequences_of g) i ≡ Some s → IsEntryOf text kept.segments.items g i entry
       of s at =
-          let k : IsKept text kept.stretches.items entry s = kept-by.each i entry s (slice_get_read kept.table.items _ i entry refl (omega (arith, lt, table-length)) here) at in
+          let k : IsKept text kept.segments.items entry s = kept-by.each i entry s (slice_get_read kept.table.items _ i entry refl (omega (arith, lt, table-length)) here) at in
           let start : sequence_start g i ≡ s.number = start-listed g i s at in
           let end : sequence_end g i ≡ last_number s + 1 = end-listed g i s at in
           let e : s.number + 0 ≡ s.number = omega arith in
@@ -288,7 +288,7 @@ module _ (text : List ℕ) (kept : Sequences) (outlined : IsOutlined text kept) 
             rises = k.rises;
             in_text = k.within;
             written = λ known. k.written known ∙ ap (flat_map node_text) (sym nodes);
-            stretched = λ other. subst (HasStretches text kept.stretches.items entry.end) (sym nodes) (k.stretched other);
+            segmented = λ other. subst (HasSegments text kept.segments.items entry.end) (sym nodes) (k.segmented other);
             root_is = λ e.
                 let none : s.outer ≡ None = sym k.outer_is ∙ e in
                 let root = root-listed g i s at none in (root.0, root.1 ∙ sym (k.ordinal_is none));
@@ -296,8 +296,8 @@ module _ (text : List ℕ) (kept : Sequences) (outlined : IsOutlined text kept) 
           }
 
 -- an entry of a sequence that begins with a root has no other one
-pub outer-none : (text : List ℕ) (stretches : List KeptStretch) (g : Games) (i : ℕ) (entry : Sequence) → IsEntryOf text stretches g i entry → parent_at g (sequence_start g i) ≡ Some None → outer_by entry ≡ None
-outer-none text stretches g i entry is root = by (outer_by entry) refl
+pub outer-none : (text : List ℕ) (segments : List KeptSegment) (g : Games) (i : ℕ) (entry : Sequence) → IsEntryOf text segments g i entry → parent_at g (sequence_start g i) ≡ Some None → outer_by entry ≡ None
+outer-none text segments g i entry is root = by (outer_by entry) refl
   where
     by : (o : Option ℕ) → outer_by entry ≡ o → o ≡ None
     by None e = refl

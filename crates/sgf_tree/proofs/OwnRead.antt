@@ -1,4 +1,4 @@
--- How the own nodes of a game are read one by one, and what a keeper keeps of them.
+-- How the own nodes of a game are read one by one, and what a visitor keeps of them.
 use Rattle.std.proofs.lemmas.Grind.{flat_map-append}
 use Rattle.std.proofs.Common.{◌≡◌, ◌≢◌, ℕ, ◌+◌, ◌-◌, ◌<◌, ◌≤◌, true, List, [], ◌∷◌, ◌++◌, length, get_or, slice_range, refl, sym, ap, subst, ◌∙◌, arith, length-append, append_assoc, append-nil}
 use Rattle.std.proofs.Math.Seq.{get_or-append_seam}
@@ -8,15 +8,15 @@ use Rattle.sgf_tree.specs.Tree.{Property, Node, no_games, node_count}
 use Rattle.sgf_tree.specs.Spelling.{is_white_space}
 use Rattle.sgf_tree.specs.Refusal.{IsFaultyAt}
 use Rattle.sgf_tree.specs.Written.{property_text, node_text}
-use Rattle.sgf_tree.specs.inner.Machine.{OpenGame, Stack, Started, opened, in_node}
+use Rattle.sgf_tree.specs.inner.Machine.{UnclosedGame, Stack, Started, opened, in_node}
 use Rattle.sgf_tree.specs.inner.Progress.{ComesTo, IsMoveNode, EndsNode}
 use Rattle.sgf_properties.specs.Offsets.{IsSpan}
 use Rattle.sgf_tree.specs.inner.PropertiesRead.{StandsIn, ArePropertiesRead}
-use Rattle.sgf_tree.specs.inner.GamesRead.{open_count, IsGameRead}
+use Rattle.sgf_tree.specs.inner.GamesRead.{unclosed_count, IsGameRead}
 use Rattle.sgf_tree.specs.inner.NodesRead.{NodesSoFar, AreReadTo, AreOwnRead, AreNodesRead}
 use Rattle.sgf_tree.specs.inner.OwnNodes.{Coming, nothing, coming_of, places_of, own_of, with_game, IsCopied, Copies, CopiesNode, AreOwnNodes}
 use Rattle.sgf_tree.specs.declared.layout.OwnNodes.{OwnNodes}
-use Rattle.sgf_tree.specs.declared.layout.Stretch.{Stretch}
+use Rattle.sgf_tree.specs.declared.layout.Segment.{Segment}
 use Rattle.sgf_tree.specs.declared.reader.own_nodes.NodesRead.{NodesRead}
 use Rattle.sgf_properties.proofs.NameEnds.{span-one}
 use Rattle.sgf_tree.proofs.ShortProperties.{lone-read}
@@ -46,7 +46,7 @@ last-of nodes node default =
     rw last (get_or-append_seam nodes node [] default)
 
 -- How a node is copied: `part` is what the sgf form writes for its properties.
-module _ (t : List ℕ) (place : ℕ) (lt : place < length t) (semicolon : get_or t place 0 ≡ 59) (kept keeps : Stack → Coming → Type 0) (before after : Stretch) where
+module _ (t : List ℕ) (place : ℕ) (lt : place < length t) (semicolon : get_or t place 0 ≡ 59) (kept keeps : Stack → Coming → Type 0) (before after : Segment) where
   -- in one piece
   pub piece-copied : (end : ℕ) → place + 1 ≤ end → CopiesNode kept keeps t place before after (slice_range t place end) → (part : List ℕ) → StandsIn t (place + 1) end part
       → CopiesNode kept keeps t place before after (59 ∷ part)
@@ -57,7 +57,7 @@ module _ (t : List ℕ) (place : ℕ) (lt : place < length t) (semicolon : get_o
       subst (CopiesNode kept keeps t place before after) whole copied
 
   -- part by part
-  pub parts-copied : (told : Stack → Coming → Type 0) (between : Stretch) → CopiesNode kept told t place before between (slice_range t place (place + 1)) → (part : List ℕ)
+  pub parts-copied : (told : Stack → Coming → Type 0) (between : Segment) → CopiesNode kept told t place before between (slice_range t place (place + 1)) → (part : List ℕ)
       → Copies told keeps t between after part → CopiesNode kept keeps t place before after (59 ∷ part)
   parts-copied told between begun part copied k places first written is =
       let one : slice_range t place (place + 1) ≡ 59 ∷ [] = span-one t place lt ∙ ap (λ b. b ∷ []) semicolon in
@@ -90,7 +90,7 @@ module _ (t : List ℕ) where
 
   -- no node was read yet
   pub own-start : (keeps : Stack → Coming → Type 0) (at first : ℕ) (k : Stack) → IsSpan is_white_space t at first → ComesTo t at (opened k) → keeps k nothing
-      → AreOwnRead keeps t at k (record { own = record { first = first; last = first; count = 0; stretch = record { start = first; end = first } }; end = first })
+      → AreOwnRead keeps t at k (record { own = record { first = first; last = first; count = 0; segment = record { start = first; end = first } }; end = first })
   own-start keeps at first k white after held =
       record {
         after = after;
@@ -107,8 +107,8 @@ module _ (t : List ℕ) where
   module _ (kept keeps : Stack → Coming → Type 0) (before after : NodesRead) where
     -- one node more
     pub own-more : (Wrote : List ℕ → Type 0) (text_end : ℕ) → before.end < length t → get_or t before.end 0 ≡ 59 → ArePropertiesRead Wrote t (before.end + 1) text_end after.end
-        → ((part : List ℕ) → Wrote part → CopiesNode kept keeps t before.end before.own.stretch after.own.stretch (59 ∷ part))
-        → after.own ≡ record { first = before.own.first; last = before.end; count = before.own.count + 1; stretch = after.own.stretch } → after.own.stretch.end ≡ text_end
+        → ((part : List ℕ) → Wrote part → CopiesNode kept keeps t before.end before.own.segment after.own.segment (59 ∷ part))
+        → after.own ≡ record { first = before.own.first; last = before.end; count = before.own.count + 1; segment = after.own.segment } → after.own.segment.end ≡ text_end
         → AreNodesRead kept keeps t before after
     own-more Wrote text_end lt e properties copies is end_is =
         let own : OwnNodes = before.own in
@@ -137,9 +137,9 @@ module _ (t : List ℕ) where
                   ends = omega (arith, last_is, end_is, properties.rises);
                 };
                 copied =
-                    subst (λ first. IsCopied (λ told. keeps k (coming_of (nodes ++ n ∷ []) told)) t first own'.stretch (flat_map node_text (nodes ++ n ∷ []))) (sym first_is)
-                    (subst (IsCopied (λ told. keeps k (coming_of (nodes ++ n ∷ []) told)) t own.first own'.stretch) texts
-                    (subst (λ places. IsCopied (λ told. keeps k (record { places = places; told = told })) t own.first own'.stretch (flat_map node_text nodes ++ (59 ∷ flat_map property_text ps)))
+                    subst (λ first. IsCopied (λ told. keeps k (coming_of (nodes ++ n ∷ []) told)) t first own'.segment (flat_map node_text (nodes ++ n ∷ []))) (sym first_is)
+                    (subst (IsCopied (λ told. keeps k (coming_of (nodes ++ n ∷ []) told)) t own.first own'.segment) texts
+                    (subst (λ places. IsCopied (λ told. keeps k (record { places = places; told = told })) t own.first own'.segment (flat_map node_text nodes ++ (59 ∷ flat_map property_text ps)))
                     (sym (map-append (λ (m : Node). m.place) nodes (n ∷ [])))
                     (copies (flat_map property_text ps) wrote k (places_of nodes) own.first (flat_map node_text nodes) read.copied)));
                 few = omega (arith, read.few, read.ends, properties.rises, end_is, count_is);
@@ -152,26 +152,26 @@ module _ (t : List ℕ) where
   module _ (keeps : Stack → Coming → Type 0) (at : ℕ) (k : Stack) (read : NodesRead) (own : AreOwnRead keeps t at k read) where
     -- the game with the nodes, of which there is one
     pub record IsOwnGame : Type 0 where
-      pub game : OpenGame
+      pub game : UnclosedGame
       pub nothing_below : game.below ≡ no_games
       pub nodes : NodesSoFar t read.end k game
       pub are : AreOwnNodes read.own (own_of game)
-      pub copied : IsCopied (λ told. keeps k (coming_of (own_of game) told)) t read.own.first read.own.stretch (flat_map node_text (own_of game))
+      pub copied : IsCopied (λ told. keeps k (coming_of (own_of game) told)) t read.own.first read.own.segment (flat_map node_text (own_of game))
 
     pub own-game : 0 < read.own.count → IsOwnGame
     own-game some = of own.nodes own.to own.are own.copied
       where
         of : (nodes : List Node) → AreReadTo t at k read.end nodes → AreOwnNodes read.own nodes
-            → IsCopied (λ told. keeps k (coming_of nodes told)) t read.own.first read.own.stretch (flat_map node_text nodes) → IsOwnGame
+            → IsCopied (λ told. keeps k (coming_of nodes told)) t read.own.first read.own.segment (flat_map node_text nodes) → IsOwnGame
         of [] to are copied = absurd (omega (arith, some, are.counted))
         of (first ∷ more) to are copied =
             record { game = record { first = first; more = more; below = no_games }; nothing_below = refl; nodes = to; are = are; copied = copied }
 
     -- no further node follows
     pub own-done : (told : Stack → Coming → Type 0) → 0 < read.own.count → (read.end < length t → get_or t read.end 0 ≢ 59)
-        → ((k : Stack) (g : OpenGame) → AreOwnNodes read.own (own_of g)
-        → IsCopied (λ text. keeps k (coming_of (own_of g) text)) t read.own.first read.own.stretch (flat_map node_text (own_of g)) → g.below ≡ no_games → told (with_game k g) nothing)
-        → open_count k.closed k.unclosed < at → IsGameRead told t read.end k
+        → ((k : Stack) (g : UnclosedGame) → AreOwnNodes read.own (own_of g)
+        → IsCopied (λ text. keeps k (coming_of (own_of g) text)) t read.own.first read.own.segment (flat_map node_text (own_of g)) → g.below ≡ no_games → told (with_game k g) nothing)
+        → unclosed_count k.closed k.unclosed < at → IsGameRead told t read.end k
     own-done told some other tells few =
         let g = own-game some in
         record {

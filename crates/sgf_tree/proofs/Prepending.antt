@@ -2,14 +2,14 @@
 use Rattle.std.proofs.Common.{◌≡◌, ℕ, ◌+◌, IsTrue, List, [], ◌∷◌, length, Some, refl, sym, ap, ◌∙◌, subst, append_assoc, append-nil}
 use Rattle.std.proofs.lemmas.Option.{none-some, same_Some}
 use Rattle.sgf_tree.specs.Tree.{Property, Node, Games, no_games, game}
-use Rattle.sgf_properties.specs.RawValue.{no_unit, plain, escaped}
+use Rattle.sgf_properties.specs.RawValue.{no_unit, ordinary, escaped}
 use Rattle.sgf_tree.specs.Spelling.{is_white_space, is_upper, WhiteSpace, no_white_space, white_space, no_letter, upper, lower, prop_value, no_value, value, property, no_property, properties, IsNode, node, AreNodes, no_node, nodes, AreGames, no_game, games, no_byte_order_mark, byte_order_mark}
-use Rattle.sgf_tree.specs.inner.Machine.{OpenGame, Stack, Started, MachineState, after_game, with_property, ended, whole_game, close_in}
-use Rattle.sgf_tree.proofs.Transitions.{Between, white_between, opens_game, closes_game, AfterNode, next_node, opens_below, closes_nodes, no_stack, IsTransition, mark_first, mark_second, mark_third, at_start, at_game, white_opened, first_node, white_node, first_name, ends_bare, upper_name, lower_name, white_name, first_value, white_after_name, later_value, ends_value, escapes, plain_byte, escaped_byte, white_value, next_value, next_name, ends_node}
+use Rattle.sgf_tree.specs.inner.Machine.{UnclosedGame, Stack, Started, MachineState, after_game, with_property, ended, whole_game, close_in}
+use Rattle.sgf_tree.proofs.Transitions.{Between, white_between, opens_game, closes_game, AfterNode, next_node, opens_below, closes_nodes, no_stack, IsTransition, mark_first, mark_second, mark_third, at_start, at_game, white_opened, first_node, white_node, first_name, ends_bare, upper_name, lower_name, white_name, first_value, white_after_name, later_value, ends_value, escapes, ordinary_byte, escaped_byte, white_value, next_value, next_name, ends_node}
 use Rattle.sgf_tree.proofs.Completion.{followed-none, followed_assoc, closed-in, nodes-none, nodes-more, add_games, with_values, with_properties, Rest, ends, closes, After_node, In_node, Opened, After_value, After_name, In_name, Completes}
 
 module _ (whole : ℕ) (c : Games) where
-  rest-white : {closed : Games} {unclosed : List OpenGame} {b : ℕ} {t : List ℕ} → IsTrue (is_white_space b)
+  rest-white : {closed : Games} {unclosed : List UnclosedGame} {b : ℕ} {t : List ℕ} → IsTrue (is_white_space b)
       → Rest whole c closed unclosed t → Rest whole c closed unclosed (b ∷ t)
   rest-white h (ends no_game w e) = ends no_game (white_space h w) e
   rest-white h (ends (games v first more below last after) w e) = ends (games (white_space h v) first more below last after) w e
@@ -26,7 +26,7 @@ module _ (whole : ℕ) (c : Games) where
       (ps, u, properties (property (white_space h w) up l v vs) more, r)
 
   -- a game before the rest
-  join : (closed : Games) (unclosed : List OpenGame) {f : Node} {m : List Node} {b : Games} {s t u v w x : List ℕ}
+  join : (closed : Games) (unclosed : List UnclosedGame) {f : Node} {m : List Node} {b : Games} {s t u v w x : List ℕ}
       → WhiteSpace s (40 ∷ t) → IsNode whole f t u → AreNodes whole m u v → AreGames whole b v w → WhiteSpace w (41 ∷ x)
       → Rest whole c (add_games closed unclosed (game f m b no_games)).closed (add_games closed unclosed (game f m b no_games)).unclosed x
       → Rest whole c closed unclosed s
@@ -37,7 +37,7 @@ module _ (whole : ℕ) (c : Games) where
   opened-rest k t (place, u, w, e, (ps, v, are, (ns, x, more, closes below last r))) =
       join k.closed k.unclosed no_white_space (node w e are) more below last r
 
-  close-rest : (closed : Games) (unclosed : List OpenGame) (t : List ℕ) (y : MachineState) → close_in closed unclosed ≡ Some y
+  close-rest : (closed : Games) (unclosed : List UnclosedGame) (t : List ℕ) (y : MachineState) → close_in closed unclosed ≡ Some y
       → Completes whole c y t → Rest whole c closed unclosed (41 ∷ t)
   close-rest closed [] t y e h = absurd (none-some y e)
   close-rest closed (g ∷ gs) t y e h =
@@ -103,7 +103,7 @@ module _ (whole : ℕ) (c : Games) where
   prepend at z b y t later_value e r = (t, no_white_space, r)
   prepend at z b y t ends_value e r = ([], t, no_unit, rw append-nil r)
   prepend at z b y t escapes e (d, s, f, (v, u, units, r)) = (92 ∷ d ∷ v, u, rw f (escaped units), rw append_assoc at r)
-  prepend at z b y t (plain_byte f g) e (v, u, units, r) = (b ∷ v, u, plain f g units, rw append_assoc at r)
+  prepend at z b y t (ordinary_byte f g) e (v, u, units, r) = (b ∷ v, u, ordinary f g units, rw append_assoc at r)
   prepend at z b y t escaped_byte e r = (b, t, refl, r)
   prepend at z b y t (white_value {n} {p} h) e r = white-value n p b t h r
   prepend at z b y t next_value e (v, u, units, (vs, w, are, r)) = (v ∷ vs, w, value (prop_value no_white_space units) are, rw append_assoc at r)

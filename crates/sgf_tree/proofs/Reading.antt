@@ -2,7 +2,7 @@
 use Rattle.std.proofs.lemmas.Grind.{common_steps}
 use Rattle.std.proofs.Common.{◌≡◌, ℕ, ◌+◌, ◌-◌, Bool, List, [], ◌∷◌, ◌++◌, length, Option, Some, None, option_and_then, refl, ap, ◌∙◌, append_assoc, append-nil, arith, ne_eqb, rules}
 use Rattle.sgf_tree.specs.Tree.{Property, values}
-use Rattle.sgf_properties.specs.RawValue.{IsValue, no_unit, plain, escaped}
+use Rattle.sgf_properties.specs.RawValue.{IsValue, no_unit, ordinary, escaped}
 use Rattle.sgf_tree.specs.Spelling.{WhiteSpace, no_white_space, white_space, Letters, no_letter, upper, lower, prop_value, ArePropValues, no_value, value}
 use Rattle.sgf_tree.specs.inner.Machine.{Stack, Started, MachineState, start, in_name, after_name, in_value, after_escape, after_value, property_of, new_node, next_state, run}
 use Rattle.sgf_properties.proofs.Classes.{white-not_upper, white-not_lower, lower-not_upper}
@@ -51,7 +51,7 @@ module _ (whole : ℕ) where
       → read whole (in_value n name before so_far) t ≡ read whole (in_value n name before (so_far ++ v)) r
   unfolding next_state
   over-units n name before so_far no_unit = rw append-nil
-  over-units n name before so_far (plain {b} {s} x y u) = search (rules, one-byte, ne_eqb, append_assoc, (over-units n name before (so_far ++ b ∷ []) u))
+  over-units n name before so_far (ordinary {b} {s} x y u) = search (rules, one-byte, ne_eqb, append_assoc, (over-units n name before (so_far ++ b ∷ []) u))
   over-units n name before so_far (escaped {b} {s} u) =
       one-byte (in_value n name before so_far) (after_escape n name before so_far) 92 (b ∷ s) (λ at. refl)
       ∙ one-byte (after_escape n name before so_far) (in_value n name before (so_far ++ 92 ∷ b ∷ [])) b s (λ at. refl)

@@ -2,7 +2,7 @@
 use Rattle.std.proofs.Common.{◌≡◌, ℕ, Bool, false, true, IsTrue, List, [], ◌∷◌, Some, refl, sym, ap, ◌∙◌, append_assoc, append-nil}
 use Rattle.sgf_tree.specs.Tree.{Property, Node, Games, no_games, game}
 use Rattle.sgf_tree.specs.Spelling.{is_upper, WhiteSpace, prop_value, IsProperty, property, AreProperties, no_property, properties, IsNode, node, AreNodes, no_node, nodes, AreGames, no_game, games}
-use Rattle.sgf_tree.specs.inner.Machine.{OpenGame, Stack, Started, MachineState, opened, in_node, in_name, after_value, after_game, joined, property_of, with_property, add_node, new_game, ended, whole_game, close, new_node, next_state}
+use Rattle.sgf_tree.specs.inner.Machine.{UnclosedGame, Stack, Started, MachineState, opened, in_node, in_name, after_value, after_game, joined, property_of, with_property, add_node, new_game, ended, whole_game, close, new_node, next_state}
 use Rattle.sgf_properties.proofs.Classes.{upper-not_white_space, upper-not_bracket}
 use Rattle.sgf_tree.proofs.Completion.{followed-none, followed_assoc, nodes-none, nodes-more, closed-in, add_games, add_nodes, with_properties}
 use Rattle.sgf_tree.proofs.Skipping.{Stays, stays-opened, stays-after_game}
@@ -17,11 +17,11 @@ data AtEnd : Started → MachineState → Type 0 where
 abbrev EndsAs : Stack → MachineState → Type 0
 EndsAs k z = (n : Started) × AtEnd n z × (ended n ≡ k)
 
-games-none : (closed : Games) (unclosed : List OpenGame) → add_games closed unclosed no_games ≡ record { closed = closed; unclosed = unclosed }
+games-none : (closed : Games) (unclosed : List UnclosedGame) → add_games closed unclosed no_games ≡ record { closed = closed; unclosed = unclosed }
 games-none closed [] = rw followed-none
 games-none closed (g ∷ gs) = rw followed-none
 
-games-more : (closed : Games) (unclosed : List OpenGame) (a b : Games)
+games-more : (closed : Games) (unclosed : List UnclosedGame) (a b : Games)
     → add_games (add_games closed unclosed a).closed (add_games closed unclosed a).unclosed b ≡ add_games closed unclosed (joined a b)
 games-more closed [] a b = rw followed_assoc
 games-more closed (g ∷ gs) a b = rw followed_assoc
@@ -101,7 +101,7 @@ module _ (whole : ℕ) where
       ∙ sym (to-opened k w)
 
   -- a `)` after a game, or after a node
-  to-closed : {s t : List ℕ} (closed : Games) (g : OpenGame) (gs : List OpenGame) → WhiteSpace s (41 ∷ t)
+  to-closed : {s t : List ℕ} (closed : Games) (g : UnclosedGame) (gs : List UnclosedGame) → WhiteSpace s (41 ∷ t)
       → read whole (after_game (record { closed = closed; unclosed = g ∷ gs })) s
       ≡ read whole (after_game (add_games closed gs (whole_game g))) t
   unfolding next_state
@@ -110,7 +110,7 @@ module _ (whole : ℕ) where
       over-white whole (after_game k) (stays-after_game k) w
       ∙ one-byte whole (after_game k) (after_game (add_games closed gs (whole_game g))) 41 t (λ at. closed-in closed g gs)
 
-  end-closed : {s t : List ℕ} (closed : Games) (g : OpenGame) (gs : List OpenGame) (z : MachineState)
+  end-closed : {s t : List ℕ} (closed : Games) (g : UnclosedGame) (gs : List UnclosedGame) (z : MachineState)
       → EndsAs (record { closed = closed; unclosed = g ∷ gs }) z → WhiteSpace s (41 ∷ t)
       → read whole z s ≡ read whole (after_game (add_games closed gs (whole_game g))) t
   end-closed {s} {t} closed g gs z (n, a, e) w =
@@ -119,7 +119,7 @@ module _ (whole : ℕ) where
       (λ at. end-closes a at ∙ ap close e ∙ closed-in closed g gs)
 
   -- the games below a node, and the `)` after them
-  over-below : {below : Games} {s t r : List ℕ} (closed : Games) (g : OpenGame) (gs : List OpenGame) (z : MachineState)
+  over-below : {below : Games} {s t r : List ℕ} (closed : Games) (g : UnclosedGame) (gs : List UnclosedGame) (z : MachineState)
       → EndsAs (record { closed = closed; unclosed = g ∷ gs }) z → AreGames whole below s r
       → read whole (after_game (record { closed = closed; unclosed = g ∷ gs })) s
       ≡ read whole (after_game (add_games closed (g ∷ gs) below)) r
@@ -131,14 +131,14 @@ module _ (whole : ℕ) where
       to-game k z h w ∙ ih
       ∙ to-closed closed (record { first = g.first; more = g.more; below = joined g.below below }) gs last
 
-  pub over-games : {others : Games} {s r : List ℕ} (closed : Games) (unclosed : List OpenGame) → AreGames whole others s r
+  pub over-games : {others : Games} {s r : List ℕ} (closed : Games) (unclosed : List UnclosedGame) → AreGames whole others s r
       → read whole (after_game (record { closed = closed; unclosed = unclosed })) s
       ≡ read whole (after_game (add_games closed unclosed others)) r
   unfolding next_state
   over-games closed unclosed no_game = rw games-none
   over-games closed unclosed (games {first} {more} {below} {after} w n ns bs last hs) =
       let k : Stack = record { closed = closed; unclosed = unclosed } in
-      let g : OpenGame = record { first = first; more = more; below = no_games } in
+      let g : UnclosedGame = record { first = first; more = more; below = no_games } in
       let (x, e, f) = over-node (opened k) k true (stays-opened k) (λ at. refl) n in
       let (y, h, i) = over-nodes (record { closed = closed; unclosed = new_game first ∷ unclosed }) x e ns in
       let l = add_games closed unclosed (game first more below no_games) in

@@ -5,7 +5,7 @@ use Rattle.std.specs.List.{flat_map}
 use Rattle.sgf_tree.specs.Tree.{Property, Node, Games, no_games, game}
 use Rattle.sgf_tree.specs.Spelling.{is_white_space}
 use Rattle.sgf_tree.specs.Written.{property_text}
-use Rattle.sgf_tree.specs.inner.Machine.{OpenGame, Stack, Started, opened, in_node, add_node, after_game, after_node, between_games, ended, new_game, new_node, next_state, accepted}
+use Rattle.sgf_tree.specs.inner.Machine.{UnclosedGame, Stack, Started, opened, in_node, add_node, after_game, after_node, between_games, ended, new_game, new_node, next_state, accepted}
 use Rattle.sgf_tree.specs.Refusal.{IsFaultyAt}
 use Rattle.sgf_tree.specs.inner.Progress.{ComesTo}
 use Rattle.sgf_properties.specs.Offsets.{IsSpan}
@@ -17,11 +17,11 @@ use Rattle.sgf_tree.proofs.Skipping.{stays-opened}
 use Rattle.sgf_tree.proofs.Spans.{run-white}
 use Rattle.sgf_tree.proofs.ValueEnds.{stops-faulty}
 
--- games that are open are no collection
-pub open-unaccepted : (closed : Games) (g : OpenGame) (gs : List OpenGame) → accepted (after_game (record { closed = closed; unclosed = g ∷ gs })) ≡ None
+-- games that are unclosed are no collection
+pub unclosed-unaccepted : (closed : Games) (g : UnclosedGame) (gs : List UnclosedGame) → accepted (after_game (record { closed = closed; unclosed = g ∷ gs })) ≡ None
 unfolding accepted
-open-unaccepted no_games g gs = refl
-open-unaccepted (game first more below after) g gs = refl
+unclosed-unaccepted no_games g gs = refl
+unclosed-unaccepted (game first more below after) g gs = refl
 
 -- after a node that no `;` follows the machine goes on as between games
 node-between : (at : ℕ) (k : Stack) (b : ℕ) → is_white_space b ≡ false → b ≢ 59 → after_node at k b ≡ between_games k b
@@ -47,7 +47,7 @@ module _ (t : List ℕ) where
   next-node end whole stands lt e = grind (arith, common_steps, run-take-step)
 
   -- the game with one more node
-  abbrev pub with_node : OpenGame → Node → OpenGame
+  abbrev pub with_node : UnclosedGame → Node → UnclosedGame
   with_node last n = record { first = last.first; more = last.more ++ n ∷ []; below = last.below }
 
   pub nodes-first : (Wrote : List ℕ → Type 0) (at place text_end end : ℕ) (k : Stack) → IsSpan is_white_space t at place → ComesTo t at (opened k) → place < length t → get_or t place 0 ≡ 59
@@ -66,7 +66,7 @@ module _ (t : List ℕ) where
         wrote,
       )
 
-  pub nodes-next : (Wrote : List ℕ → Type 0) (place text_end end : ℕ) (k : Stack) (last : OpenGame) → NodesSoFar t place k last → place < length t → get_or t place 0 ≡ 59
+  pub nodes-next : (Wrote : List ℕ → Type 0) (place text_end end : ℕ) (k : Stack) (last : UnclosedGame) → NodesSoFar t place k last → place < length t → get_or t place 0 ≡ 59
       → ArePropertiesRead Wrote t (place + 1) text_end end → (ps : List Property) × NodesSoFar t end k (with_node last (record { place = place; properties = ps })) × Wrote (flat_map property_text ps)
   nodes-next Wrote place text_end end k last so_far lt e read =
       let n : Started = record { stack = ended so_far.whole; opens = false; place = place; properties = [] } in
@@ -83,12 +83,12 @@ module _ (t : List ℕ) where
       )
 
   -- no further node follows
-  pub nodes-done : (end : ℕ) (k : Stack) (last : OpenGame) → NodesSoFar t end k last → (end < length t → get_or t end 0 ≢ 59)
+  pub nodes-done : (end : ℕ) (k : Stack) (last : UnclosedGame) → NodesSoFar t end k last → (end < length t → get_or t end 0 ≢ 59)
       → StandsBetween t end (record { closed = k.closed; unclosed = last ∷ k.unclosed })
-  nodes-done end k last so_far other = grind (arith, common_steps, node-between, open-unaccepted)
+  nodes-done end k last so_far other = grind (arith, common_steps, node-between, unclosed-unaccepted)
 
   -- a further node's `;` begins a node
-  pub nodes-node : (end : ℕ) (k : Stack) (last : OpenGame) → NodesSoFar t end k last → end < length t → get_or t end 0 ≡ 59
+  pub nodes-node : (end : ℕ) (k : Stack) (last : UnclosedGame) → NodesSoFar t end k last → end < length t → get_or t end 0 ≡ 59
       → (n : Started) × ((n.properties ≡ []) × ComesTo t (end + 1) (in_node n))
   nodes-node end k last so_far lt e = (
     record { stack = ended so_far.whole; opens = false; place = end; properties = [] },

@@ -6,11 +6,11 @@ use Rattle.std.proofs.lemmas.List.{get_or-append_right}
 use Rattle.std.proofs.lemmas.Simd.{get_or-replicate}
 use Rattle.std.specs.Int.Count.{count_trailing_zeros}
 use Rattle.sgf_tree.specs.Spelling.{is_upper}
-use Rattle.sgf_properties.specs.Offsets.{is_plain}
+use Rattle.sgf_properties.specs.Offsets.{is_ordinary}
 use Rattle.sgf_tree.specs.inner.PropertiesRead.{IsShortProperty}
 use Rattle.sgf_properties.proofs.PlacedBytes
 use Rattle.sgf_properties.proofs.PlacedBytes.{above}
-use Rattle.sgf_properties.proofs.ValueEnds.{other-plain}
+use Rattle.sgf_properties.proofs.ValueEnds.{other-ordinary}
 
 -- the first byte of each place that stops a property, and how many further ones do
 abbrev least : List ℕ
@@ -22,8 +22,8 @@ most = 229 ∷ 229 ∷ 254 ∷ 1 ∷ 1 ∷ 1 ∷ 1 ∷ 1 ∷ 1 ∷ 1 ∷ 1 ∷ 1
 capital : (b : ℕ) → b < 256 → 229 < above b 91 → IsTrue (is_upper b)
 capital b fits h = grind (arith, common_steps, and_from, le-leb)
 
-plain-byte : (b : ℕ) → b < 256 → 1 < above b 92 → IsTrue (is_plain b)
-plain-byte b fits h = other-plain b (λ e. omega (arith, h)) (λ e. omega (arith, h))
+ordinary-byte : (b : ℕ) → b < 256 → 1 < above b 92 → IsTrue (is_ordinary b)
+ordinary-byte b fits h = other-ordinary b (λ e. omega (arith, h)) (λ e. omega (arith, h))
 
 -- from the fourth place on all places are alike
 value-place : (i : ℕ) → 3 ≤ i → i < 16 → (get_or least i 0 ≡ 92) × (get_or most i 0 ≡ 1)
@@ -63,14 +63,14 @@ module _ (t : List ℕ) (at : ℕ) (room : at + 16 ≤ length t) (fits : (i : �
         first = capital (get_or t at 0) (fits at) (subst (λ i. 229 < above (get_or t i 0) 91) here first);
         second = capital (get_or t (at + 1) 0) (fits (at + 1)) (passes 1 (omega arith) (low-clear bits 1 low (omega arith)));
         bracket = let third : 254 < above (get_or t (at + 2) 0) 92 = passes 2 (omega arith) (low-clear bits 2 low (omega arith)) in omega (arith, third, fits (at + 2));
-        plain = record {
+        ordinary = record {
           rises = omega arith;
           within = omega arith;
           passing = λ i from to.
               let k : ℕ = i - at in
               let same : at + k ≡ i = omega arith in
               let place = value-place k (omega arith) (omega arith) in
-              grind (arith, common_steps, passes, plain-byte);
+              grind (arith, common_steps, passes, ordinary-byte);
         };
         within = omega arith;
         end = bracket;

@@ -19,7 +19,7 @@ use Rattle.sgf_tree.proofs.Skipping.{stays-in_node}
 use Rattle.sgf_tree.proofs.Spans.{run-white}
 use Rattle.sgf_properties.proofs.Spans.{span-none}
 use Rattle.sgf_properties.proofs.ValueEnds.{span-join}
-use Rattle.sgf_properties.proofs.ValueUnits.{no-units, plain-units, units-ended}
+use Rattle.sgf_properties.proofs.ValueUnits.{no-units, ordinary-units, units-ended}
 use Rattle.sgf_tree.proofs.ValuesRead.{After, ValuesBefore, after-none, values-begin, values-step}
 
 -- two parts side by side
@@ -52,7 +52,7 @@ short-property t start bracket close next lt capital letters capitals stands val
     property-read (StandsIn t start bracket) (After None t bracket (close + 1)) (StandsIn t start (close + 1)) t start bracket (close + 1) next name values (omega (arith, value.rises)) ended.white_space (λ _. ended.other)
     (λ u v named (none, is, are). stands-join t start bracket (close + 1) capitals.rises (omega (arith, value.rises)) u v named (ap (λ s. s ++ slice_range t bracket (close + 1)) (sym is) ∙ are))
 
--- a property of two capitals and one value of plain bytes
+-- a property of two capitals and one value of ordinary bytes
 module _ (t : List ℕ) (at close : ℕ) (is : IsShortProperty t at close) where
   two-name : (test : ℕ → Bool) → IsTrue (test (get_or t at 0)) → IsTrue (test (get_or t (at + 1) 0)) → test 91 ≡ false → IsSpan test t at (at + 2)
   two-name test first second other = grind (arith, common_steps, cases_lt)
@@ -63,11 +63,11 @@ module _ (t : List ℕ) (at close : ℕ) (is : IsShortProperty t at close) where
   pub two-value : IsValueEnd t (at + 2 + 1) close
   two-value =
       let three : at + 2 + 1 ≡ at + 3 = omega arith in
-      rw three (units-ended t (at + 3) close (plain-units t (at + 3) (at + 3) close (no-units t (at + 3)) is.plain) is.within is.end)
+      rw three (units-ended t (at + 3) close (ordinary-units t (at + 3) (at + 3) close (no-units t (at + 3)) is.ordinary) is.within is.end)
 
   two-whole : (next : ℕ) → AreValuesEnded t (close + 1) next → IsPropertyRead (StandsIn t at (close + 1)) t at (close + 1) next
   two-whole next ended =
-      let rises : at + 3 ≤ close = is.plain.rises in
+      let rises : at + 3 ≤ close = is.ordinary.rises in
       short-property t at (at + 2) close next (omega (arith, is.within)) is.first two-letters
       (two-name is_upper is.first is.second refl) (record { within = omega (arith, is.within); bracket = is.bracket }) two-value ended
 
@@ -145,10 +145,10 @@ module _ (t : List ℕ) (at end : ℕ) (so_far : AreReadTo t at end) where
   pub read-to-more : (close : ℕ) → IsShortProperty t end close → AreReadTo t at (close + 1)
   read-to-more close is next ended =
       let letter = upper-range (get_or t end 0) is.first in
-      let lt : end < length t = omega (arith, is.plain.rises, is.within) in
+      let lt : end < length t = omega (arith, is.ordinary.rises, is.within) in
       let here = so_far end (ended-at t end lt (omega (arith, letter.0)) (λ e. omega (arith, letter.1))) in
       so-far-more t at (StandsIn t at end) (StandsIn t end (close + 1)) (StandsIn t at (close + 1)) end end (close + 1) next here lt is.first (two-whole t end close is next ended)
-      (stands-join t at end (close + 1) here.rises (omega (arith, is.plain.rises)))
+      (stands-join t at end (close + 1) here.rises (omega (arith, is.ordinary.rises)))
 
   -- the node ends
   pub read-to-end : EndsNode t end → ArePropertiesRead (StandsIn t at end) t at end end
@@ -170,7 +170,7 @@ module _ (t : List ℕ) (at : ℕ) (is : IsMove t at) where
       let two : at + 1 + 1 ≡ at + 2 = omega arith in
       let four : at + 4 ≡ at + 2 + 2 = omega arith in
       rw (two, four)
-      (units-ended t (at + 2) (at + 2 + 2) (plain-units t (at + 2) (at + 2) (at + 2 + 2) (no-units t (at + 2)) is.value.plain) is.value.within is.value.bracket)
+      (units-ended t (at + 2) (at + 2 + 2) (ordinary-units t (at + 2) (at + 2) (at + 2 + 2) (no-units t (at + 2)) is.value.ordinary) is.value.within is.value.bracket)
 
   move-whole : (next : ℕ) → AreValuesEnded t (at + 5) next → IsPropertyRead (StandsIn t at (at + 5)) t at (at + 5) next
   move-whole next ended =

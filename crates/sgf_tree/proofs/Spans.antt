@@ -1,4 +1,4 @@
--- The machine over a span of a text, by the offsets of its bytes: white space, letters, the plain bytes of a value.
+-- The machine over a span of a text, by the offsets of its bytes: white space, letters, the ordinary bytes of a value.
 use Rattle.std.proofs.Common.{◌≡◌, ℕ, zero, suc, ◌+◌, ◌-◌, ◌<◌, ◌≤◌, ◌⊎◌, IsTrue, List, [], ◌∷◌, ◌++◌, length, get_or, take, slice_range, filter, Some, subst, add-zero, append_assoc, append-nil, arith, rules}
 use Rattle.std.proofs.lemmas.List.Elements.{filter-append}
 use Rattle.sgf_tree.specs.Spelling.{is_white_space, is_upper, is_lower}

@@ -1,10 +1,10 @@
--- The ordered nodes of whole and open games: games side by side, and a game that ends.
+-- The ordered nodes of whole and unclosed games: games side by side, and a game that ends.
 use Rattle.std.proofs.lemmas.Grind.{common_steps}
 use Rattle.std.proofs.Common.{◌≡◌, ℕ, ◌+◌, List, [], ◌∷◌, ◌++◌, length, Option, None, arith, append_assoc, append-nil, length-append, rules}
 use Rattle.sgf_tree.specs.Tree.{Games, no_games, game, joined, game_count, node_count}
 use Rattle.sgf_tree.specs.FileOrder.{nodes_from}
-use Rattle.sgf_tree.specs.inner.Machine.{OpenGame, whole_game}
-use Rattle.sgf_tree.specs.inner.GamesRead.{open_count, tip, own_nodes, open_nodes, lasts, open_lasts}
+use Rattle.sgf_tree.specs.inner.Machine.{UnclosedGame, whole_game}
+use Rattle.sgf_tree.specs.inner.GamesRead.{unclosed_count, tip, own_nodes, unclosed_nodes, lasts, unclosed_lasts}
 use Rattle.sgf_tree.proofs.Completion.{add_games}
 use Rattle.sgf_tree.proofs.OrderedNodes.{length-further_nodes, length-nodes_from}
 
@@ -30,27 +30,27 @@ lasts-followed at (game first more below after) b =
     let next : ℕ = at + 1 + length more in
     grind (arith, common_steps, append_assoc, (lasts-followed (next + node_count below) after b))
 
-length-own_nodes : (at : ℕ) (parent : Option ℕ) (g : OpenGame) → length (own_nodes at parent g) ≡ 1 + length g.more + node_count g.below
+length-own_nodes : (at : ℕ) (parent : Option ℕ) (g : UnclosedGame) → length (own_nodes at parent g) ≡ 1 + length g.more + node_count g.below
 length-own_nodes at parent g = grind (arith, common_steps, length-append, length-further_nodes, length-nodes_from)
 
-pub length-open_nodes : (closed : Games) (gs : List OpenGame) → length (open_nodes closed gs) ≡ open_count closed gs
-length-open_nodes closed [] = length-nodes_from 0 None closed
-length-open_nodes closed (g ∷ gs) =
-    omega (arith, length-append (open_nodes closed gs) (own_nodes (open_count closed gs) (tip closed gs) g), length-open_nodes closed gs, length-own_nodes (open_count closed gs) (tip closed gs) g)
+pub length-unclosed_nodes : (closed : Games) (gs : List UnclosedGame) → length (unclosed_nodes closed gs) ≡ unclosed_count closed gs
+length-unclosed_nodes closed [] = length-nodes_from 0 None closed
+length-unclosed_nodes closed (g ∷ gs) =
+    omega (arith, length-append (unclosed_nodes closed gs) (own_nodes (unclosed_count closed gs) (tip closed gs) g), length-unclosed_nodes closed gs, length-own_nodes (unclosed_count closed gs) (tip closed gs) g)
 
--- an open game has the nodes that it has as a whole one
-own_nodes-whole : (at : ℕ) (parent : Option ℕ) (g : OpenGame) → nodes_from at parent (whole_game g) ≡ own_nodes at parent g
+-- an unclosed game has the nodes that it has as a whole one
+own_nodes-whole : (at : ℕ) (parent : Option ℕ) (g : UnclosedGame) → nodes_from at parent (whole_game g) ≡ own_nodes at parent g
 own_nodes-whole at parent g = append-nil (own_nodes at parent g)
 
 -- the end of a game leaves the ordered nodes as they are
-pub open_nodes-closed : (closed : Games) (g : OpenGame) (gs : List OpenGame) → open_nodes (add_games closed gs (whole_game g)).closed (add_games closed gs (whole_game g)).unclosed ≡ open_nodes closed (g ∷ gs)
-open_nodes-closed closed g gs = search (rules, ordered-followed, own_nodes-whole, append_assoc)
+pub unclosed_nodes-closed : (closed : Games) (g : UnclosedGame) (gs : List UnclosedGame) → unclosed_nodes (add_games closed gs (whole_game g)).closed (add_games closed gs (whole_game g)).unclosed ≡ unclosed_nodes closed (g ∷ gs)
+unclosed_nodes-closed closed g gs = search (rules, ordered-followed, own_nodes-whole, append_assoc)
 
-lasts-whole : (at : ℕ) (g : OpenGame) → lasts at (whole_game g) ≡ (at + length g.more + node_count g.below) ∷ lasts (at + 1 + length g.more) g.below
+lasts-whole : (at : ℕ) (g : UnclosedGame) → lasts at (whole_game g) ≡ (at + length g.more + node_count g.below) ∷ lasts (at + 1 + length g.more) g.below
 lasts-whole at g = append-nil ((at + length g.more + node_count g.below) ∷ lasts (at + 1 + length g.more) g.below)
 
 -- the last nodes below, once a game is closed
-pub open_lasts-closed : (closed : Games) (g : OpenGame) (gs : List OpenGame)
-    → open_lasts (add_games closed gs (whole_game g)).closed (add_games closed gs (whole_game g)).unclosed
-    ≡ open_lasts closed gs ++ (open_count closed gs + length g.more + node_count g.below) ∷ lasts (open_count closed gs + 1 + length g.more) g.below
-open_lasts-closed closed g gs = search (rules, lasts-followed, lasts-whole, append_assoc)
+pub unclosed_lasts-closed : (closed : Games) (g : UnclosedGame) (gs : List UnclosedGame)
+    → unclosed_lasts (add_games closed gs (whole_game g)).closed (add_games closed gs (whole_game g)).unclosed
+    ≡ unclosed_lasts closed gs ++ (unclosed_count closed gs + length g.more + node_count g.below) ∷ lasts (unclosed_count closed gs + 1 + length g.more) g.below
+unclosed_lasts-closed closed g gs = search (rules, lasts-followed, lasts-whole, append_assoc)

@@ -8,7 +8,7 @@ use Rattle.sgf_tree.specs.Tree.{no_games, Property, values}
 use Rattle.sgf_tree.specs.Spelling.{is_white_space, is_upper, is_lower}
 use Rattle.sgf_tree.specs.inner.Machine.{Stack, Started, MachineState, start, first_of_mark, second_of_mark, opened, in_node, in_name, after_name, in_value, after_escape, after_value, after_game, property_of, with_property, ended, close, new_node, after_node, between_games, next_state}
 
--- no game, and none open
+-- no game, and none unclosed
 abbrev pub no_stack : Stack
 no_stack = record { closed = no_games; unclosed = [] }
 
@@ -46,7 +46,7 @@ pub data IsTransition (at : ℕ) : MachineState → ℕ → MachineState → Typ
       → IsTransition at (in_value n name before value) 93 (after_value n (property_of name before value))
   escapes : {n : Started} {name : List ℕ} {before : List (List ℕ)} {value : List ℕ}
       → IsTransition at (in_value n name before value) 92 (after_escape n name before value)
-  plain_byte : {n : Started} {name : List ℕ} {before : List (List ℕ)} {value : List ℕ} {b : ℕ} → b ≢ 93 → b ≢ 92
+  ordinary_byte : {n : Started} {name : List ℕ} {before : List (List ℕ)} {value : List ℕ} {b : ℕ} → b ≢ 93 → b ≢ 92
       → IsTransition at (in_value n name before value) b (in_value n name before (value ++ b ∷ []))
   escaped_byte : {n : Started} {name : List ℕ} {before : List (List ℕ)} {value : List ℕ} {b : ℕ}
       → IsTransition at (after_escape n name before value) b (in_value n name before (value ++ 92 ∷ b ∷ []))
@@ -87,7 +87,7 @@ transition at (opened k) b y e = grind (arith, common_steps, by_test, white_open
 transition at (in_node n) b y e = grind (arith, common_steps, by_test, white_node, first_name, ends_bare, after)
 transition at (in_name n name) b y e = grind (arith, common_steps, by_test, upper_name, lower_name, white_name, by_byte, first_value, none-some)
 transition at (after_name n name) b y e = grind (arith, common_steps, by_test, white_after_name, by_byte, later_value, none-some)
-transition at (in_value n name before value) b y e = grind (arith, common_steps, by_byte, ends_value, escapes, same_Some, plain_byte)
+transition at (in_value n name before value) b y e = grind (arith, common_steps, by_byte, ends_value, escapes, same_Some, ordinary_byte)
 transition at (after_escape n name before value) b y e = subst (IsTransition at (after_escape n name before value) b) (same_Some _ y e) escaped_byte
 transition at (after_value n p) b y e = grind (arith, common_steps, by_test, white_value, by_byte, next_value, next_name, ends_node, after)
 transition at (after_game k) b y e = at_game (between k b y e)

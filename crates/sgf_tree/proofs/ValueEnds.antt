@@ -5,7 +5,7 @@ use Rattle.std.proofs.lemmas.Bool.{cases_lt}
 use Rattle.std.proofs.lemmas.List.{take_all}
 use Rattle.sgf_tree.specs.inner.Machine.{Started, MachineState, start, in_value, after_escape, next_state, run, accepted}
 use Rattle.sgf_tree.specs.Refusal.{IsFaultyAt}
-use Rattle.sgf_properties.specs.RawValue.{IsValue, no_unit, plain, escaped}
+use Rattle.sgf_properties.specs.RawValue.{IsValue, no_unit, ordinary, escaped}
 use Rattle.sgf_tree.specs.inner.Progress.{ComesTo}
 use Rattle.sgf_properties.specs.Offsets.{SpellsValue, IsUnended, in_units, in_escape}
 use Rattle.sgf_tree.proofs.Faults.{ended-fault, refused-fault}
@@ -38,7 +38,7 @@ run-units : {v s r : List ℕ} (at : ℕ) (n : Started) (name : List ℕ) (befor
     → run at (in_value n name before so_far) v ≡ Some (in_value n name before (so_far ++ v))
 unfolding run next_state
 run-units at n name before so_far no_unit = rw append-nil
-run-units at n name before so_far (plain {b} x y u) = search (rules, ne_eqb, append_assoc, (run-units (at + 1) n name before (so_far ++ b ∷ []) u))
+run-units at n name before so_far (ordinary {b} x y u) = search (rules, ne_eqb, append_assoc, (run-units (at + 1) n name before (so_far ++ b ∷ []) u))
 run-units at n name before so_far (escaped {b} u) = rw append_assoc at (run-units (at + 1 + 1) n name before (so_far ++ 92 ∷ b ∷ []) u)
 
 module _ (t : List ℕ) (at end : ℕ) (low : at ≤ end) (within : end ≤ length t) (spelled : SpellsValue t at end) (n : Started) (name : List ℕ) (before : List (List ℕ))

@@ -4,19 +4,19 @@ use Rattle.std.proofs.Common.{◌≡◌, ℕ, ◌+◌, ◌-◌, ◌<◌, ◌≤�
 use Rattle.sgf_tree.specs.Tree.{Games, no_games, game, game_count, node_count}
 use Rattle.sgf_tree.specs.Spelling.{is_white_space}
 use Rattle.sgf_tree.specs.Refusal.{IsFaultyAt}
-use Rattle.sgf_tree.specs.inner.Machine.{OpenGame, Stack, MachineState, after_game, close, accepted, collection_of}
+use Rattle.sgf_tree.specs.inner.Machine.{UnclosedGame, Stack, MachineState, after_game, close, accepted, collection_of}
 use Rattle.sgf_tree.specs.inner.OwnNodes.{Coming, nothing}
 use Rattle.sgf_tree.specs.inner.Progress.{ComesTo}
 use Rattle.sgf_properties.specs.Offsets.{IsSpan}
-use Rattle.sgf_tree.specs.inner.GamesRead.{open_count, StandsBetween, IsGameRead, ReadsWhole}
+use Rattle.sgf_tree.specs.inner.GamesRead.{unclosed_count, StandsBetween, IsGameRead, ReadsWhole}
 use Rattle.sgf_tree.proofs.AcceptedSpelled.{accepted-spelled}
 use Rattle.sgf_tree.proofs.Completion.{closed-in}
-use Rattle.sgf_tree.proofs.GamesLoop.{none-accepted, close-faulty, close-stands, games-unfinished, games-whole, games-accepted, open_count-closed, depth-closed}
+use Rattle.sgf_tree.proofs.GamesLoop.{none-accepted, close-faulty, close-stands, games-unfinished, games-whole, games-accepted, unclosed_count-closed, depth-closed}
 use Rattle.sgf_tree.proofs.Run.{collection-run}
-use Rattle.sgf_tree.proofs.SequencesRead.{open-unaccepted}
+use Rattle.sgf_tree.proofs.SequencesRead.{unclosed-unaccepted}
 use Rattle.sgf_tree.proofs.ValueEnds.{reaches-all}
 
-no-game : (gs : List OpenGame) → length gs ≡ 0 → gs ≡ []
+no-game : (gs : List UnclosedGame) → length gs ≡ 0 → gs ≡ []
 no-game gs h = grind (arith, common_steps)
 
 some-game : (games : Games) → 0 < node_count games → 0 < game_count games
@@ -27,16 +27,16 @@ module _ (t : List ℕ) where
   collection-reached : (c : Games) (z : MachineState) → ComesTo t (length t) z → accepted z ≡ Some c → collection_of t ≡ Some c
   collection-reached c z reached accepts = collection-run t z (reaches-all t z reached) ∙ accepts
 
-  -- games were read from `start` up to `at`, and the keeper keeps them; so many are open
+  -- games were read from `start` up to `at`, and the visitor keeps them; so many are unclosed
   pub record GamesSoFar (keeps : Stack → Coming → Type 0) (start at depth : ℕ) : Type 0 where
     pub rises : start ≤ at
     pub within : at ≤ length t
     pub stack : Stack
     pub stands : StandsBetween t at stack
     pub kept : keeps stack nothing
-    pub few : open_count stack.closed stack.unclosed ≤ at
+    pub few : unclosed_count stack.closed stack.unclosed ≤ at
     pub none : at ≡ start → game_count stack.closed ≡ 0
-    pub some : start < at → 0 < open_count stack.closed stack.unclosed
+    pub some : start < at → 0 < unclosed_count stack.closed stack.unclosed
     pub depth_is : length stack.unclosed ≡ depth
 
   -- the own nodes of a game
@@ -51,7 +51,7 @@ module _ (t : List ℕ) where
 
     pub games-closed : (keeps' : Stack → Coming → Type 0) (next : ℕ) → 0 < depth → at < length t → get_or t at 0 ≡ 41 → IsSpan is_white_space t (at + 1) next
         → ((k k' : Stack) → keeps k nothing → length k.unclosed ≡ depth - 1 + 1 → close k ≡ Some (after_game k') → keeps' k' nothing) → GamesSoFar keeps' start next (depth - 1)
-    games-closed keeps' next some lt e white ends = grind (arith, common_steps, open_count-closed, close-stands, closed-in, depth-closed)
+    games-closed keeps' next some lt e white ends = grind (arith, common_steps, unclosed_count-closed, close-stands, closed-in, depth-closed)
 
     -- the end of the text
     module _ (ends : at ≡ length t) where
@@ -59,9 +59,9 @@ module _ (t : List ℕ) where
       games-faulty-end h =
           subst (IsFaultyAt t) (sym ends) (games-unfinished t at so_far.stack so_far.stands ends (unaccepted so_far.stack.closed so_far.stack.unclosed so_far.none so_far.depth_is h))
         where
-          unaccepted : (closed : Games) (gs : List OpenGame) → (at ≡ start → game_count closed ≡ 0) → length gs ≡ depth → (0 < depth) ⊎ (at ≡ start)
+          unaccepted : (closed : Games) (gs : List UnclosedGame) → (at ≡ start → game_count closed ≡ 0) → length gs ≡ depth → (0 < depth) ⊎ (at ≡ start)
               → accepted (after_game (record { closed = closed; unclosed = gs })) ≡ None
-          unaccepted closed (g ∷ gs) none depth_is h = open-unaccepted closed g gs
+          unaccepted closed (g ∷ gs) none depth_is h = unclosed-unaccepted closed g gs
           unaccepted closed [] none depth_is (inl some) = absurd (omega arith)
           unaccepted closed [] none depth_is (inr e) = none-accepted closed (none e)
 
@@ -69,6 +69,6 @@ module _ (t : List ℕ) where
       games-read none some =
           let k : Stack = so_far.stack in
           let all : k.unclosed ≡ [] = no-game k.unclosed (so_far.depth_is ∙ none) in
-          let count : open_count k.closed k.unclosed ≡ node_count k.closed = ap (open_count k.closed) all in
+          let count : unclosed_count k.closed k.unclosed ≡ node_count k.closed = ap (unclosed_count k.closed) all in
           let accepts = games-accepted t at k so_far.stands ends all (some-game k.closed (omega (arith, so_far.some some))) in
           search (rules, collection-reached, games-whole, unwrap_or, accepted-spelled)

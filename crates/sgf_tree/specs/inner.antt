@@ -12,4 +12,4 @@ pub mod PropertiesRead
 pub mod GamesRead
 pub mod NodesRead
 pub mod Counting
-pub mod Walking
+pub mod Traversing

@@ -9,14 +9,14 @@ pub(crate) struct OwnNodes {
     pub last: usize,
     /// How many nodes these are.
     pub count: usize,
-    /// The last stretch. It begins at `first` if it is the only one.
-    pub stretch: Stretch,
+    /// The last segment. It begins at `first` if it is the only one.
+    pub segment: Segment,
 }
 
-/// A stretch of a text: bytes that the sgf form copies in one piece. It writes the nodes of a sequence as the texts of their stretches, one
+/// A segment of a text: bytes that the sgf form copies in one piece. It writes the nodes of a sequence as the texts of their segments, one
 /// after another. Between these are white space and small letters of names.
 #[derive(Clone, Copy)]
-pub(crate) struct Stretch {
+pub(crate) struct Segment {
     /// The offset of its first byte.
     pub start: usize,
     /// The offset after its last byte.

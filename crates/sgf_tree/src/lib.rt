@@ -2,12 +2,12 @@
 //!
 //! [`read`] goes over a text once. It returns the collection that the text
 //! spells, or the first byte that no text of the grammar can have there.
-//! [`measure`] only counts the games, nodes and leaves, which is faster and takes less memory.
+//! [`read_extent`] only counts the games, nodes and leaves, which is faster and takes less memory.
 //!
 //! An [`Outline`] ([`read_outline`]) keeps the sequences of a collection. A sequence is the nodes between a `(` and the next parenthesis. For
 //! each it keeps, in 20 bytes, where the sequence stands in the text, the number of its first node, and the sequence that it goes on from. If
-//! white space stands between parts of its nodes, or a name has small letters, it keeps in 8 bytes where each stretch without any is: the sgf
-//! form copies these. The nodes are found on the text, one after another.
+//! white space stands between parts of its nodes, or a name has small letters, it keeps in 8 bytes where each segment without any is: the
+//! sgf form copies these. The nodes are found on the text, one after another.
 //! A [`Collection`] numbers its nodes from 0 in file order. Besides its outline it keeps, in 4 bytes, the place of each node, and for each
 //! sequence the last node below it. The properties of a node and their raw values are read from the text again when they are asked for, one
 //! after another. Reading them takes no memory. The crate `sgf_properties` goes over them, and decodes values; this crate passes on its types.
@@ -26,19 +26,19 @@
 //! | Module | What it has |
 //! |---|---|
 //! | `reader` | reading a text, and the first fault |
-//! | `reader/keeper`, `reader/games` | what a reader tells the one who keeps a part of it; reading games |
+//! | `reader/visitor`, `reader/games` | what a reader tells the one who keeps a part of it; reading games |
 //! | `reader/own_nodes`, `reader/properties` | adding nodes one by one to the own nodes of a game; reading the properties of a node |
-//! | `reader/stretch` | which bytes the sgf form copies |
+//! | `reader/segment` | which bytes the sgf form copies |
 //! | `reader/counting` | counting games, nodes and leaves |
 //! | `reader/value` | reading a raw value, and keeping the lengths of long ones |
-//! | `reader/mark` | the byte order mark |
+//! | `reader/byte_order_mark` | the byte order mark |
 //! | `reader/fault` | why reading a text stopped, and how the place of the first fault is found |
 //! | `extent` | how much a text holds |
-//! | `sequences`, `outline`, `walk` | keeping the sequences of a collection; looking into them; going over the nodes of one |
+//! | `sequences`, `outline`, `traversal` | keeping the sequences of a collection; looking into them; going over the nodes of one |
 //! | `numbered`, `collection` | keeping the place of each node too; looking into a collection by numbers of nodes |
 //! | `node` | looking into a node |
 //! | `written` | writing a node as the sgf form does |
-//! | `layout` | the types of own nodes and stretches |
+//! | `layout` | the types of own nodes and segments |
 //! | `quick` | shortcuts for what nearly all texts have |
 //! | `fault` | how reading a text may fail |
 //! | `laws` | what holds of all texts |
@@ -49,10 +49,10 @@
 //! | the properties of a Node; Property | `read_properties`; `read_property` (`reader/properties`) |
 //! | PropIdent: its first capital; the `[` after it | `read_properties` (`reader/properties`); `read_far_name` (`reader/properties`) |
 //! | white space: before the first `(`; after a parenthesis; after a `;`; after a name; after a value, so before what comes next | `read_whole` (`reader`); `read_sequence`, `read_games` (`reader/games`); `read_properties`; `read_far_name`; `read_property` (`reader/properties`) |
-//! | the byte order mark: its bytes; once, before white space | `mark_end` (`reader/mark`); `read_whole` (`reader`) |
-//! | the first fault | where these return `NotSgf`: `read_games`, `read_sequence` (`reader/games`), `read_far_name` (`reader/properties`), `read_far_value` (`reader/value`), `mark_end` (`reader/mark`); `reader/fault` says why that is the first |
-//! | at most 64 MiB | `read`, `read_outline`, `measure` (`reader`) |
-//! | a node in sgf form | `push_node` (`written`). A run copies stretches of the text instead: `read_node` (`reader/games`) and `read_properties` find them, and `copy_capitals` (`reader/properties`) leaves small letters of names out |
+//! | the byte order mark: its bytes; once, before white space | `byte_order_mark_end` (`reader/byte_order_mark`); `read_whole` (`reader`) |
+//! | the first fault | where these return `NotSgf`: `read_games`, `read_sequence` (`reader/games`), `read_far_name` (`reader/properties`), `read_far_value` (`reader/value`), `byte_order_mark_end` (`reader/byte_order_mark`); `reader/fault` says why that is the first |
+//! | at most 64 MiB | `read`, `read_outline`, `read_extent` (`reader`) |
+//! | a node in sgf form | `push_node` (`written`). A run copies segments of the text instead: `read_node` (`reader/games`) and `read_properties` find them, and `copy_capitals` (`reader/properties`) leaves small letters of names out |
 //!
 //! The same table in `sgf_properties` has the rules of names, raw values, decoded text, numbers, and the bytes of white space.
 //!
@@ -76,7 +76,7 @@ mod outline;
 mod quick;
 mod reader;
 mod sequences;
-mod walk;
+mod traversal;
 mod written;
 
 pub use collection::Collection;
@@ -84,6 +84,6 @@ pub use extent::Extent;
 pub use fault::{MAX_LENGTH, ReadFault};
 pub use node::NodeRef;
 pub use outline::Outline;
-pub use reader::{measure, read, read_outline};
+pub use reader::{read, read_extent, read_outline};
 pub use sgf_properties::{MemoryFault, PropRef, Properties, Values, number, push_text};
-pub use walk::{NextNode, SequenceNodes};
+pub use traversal::{NextNode, SequenceNodes};

@@ -7,8 +7,8 @@ ghost use Rattle.sgf_tree.specs.Tree.{no_games};
 ghost use Rattle.sgf_tree.specs.inner.GamesRead.{whole};
 ghost use Rattle.sgf_tree.specs.inner.Placing.{HoldsNodes};
 
-use crate::layout::{OwnNodes, Stretch};
-use crate::reader::keeper::Keeper;
+use crate::layout::{OwnNodes, Segment};
+use crate::reader::visitor::Visitor;
 use crate::sequences::Sequences;
 use sgf_properties::MemoryFault;
 use std::alloc::Global;
@@ -26,7 +26,7 @@ pub(crate) struct Numbered {
     pub sequences: Sequences,
     /// The places of the nodes, in file order.
     pub places: Vec<u32>,
-    /// For each sequence the greatest number among its nodes and the nodes below them; 0 as long as its game is open.
+    /// For each sequence the greatest number among its nodes and the nodes below them; 0 as long as its game is unclosed.
     pub last_nodes: Vec<u32>,
 }
 
@@ -43,7 +43,7 @@ impl Numbered {
     }
 }
 
-impl Keeper for Numbered {
+impl Visitor for Numbered {
     ghost keeps = { λ text nodes stack coming. HoldsNodes text nodes stack coming };
 
     fn node(&mut self, place: usize) -> Result<(), MemoryFault> {
@@ -51,8 +51,8 @@ impl Keeper for Numbered {
         Ok(())
     }
 
-    fn stretch(&mut self, stretch: Stretch) -> Result<(), MemoryFault> {
-        self.sequences.stretch(stretch)
+    fn segment(&mut self, segment: Segment) -> Result<(), MemoryFault> {
+        self.sequences.segment(segment)
     }
 
     fn own_nodes(&mut self, own: OwnNodes) -> Result<(), MemoryFault> {

@@ -16,7 +16,7 @@ ghost use Rattle.sgf_tree.specs.inner.Outlining.{IsOutlined};
 
 use crate::node::NodeRef;
 use crate::sequences::Sequences;
-use crate::walk::SequenceNodes;
+use crate::traversal::SequenceNodes;
 use sgf_properties::{LongValue, MemoryFault, part, rest_from};
 use std::marker::Model;
 
@@ -210,7 +210,7 @@ impl<'a> Outline<'a> {
         }
     }
 
-    /// Appends the nodes of sequence `i` to `out` as the sgf form writes them. They are copied from the text stretch by stretch.
+    /// Appends the nodes of sequence `i` to `out` as the sgf form writes them. They are copied from the text segment by segment.
     /// If memory is refused, `out` is unchanged.
     pub fn push_sequence(&self, i: usize, out: &mut Vec<u8>) -> Result<(), MemoryFault>
         requires { i < length (sequence_starts self.now) }
@@ -219,7 +219,7 @@ impl<'a> Outline<'a> {
         ensures unchanged { OnErr result (out.new.items ≡ out.old.items) }
     {
         let before = out.len();
-        let pushed = self.push_stretches(i, out);
+        let pushed = self.push_segments(i, out);
         if pushed.is_err() {
             out.truncate(before);
         }
@@ -227,7 +227,7 @@ impl<'a> Outline<'a> {
     }
 
     /// The same, but a refusal of memory may leave some of the nodes appended.
-    fn push_stretches(&self, i: usize, out: &mut Vec<u8>) -> Result<(), MemoryFault>
+    fn push_segments(&self, i: usize, out: &mut Vec<u8>) -> Result<(), MemoryFault>
         requires { i < length (sequence_starts self.now) }
         ensures appended { OnOk result (out.new.items
             ≡ out.old.items ++ flat_map node_text (nodes_at self.now (sequence_numbers self.now i))) }
@@ -240,11 +240,11 @@ impl<'a> Outline<'a> {
             return Ok(());
         }
         let mut at = sequence.end as usize;
-        'stretches: loop {
-            let stretch = &self.sequences.stretches[at];
-            let copied = part(self.text, stretch.start() as usize, stretch.end as usize);
+        'segments: loop {
+            let segment = &self.sequences.segments[at];
+            let copied = part(self.text, segment.start() as usize, segment.end as usize);
             out.extend_from_slice(copied)?;
-            if stretch.is_last() {
+            if segment.is_last() {
                 return Ok(());
             }
             at += 1;

@@ -11,7 +11,7 @@
 //! | `moves`: two nodes such as `;B[pd]` are recognized by one comparison | the same, for both |
 //! | `properties`: a property with a short name and a short value is read at once | `read_property` of `reader::properties` |
 //! | `front`: the first property of a node such as `;B[pd]` is recognized | `Properties::next` of `sgf_properties` |
-//! | `lead`: a node is recognized that is a move and then short properties, or has no properties | `SequenceNodes::open` of `walk` |
+//! | `lead`: a node is recognized that is a move and then short properties, or has no properties | `SequenceNodes::next_unread` of `traversal` |
 //!
 //! `quick` of `sgf_properties` says what the attributes for inlining gain, here and in `reader`, too.
 

@@ -1,7 +1,7 @@
 //! Reading a text.
 //!
-//! The reader goes over the text once, and tells a keeper what comes. `read_outline` keeps the sequences, `read` keeps the place of each
-//! node too, and `measure` only counts. The length of each long value is kept in a vector.
+//! The reader goes over the text once, and tells a visitor what comes. `read_outline` keeps the sequences, `read` keeps the place of each
+//! node too, and `read_extent` only counts. The length of each long value is kept in a vector.
 //! A fault is reported at the first byte that no text of the grammar can have there.
 //!
 //! The plain way goes from `read_whole` to `read_games`, `read_sequence`, `read_node` (`games`), `read_properties`, `read_property`,
@@ -17,26 +17,26 @@ ghost use Rattle.sgf_properties.specs.KeptLengths.{AreKeptLengths};
 ghost use Rattle.sgf_tree.specs.inner.OwnNodes.{nothing};
 ghost use Rattle.sgf_tree.specs.inner.GamesRead.{whole, ReadsWhole};
 
+mod byte_order_mark;
 mod counting;
 mod fault;
 mod games;
-pub(crate) mod keeper;
-mod mark;
 pub(crate) mod own_nodes;
 pub(crate) mod properties;
-mod stretch;
+mod segment;
 mod value;
+pub(crate) mod visitor;
 
 use crate::collection::Collection;
 use crate::extent::Extent;
 use crate::fault::{MAX_LENGTH, ReadFault};
 use crate::numbered::Numbered;
 use crate::outline::Outline;
+use crate::reader::byte_order_mark::byte_order_mark_end;
 use crate::reader::counting::Tally;
 use crate::reader::fault::PartFault;
 use crate::reader::games::read_games;
-use crate::reader::keeper::Keeper;
-use crate::reader::mark::mark_end;
+use crate::reader::visitor::Visitor;
 use crate::sequences::Sequences;
 use sgf_properties::{LongValue, skip_white_space};
 use std::alloc::Global;
@@ -78,7 +78,7 @@ pub fn read_outline<'a>(alloc: Global, text: &'a [u8]) -> Result<Outline<'a>, Re
 
 /// Counts the games, nodes and leaves of the collection that a text spells (SGF FF[4], EBNF). Nothing is kept, so this is faster than
 /// `read`. Memory is asked for only if the text has long values. The faults are those of `read`.
-pub fn measure(alloc: Global, text: &[u8]) -> Result<Extent, ReadFault>
+pub fn read_extent(alloc: Global, text: &[u8]) -> Result<Extent, ReadFault>
     ensures too_long { (result ≡ Err ReadFault.TooLong) ↔ (MAX_LENGTH < length text.now) }
     ensures measured { IfOk result (HasExtent text.now) }
     ensures not_sgf { IfErr result (IsFaultyWhereNotSgf text.now) }
@@ -92,20 +92,20 @@ pub fn measure(alloc: Global, text: &[u8]) -> Result<Extent, ReadFault>
     Ok(tally.extent())
 }
 
-/// Reads a whole text, and tells `keeper` what comes. A byte order mark may stand once, at the very start, before any white space.
+/// Reads a whole text, and tells `visitor` what comes. A byte order mark may stand once, at the very start, before any white space.
 #[tactic(auto, using(crate::proofs::ByteOrderMark::games_begin))]
-fn read_whole<K: Keeper>(
+fn read_whole<K: Visitor>(
     text: &[u8],
-    keeper: &mut K,
+    visitor: &mut K,
     long: &mut Vec<LongValue>,
 ) -> Result<(), PartFault>
     requires short { length text.now ≤ MAX_LENGTH }
-    requires nothing_read { K.keeps text.now keeper.old (whole no_games) nothing }
+    requires nothing_read { K.keeps text.now visitor.old (whole no_games) nothing }
     requires nothing_kept { long.old.items ≡ [] }
-    ensures read { OnOk result (ReadsWhole (K.keeps text.now keeper.new) text.now) }
+    ensures read { OnOk result (ReadsWhole (K.keeps text.now visitor.new) text.now) }
     ensures fault { IfErr result (IsTrueFault text.now) }
     ensures kept { OnOk result (AreKeptLengths text.now long.new.items) }
 {
-    let mark = mark_end(text)?;
-    read_games(text, skip_white_space(text, mark), keeper, long)
+    let mark = byte_order_mark_end(text)?;
+    read_games(text, skip_white_space(text, mark), visitor, long)
 }

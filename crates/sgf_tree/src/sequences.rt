@@ -7,8 +7,8 @@ ghost use Rattle.sgf_tree.specs.inner.Outlining.{outer_by, game_by, is_written_b
 ghost use Rattle.sgf_tree.specs.Tree.{no_games};
 
 use crate::fault::MAX_LENGTH;
-use crate::layout::{OwnNodes, Stretch};
-use crate::reader::keeper::Keeper;
+use crate::layout::{OwnNodes, Segment};
+use crate::reader::visitor::Visitor;
 use sgf_properties::MemoryFault;
 use std::alloc::Global;
 
@@ -32,7 +32,7 @@ pub(crate) struct Sequence {
     pub first: u32,
     /// The offset of its last `;`.
     pub last: u32,
-    /// The offset after the text of its last node, if the sgf form copies it in one piece; else the index of its first stretch.
+    /// The offset after the text of its last node, if the sgf form copies it in one piece; else the index of its first segment.
     pub end: u32,
     /// The number of its first node.
     pub number: u32,
@@ -69,31 +69,31 @@ impl Sequence {
     }
 }
 
-/// The mark of the last stretch of a sequence. Places are less than this.
+/// The flag of the last segment of a sequence. Places are less than this.
 const LAST: u32 = 1 << 31;
 
-/// A stretch of a sequence that has others, in 8 bytes.
+/// A segment of a sequence that has others, in 8 bytes.
 #[derive(Clone, Copy)]
-pub(crate) struct KeptStretch {
-    /// The offset of its first byte, plus the mark if it is the last one of its sequence.
-    pub start_and_mark: u32,
+pub(crate) struct KeptSegment {
+    /// The offset of its first byte, plus the flag if it is the last one of its sequence.
+    pub start_and_flag: u32,
     /// The offset after its last byte.
     pub end: u32,
 }
 
-impl KeptStretch {
+impl KeptSegment {
     /// The offset of its first byte.
     pub(crate) fn start(&self) -> u32
         ensures { result ≡ start_by self.now }
     {
-        self.start_and_mark % LAST
+        self.start_and_flag % LAST
     }
 
     /// Whether it is the last one of its sequence.
     pub(crate) fn is_last(&self) -> bool
         ensures { result ≡ is_last_by self.now }
     {
-        self.start_and_mark / LAST == 1
+        self.start_and_flag / LAST == 1
     }
 }
 
@@ -101,15 +101,15 @@ impl KeptStretch {
 #[derive(Drop)]
 pub(crate) struct Sequences {
     pub table: Vec<Sequence>,
-    /// The stretches of the sequences that the sgf form doesn't copy in one piece, in file order.
-    pub stretches: Vec<KeptStretch>,
+    /// The segments of the sequences that the sgf form doesn't copy in one piece, in file order.
+    pub segments: Vec<KeptSegment>,
     /// How many of them are of sequences in the table.
     pub begun: u32,
     /// The number of nodes.
     pub nodes: u32,
     /// The number of games that have ended. The games below others aren't counted.
     pub games: u32,
-    /// The number of the sequence that the innermost open game begins with.
+    /// The number of the sequence that the innermost unclosed game begins with.
     pub innermost: Option<u32>,
 }
 
@@ -120,7 +120,7 @@ impl Sequences {
     {
         Ok(Sequences {
             table: Vec::with_capacity(alloc, first_room(bytes))?,
-            stretches: Vec::new(alloc),
+            segments: Vec::new(alloc),
             begun: 0,
             nodes: 0,
             games: 0,
@@ -128,36 +128,36 @@ impl Sequences {
         })
     }
 
-    /// Keeps one more stretch, with the mark of the last one of a sequence or none.
-    fn push_stretch(&mut self, stretch: Stretch, mark: u32) -> Result<(), MemoryFault>
-        requires low { stretch.end ≤ MAX_LENGTH }
-        requires rises { stretch.start ≤ stretch.end }
-        requires mark { mark ≤ LAST }
-        ensures kept { OnOk result (self.new ≡ record self.old { stretches = self.new.stretches }) }
-        ensures few { OnOk result (length self.new.stretches.items ≤ MAX_LENGTH) }
-        ensures pushed { OnOk result (self.new.stretches.items
-            ≡ self.old.stretches.items ++ record { start_and_mark = stretch.start + mark; end = stretch.end } ∷ []) }
+    /// Keeps one more segment, with the flag of the last one of a sequence or none.
+    fn push_segment(&mut self, segment: Segment, flag: u32) -> Result<(), MemoryFault>
+        requires low { segment.end ≤ MAX_LENGTH }
+        requires rises { segment.start ≤ segment.end }
+        requires flag { flag ≤ LAST }
+        ensures kept { OnOk result (self.new ≡ record self.old { segments = self.new.segments }) }
+        ensures few { OnOk result (length self.new.segments.items ≤ MAX_LENGTH) }
+        ensures pushed { OnOk result (self.new.segments.items
+            ≡ self.old.segments.items ++ record { start_and_flag = segment.start + flag; end = segment.end } ∷ []) }
     {
-        if are_most(self.stretches.len()) {
+        if are_most(self.segments.len()) {
             return Err(MemoryFault);
         }
-        self.stretches.push(KeptStretch {
-            start_and_mark: stretch.start as u32 + mark,
-            end: stretch.end as u32,
+        self.segments.push(KeptSegment {
+            start_and_flag: segment.start as u32 + flag,
+            end: segment.end as u32,
         })?;
         Ok(())
     }
 }
 
-impl Keeper for Sequences {
+impl Visitor for Sequences {
     ghost keeps = { λ text sequences stack coming. HoldsSequences text sequences stack coming };
 
     fn node(&mut self, _place: usize) -> Result<(), MemoryFault> {
         Ok(())
     }
 
-    fn stretch(&mut self, stretch: Stretch) -> Result<(), MemoryFault> {
-        self.push_stretch(stretch, 0)?;
+    fn segment(&mut self, segment: Segment) -> Result<(), MemoryFault> {
+        self.push_segment(segment, 0)?;
         Ok(())
     }
 
@@ -168,9 +168,9 @@ impl Keeper for Sequences {
             None => self.games + 1 + ROOT,
         };
         let (end, written) = if own.is_written() {
-            (own.stretch.end as u32, WRITTEN)
+            (own.segment.end as u32, WRITTEN)
         } else {
-            self.push_stretch(own.stretch, LAST)?;
+            self.push_segment(own.segment, LAST)?;
             (self.begun, 0)
         };
         self.table.push(Sequence {
@@ -180,7 +180,7 @@ impl Keeper for Sequences {
             number: self.nodes,
             outer_and_flags: outer + written,
         })?;
-        self.begun = self.stretches.len() as u32;
+        self.begun = self.segments.len() as u32;
         self.nodes += own.count as u32;
         self.innermost = Some(number);
         Ok(())
@@ -201,10 +201,10 @@ fn first_room(bytes: usize) -> usize
     ROOM_FOR_SEQUENCES.min(bytes / SEQUENCE_BYTES + 1)
 }
 
-/// Whether so many stretches are the most that are kept. No text has more: a stretch has at least one byte.
+/// Whether so many segments are the most that are kept. No text has more: a segment has at least one byte.
 #[inline(always)]
-fn are_most(stretches: usize) -> bool
-    ensures { IsTrue result ↔ MAX_LENGTH ≤ stretches }
+fn are_most(segments: usize) -> bool
+    ensures { IsTrue result ↔ MAX_LENGTH ≤ segments }
 {
-    stretches >= MAX_LENGTH
+    segments >= MAX_LENGTH
 }

@@ -1,6 +1,6 @@
 //! How many games, nodes and leaves a text has, and a text that is refused.
 
-use sgf_tree::{Extent, ReadFault, measure};
+use sgf_tree::{Extent, ReadFault, read_extent};
 
 #[test]
 fn counts(rt: HostRuntime) {
@@ -25,7 +25,7 @@ fn counts(rt: HostRuntime) {
             leaves,
         };
         assert!(rt;
-            measure(rt.alloc(), text.as_bytes()) == Ok(want),
+            read_extent(rt.alloc(), text.as_bytes()) == Ok(want),
             "of {text:?}"
         );
     }
@@ -41,7 +41,7 @@ fn refuses(rt: HostRuntime) {
     ];
     for &(text, at) in &FAULTS {
         assert!(rt;
-            measure(rt.alloc(), text.as_bytes()) == Err(ReadFault::NotSgf { at }),
+            read_extent(rt.alloc(), text.as_bytes()) == Err(ReadFault::NotSgf { at }),
             "of {text:?}"
         );
     }

@@ -114,7 +114,7 @@ fn leads(alloc: Global, text: &str, names: &[[u8; 2]], want: Option<&str>) -> bo
             let mut nodes = outline.sequence_nodes(0);
             let node = outline.first_node(0);
             match (want, nodes.next(names)) {
-                (None, Some(NextNode::Open { front, .. })) => front == node.front().0,
+                (None, Some(NextNode::Unread { front, .. })) => front == node.front().0,
                 (Some(others), Some(NextNode::Led { letter, value, .. })) => {
                     node.front().0 == Some((letter, value)) && are_named(&node, others.as_bytes())
                 }

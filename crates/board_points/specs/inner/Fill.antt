@@ -19,37 +19,37 @@ abbrev pub opposite : Direction → Direction
 opposite Up = Down
 opposite Down = Up
 
--- each marked row is one of the first `count` rows
+-- each flagged row is one of the first `count` rows
 abbrev pub AreRowsBelow : ℕ → ℕ → Type 0
-AreRowsBelow count marks = (row : ℕ) → IsTrue (has_bit marks row) → row < count
+AreRowsBelow count flags = (row : ℕ) → IsTrue (has_bit flags row) → row < count
 
--- Each row that isn't marked has given its points to the next row in a direction: the next row has each column of the region that the
+-- Each row that isn't flagged has given its points to the next row in a direction: the next row has each column of the region that the
 -- row has. Only the row `at` has some columns left to give.
 abbrev pub HaveGivenBut : Direction → List ℕ → List ℕ → ℕ → ℕ → ℕ → Type 0
-HaveGivenBut direction region rows marks at given =
-    (row next : ℕ) → IsNext direction row next → has_bit marks row ≡ false → (col : ℕ) → IsTrue (has_bit (slice_index region next) col)
+HaveGivenBut direction region rows flags at given =
+    (row next : ℕ) → IsNext direction row next → has_bit flags row ≡ false → (col : ℕ) → IsTrue (has_bit (slice_index region next) col)
     → IsTrue (has_bit (slice_index rows row) col) → IsTrue (has_bit (slice_index rows next) col) ⊎ ((row ≡ at) × IsTrue (has_bit given col))
 
 -- the same, with nothing left to give
 abbrev pub HaveGiven : Direction → List ℕ → List ℕ → ℕ → Type 0
-HaveGiven direction region rows marks =
-    (row next : ℕ) → IsNext direction row next → has_bit marks row ≡ false → IsTaken region rows next (slice_index rows row)
+HaveGiven direction region rows flags =
+    (row next : ℕ) → IsNext direction row next → has_bit flags row ≡ false → IsTaken region rows next (slice_index rows row)
 
--- `rows` was filled from `first` within `region`, but for what rows can still give: those in `marks` and the row `at` in a direction,
+-- `rows` was filled from `first` within `region`, but for what rows can still give: those in `flags` and the row `at` in a direction,
 -- those in `back` in the opposite one.
-pub record IsFilledBut (region first rows : List ℕ) (direction : Direction) (marks back at given : ℕ) : Type 0 where
+pub record IsFilledBut (region first rows : List ℕ) (direction : Direction) (flags back at given : ℕ) : Type 0 where
   pub all : length rows ≡ length region
   pub grows : Grows (is_set region) (is_set first) (is_set rows)
   pub wide : (row : ℕ) → HasBeside (has_bit (slice_index region row)) (has_bit (slice_index rows row))
-  pub marks_in : AreRowsBelow (length region) marks
+  pub flags_in : AreRowsBelow (length region) flags
   pub back_in : AreRowsBelow (length region) back
-  pub ahead : HaveGivenBut direction region rows marks at given
+  pub ahead : HaveGivenBut direction region rows flags at given
   pub behind : HaveGiven (opposite direction) region rows back
 
 -- what the words lack to be full: the more bits are set, the less they lack
 abbrev pub lacking : List ℕ → ℕ
 lacking rows = sum_by (λ word. 2 ^ 64 - word) rows
 
--- the rows got more points, or else nothing changed, and no other rows are marked
+-- the rows got more points, or else nothing changed, and no other rows are flagged
 abbrev pub HaveMore : List ℕ → List ℕ → ℕ → ℕ → Type 0
-HaveMore old new back marks = ((new ≡ old) × (marks ≡ back)) ⊎ (lacking new < lacking old)
+HaveMore old new back flags = ((new ≡ old) × (flags ≡ back)) ⊎ (lacking new < lacking old)

@@ -13,7 +13,7 @@ pub record IsJoined (own : List ℕ) (from : Point) (word : ℕ) : Type 0 where
   pub linked : (col : ℕ) → IsTrue (has_bit word col) → IsLinked (is_set own) from (record { col = col; row = from.row })
 
 -- the stones in the row of the stone on `from` that are linked to it within the row; none of them has a liberty
-pub record IsShutRow (own others : List ℕ) (from : Point) (joined : ℕ) : Type 0 where
+pub record IsRowInDoubt (own others : List ℕ) (from : Point) (joined : ℕ) : Type 0 where
   pub stone : IsStone own others from
   pub linked : IsJoined own from joined
   pub shut : (col : ℕ) → IsTrue (has_bit joined col) → ¬ (HasLiberty own others (record { col = col; row = from.row }))

@@ -1,5 +1,5 @@
-//! A glance at the rows around a player's stone. It shows of most stones that they have a liberty, and that they leave one to the opponent's
-//! stones beside them. Of the others it shows nothing.
+//! A glance at the rows around a player's stone. It shows of most stones that they are alive, and that the opponent's stones beside
+//! them still are. Of the others it shows nothing.
 
 ghost use Rattle.std.specs.Prelude.{◌≡◌, ◌+◌, ◌<◌, ◌≤◌, IsTrue, length};
 ghost use Rattle.board_points.specs.declared.points.Point.{Point};
@@ -20,9 +20,9 @@ struct NextRow {
     others: u64,
 }
 
-/// Whether a glance at the rows around a point shows two things about a player's stone there. The stone has a liberty, by itself or
-/// by a stone beside it. And each stone of the opponent beside it still has an empty point beside itself. The point must be on the board of
-/// these rows.
+/// Whether a glance at the rows around a point shows two things about a player's stone there. The stone is alive, by a liberty of
+/// its own or of a stone beside it. And each stone of the opponent beside it still has an empty point beside itself. The point must be on
+/// the board of these rows.
 #[inline(always)]
 pub fn leaves_all_alive(own: &[u64], others: &[u64], point: Point) -> bool
     requires rows { AreOfOneBoard own.now others.now }
@@ -156,12 +156,12 @@ fn five_rows_show_alive(
     let up = columns_beside(first.free, above.free, 0);
     let middle = columns_beside(above.free, free, below.free);
     let down = columns_beside(0, below.free, last.free);
-    let shut = columns_beside(
+    let in_doubt = columns_beside(
         above.others & !up,
         here.others & !middle,
         below.others & !down,
     );
-    if has_column(shut, col) {
+    if has_column(in_doubt, col) {
         return false;
     }
     if has_column(middle, col) {

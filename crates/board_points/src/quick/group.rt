@@ -5,7 +5,7 @@ ghost use Rattle.std.specs.Prelude.{◌≡◌, ◌<◌, ◌≤◌, IsTrue, IsFal
 ghost use Rattle.board_points.specs.declared.points.Point.{Point};
 ghost use Rattle.board_points.specs.Rows.{is_set, AreOfOneBoard, HasNoPoint, Grows, IsWithin};
 ghost use Rattle.board_points.specs.Linked.{AddsAlive, AddsIfShut, IsLinked, HasLiberty, IsLiberty, IsShutIn, IsStone};
-ghost use Rattle.board_points.specs.inner.Joined.{HasNoneAcross, HasOneAlive, IsJoined, IsShutRow};
+ghost use Rattle.board_points.specs.inner.Joined.{HasNoneAcross, HasOneAlive, IsJoined, IsRowInDoubt};
 
 use crate::columns::{has_column, with_column};
 use crate::fill::{Direction, fill, widened};
@@ -73,7 +73,7 @@ pub fn lives_in_row(own: &[u64], others: &[u64], from: Point) -> bool
 fn row_in_doubt(own: &[u64], others: &[u64], from: Point) -> Option<u64>
     requires stone { IsStone own.now others.now from }
     ensures lives { IfNone result ((stone : Point) × IsLiberty own.now others.now from stone) }
-    ensures doubt { IfSome result (IsShutRow own.now others.now from) }
+    ensures doubt { IfSome result (IsRowInDoubt own.now others.now from) }
 {
     let row = usize::from(from.row);
     let free = columns_with_liberty(own, others, row);

@@ -95,7 +95,7 @@ abbrev pub MakeOne : Grid → List Change → Type 0
 MakeOne made changes =
     (grid : Grid) → grid.side ≡ made.side → length grid.cells ≡ grid.side * grid.side → after_changes grid changes ≡ made
 
--- the colouring before a grid: the stone of the step is taken off, or the changes of the step lead back
+-- the colouring before a grid: the stone of the step is removed, or the changes of the step lead back
 abbrev pub step_back : Grid → Older → List Change → Grid
 step_back grid kept changes =
     if kept.alone then with_cell grid kept.point Empty else after_changes grid changes

@@ -1,4 +1,4 @@
--- Groups without liberties, grids after points were taken off, and grids on which every stone reaches empty.
+-- Groups without liberties, grids after points were cleared, and grids on which every stone reaches empty.
 use Rattle.std.specs.Prelude.{◌≡◌, ◌≢◌, ◌⊎◌, ◌≤◌, ℕ, Bool, ◌&&◌, false, not, IsTrue, IsFalse, List, length}
 use Rattle.go_board.specs.declared.stones.Cell.TheVariants.{Empty}
 use Rattle.go_board.specs.declared.stones.Colour.{Colour}
@@ -69,22 +69,22 @@ pub record IsWithout (before after : Grid) (Gone : Point → Type 0) : Type 0 wh
   pub kept : (point : Point) → IsOn before.side point → (¬ Gone point) → cell_at after point ≡ cell_at before point
 
 -- if the point has a stone of the colour, the rows have the point, or the stone reaches empty
-abbrev pub IsTakenOrReaches : Grid → Colour → List ℕ → Point → Type 0
-IsTakenOrReaches grid colour rows point =
+abbrev pub IsClearedOrReaches : Grid → Colour → List ℕ → Point → Type 0
+IsClearedOrReaches grid colour rows point =
     cell_at grid point ≡ stone_of colour → IsTrue (is_set rows point) ⊎ Reaches grid Empty point
 
 -- The group of the stone on the point was added to the rows if it has no liberty. `added` tells whether it was.
 pub record AddsGroup (grid : Grid) (colour : Colour) (point : Point) (old new : List ℕ) (added : Bool) : Type 0 where
   pub adds : AddsShut grid colour old new added
-  pub here : IsTakenOrReaches grid colour new point
+  pub here : IsClearedOrReaches grid colour new point
 
--- `IsTakenOrReaches` for each stone of the colour beside a point
-abbrev pub AreTakenOrReachBeside : Grid → Colour → Point → List ℕ → Type 0
-AreTakenOrReachBeside grid colour point rows =
-    (neighbour : Point) → IsOn grid.side neighbour → AreAdjacent point neighbour → IsTakenOrReaches grid colour rows neighbour
+-- `IsClearedOrReaches` for each stone of the colour beside a point
+abbrev pub AreClearedOrReachBeside : Grid → Colour → Point → List ℕ → Type 0
+AreClearedOrReachBeside grid colour point rows =
+    (neighbour : Point) → IsOn grid.side neighbour → AreAdjacent point neighbour → IsClearedOrReaches grid colour rows neighbour
 
 -- Playing a stone puts it on its point, and empties the points of the rows. There may be fewer rows than the grid has.
-pub record TakesOff (grid : Grid) (colour : Colour) (point : Point) (rows : List ℕ) : Type 0 where
+pub record Clears (grid : Grid) (colour : Colour) (point : Point) (rows : List ℕ) : Type 0 where
   pub few : length rows ≤ grid.side
   pub on_grid : (q : Point) → IsTrue (is_set rows q) → IsOn grid.side q
   pub played : IsWithout (with_cell grid point (stone_of colour)) (play grid colour point) (λ q. IsTrue (is_set rows q))
@@ -95,11 +95,11 @@ pub record IsEmptyOnSettled (grid : Grid) (point : Point) : Type 0 where
   pub empty : cell_at grid point ≡ Empty
   pub settled : has_unreaching grid ≡ false
 
--- a stone that is put on an empty point, and what it takes off
+-- a stone that is put on an empty point, and what it clears
 pub record IsMove (grid : Grid) (colour : Colour) (point : Point) (rows : List ℕ) : Type 0 where
   pub on_board : IsOn grid.side point
   pub empty : cell_at grid point ≡ Empty
-  pub taken : TakesOff grid colour point rows
+  pub cleared : Clears grid colour point rows
 
 -- rows of stones of a colour that reach empty
 pub record AreKnownAlive (grid : Grid) (colour : Colour) (rows : List ℕ) : Type 0 where

@@ -26,7 +26,7 @@ key_bit start print hash grid (suc (suc (suc index))) col =
 
 -- the bits of the key
 abbrev pub key_bits : ℕ → ℕ → ℕ → Grid → ℕ → Bool
-key_bits start print hash grid place = key_bit start print hash grid (place / 64) (place % 64)
+key_bits start print hash grid position = key_bit start print hash grid (position / 64) (position % 64)
 
 -- the bits of a key as it is kept
 abbrev pub bits_of : ColouringKey → ℕ → Bool
@@ -51,7 +51,7 @@ hash_in_key hashed grid = if hashed then hash_of grid else 0
 
 -- the key of each past colouring, by its number, counted from 0 at the oldest; `hashed` says whether keys have hashes
 abbrev pub keys_of : Bool → List Held → ℕ → ℕ → Bool
-keys_of hashed [] number = λ place. false
+keys_of hashed [] number = λ position. false
 keys_of hashed (newest ∷ older) number =
     if number == length older
     then key_bits (start_of (newest ∷ older)) (print_of newest.colouring) (hash_in_key hashed newest.colouring) newest.colouring

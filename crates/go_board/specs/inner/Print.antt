@@ -50,7 +50,7 @@ row_within grid columns row =
 abbrev pub number_within : Grid → List ℕ → ℕ
 number_within grid points = in_base (31 ^ grid.side) grid.side (λ row. row_within grid (slice_index points row) row)
 
--- a stone that is put on an empty point, what it takes off, and the print of the colouring that it makes
+-- a stone that is put on an empty point, what it clears, and the print of the colouring that it makes
 pub record IsPrintedMove (grid : Grid) (colour : Colour) (point : Point) (rows : List ℕ) (number : ℕ) : Type 0 where
   pub move : IsMove grid colour point rows
   pub print : number ≡ print_of (play grid colour point)

@@ -10,7 +10,7 @@ use Rattle.go_board.specs.inner.Hash.{hash_of, HasHashes}
 use Rattle.go_board.specs.inner.Key.{keys_of}
 use Rattle.go_board.specs.inner.Print.{print_of, prints_of}
 use Rattle.key_trie.specs.Key.{Agree}
-use Rattle.key_trie.specs.Trie.{nodes_of, item_count, room_of, IsTrie, IsOpening}
+use Rattle.key_trie.specs.Trie.{nodes_of, item_count, capacity_of, IsTrie, IsOpening}
 
 -- The table of these colourings, newest first, if it is awake: it has their prints. The trie has as many of the oldest ones as it has
 -- items, and there is room for all.
@@ -19,8 +19,8 @@ pub record IsAwakeTable (held : List Held) (table : Table) : Type 0 where
   pub printed : reverse table.prints.items ≡ prints_of held
   pub few : item_count table.trie ≤ length table.prints.items
   pub linked : IsTrie WIDTH (keys_of table.hashed held) table.trie
-  pub room : length table.prints.items ≤ room_of table.trie
-  pub most : room_of table.trie < 2 ^ 32
+  pub room : length table.prints.items ≤ capacity_of table.trie
+  pub most : capacity_of table.trie < 2 ^ 32
   pub filtered : IsFilter table.prints.items table.filter
   pub kept : HasHashes held table.hashes
 
@@ -30,9 +30,9 @@ pub record IsAsleepTable (held : List Held) (table : Table) : Type 0 where
   pub fits : length held ≤ table.room_asleep
   pub no_prints : table.prints.items ≡ []
   pub no_items : nodes_of table.trie ≡ []
-  pub room : table.room_asleep ≤ room_of table.trie
+  pub room : table.room_asleep ≤ capacity_of table.trie
   pub prints_room : table.room_asleep ≤ vec_capacity table.prints
-  pub most : room_of table.trie < 2 ^ 32
+  pub most : capacity_of table.trie < 2 ^ 32
   pub filtered : IsFilter [] table.filter
   pub kept : (any : List Held) → HasHashes any table.hashes
 
@@ -43,14 +43,14 @@ IsTable held table = IsAsleepTable held table ⊎ IsAwakeTable held table
 -- the table has room for one more colouring than these
 pub record HasRoomForNext (held : List Held) (table : Table) : Type 0 where
   pub prints : length held < vec_capacity table.prints
-  pub trie : length held < room_of table.trie
+  pub trie : length held < capacity_of table.trie
   pub asleep : 0 < table.room_asleep → length held < table.room_asleep
 
 -- the table may have got more room, and nothing else is changed
 pub record GrowsTable (old new : Table) : Type 0 where
   pub nodes : nodes_of new.trie ≡ nodes_of old.trie
-  pub room : room_of old.trie ≤ room_of new.trie
-  pub most : room_of new.trie < 2 ^ 32
+  pub room : capacity_of old.trie ≤ capacity_of new.trie
+  pub most : capacity_of new.trie < 2 ^ 32
   pub prints : new.prints.items ≡ old.prints.items
   pub prints_room : vec_capacity old.prints ≤ vec_capacity new.prints
   pub filter : new.filter ≡ old.filter
@@ -69,9 +69,9 @@ pub record SameButHashes (old new : Table) : Type 0 where
   pub prints : new.prints.items ≡ old.prints.items
   pub hashed : new.hashed ≡ old.hashed
 
--- the first place where two keys differ
+-- the first position where two keys differ
 abbrev pub IsFirstApart : (ℕ → Bool) → (ℕ → Bool) → Option ℕ → Type 0
-IsFirstApart one other place = MatchOption place (Agree one other WIDTH) (λ place. (place < WIDTH) × Agree one other place × (one place ≢ other place))
+IsFirstApart one other position = MatchOption position (Agree one other WIDTH) (λ position. (position < WIDTH) × Agree one other position × (one position ≢ other position))
 
 -- the trie doesn't have all of these colourings yet
 pub record HasUnlinked (held : List Held) (now : Table) : Type 0 where
@@ -93,7 +93,7 @@ pub record LinksNext (held : List Held) (old new : Table) : Type 0 where
 -- where the next colouring comes into the trie of a table, which has all of these
 pub record IsGap (held : List Held) (table : Table) (next : Held) (gap : Gap) : Type 0 where
   pub all : item_count table.trie ≡ length held
-  pub within : gap.place < WIDTH
-  pub opens : IsOpening (keys_of table.hashed (next ∷ held)) table.trie (keys_of table.hashed (next ∷ held) (length held)) gap.slot gap.place
-  pub bit : keys_of table.hashed (next ∷ held) (length held) gap.place ≡ gap.bit
+  pub within : gap.position < WIDTH
+  pub opens : IsOpening (keys_of table.hashed (next ∷ held)) table.trie (keys_of table.hashed (next ∷ held) (length held)) gap.slot gap.position
+  pub bit : keys_of table.hashed (next ∷ held) (length held) gap.position ≡ gap.bit
   pub hash : gap.hash ≢ 0 → gap.hash ≡ hash_of next.colouring

@@ -37,7 +37,7 @@ ghost use Rattle.go_board.specs.Clearing.{has_unreaching, play};
 ghost use Rattle.go_board.specs.Past.{all_of, newest_grid, with_next, present_stretch, HaveSide, PastColourings, IsPlayed};
 ghost use Rattle.go_board.specs.inner.Changes.{is_fresh, is_settled, IsFreshStone};
 ghost use Rattle.go_board.specs.inner.Emptied.{IsEmptied, IsPrintPast};
-ghost use Rattle.go_board.specs.inner.Groups.{IsMove, IsEmptyOnSettled, TakesOff};
+ghost use Rattle.go_board.specs.inner.Groups.{IsMove, IsEmptyOnSettled, Clears};
 ghost use Rattle.go_board.specs.inner.Print.{print_of, IsPrintedMove};
 ghost use Rattle.board_points.specs.Rows.{is_set};
 ghost use Rattle.go_board.specs.inner.Table.{IsAwakeTable, IsGap, IsPrintOfNext, IsTable};
@@ -48,7 +48,7 @@ use crate::past::Past;
 use crate::past::print_past::changes::Known;
 use crate::past::print_past::colourings::Colourings;
 use crate::past::print_past::emptied::Emptied;
-use crate::past::print_past::print::{has_point, print_after_taking, print_of};
+use crate::past::print_past::print::{has_point, print_after_clearing, print_of};
 use crate::past::print_past::table::{Gap, Table};
 use crate::setup_op::SetupOp;
 use crate::stones::Colour;
@@ -109,7 +109,7 @@ impl Past for PrintPast {
         self.add(board, None, true)
     }
 
-    /// Finds captures and suicide near the stone (`find_taken`), unless a glance shows that there are none. If `play_at_once` would have
+    /// Finds captures and suicide near the stone (`find_cleared`), unless a glance shows that there are none. If `play_at_once` would have
     /// found by a glance alone that it can't play the stone, there is no second glance. A repetition (positional superko) is looked up by
     /// `play_asked`. The plain ways are `Past::play` and `Board::place`; the second is taken on a board that isn't settled (`play_on_copy`).
     fn play(&mut self, colour: Colour, point: Point) -> Result<bool, MemoryFault> {
@@ -118,8 +118,8 @@ impl Past for PrintPast {
             return self.play_on_copy(colour, point);
         }
         let unseen = self.needs_more_than_a_point() || self.may_repeat(point, &[]);
-        if unseen && newest.takes_nothing_at_a_glance(colour, point) {
-            return self.play_taking(colour, point, &[]);
+        if unseen && newest.clears_nothing_at_a_glance(colour, point) {
+            return self.play_clearing(colour, point, &[]);
         }
         self.play_in_doubt(colour, point)
     }
@@ -131,7 +131,7 @@ impl Past for PrintPast {
         if !newest.is_settled() || self.needs_more_than_a_point() || self.may_repeat(point, &[]) {
             return false;
         }
-        if !newest.takes_nothing_at_a_glance(colour, point) {
+        if !newest.clears_nothing_at_a_glance(colour, point) {
             return false;
         }
         match self.play_new(colour, point, &[], Known::Fresh) {
@@ -143,7 +143,7 @@ impl Past for PrintPast {
     /// The same as the plain one; then the board is settled if that can be.
     fn set_up(&mut self, ops: &[SetupOp]) -> Result<(), MemoryFault> {
         let mut made = self.newest().copy();
-        made.colour_areas(ops);
+        made.colour_rectangles(ops);
         made.work_settled_out();
         self.restart(&made)
     }
@@ -214,7 +214,7 @@ impl PrintPast {
         self.emptied.go_back(self.colourings.len() as u32);
     }
 
-    /// Whether a stone that takes nothing off needs memory, or has its print or a row kept. If not, its point alone is kept.
+    /// Whether a stone that clears nothing needs memory, or has its print or a row kept. If not, its point alone is kept.
     #[inline(always)]
     fn needs_more_than_a_point(&self) -> bool {
         !self.colourings.has_room_for_point() || !self.table.has_room_asleep(self.colourings.len())
@@ -228,109 +228,110 @@ impl PrintPast {
         ensures { IsPlayed colour point self.old self.new result }
     {
         let mut words = no_rows();
-        match self.colourings.find_taken(colour, point, &mut words) {
-            Some(taken) => self.play_taking(colour, point, taken),
-            None => self.play_taking(colour, point, &[]),
+        match self.colourings.find_cleared(colour, point, &mut words) {
+            Some(cleared) => self.play_clearing(colour, point, cleared),
+            None => self.play_clearing(colour, point, &[]),
         }
     }
 
-    /// The same as `play`; `taken` is what the stone takes off.
+    /// The same as `play`; `cleared` is what the stone clears.
     #[inline(always)]
-    fn play_taking(
+    fn play_clearing(
         &mut self,
         colour: Colour,
         point: Point,
-        taken: &[u64],
+        cleared: &[u64],
     ) -> Result<bool, MemoryFault>
         requires one_side { HaveSide (newest_grid self.old).side self.old }
-        requires stone { IsMove (newest_grid self.old) colour point taken.now }
+        requires stone { IsMove (newest_grid self.old) colour point cleared.now }
         ensures { IsPlayed colour point self.old self.new result }
     {
-        if self.may_repeat(point, taken) {
-            return self.play_asked(colour, point, taken);
+        if self.may_repeat(point, cleared) {
+            return self.play_asked(colour, point, cleared);
         }
         let known = Known::new(self.newest().is_settled(), true);
-        self.play_new(colour, point, taken, known)
+        self.play_new(colour, point, cleared, known)
     }
 
     /// Whether a stone may bring a colouring of the present stretch back: it is put on a point that was emptied, or is suicide.
     #[inline(always)]
-    fn may_repeat(&self, point: Point, taken: &[u64]) -> bool
+    fn may_repeat(&self, point: Point, cleared: &[u64]) -> bool
         requires one_side { HaveSide (newest_grid self.now).side self.now }
         requires on_board { IsOn (newest_grid self.now).side point }
         requires empty { cell_at (newest_grid self.now) point ≡ Empty }
-        ensures never { (colour : Colour) → TakesOff (newest_grid self.now) colour point taken.now
+        ensures never { (colour : Colour) → Clears (newest_grid self.now) colour point cleared.now
             → IsFalse result → ¬ Contains (present_stretch self.now) (play (newest_grid self.now) colour point) }
-        ensures fresh { (colour : Colour) → TakesOff (newest_grid self.now) colour point taken.now
+        ensures fresh { (colour : Colour) → Clears (newest_grid self.now) colour point cleared.now
             → IsFalse result → IsFreshStone (with_next self.now (play (newest_grid self.now) colour point) false) point }
     {
         self.colourings.newest().has_all_cells();
-        board_points::rows::has_point(&self.emptied.rows, point) | has_point(taken, point)
+        board_points::rows::has_point(&self.emptied.rows, point) | has_point(cleared, point)
     }
 
-    /// The same as `play_taking`, for a stone that may bring a colouring back. Decides by positional superko whether the stone may be played.
+    /// The same as `play_clearing`, for a stone that may bring a colouring back. Decides by positional superko whether the stone may be
+    /// played.
     #[inline(never)]
     fn play_asked(
         &mut self,
         colour: Colour,
         point: Point,
-        taken: &[u64],
+        cleared: &[u64],
     ) -> Result<bool, MemoryFault>
         requires one_side { HaveSide (newest_grid self.old).side self.old }
-        requires stone { IsMove (newest_grid self.old) colour point taken.now }
+        requires stone { IsMove (newest_grid self.old) colour point cleared.now }
         ensures { IsPlayed colour point self.old self.new result }
     {
-        match self.decide_by_newest(colour, point, taken) {
+        match self.decide_by_newest(colour, point, cleared) {
             Some(true) => Ok(false),
             Some(false) => {
                 let known = Known::new(self.newest().is_settled(), false);
-                self.play_new(colour, point, taken, known)
+                self.play_new(colour, point, cleared, known)
             }
-            None => self.play_by_print(colour, point, taken),
+            None => self.play_by_print(colour, point, cleared),
         }
     }
 
     /// Whether the present stretch has the colouring that a stone makes, if the newest colourings tell; None if they don't. A table that is
     /// awake tells sooner than a look back.
-    fn decide_by_newest(&self, colour: Colour, point: Point, taken: &[u64]) -> Option<bool>
-        requires stone { IsMove (newest_grid self.now) colour point taken.now }
+    fn decide_by_newest(&self, colour: Colour, point: Point, cleared: &[u64]) -> Option<bool>
+        requires stone { IsMove (newest_grid self.now) colour point cleared.now }
         ensures { IfSome result (λ has. IsTrue has ↔ Contains (present_stretch self.now) (play (newest_grid self.now) colour point)) }
     {
-        if self.colourings.newest_steps_show_new(point, taken) {
+        if self.colourings.newest_steps_show_new(point, cleared) {
             return Some(false);
         }
         if self.table.is_awake() {
             return None;
         }
         let mut made = self.newest().copy();
-        made.put(colour, point, taken);
+        made.place_and_clear(colour, point, cleared);
         self.colourings.look_back(&made)
     }
 
-    /// Plays a stone that brings no colouring back; `taken` is what the stone takes off. `known` is what is known of the newest colouring, and
-    /// whether no colouring of the present stretch has a stone on that point.
+    /// Plays a stone that brings no colouring back; `cleared` is what the stone clears. `known` is what is known of the newest colouring,
+    /// and whether no colouring of the present stretch has a stone on that point.
     #[inline(always)]
     fn play_new(
         &mut self,
         colour: Colour,
         point: Point,
-        taken: &[u64],
+        cleared: &[u64],
         known: Known,
     ) -> Result<bool, MemoryFault>
-        requires stone { IsMove (newest_grid self.old) colour point taken.now }
+        requires stone { IsMove (newest_grid self.old) colour point cleared.now }
         requires never { ¬ Contains (present_stretch self.old) (play (newest_grid self.old) colour point) }
         requires settled { IsTrue (is_settled known) → has_unreaching (newest_grid self.old) ≡ false }
         requires fresh { IsTrue (is_fresh known) → IsFreshStone (with_next self.old (play (newest_grid self.old) colour point) false) point }
         ensures { IsPlayed colour point self.old self.new result }
     {
-        let print = print_if_awake(&self.table, &self.colourings, colour, point, taken);
+        let print = print_if_awake(&self.table, &self.colourings, colour, point, cleared);
         add_stone(
             &mut self.colourings,
             &mut self.table,
             &mut self.emptied,
             colour,
             point,
-            taken,
+            cleared,
             known,
             print,
             None,
@@ -344,20 +345,20 @@ impl PrintPast {
         &mut self,
         colour: Colour,
         point: Point,
-        taken: &[u64],
+        cleared: &[u64],
     ) -> Result<bool, MemoryFault>
         requires one_side { HaveSide (newest_grid self.old).side self.old }
-        requires stone { IsMove (newest_grid self.old) colour point taken.now }
+        requires stone { IsMove (newest_grid self.old) colour point cleared.now }
         ensures { IsPlayed colour point self.old self.new result }
     {
         self.table.wake(&self.colourings);
         let newest = self.colourings.newest();
         newest.has_all_cells();
         let known = Known::new(newest.is_settled(), false);
-        let print = print_after_taking(self.table.newest(), newest, colour, point, taken);
+        let print = print_after_clearing(self.table.newest(), newest, colour, point, cleared);
         let mut gap = None;
         if self.table.may_have(print) {
-            if self.has_near(colour, point, taken, print) {
+            if self.has_near(colour, point, cleared, print) {
                 return Ok(false);
             }
             gap = gap_of_stone(
@@ -365,7 +366,7 @@ impl PrintPast {
                 &mut self.table,
                 colour,
                 point,
-                taken,
+                cleared,
                 print,
             );
             if gap.is_none() {
@@ -378,7 +379,7 @@ impl PrintPast {
             &mut self.emptied,
             colour,
             point,
-            taken,
+            cleared,
             known,
             Some(print),
             gap,
@@ -387,9 +388,9 @@ impl PrintPast {
     }
 
     /// Whether the colouring that a stone makes is one of the newest two, and in the present stretch: the newest, after suicide of one stone,
-    /// or the one before it, in a simple ko. False says nothing. `print` is its print, and `taken` is what the stone takes off.
-    fn has_near(&self, colour: Colour, point: Point, taken: &[u64], print: u64) -> bool
-        requires stone { IsMove (newest_grid self.now) colour point taken.now }
+    /// or the one before it, in a simple ko. False says nothing. `print` is its print, and `cleared` is what the stone clears.
+    fn has_near(&self, colour: Colour, point: Point, cleared: &[u64], print: u64) -> bool
+        requires stone { IsMove (newest_grid self.now) colour point cleared.now }
         ensures { IsTrue result → Contains (present_stretch self.now) (play (newest_grid self.now) colour point) }
     {
         let start = self.colourings.stretch_start();
@@ -397,7 +398,7 @@ impl PrintPast {
             return false;
         };
         let mut made = self.newest().copy();
-        made.put(colour, point, taken);
+        made.place_and_clear(colour, point, cleared);
         self.colourings.is_at(number, &made)
     }
 
@@ -433,17 +434,17 @@ fn print_if_unknown(known: Option<u64>, board: &Board) -> u64
     }
 }
 
-/// The print of the colouring that a stone makes; None if the table sleeps. `taken` is what the stone takes off.
+/// The print of the colouring that a stone makes; None if the table sleeps. `cleared` is what the stone clears.
 #[inline(always)]
 fn print_if_awake(
     table: &Table,
     colourings: &Colourings,
     colour: Colour,
     point: Point,
-    taken: &[u64],
+    cleared: &[u64],
 ) -> Option<u64>
     requires table { IsTable (all_of colourings.now) table.now }
-    requires stone { IsMove (newest_grid colourings.now) colour point taken.now }
+    requires stone { IsMove (newest_grid colourings.now) colour point cleared.now }
     ensures { IsPrintOfNext (all_of colourings.now) table.now
         (with_next colourings.now (play (newest_grid colourings.now) colour point) false).newest result }
 {
@@ -452,10 +453,10 @@ fn print_if_awake(
     }
     let newest = colourings.newest();
     newest.has_all_cells();
-    Some(print_after_taking(table.newest(), newest, colour, point, taken))
+    Some(print_after_clearing(table.newest(), newest, colour, point, cleared))
 }
 
-/// Adds the colouring that a stone makes; `taken` is what the stone takes off. `known` is what is known of the newest colouring, and whether
+/// Adds the colouring that a stone makes; `cleared` is what the stone clears. `known` is what is known of the newest colouring, and whether
 /// no colouring of the present stretch has a stone on that point. `print` is the colouring's print, or None if the table sleeps. Puts the colouring into the trie if its gap there
 /// is known. After a refusal nothing is changed.
 // No method: between its steps the invariant of the past doesn't hold.
@@ -466,14 +467,14 @@ fn add_stone(
     emptied: &mut Emptied,
     colour: Colour,
     point: Point,
-    taken: &[u64],
+    cleared: &[u64],
     known: Known,
     print: Option<u64>,
     gap: Option<Gap>,
 ) -> Result<(), MemoryFault>
     requires table { IsTable (all_of colourings.old) table.old }
     requires emptied { IsEmptied (all_of colourings.old) emptied.old }
-    requires stone { IsMove (newest_grid colourings.old) colour point taken.now }
+    requires stone { IsMove (newest_grid colourings.old) colour point cleared.now }
     requires settled { IsTrue (is_settled known) → has_unreaching (newest_grid colourings.old) ≡ false }
     requires fresh { IsTrue (is_fresh known) → IsFreshStone (with_next colourings.old (play (newest_grid colourings.old) colour point) false) point }
     requires print { IsPrintOfNext (all_of colourings.old) table.old
@@ -487,28 +488,28 @@ fn add_stone(
 {
     colourings.newest().has_all_cells();
     let number = colourings.len();
-    emptied.reserve(taken.len())?;
+    emptied.reserve(cleared.len())?;
     table.reserve(number)?;
-    colourings.add_stone(colour, point, taken, known)?;
-    emptied.add(taken, number as u32);
+    colourings.add_stone(colour, point, cleared, known)?;
+    emptied.add(cleared, number as u32);
     table.push(print, gap);
     Ok(())
 }
 
 /// Where the colouring that a stone makes comes into the trie, which gets all colourings first; None if the present stretch has it, so that
-/// positional superko forbids the stone. `print` is that colouring's print, and `taken` is what the stone takes off. All points are looked
+/// positional superko forbids the stone. `print` is that colouring's print, and `cleared` is what the stone clears. All points are looked
 /// at only if another colouring has the print.
 fn gap_of_stone(
     colourings: &Colourings,
     table: &mut Table,
     colour: Colour,
     point: Point,
-    taken: &[u64],
+    cleared: &[u64],
     print: u64,
 ) -> Option<Gap>
     requires table { IsAwakeTable (all_of colourings.now) table.old }
     requires one_side { HaveSide (newest_grid colourings.now).side colourings.now }
-    requires stone { IsPrintedMove (newest_grid colourings.now) colour point taken.now print }
+    requires stone { IsPrintedMove (newest_grid colourings.now) colour point cleared.now print }
     ensures table { IsAwakeTable (all_of colourings.now) table.new }
     ensures gap { IfSome result (IsGap (all_of colourings.now) table.new
         (with_next colourings.now (play (newest_grid colourings.now) colour point) false).newest) }
@@ -518,7 +519,7 @@ fn gap_of_stone(
         return Some(gap);
     }
     let mut made = colourings.newest().copy();
-    made.put(colour, point, taken);
+    made.place_and_clear(colour, point, cleared);
     table.gap_by_board(colourings, &made, print)
 }
 

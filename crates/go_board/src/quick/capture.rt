@@ -1,4 +1,4 @@
-//! What a stone takes off, as rows of bits: the groups beside it that it captures, or its own group by suicide. `Board::place` is the
+//! What a stone clears, as rows of bits: the groups beside it that it captures, or its own group by suicide. `Board::place` is the
 //! plain way.
 
 ghost use Rattle.std.specs.Prelude.{◌≡◌, ◌↔◌, ◌⊎◌, [], IsTrue, IsFalse, length};
@@ -9,7 +9,7 @@ ghost use Rattle.go_board.specs.Colour.{stone_of};
 ghost use Rattle.go_board.specs.Grid.{cell_at};
 ghost use Rattle.go_board.specs.Clearing.{play};
 ghost use Rattle.go_board.specs.Reaching.{Reaches};
-ghost use Rattle.go_board.specs.inner.Groups.{AreKnownAlive, ReachesIfStone, AddsGroup, AddsShut, AreShutGroups, AreTakenOrReachBeside, IsAsked, ReachBeside, IsEmptyOnSettled, IsMove, TakesOff};
+ghost use Rattle.go_board.specs.inner.Groups.{AreKnownAlive, ReachesIfStone, AddsGroup, AddsShut, AreShutGroups, AreClearedOrReachBeside, IsAsked, ReachBeside, IsEmptyOnSettled, IsMove, Clears};
 ghost use Rattle.board_points.specs.Rows.{is_set, HasNoPoint};
 
 use crate::board::Board;
@@ -20,22 +20,22 @@ use board_points::quick::group::{add_to_either, fill_if_shut, lives_in_row};
 use board_points::rows::{has_point, no_rows, remove_all};
 
 impl Board {
-    /// Finds what a stone on an empty point takes off, by capture or else by suicide. `taken` must be empty. If the stone takes something
-    /// off, `taken` becomes that; if not, false is returned, and what is in `taken` says nothing.
+    /// Finds what a stone on an empty point clears, by capture or else by suicide. `cleared` must be empty. If the stone clears something,
+    /// `cleared` becomes that; if not, false is returned, and what is in `cleared` says nothing.
     /// Before the move every stone on the board must reach empty. So after it only the stone's own group and the groups beside the
     /// stone can be without a liberty. The stone is put on the board for this search, and removed again.
-    pub(crate) fn find_taken(&mut self, colour: Colour, point: Point, taken: &mut [u64]) -> bool
+    pub(crate) fn find_cleared(&mut self, colour: Colour, point: Point, cleared: &mut [u64]) -> bool
         requires stone { IsEmptyOnSettled self.old point }
-        requires none { HasNoPoint self.old.side taken.old }
-        ensures taken { IsTrue result → TakesOff self.old colour point taken.new }
-        ensures none { IsFalse result → TakesOff self.old colour point [] }
+        requires none { HasNoPoint self.old.side cleared.old }
+        ensures cleared { IsTrue result → Clears self.old colour point cleared.new }
+        ensures none { IsFalse result → Clears self.old colour point [] }
         ensures unchanged { self.new ≡ self.old }
     {
         self.has_all_cells();
         self.add(colour, point);
-        let mut some = self.find_shut_beside(colour.opponent(), point, taken);
+        let mut some = self.find_shut_beside(colour.opponent(), point, cleared);
         if !some {
-            some = self.find_suicide(colour, point, taken);
+            some = self.find_suicide(colour, point, cleared);
         }
         self.set(point, Cell::Empty);
         self.restore(true);
@@ -65,7 +65,7 @@ impl Board {
         requires none { HasNoPoint self.now.side shut.old }
         ensures shut { IsTrue result → AreShutGroups self.now colour shut.new }
         ensures some { IsTrue result → (stone : Point) × IsTrue (is_set shut.new stone) }
-        ensures beside { IsTrue result → AreTakenOrReachBeside self.now colour point shut.new }
+        ensures beside { IsTrue result → AreClearedOrReachBeside self.now colour point shut.new }
         ensures lives { IsFalse result → ReachBeside self.now colour point }
         ensures all { length shut.new ≡ self.now.side }
     {
@@ -94,7 +94,7 @@ impl Board {
         requires on_board { IsOn self.now.side point }
         requires shut { AreShutGroups self.now colour shut.old }
         ensures adds { AddsShut self.now colour shut.old shut.new result }
-        ensures beside { AreTakenOrReachBeside self.now colour point shut.new }
+        ensures beside { AreClearedOrReachBeside self.now colour point shut.new }
     {
         self.has_all_cells();
         let mut words = no_rows();
@@ -191,14 +191,14 @@ impl Board {
             && has_column(self.columns_of(point.row, colour), usize::from(point.col))
     }
 
-    /// Puts a stone on an empty point; `taken` is what it takes off. After that every stone reaches empty.
-    pub(crate) fn put(&mut self, colour: Colour, point: Point, taken: &[u64])
-        requires { IsMove self.old colour point taken.now }
+    /// Places a stone on an empty point; `cleared` is what it clears. After that every stone reaches empty.
+    pub(crate) fn place_and_clear(&mut self, colour: Colour, point: Point, cleared: &[u64])
+        requires { IsMove self.old colour point cleared.now }
         ensures { self.new ≡ play self.old colour point }
     {
         self.has_all_cells();
         self.add(colour, point);
-        self.empty_set(taken);
+        self.empty_set(cleared);
         self.restore(true);
     }
 }

@@ -1,11 +1,11 @@
-//! A glance at the rows around a stone. It shows of most stones that they take nothing off: no capture, and no suicide. Of the others it
+//! A glance at the rows around a stone. It shows of most stones that they clear nothing: no capture, and no suicide. Of the others it
 //! shows nothing.
 
 ghost use Rattle.std.specs.Prelude.{◌≡◌, false, IsTrue, []};
 ghost use Rattle.board_points.specs.declared.points.Point.{Point};
 ghost use Rattle.board_points.specs.Point.{IsOn};
 ghost use Rattle.go_board.specs.Clearing.{has_unreaching};
-ghost use Rattle.go_board.specs.inner.Groups.{TakesOff};
+ghost use Rattle.go_board.specs.inner.Groups.{Clears};
 
 use crate::board::Board;
 use crate::stones::Colour;
@@ -15,10 +15,10 @@ use board_points::quick::glance::leaves_all_alive;
 impl Board {
     /// Whether a glance shows that a stone on an empty point captures nothing, and isn't suicide.
     #[inline(always)]
-    pub(crate) fn takes_nothing_at_a_glance(&self, colour: Colour, point: Point) -> bool
+    pub(crate) fn clears_nothing_at_a_glance(&self, colour: Colour, point: Point) -> bool
         requires on_board { IsOn self.now.side point }
         requires settled { has_unreaching self.now ≡ false }
-        ensures { IsTrue result → TakesOff self.now colour point [] }
+        ensures { IsTrue result → Clears self.now colour point [] }
     {
         self.has_all_cells();
         let own = self.rows_of(colour);

@@ -2,7 +2,7 @@
 
 ghost use Rattle.std.specs.Prelude.{◌≡◌, ◌<◌, ◌⊎◌, All, IsSome, OnOk, OnErr, fold, length};
 ghost use Rattle.board_points.specs.Point.{IsRectOn};
-ghost use Rattle.go_board.specs.State.{followed_by, set_up, with_area};
+ghost use Rattle.go_board.specs.State.{followed_by, set_up, with_rectangle};
 ghost use Rattle.go_board.specs.inner.Earlier.{with_setup};
 
 use crate::fault::MemoryFault;
@@ -14,7 +14,7 @@ use crate::stones::Colour;
 impl<P: Past> Referee<P> {
     /// Sets up stones (AB, AW, AE) or the player (PL; SGF FF[4]).
     ///
-    /// - With operations: these colour their areas in order, whatever stood there, and nothing is cleared. A new stretch begins,
+    /// - With operations: these colour their rectangles in order, whatever stood there, and nothing is cleared. A new stretch begins,
     ///   so a ko doesn't reach back over the setup. Passes are 0. The player of PL must move; without PL (None) either may.
     /// - Without operations: only the player changes, to that of PL. In this case there must be one.
     ///
@@ -45,11 +45,11 @@ impl<P: Past> Referee<P> {
         Ok(())
     }
 
-    /// Colours areas, and begins a new stretch of the past with the result.
+    /// Colours rectangles, and begins a new stretch of the past with the result.
     fn begin_anew(&mut self, ops: &[SetupOp], player: Option<Colour>) -> Result<(), MemoryFault>
         requires { All (λ op. IsRectOn self.old.present.colouring.side op.area) ops.now }
         ensures ok { OnOk result (self.new ≡ followed_by self.old
-            (with_setup self.old.present (fold with_area self.old.present.colouring ops.now) player)) }
+            (with_setup self.old.present (fold with_rectangle self.old.present.colouring ops.now) player)) }
         ensures err { OnErr result (self.new ≡ self.old) }
     {
         let present = self.present_kept(Call::Setup);

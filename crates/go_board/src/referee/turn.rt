@@ -31,7 +31,7 @@ impl<P: Past> Referee<P> {
         ensures ok { OnOk result (self.new ≡ followed_by self.old (turned self.old.present colour play)) }
         ensures err { OnErr result (self.new ≡ self.old) }
     {
-        if !self.take_at_once(colour, play) {
+        if !self.play_at_once(colour, play) {
             return self.turn_in_full(colour, play);
         }
         Ok(())
@@ -50,9 +50,9 @@ impl<P: Past> Referee<P> {
             return Err(TurnFault::Illegal(reason));
         }
         match play {
-            Play::Pass => self.take_pass(colour)?,
+            Play::Pass => self.play_pass(colour)?,
             Play::Stone(point) => {
-                if !self.take_stone(colour, point)? {
+                if !self.play_stone(colour, point)? {
                     return Err(TurnFault::Illegal(Reason::Repeat));
                 }
             }
@@ -83,10 +83,10 @@ impl<P: Past> Referee<P> {
     /// Takes a turn with a stone, if the past can play it at once (`Past::play_at_once`) and there is room. Returns whether it was taken.
     /// False says nothing, and then nothing is changed. Most turns are taken here.
     #[inline(always)]
-    fn take_at_once(&mut self, colour: Colour, play: Play) -> bool
+    fn play_at_once(&mut self, colour: Colour, play: Play) -> bool
         requires { IsPlayOn self.old.present.colouring.side play }
         ensures legal { IsTrue result → reason_of self.old.present colour play ≡ None }
-        ensures taken { IsTrue result → self.new ≡ followed_by self.old (turned self.old.present colour play) }
+        ensures cleared { IsTrue result → self.new ≡ followed_by self.old (turned self.old.present colour play) }
         ensures unchanged { IsFalse result → self.new ≡ self.old }
     {
         let Play::Stone(point) = play else {
@@ -110,7 +110,7 @@ impl<P: Past> Referee<P> {
     }
 
     /// Takes a pass. Two passes in a row end the game (`over`).
-    fn take_pass(&mut self, colour: Colour) -> Result<(), MemoryFault>
+    fn play_pass(&mut self, colour: Colour) -> Result<(), MemoryFault>
         requires { self.old.present.passes ≢ 2 }
         ensures ok { OnOk result (self.new ≡ followed_by self.old (turned self.old.present colour Pass)) }
         ensures err { OnErr result (self.new ≡ self.old) }
@@ -125,14 +125,14 @@ impl<P: Past> Referee<P> {
 
     /// Plays a stone as a player's turn, with its captures or its suicide, unless it repeats a colouring of the present stretch
     /// (positional superko). Returns whether the turn was taken.
-    fn take_stone(&mut self, colour: Colour, point: Point) -> Result<bool, MemoryFault>
+    fn play_stone(&mut self, colour: Colour, point: Point) -> Result<bool, MemoryFault>
         requires on_board { IsOn self.old.present.colouring.side point }
         requires only_repeat { MayOnlyRepeat self.old.present colour (Stone point) }
-        ensures known { IfOk result (λ taken. reason_of self.old.present colour (Stone point)
-            ≡ (if taken then None else Some Repeat)) }
+        ensures known { IfOk result (λ cleared. reason_of self.old.present colour (Stone point)
+            ≡ (if cleared then None else Some Repeat)) }
         ensures allowed { OnErr result (reason_of self.old.present colour (Stone point) ≡ None) }
-        ensures ok { IfOk result (λ taken. self.new
-            ≡ (if taken then followed_by self.old (turned self.old.present colour (Stone point)) else self.old)) }
+        ensures ok { IfOk result (λ cleared. self.new
+            ≡ (if cleared then followed_by self.old (turned self.old.present colour (Stone point)) else self.old)) }
         ensures err { OnErr result (self.new ≡ self.old) }
     {
         let present = self.present_kept(Call::Stone);

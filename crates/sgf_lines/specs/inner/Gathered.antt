@@ -2,8 +2,8 @@
 use Rattle.std.specs.Prelude.{◌≡◌, ◌⊎◌, ◌<◌, ◌+◌, ℕ, Bool, true, false, if◌then◌else◌, Option, Some, None, List, [], ◌∷◌, ◌++◌, length, All, MatchBool, codes, bytes_eq, option_copied}
 use Rattle.std.specs.List.{flat_map}
 use Rattle.sgf_tree.specs.Tree.{Property, Node, lone_property, told_property}
-use Rattle.sgf_tree.specs.declared.walk.NextNode.{NextNode}
-use Rattle.sgf_tree.specs.declared.walk.NextNode.TheVariants.{Led, Empty as EmptyNode, Open}
+use Rattle.sgf_tree.specs.declared.traversal.NextNode.{NextNode}
+use Rattle.sgf_tree.specs.declared.traversal.NextNode.TheVariants.{Led, Empty as EmptyNode, Unread}
 use Rattle.go_board.specs.declared.stones.Colour.{Colour}
 use Rattle.go_board.specs.declared.stones.Colour.TheVariants.{Black, White}
 use Rattle.go_board.specs.declared.stones.Cell.TheVariants.{Black as BlackStone, White as WhiteStone, Empty}
@@ -43,7 +43,7 @@ pub record HoldsAlone (first : Property) (properties : List Property) : Type 0 w
 abbrev pub ComesAs : Node → List Property → NextNode → Type 0
 ComesAs node left (Led place letter value) = (node.place ≡ place) × HoldsAlone (lone_property letter value.now) node.properties
 ComesAs node left (EmptyNode place) = (node.place ≡ place) × (node.properties ≡ [])
-ComesAs node left (Open place front) = (node.place ≡ place) × (node.properties ≡ told_property front ++ left)
+ComesAs node left (Unread place front) = (node.place ≡ place) × (node.properties ≡ told_property front ++ left)
 
 -- what is kept of the moves: none, the only one, or that there are several
 abbrev pub AreMoves : Moves → List Move → Type 0
@@ -73,7 +73,7 @@ setup_with_player (Meant before) (Some player) = Meant (Some player)
 setup_with_player Faulty (Some player) = Faulty
 
 -- Either the operations of the stones were appended to `old`, or some of the stones name no rectangle of the board.
-pub record AddsAreas (side : ℕ) (stones : List Stones) (old new : List SetupOp) (good : Bool) : Type 0 where
+pub record AddsRectangles (side : ℕ) (stones : List Stones) (old new : List SetupOp) (good : Bool) : Type 0 where
   pub added : MatchBool good ((ops : List SetupOp) × (operations stones side ≡ Some ops) × (new ≡ old ++ ops)) (operations stones side ≡ None)
   pub on_board : All (λ op. IsRectOn side op.area) old → All (λ op. IsRectOn side op.area) new
 

@@ -13,13 +13,13 @@ use Rattle.sgf_lines.specs.NodeContents.{Move, Stones, moves, stones, first_valu
 use Rattle.sgf_lines.specs.NodeValues.{move_value}
 use Rattle.sgf_lines.specs.JudgedGames.{GameKind, not_go, bad_size, board}
 use Rattle.sgf_lines.specs.Step.{step}
-use Rattle.sgf_lines.specs.Walk.{TakenNode}
+use Rattle.sgf_lines.specs.Walk.{LegalNode}
 use Rattle.sgf_lines.specs.Verdict.{score_in}
 use Rattle.sgf_lines.specs.declared.verdict.Verdict.{Verdict}
 use Rattle.sgf_lines.specs.declared.verdict.Verdict.TheVariants.{Illegal, NotGo, BadSize}
 use Rattle.sgf_lines.specs.declared.judging.step.Effect.{Effect}
 use Rattle.sgf_lines.specs.declared.judging.step.Effect.TheVariants.{Nothing, Stones as stones_set, Play as one_play}
-use Rattle.sgf_lines.specs.declared.judging.step.TakenStep.{TakenStep}
+use Rattle.sgf_lines.specs.declared.judging.step.LegalStep.{LegalStep}
 
 -- a referee's states after undoing until at most `depth` states are left before the present one
 abbrev pub back_from : State → List State → ℕ → States
@@ -64,7 +64,7 @@ begun_game not_go = unjudged NotGo
 begun_game bad_size = unjudged BadSize
 begun_game (board side) = judged (begun side) None
 
--- a step that was taken adds a state; a refused step settles the verdict
+-- a step that was taken adds a state; a refused step decides the verdict
 abbrev pub stepped : States → Node → Result State Reason → Judgement
 stepped states node (Ok state) = judged (followed_by states state) None
 stepped states node (Err reason) = judged states (Some (Illegal (states.present.turns + 1) node.place reason))
@@ -106,15 +106,15 @@ state_after (judged states (Some told)) node = None
 state_after (judged states None) node = state_of (step states.present node)
 
 -- the node with that state, if there is one
-abbrev pub taken_by : Option State → Node → List TakenNode
-taken_by None node = []
-taken_by (Some state) node = record { node = node; after = state } ∷ []
+abbrev pub legal_by : Option State → Node → List LegalNode
+legal_by None node = []
+legal_by (Some state) node = record { node = node; after = state } ∷ []
 
 -- no node changes the judgement any more: the game isn't judged, or a node wasn't allowed
-abbrev pub IsSettled : Judgement → Type 0
-IsSettled (unjudged told) = Unit {0}
-IsSettled (judged states (Some told)) = Unit {0}
-IsSettled (judged states None) = ⊥
+abbrev pub IsDecided : Judgement → Type 0
+IsDecided (unjudged told) = Unit {0}
+IsDecided (judged states (Some told)) = Unit {0}
+IsDecided (judged states None) = ⊥
 
 -- the verdict isn't known before the next node
 abbrev pub IsUnsettled : Judgement → Type 0
@@ -151,12 +151,12 @@ setup_effect [] = Nothing
 setup_effect (op ∷ ops) = stones_set
 
 -- the step of a node has this effect, and the node has this comment
-pub record IsStepOf (side : ℕ) (node : Node) (taken : TakenStep) : Type 0 where
+pub record IsStepOf (side : ℕ) (node : Node) (taken : LegalStep) : Type 0 where
   pub effect_is : IsEffect side node taken.effect
   pub comment_is : option_copied taken.comment ≡ first_value (codes "C") node.properties
 
--- a step is that of this taken node, in a game of this kind; `grid` is the board after it
-pub record IsStepTaken (kind : GameKind) (grid : Grid) (step : TakenStep) (taken : TakenNode) : Type 0 where
+-- a step is that of this legal node, in a game of this kind; `grid` is the board after it
+pub record IsLegalStep (kind : GameKind) (grid : Grid) (step : LegalStep) (taken : LegalNode) : Type 0 where
   pub kind_is : kind ≡ board grid.side
   pub board_is : grid ≡ taken.after.colouring
   pub step_is : IsStepOf grid.side taken.node step
@@ -167,7 +167,7 @@ side_in (unjudged told) = 0
 side_in (judged states ended) = states.present.colouring.side
 
 -- what is reported of the next node: its step, if the step was taken
-abbrev pub IsTakenFrom : Judgement → Node → Option TakenStep → Type 0
-IsTakenFrom judgement node None = state_after judgement node ≡ None
-IsTakenFrom judgement node (Some taken) =
+abbrev pub IsStepFrom : Judgement → Node → Option LegalStep → Type 0
+IsStepFrom judgement node None = state_after judgement node ≡ None
+IsStepFrom judgement node (Some taken) =
     (state : State) × (state_after judgement node ≡ Some state) × IsStepOf (side_in judgement) node taken

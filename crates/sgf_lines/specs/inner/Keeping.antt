@@ -1,36 +1,36 @@
--- What is kept of the line before a cursor: its judgement, its taken nodes, its record. How many nodes are played for it.
+-- What is kept of the line before a cursor: its judgement, its legal nodes, its record. How many nodes are played for it.
 use Rattle.std.specs.Prelude.{◌≡◌, ℕ, ◌+◌, ◌-◌, ◌<◌, ◌≤◌, List, ◌++◌, length, Some, option_map, Result, OnOk}
 use Rattle.sgf_tree.specs.Tree.{Node}
 use Rattle.sgf_lines.specs.JudgedGames.{GameKind, game_kind, root_properties}
 use Rattle.sgf_lines.specs.Record.{record_of}
 use Rattle.sgf_lines.specs.Verdict.{judged_on, verdict_of}
-use Rattle.sgf_lines.specs.Walk.{TakenNode, taken_on}
+use Rattle.sgf_lines.specs.Walk.{LegalNode, legal_on}
 use Rattle.sgf_lines.specs.declared.options.Form.{Form}
 use Rattle.sgf_lines.specs.declared.verdict.Verdict.{Verdict}
 use Rattle.sgf_lines.specs.inner.Judging.{Judgement, Judging, judging}
 use Rattle.tree_lines.specs.Following.{line_before, nodes_before}
 use Rattle.tree_lines.specs.Sequences.{SequencesState}
 
--- in a game of this kind these nodes were judged, and the taken ones of them are held
-pub record HasJudged (holds : GameKind → List TakenNode → Type 0) (kind : GameKind) (nodes : List Node) (judgement : Judgement) : Type 0 where
+-- in a game of this kind these nodes were judged, and the legal ones of them are held
+pub record HasJudged (holds : GameKind → List LegalNode → Type 0) (kind : GameKind) (nodes : List Node) (judgement : Judgement) : Type 0 where
   pub judged : judgement ≡ judging kind nodes
-  pub taken : holds kind (taken_on kind nodes)
+  pub taken : holds kind (legal_on kind nodes)
 
 -- how many nodes are judged of some that come after others
 abbrev pub plays_for : GameKind → List Node → List Node → ℕ
 plays_for kind before nodes = length (judged_on kind (before ++ nodes)) - length (judged_on kind before)
 
 -- a judge went on by these nodes, after others; until then there were `old` plays
-pub record WentOn (holds : GameKind → List TakenNode → Type 0) (kind : GameKind) (before nodes : List Node) (old : ℕ) (judge : Judging) : Type 0 where
+pub record WentOn (holds : GameKind → List LegalNode → Type 0) (kind : GameKind) (before nodes : List Node) (old : ℕ) (judge : Judging) : Type 0 where
   pub has_judged : HasJudged holds kind (before ++ nodes) judge.judgement
   pub plays : judge.plays ≡ old + plays_for kind before nodes
 
 -- the line before a cursor was judged
-abbrev pub HoldsLine : (GameKind → List TakenNode → Type 0) → Judgement → SequencesState → Type 0
+abbrev pub HoldsLine : (GameKind → List LegalNode → Type 0) → Judgement → SequencesState → Type 0
 HoldsLine holds judgement cursor = HasJudged holds (game_kind (root_properties (nodes_before cursor.at))) (nodes_before cursor.at) judgement
 
 -- and its verdict is held
-pub record HoldsVerdict (holds : GameKind → List TakenNode → Type 0) (judgement : Judgement) (verdict : Verdict) (cursor : SequencesState) : Type 0 where
+pub record HoldsVerdict (holds : GameKind → List LegalNode → Type 0) (judgement : Judgement) (verdict : Verdict) (cursor : SequencesState) : Type 0 where
   pub some : 0 < length cursor.ends
   pub line : HoldsLine holds judgement cursor
   pub verdict_is : verdict ≡ verdict_of (nodes_before cursor.at)

@@ -6,8 +6,8 @@ use Rattle.sgf_lines.specs.Record.{node_text}
 use Rattle.sgf_lines.specs.inner.Pieces.{PiecesState}
 
 -- the record of a line's sequences without its end, and with it
-abbrev pub open_record : List (List Node) → PiecesState
-open_record sequences = record { pieces = codes "(" ∷ map (flat_map node_text) sequences; begun = [] }
+abbrev pub unclosed_record : List (List Node) → PiecesState
+unclosed_record sequences = record { pieces = codes "(" ∷ map (flat_map node_text) sequences; begun = [] }
 
 abbrev pub whole_record : List (List Node) → PiecesState
 whole_record sequences = record { pieces = codes "(" ∷ map (flat_map node_text) sequences; begun = codes ")\n" }

@@ -6,11 +6,11 @@ use Rattle.go_board.specs.Clearing.{has_unreaching}
 use Rattle.go_board.specs.Grid.{Grid}
 use Rattle.go_board.specs.State.{IsPlayOn}
 use Rattle.sgf_lines.specs.JudgedGames.{GameKind, not_go, bad_size, board}
-use Rattle.sgf_lines.specs.Walk.{TakenNode}
-use Rattle.sgf_lines.specs.Script.{text_rows, comment_text, colouring_commands, play_command, taken_script, leaves_unreaching, board_commands}
+use Rattle.sgf_lines.specs.Walk.{LegalNode}
+use Rattle.sgf_lines.specs.Script.{text_rows, comment_text, colouring_commands, play_command, legal_script, leaves_unreaching, board_commands}
 use Rattle.sgf_lines.specs.declared.judging.step.Effect.{Effect}
 use Rattle.sgf_lines.specs.declared.judging.step.Effect.TheVariants.{Nothing, Stones as stones_set, Play as one_play}
-use Rattle.sgf_lines.specs.declared.judging.step.TakenStep.{TakenStep}
+use Rattle.sgf_lines.specs.declared.judging.step.LegalStep.{LegalStep}
 use Rattle.sgf_lines.specs.inner.Pieces.{PiecesState, no_pieces, pushed, closed, cut}
 
 -- the commands that an effect adds; `grid` is the board after it
@@ -19,8 +19,8 @@ effect_script grid Nothing = []
 effect_script grid stones_set = colouring_commands grid
 effect_script grid (one_play colour play) = play_command grid.side colour play
 
--- what a taken step adds
-abbrev pub step_script : Grid → TakenStep → List ℕ
+-- what a legal step adds
+abbrev pub step_script : Grid → LegalStep → List ℕ
 step_script grid step = text_rows (comment_text (option_copied step.comment)) ++ effect_script grid step.effect
 
 -- the play is on the board
@@ -57,7 +57,7 @@ said_on old unreaching more =
     if length old.text.pieces == 0 then old
     else record { text = closed (pushed old.text more); said = if old.said == length old.text.pieces then (if unreaching then old.said else old.said + 1) else old.said }
 
--- the script cut back to the first `count` taken nodes
+-- the script cut back to the first `count` legal nodes
 abbrev pub script_back : ℕ → ScriptState → ScriptState
 script_back count old = record { text = cut (count + 1) old.text; said = min (count + 1) old.said }
 
@@ -65,13 +65,13 @@ script_back count old = record { text = cut (count + 1) old.text; said = min (co
 abbrev pub script_text : ScriptState → List ℕ
 script_text script = if nat_lt script.said (length script.text.pieces) then [] else concat script.text.pieces ++ script.text.begun
 
-abbrev pub script_along : ℕ → List TakenNode → ScriptState
+abbrev pub script_along : ℕ → List LegalNode → ScriptState
 script_along side taken =
     if nat_lt MAX_VERTEX_SIDE side then no_script
-    else record { text = record { pieces = board_commands side ∷ map taken_script taken; begun = [] }; said = suc (position_or_len leaves_unreaching taken) }
+    else record { text = record { pieces = board_commands side ∷ map legal_script taken; begun = [] }; said = suc (position_or_len leaves_unreaching taken) }
 
--- the script of a game of this kind, after these nodes were taken
-abbrev pub script_of : GameKind → List TakenNode → ScriptState
+-- the script of a game of this kind, after these nodes were legal
+abbrev pub script_of : GameKind → List LegalNode → ScriptState
 script_of not_go taken = no_script
 script_of bad_size taken = no_script
 script_of (board side) taken = script_along side taken

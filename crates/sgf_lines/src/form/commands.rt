@@ -12,7 +12,7 @@ ghost use Rattle.sgf_lines.specs.Script.{text_rows, comment_row, comment_text, c
 ghost use Rattle.sgf_lines.specs.inner.Cutting.{commands_at, AreAppended, stone_command};
 ghost use Rattle.sgf_lines.specs.inner.Scripting.{IsPlayable, step_script};
 
-use crate::judging::step::{Effect, TakenStep};
+use crate::judging::step::{Effect, LegalStep};
 use go_board::{Board, Colour, MAX_VERTEX_SIDE, Play, Point, Size, Vertex, vertex};
 use memchr::memchr;
 use sgf_tree::{MemoryFault, push_text};
@@ -25,9 +25,9 @@ pub(crate) fn push_bytes(bytes: &[u8], output: &mut Vec<u8>) -> Result<(), Memor
     Ok(())
 }
 
-/// Appends what a taken step adds to the script of a line; `board` is the board after the step.
+/// Appends what a legal step adds to the script of a line; `board` is the board after the step.
 pub(crate) fn push_step(
-    step: TakenStep<'_>,
+    step: LegalStep<'_>,
     board: &Board,
     output: &mut Vec<u8>,
 ) -> Result<(), MemoryFault>

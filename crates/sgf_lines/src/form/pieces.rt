@@ -8,7 +8,7 @@ ghost use Rattle.sgf_lines.specs.inner.Fronts.{sequences_before};
 ghost use Rattle.sgf_lines.specs.inner.Pieces.{no_pieces, pushed, closed, cut};
 
 use crate::form::commands::push_step;
-use crate::judging::step::TakenStep;
+use crate::judging::step::LegalStep;
 use go_board::{Board, MAX_VERTEX_SIDE};
 use sgf_tree::MemoryFault;
 use std::alloc::Global;
@@ -91,11 +91,11 @@ impl Pieces {
         Ok(())
     }
 
-    /// Appends to the unfinished piece what a taken step adds to the script of a line; `board` is the board after
+    /// Appends to the unfinished piece what a legal step adds to the script of a line; `board` is the board after
     /// it. After a refusal of memory there are no pieces.
     pub(crate) fn push_step(
         &mut self,
-        step: TakenStep<'_>,
+        step: LegalStep<'_>,
         board: &Board,
     ) -> Result<(), MemoryFault>
         requires letters { board.now.side ≤ MAX_VERTEX_SIDE }

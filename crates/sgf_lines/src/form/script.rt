@@ -5,7 +5,7 @@ ghost use Rattle.sgf_lines.specs.inner.Scripting.{is_unreaching, no_script, scri
 
 use crate::form::pieces::Pieces;
 use crate::judging::judged::StepKeeper;
-use crate::judging::step::{Effect, TakenStep};
+use crate::judging::step::{Effect, LegalStep};
 use go_board::{Board, MAX_VERTEX_SIDE, Size};
 use itoa::Buffer;
 use sgf_tree::MemoryFault;
@@ -15,7 +15,7 @@ use std::marker::Model;
 /// The commands of a line's nodes.
 #[derive(Drop)]
 pub(crate) struct Script {
-    /// The commands that begin a game on the board, and then a piece for each taken node. There are none if the line isn't
+    /// The commands that begin a game on the board, and then a piece for each legal node. There are none if the line isn't
     /// judged, or if its board has more columns than vertices have letters.
     pieces: Pieces,
 
@@ -88,7 +88,7 @@ impl StepKeeper for Script {
         }
     }
 
-    fn say(&mut self, step: TakenStep<'_>, board: &Board) -> Result<(), MemoryFault> {
+    fn say(&mut self, step: LegalStep<'_>, board: &Board) -> Result<(), MemoryFault> {
         let count = self.pieces.count();
         if count == 0 {
             return Ok(());

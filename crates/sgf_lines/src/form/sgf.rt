@@ -6,7 +6,7 @@ ghost use Rattle.sgf_lines.specs.declared.options.Form.TheVariants.{Sgf as sgf_f
 ghost use Rattle.sgf_lines.specs.inner.Fronts.{sequences_before};
 ghost use Rattle.sgf_lines.specs.inner.Keeping.{IsRecord};
 ghost use Rattle.sgf_lines.specs.inner.Pieces.{cut};
-ghost use Rattle.sgf_lines.specs.inner.Recording.{open_record, whole_record};
+ghost use Rattle.sgf_lines.specs.inner.Recording.{unclosed_record, whole_record};
 
 use crate::form::LineForm;
 use crate::form::pieces::Pieces;
@@ -70,7 +70,7 @@ impl LineForm for SgfForm {
 /// Keeps the parenthesis and the first `held` sequences of a record. If `held` is 0, begins a new record.
 fn keep(held: usize, kept: &mut Pieces) -> Result<(), MemoryFault>
     requires { held < usize.MAX }
-    ensures none { held ≡ 0 → OnOk result (kept.new ≡ open_record []) }
+    ensures none { held ≡ 0 → OnOk result (kept.new ≡ unclosed_record []) }
     ensures some { 0 < held → kept.new ≡ cut (held + 1) kept.old }
 {
     if held > 0 {

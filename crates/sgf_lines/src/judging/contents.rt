@@ -6,7 +6,7 @@ ghost use Rattle.sgf_tree.specs.Tree.{Property, lone_property, told_property, va
 ghost use Rattle.go_board.specs.declared.stones.Colour.{Colour};
 ghost use Rattle.sgf_lines.specs.NodeContents.{Move, moves_by, stones_of};
 ghost use Rattle.sgf_lines.specs.NodeValues.{last_player as last_player_rule};
-ghost use Rattle.sgf_lines.specs.inner.Gathered.{AreMoves, AddsAreas, IsGathered, kind_of as kind_of_rule, setup_with_stones, setup_with_player};
+ghost use Rattle.sgf_lines.specs.inner.Gathered.{AreMoves, AddsRectangles, IsGathered, kind_of as kind_of_rule, setup_with_stones, setup_with_player};
 
 use crate::node_values::player_value;
 use go_board::{Cell, Colour, SetupOp, Size, rect};
@@ -137,7 +137,7 @@ impl<'a> Contents<'a> {
         match kind_of(property) {
             Some(Kind::Move(colour)) => self.moves = with_moves(self.moves, colour, property),
             Some(Kind::Stones(cell)) => {
-                let good = push_areas(cell, property, size, operations)?;
+                let good = push_rectangles(cell, property, size, operations)?;
                 self.setup = with_stones(self.setup, good);
             }
             Some(Kind::Player) => self.setup = with_player(self.setup, last_player(property)),
@@ -165,13 +165,13 @@ fn with_moves<'a>(moves: Moves<'a>, colour: Colour, property: &PropRef<'a>) -> M
 }
 
 /// Appends the operations of a property's stones. Returns whether each of its values names a rectangle of the board.
-fn push_areas(
+fn push_rectangles(
     cell: Cell,
     property: &PropRef<'_>,
     size: Size,
     operations: &mut Vec<SetupOp>,
 ) -> Result<bool, MemoryFault>
-    ensures { IfOk result (AddsAreas size (stones_of cell property.now) operations.old.items operations.new.items) }
+    ensures { IfOk result (AddsRectangles size (stones_of cell property.now) operations.old.items operations.new.items) }
 {
     let mut values = property.iter();
     while let Some(raw) = values.next() {

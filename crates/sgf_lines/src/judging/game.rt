@@ -11,7 +11,7 @@ ghost use Rattle.sgf_lines.specs.Verdict.{score_in};
 ghost use Rattle.sgf_lines.specs.inner.Gathered.{ComesAs};
 ghost use Rattle.sgf_lines.specs.inner.Judging.{IsStepped, IsStepOf, IsScoreAt, back_to};
 
-use crate::judging::step::{TakenStep, take_step};
+use crate::judging::step::{LegalStep, take_step};
 use crate::verdict::Verdict;
 use go_board::{Board, PrintPast, Referee, SetupOp, Size, TurnFault};
 use sgf_tree::{MemoryFault, NextNode, SequenceNodes};
@@ -72,7 +72,7 @@ impl Game {
         next: NextNode<'a>,
         nodes: &mut SequenceNodes<'_, 'a>,
         operations: &mut Vec<SetupOp>,
-    ) -> Result<TakenStep<'a>, TurnFault>
+    ) -> Result<LegalStep<'a>, TurnFault>
         ensures stepped { (node : Node) → ComesAs node nodes.old.properties next.entry
             → IsStepped (step self.old.present node) self.old self.new result }
         ensures told { (node : Node) → ComesAs node nodes.old.properties next.entry

@@ -8,7 +8,7 @@ ghost use Rattle.sgf_lines.specs.JudgedGames.{game_kind, board};
 
 use crate::judging::game::Game;
 use crate::judging::root::board_size;
-use crate::judging::step::{TakenStep, place_of};
+use crate::judging::step::{LegalStep, place_of};
 use crate::verdict::Verdict;
 use go_board::{Board, SetupOp, Size, TurnFault};
 use sgf_tree::{MemoryFault, NextNode, NodeRef, SequenceNodes};
@@ -41,7 +41,7 @@ impl Model for Judge {
 
 impl Judge {
     ghost use Rattle.sgf_lines.specs.declared.verdict.Verdict.TheVariants.{NotGo};
-    ghost use Rattle.sgf_lines.specs.inner.Judging.{unjudged, IsSettled, IsUnsettled, begun_game, after, IsTakenFrom, back, verdict_in, board_in};
+    ghost use Rattle.sgf_lines.specs.inner.Judging.{unjudged, IsDecided, IsUnsettled, begun_game, after, IsStepFrom, back, verdict_in, board_in};
 
     /// A judge before the first game.
     pub(crate) fn new(alloc: Global) -> Judge
@@ -92,14 +92,14 @@ impl Judge {
         &mut self,
         next: NextNode<'a>,
         nodes: &mut SequenceNodes<'_, 'a>,
-    ) -> Result<Option<TakenStep<'a>>, MemoryFault>
+    ) -> Result<Option<LegalStep<'a>>, MemoryFault>
         requires unsettled { IsUnsettled self.old.judgement }
         requires countable { self.old.plays < u64.MAX }
         ensures judged { (node : Node) → ComesAs node nodes.old.properties next.entry
             → OnOk result (self.new.judgement ≡ after self.old.judgement node) }
         ensures plays { OnOk result (self.new.plays ≡ self.old.plays + 1) }
         ensures step { (node : Node) → ComesAs node nodes.old.properties next.entry
-            → IfOk result (IsTakenFrom self.old.judgement node) }
+            → IfOk result (IsStepFrom self.old.judgement node) }
         ensures unchanged { OnErr result (self.new ≡ self.old) }
         ensures left { nodes.new.nodes ≡ nodes.old.nodes }
     {
@@ -128,8 +128,8 @@ impl Judge {
 
     /// Whether the verdict is known already, whatever nodes come.
     #[inline(always)]
-    pub(crate) fn is_settled(&self) -> bool
-        ensures settled { IsTrue result → IsSettled self.now.judgement }
+    pub(crate) fn is_decided(&self) -> bool
+        ensures decided { IsTrue result → IsDecided self.now.judgement }
         ensures unsettled { IsFalse result → IsUnsettled self.now.judgement }
     {
         self.game.is_none() || self.ended.is_some()

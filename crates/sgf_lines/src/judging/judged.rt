@@ -4,15 +4,15 @@ ghost use Rattle.std.specs.Prelude.{◌≡◌, ◌+◌, ◌<◌, ◌≤◌, ◌+
 ghost use Rattle.sgf_tree.specs.Tree.{Node};
 ghost use Rattle.tree_lines.specs.Following.{nodes_before};
 ghost use Rattle.sgf_lines.specs.JudgedGames.{GameKind};
-ghost use Rattle.sgf_lines.specs.Walk.{TakenNode};
+ghost use Rattle.sgf_lines.specs.Walk.{LegalNode};
 ghost use Rattle.sgf_lines.specs.inner.Fronts.{HasFront};
 ghost use Rattle.sgf_lines.specs.inner.GoingOn.{IsHeldOf};
-ghost use Rattle.sgf_lines.specs.inner.Judging.{IsSettled, IsStepTaken, IsUnsettled, begun_game, board_in};
+ghost use Rattle.sgf_lines.specs.inner.Judging.{IsDecided, IsLegalStep, IsUnsettled, begun_game, board_in};
 ghost use Rattle.sgf_lines.specs.inner.Keeping.{HasJudged, HoldsLine, HoldsVerdict, PlaysUpTo, WentOn, fresh_plays, plays_for};
 
 use crate::judging::contents::NEEDED_NAMES;
 use crate::judging::judge::Judge;
-use crate::judging::step::TakenStep;
+use crate::judging::step::LegalStep;
 use crate::over_lines::LineKeeper;
 use crate::verdict::Verdict;
 use go_board::Board;
@@ -22,8 +22,8 @@ use tree_lines::{Front, SequenceCursor};
 
 /// Is told each step that is taken on a line. Most forms need no step: `()` is told them.
 pub(crate) trait StepKeeper: Drop {
-    // It was told that these nodes were taken, in a game of this kind.
-    ghost tells: { Self → GameKind → List TakenNode → Type 0 };
+    // It was told that these nodes were legal, in a game of this kind.
+    ghost tells: { Self → GameKind → List LegalNode → Type 0 };
 
     /// Keeps what it was told of the first `held` nodes. If `held` is 0, begins a line whose game is judged on this board; None if the
     /// game isn't judged.
@@ -31,15 +31,15 @@ pub(crate) trait StepKeeper: Drop {
         requires { held < usize.MAX }
         ensures begun { held ≡ 0 → (kind : GameKind) → option_copied board.entry ≡ board_in (begun_game kind)
             → OnOk result (tells self.new kind []) }
-        ensures kept { 0 < held → (kind : GameKind) (taken : List TakenNode) → tells self.old kind taken
+        ensures kept { 0 < held → (kind : GameKind) (taken : List LegalNode) → tells self.old kind taken
             → OnOk result (tells self.new kind (take held taken)) };
 
     /// Takes the step of one more node; `board` is the board after it.
-    fn say(&mut self, step: TakenStep<'_>, board: &Board) -> Result<(), MemoryFault>
-        requires { (kind : GameKind) × (before : List TakenNode) × (taken : TakenNode) × tells self.old kind before
-            × IsStepTaken kind board.now step taken }
-        ensures { (kind : GameKind) (before : List TakenNode) (taken : TakenNode) → tells self.old kind before
-            → IsStepTaken kind board.now step.entry taken → OnOk result (tells self.new kind (before ++ taken ∷ [])) };
+    fn say(&mut self, step: LegalStep<'_>, board: &Board) -> Result<(), MemoryFault>
+        requires { (kind : GameKind) × (before : List LegalNode) × (taken : LegalNode) × tells self.old kind before
+            × IsLegalStep kind board.now step taken }
+        ensures { (kind : GameKind) (before : List LegalNode) (taken : LegalNode) → tells self.old kind before
+            → IsLegalStep kind board.now step.entry taken → OnOk result (tells self.new kind (before ++ taken ∷ [])) };
 }
 
 impl StepKeeper for () {
@@ -49,7 +49,7 @@ impl StepKeeper for () {
         Ok(())
     }
 
-    fn say(&mut self, step: TakenStep<'_>, board: &Board) -> Result<(), MemoryFault> {
+    fn say(&mut self, step: LegalStep<'_>, board: &Board) -> Result<(), MemoryFault> {
         Ok(())
     }
 }
@@ -124,7 +124,7 @@ fn judge_line<K: StepKeeper>(
         judge.cut_back(held.nodes);
     }
     keeper.keep(held.nodes, judge.board())?;
-    if judge.is_settled() {
+    if judge.is_decided() {
         return Ok(());
     }
     for index in held.sequences..end {
@@ -149,7 +149,7 @@ fn judge_sequence<K: StepKeeper>(
     requires countable { judge.old.plays + length nodes.nodes < u64.MAX }
     ensures judged { (kind : GameKind) (before : List Node) → HasJudged (K.tells keeper.old) kind before judge.old.judgement
         → OnOk result (WentOn (K.tells keeper.new) kind before nodes.entry.nodes judge.old.plays judge.new) }
-    ensures settled { IfOk result (λ all. IsFalse all → IsSettled judge.new.judgement) }
+    ensures decided { IfOk result (λ all. IsFalse all → IsDecided judge.new.judgement) }
     ensures unsettled { IfOk result (λ all. IsTrue all → IsUnsettled judge.new.judgement) }
     ensures refused { (kind : GameKind) (before : List Node) → HasJudged (K.tells keeper.old) kind before judge.old.judgement
         → OnErr result ((judge.old.plays ≤ judge.new.plays) × (judge.new.plays ≤ judge.old.plays + plays_for kind before nodes.entry.nodes)) }

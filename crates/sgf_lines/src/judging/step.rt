@@ -27,7 +27,7 @@ pub(crate) enum Effect {
 
 /// A node's step that was taken, and the node's comment.
 #[derive(Clone, Copy)]
-pub(crate) struct TakenStep<'a> {
+pub(crate) struct LegalStep<'a> {
     pub(crate) effect: Effect,
     /// The first value of the node's first C.
     pub(crate) comment: Option<&'a [u8]>,
@@ -40,7 +40,7 @@ pub(crate) fn place_of(next: &NextNode<'_>) -> usize
     match next {
         NextNode::Led { place, .. } => *place,
         NextNode::Empty { place } => *place,
-        NextNode::Open { place, .. } => *place,
+        NextNode::Unread { place, .. } => *place,
     }
 }
 
@@ -55,7 +55,7 @@ pub(crate) fn take_step<'a, P: Past>(
     next: NextNode<'a>,
     nodes: &mut SequenceNodes<'_, 'a>,
     operations: &mut Vec<SetupOp>,
-) -> Result<TakenStep<'a>, TurnFault>
+) -> Result<LegalStep<'a>, TurnFault>
     ensures stepped { (node : Node) → ComesAs node nodes.old.properties next.entry
         → IsStepped (step referee.old.present node) referee.old referee.new result }
     ensures told { (node : Node) → ComesAs node nodes.old.properties next.entry
@@ -67,7 +67,7 @@ pub(crate) fn take_step<'a, P: Past>(
             take_contents(referee, Contents::of_lone(letter, value), &[])
         }
         NextNode::Empty { .. } => take_contents(referee, Contents::nothing(), &[]),
-        NextNode::Open { front, .. } => take_any_step(referee, front, nodes, operations),
+        NextNode::Unread { front, .. } => take_any_step(referee, front, nodes, operations),
     }
 }
 
@@ -79,7 +79,7 @@ fn take_any_step<'a, P: Past>(
     front: Option<(u8, &'a [u8])>,
     nodes: &mut SequenceNodes<'_, 'a>,
     operations: &mut Vec<SetupOp>,
-) -> Result<TakenStep<'a>, TurnFault>
+) -> Result<LegalStep<'a>, TurnFault>
     ensures stepped { (node : Node) → node.properties ≡ told_property front.entry ++ nodes.old.properties
         → IsStepped (step referee.old.present node) referee.old referee.new result }
     ensures told { (node : Node) → node.properties ≡ told_property front.entry ++ nodes.old.properties
@@ -99,7 +99,7 @@ fn take_contents<'a, P: Past>(
     referee: &mut Referee<P>,
     contents: Contents<'a>,
     operations: &[SetupOp],
-) -> Result<TakenStep<'a>, TurnFault>
+) -> Result<LegalStep<'a>, TurnFault>
     requires { (node : Node) × IsGathered referee.old.present.colouring.side node.properties operations.now contents }
     ensures stepped { (node : Node) → IsGathered referee.old.present.colouring.side node.properties operations.now contents.entry
         → IsStepped (step referee.old.present node) referee.old referee.new result }
@@ -107,7 +107,7 @@ fn take_contents<'a, P: Past>(
         → IfOk result (IsStepOf referee.old.present.colouring.side node) }
 {
     let effect = effect_of(referee, &contents, operations)?;
-    Ok(TakenStep {
+    Ok(LegalStep {
         effect,
         comment: contents.comment,
     })

@@ -34,7 +34,7 @@ fn are_four_points(text: &[u8], at: usize) -> bool
     if text.len() - at < NEAR || text[at + 3] != b']' {
         return false;
     }
-    // A byte is in place if it is at most so much above the least one. This wraps, so only `\` and `]` aren't plain.
+    // A byte is in place if it is at most so much above the least one. This wraps, so only `\` and `]` aren't ordinary.
     let least = u8x16::from_array([
         b'[', 94, 94, b']', b'[', 94, 94, b']', b'[', 94, 94, b']', b'[', 94, 94, b']',
     ]);

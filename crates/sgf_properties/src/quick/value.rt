@@ -1,7 +1,7 @@
 //! Short values without an escape near their end, in place of the searches of `value`.
 
 ghost use Rattle.std.specs.Prelude.{◌<◌, ◌≤◌, ◌+◌, length, IsTrue, IfSome, MatchOption};
-ghost use Rattle.sgf_properties.specs.Offsets.{IsValueEnd, IsTwoPlain};
+ghost use Rattle.sgf_properties.specs.Offsets.{IsValueEnd, IsTwoOrdinary};
 ghost use Rattle.sgf_properties.specs.inner.Searches.{HasNoBracket, IsNextBracket};
 
 use std::simd::prelude::*;
@@ -28,7 +28,7 @@ pub fn near_value_end(text: &[u8], at: usize) -> Option<usize>
     requires { at + NEAR ≤ length text.now }
     ensures { IfSome result (IsValueEnd text.now at) }
 {
-    if is_two_plain(text, at) {
+    if is_two_ordinary(text, at) {
         return Some(at + 2);
     }
     let bracket = near_bracket(text, at)?;
@@ -39,9 +39,9 @@ pub fn near_value_end(text: &[u8], at: usize) -> Option<usize>
 }
 
 /// Whether the raw value at the offset `at` is two bytes without an escape, as in a point. At least three bytes must be left from `at` on.
-pub fn is_two_plain(text: &[u8], at: usize) -> bool
+pub fn is_two_ordinary(text: &[u8], at: usize) -> bool
     requires { at + 2 < length text.now }
-    ensures { IsTrue result → IsTwoPlain text.now at }
+    ensures { IsTrue result → IsTwoOrdinary text.now at }
 {
     text[at + 2] == b']'
         && text[at] != b']'

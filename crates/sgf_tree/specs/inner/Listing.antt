@@ -1,7 +1,7 @@
 -- The sequences of a collection, as they are listed in file order.
 use Rattle.std.specs.Prelude.{ℕ, ◌+◌, List, [], ◌∷◌, ◌++◌, length, Option, Some, None}
 use Rattle.sgf_tree.specs.Tree.{Node, Games, no_games, game, game_count, node_count}
-use Rattle.sgf_tree.specs.inner.Machine.{OpenGame}
+use Rattle.sgf_tree.specs.inner.Machine.{UnclosedGame}
 
 -- A sequence: its nodes, the number of the first of them, and the number of the sequence that it goes on from, which ends with the parent
 -- of its first node; None if it begins a game of the collection. `ordinal` is the number, from 1, of its game among those that stand side by side.
@@ -26,17 +26,17 @@ listed index number outer ordinal (game first more below after) =
 abbrev pub sequences_of : Games → List Listed
 sequences_of games = listed 0 0 None 1 games
 
--- The sequences of closed and open games, how many nodes they have, the number of the innermost open game's own sequence, and the ordinal of
--- a game that begins next.
-pub record OpenList : Type 0 where
+-- The sequences of closed and unclosed games, how many nodes they have, the number of the innermost unclosed game's own sequence, and the
+-- ordinal of a game that begins next.
+pub record UnclosedList : Type 0 where
   pub sequences : List Listed
   pub nodes : ℕ
   pub innermost : Option ℕ
   pub next_ordinal : ℕ
 
--- one more game is open
-abbrev pub with_open : OpenList → OpenGame → OpenList
-with_open outer inmost =
+-- one more game is unclosed
+abbrev pub with_unclosed : UnclosedList → UnclosedGame → UnclosedList
+with_unclosed outer inmost =
     let index = length outer.sequences in
     let next = outer.nodes + 1 + length inmost.more in
     record {
@@ -48,6 +48,6 @@ with_open outer inmost =
       next_ordinal = 1 + game_count inmost.below;
     }
 
-abbrev pub open_list : Games → List OpenGame → OpenList
-open_list closed [] = record { sequences = sequences_of closed; nodes = node_count closed; innermost = None; next_ordinal = 1 + game_count closed }
-open_list closed (inmost ∷ outer) = with_open (open_list closed outer) inmost
+abbrev pub unclosed_list : Games → List UnclosedGame → UnclosedList
+unclosed_list closed [] = record { sequences = sequences_of closed; nodes = node_count closed; innermost = None; next_ordinal = 1 + game_count closed }
+unclosed_list closed (inmost ∷ outer) = with_unclosed (unclosed_list closed outer) inmost

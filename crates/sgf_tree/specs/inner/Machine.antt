@@ -7,15 +7,15 @@ use Rattle.sgf_properties.specs.Bytes.{open_parenthesis, close_parenthesis, semi
 use Rattle.sgf_tree.specs.Spelling.{is_white_space, is_upper, is_lower}
 
 -- a game whose `)` hasn't come yet: its nodes so far, and the games below them so far
-pub record OpenGame : Type 0 where
+pub record UnclosedGame : Type 0 where
   pub first : Node
   pub more : List Node
   pub below : Games
 
--- the whole games, and the open ones, innermost first
+-- the whole games, and the unclosed ones, innermost first
 pub record Stack : Type 0 where
   pub closed : Games
-  pub unclosed : List OpenGame
+  pub unclosed : List UnclosedGame
 
 -- a node whose end hasn't come yet: the games before it, whether it is
 -- the first after a `(`, its place, and its properties so far
@@ -48,16 +48,16 @@ abbrev pub with_property : Started → Property → Started
 with_property node property =
     record { stack = node.stack; opens = node.opens; place = node.place; properties = node.properties ++ property ∷ [] }
 
--- the node is added at the end of the innermost open game
-abbrev pub add_node : List OpenGame → Node → List OpenGame
+-- the node is added at the end of the innermost unclosed game
+abbrev pub add_node : List UnclosedGame → Node → List UnclosedGame
 add_node [] node = []
 add_node (inmost ∷ outer) node = record { first = inmost.first; more = inmost.more ++ node ∷ []; below = inmost.below } ∷ outer
 
 -- a game that begins with this node
-abbrev pub new_game : Node → OpenGame
+abbrev pub new_game : Node → UnclosedGame
 new_game node = record { first = node; more = []; below = no_games }
 
--- the node ends: it begins a game, or it is the next one of the innermost open game
+-- the node ends: it begins a game, or it is the next one of the innermost unclosed game
 abbrev pub ended : Started → Stack
 ended node =
     let whole_node : Node = record { place = node.place; properties = node.properties } in
@@ -66,12 +66,12 @@ ended node =
       unclosed = if node.opens then new_game whole_node ∷ node.stack.unclosed else add_node node.stack.unclosed whole_node;
     }
 
--- the open game as a whole one
-abbrev pub whole_game : OpenGame → Games
-whole_game open_game = game open_game.first open_game.more open_game.below no_games
+-- the unclosed game as a whole one
+abbrev pub whole_game : UnclosedGame → Games
+whole_game unclosed_game = game unclosed_game.first unclosed_game.more unclosed_game.below no_games
 
--- the innermost open game becomes the last game below the open game around it; if there is none, the last of the whole games
-abbrev pub close_in : Games → List OpenGame → Option MachineState
+-- the innermost unclosed game becomes the last game below the unclosed game around it; if there is none, the last of the whole games
+abbrev pub close_in : Games → List UnclosedGame → Option MachineState
 close_in closed [] = None
 close_in closed (inmost ∷ []) = Some (after_game (record { closed = joined closed (whole_game inmost); unclosed = [] }))
 close_in closed (inmost ∷ around ∷ outer) =
@@ -80,7 +80,7 @@ close_in closed (inmost ∷ around ∷ outer) =
       unclosed = record { first = around.first; more = around.more; below = joined around.below (whole_game inmost) } ∷ outer;
     }))
 
--- a `)` ends the innermost open game
+-- a `)` ends the innermost unclosed game
 abbrev pub close : Stack → Option MachineState
 close stack = close_in stack.closed stack.unclosed
 
@@ -144,8 +144,8 @@ unfoldable pub run : ℕ → MachineState → List ℕ → Option MachineState
 run at state [] = Some state
 run at state (byte ∷ rest) = option_and_then (λ next. run (at + 1) next rest) (next_state at state byte)
 
--- the whole games, if there is at least one and none is open
-abbrev pub whole_games : Games → List OpenGame → Option Games
+-- the whole games, if there is at least one and none is unclosed
+abbrev pub whole_games : Games → List UnclosedGame → Option Games
 whole_games no_games unclosed = None
 whole_games (game first more below after) [] = Some (game first more below after)
 whole_games (game first more below after) (inmost ∷ outer) = None

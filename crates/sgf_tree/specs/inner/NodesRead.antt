@@ -6,17 +6,17 @@ use Rattle.sgf_properties.specs.Offsets.{IsSpan}
 use Rattle.sgf_tree.specs.Tree.{Node, no_games}
 use Rattle.sgf_tree.specs.Written.{node_text}
 use Rattle.sgf_tree.specs.Spelling.{is_white_space}
-use Rattle.sgf_tree.specs.inner.Machine.{OpenGame, Stack, Started, opened, ended}
+use Rattle.sgf_tree.specs.inner.Machine.{UnclosedGame, Stack, Started, opened, ended}
 use Rattle.sgf_tree.specs.inner.Progress.{ComesTo, IsTrueFault}
 use Rattle.sgf_tree.specs.inner.PropertiesRead.{StandsAfterNode}
-use Rattle.sgf_tree.specs.inner.GamesRead.{open_count}
+use Rattle.sgf_tree.specs.inner.GamesRead.{unclosed_count}
 use Rattle.sgf_tree.specs.inner.OwnNodes.{Coming, coming_of, AreOwnNodes, IsCopied}
 use Rattle.sgf_tree.specs.declared.fault.TheConstants.{MAX_LENGTH}
 use Rattle.sgf_tree.specs.declared.reader.fault.PartFault.{PartFault}
 use Rattle.sgf_tree.specs.declared.reader.own_nodes.NodesRead.{NodesRead}
 
 -- nodes of a game were read up to `end`: the last one is `whole`, and `last` is the game so far
-pub record NodesSoFar (text : List ℕ) (end : ℕ) (stack : Stack) (last : OpenGame) : Type 0 where
+pub record NodesSoFar (text : List ℕ) (end : ℕ) (stack : Stack) (last : UnclosedGame) : Type 0 where
   pub whole : Started
   pub stands : StandsAfterNode text end whole
   pub stack_is : ended whole ≡ record { closed = stack.closed; unclosed = last ∷ stack.unclosed }
@@ -28,15 +28,15 @@ abbrev pub AreReadTo : List ℕ → ℕ → Stack → ℕ → List Node → Type
 AreReadTo text at stack end [] = IsSpan is_white_space text at end
 AreReadTo text at stack end (first ∷ more) = NodesSoFar text end stack (record { first = first; more = more; below = no_games })
 
--- nodes of the game whose `(` is just before `at` were read, perhaps none yet, and the keeper keeps them
+-- nodes of the game whose `(` is just before `at` were read, perhaps none yet, and the visitor keeps them
 pub record AreOwnRead (keeps : Stack → Coming → Type 0) (text : List ℕ) (at : ℕ) (stack : Stack) (read : NodesRead) : Type 0 where
   pub after : ComesTo text at (opened stack)
   pub nodes : List Node
   pub to : AreReadTo text at stack read.end nodes
   pub are : AreOwnNodes read.own nodes
-  pub copied : IsCopied (λ told. keeps stack (coming_of nodes told)) text read.own.first read.own.stretch (flat_map node_text nodes)
-  pub few : at + read.own.count ≤ read.own.stretch.end
-  pub ends : read.own.stretch.end ≤ read.end
+  pub copied : IsCopied (λ told. keeps stack (coming_of nodes told)) text read.own.first read.own.segment (flat_map node_text nodes)
+  pub few : at + read.own.count ≤ read.own.segment.end
+  pub ends : read.own.segment.end ≤ read.end
   pub within : read.end ≤ length text
   pub first : read.own.count ≡ 0 → read.own.first ≡ read.end
 
@@ -48,9 +48,9 @@ pub record BeginsNode (keeps : Stack → Coming → Type 0) (text : List ℕ) (b
   pub at : ℕ
   pub stack : Stack
   pub read : AreOwnRead keeps text at stack before
-  pub few : open_count stack.closed stack.unclosed < at
+  pub few : unclosed_count stack.closed stack.unclosed < at
 
--- one node more was read, or several, and the keeper keeps these too
+-- one node more was read, or several, and the visitor keeps these too
 pub record AreNodesRead (kept keeps : Stack → Coming → Type 0) (text : List ℕ) (before after : NodesRead) : Type 0 where
   pub rises : before.end < after.end
   pub more : (at : ℕ) (stack : Stack) → AreOwnRead kept text at stack before → AreOwnRead keeps text at stack after

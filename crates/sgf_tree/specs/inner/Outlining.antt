@@ -5,12 +5,12 @@ use Rattle.sgf_tree.specs.Tree.{Node, game_count, node_count}
 use Rattle.sgf_tree.specs.Spelling.{Spells}
 use Rattle.sgf_tree.specs.Written.{node_text}
 use Rattle.sgf_tree.specs.inner.Machine.{Stack, games_in}
-use Rattle.sgf_tree.specs.inner.GamesRead.{open_count, whole}
-use Rattle.sgf_tree.specs.inner.Listing.{Listed, open_list}
+use Rattle.sgf_tree.specs.inner.GamesRead.{unclosed_count, whole}
+use Rattle.sgf_tree.specs.inner.Listing.{Listed, unclosed_list}
 use Rattle.sgf_tree.specs.inner.OwnNodes.{Coming, nothing}
 use Rattle.sgf_tree.specs.declared.fault.TheConstants.{MAX_LENGTH}
 use Rattle.sgf_tree.specs.declared.sequences.TheConstants.{ROOT, WRITTEN, LAST}
-use Rattle.sgf_tree.specs.declared.sequences.KeptStretch.{KeptStretch}
+use Rattle.sgf_tree.specs.declared.sequences.KeptSegment.{KeptSegment}
 use Rattle.sgf_tree.specs.declared.sequences.Sequence.{Sequence}
 use Rattle.sgf_tree.specs.declared.sequences.Sequences.{Sequences}
 
@@ -30,36 +30,36 @@ is_written_by sequence = sequence.outer_and_flags / WRITTEN == 1
 abbrev pub nodes_of : Listed → List Node
 nodes_of sequence = sequence.first ∷ sequence.more
 
--- where a kept stretch begins, and whether it is the last one of its sequence
-abbrev pub start_by : KeptStretch → ℕ
-start_by kept = kept.start_and_mark % LAST
+-- where a kept segment begins, and whether it is the last one of its sequence
+abbrev pub start_by : KeptSegment → ℕ
+start_by kept = kept.start_and_flag % LAST
 
-abbrev pub is_last_by : KeptStretch → Bool
-is_last_by kept = kept.start_and_mark / LAST == 1
+abbrev pub is_last_by : KeptSegment → Bool
+is_last_by kept = kept.start_and_flag / LAST == 1
 
--- what the sgf form copies from the text, if it copies this stretch and then `rest`
-pub record IsCopiedFirst (text : List ℕ) (kept : KeptStretch) (written rest : List ℕ) : Type 0 where
+-- what the sgf form copies from the text, if it copies this segment and then `rest`
+pub record IsCopiedFirst (text : List ℕ) (kept : KeptSegment) (written rest : List ℕ) : Type 0 where
   pub rises : start_by kept ≤ kept.end
   pub within : kept.end ≤ length text
   pub are : written ≡ slice_range text (start_by kept) kept.end ++ rest
 
--- it copies these stretches, none of which is the last one of its sequence
-abbrev pub AreTold : List ℕ → List KeptStretch → List ℕ → Type 0
+-- it copies these segments, none of which is the last one of its sequence
+abbrev pub AreTold : List ℕ → List KeptSegment → List ℕ → Type 0
 AreTold text [] told = told ≡ []
 AreTold text (kept ∷ more) told = (rest : List ℕ) × IsCopiedFirst text kept told rest × (is_last_by kept ≡ false) × AreTold text more rest
 
--- it copies these stretches up to the last one of a sequence
-abbrev pub AreWhole : List ℕ → List KeptStretch → List ℕ → Type 0
+-- it copies these segments up to the last one of a sequence
+abbrev pub AreWhole : List ℕ → List KeptSegment → List ℕ → Type 0
 AreWhole text [] written = ⊥
 AreWhole text (kept ∷ more) written =
     (rest : List ℕ) × IsCopiedFirst text kept written rest × (is_last_by kept ≡ true → rest ≡ []) × (is_last_by kept ≡ false → AreWhole text more rest)
 
--- it copies the stretches from this index on for the nodes
-abbrev pub HasStretches : List ℕ → List KeptStretch → ℕ → List Node → Type 0
-HasStretches text stretches index nodes = AreWhole text (drop index stretches) (flat_map node_text nodes)
+-- it copies the segments from this index on for the nodes
+abbrev pub HasSegments : List ℕ → List KeptSegment → ℕ → List Node → Type 0
+HasSegments text segments index nodes = AreWhole text (drop index segments) (flat_map node_text nodes)
 
--- What the table keeps of a sequence is right. If it isn't written as it stands, `end` is the index of its first stretch.
-pub record IsKept (text : List ℕ) (stretches : List KeptStretch) (kept : Sequence) (sequence : Listed) : Type 0 where
+-- What the table keeps of a sequence is right. If it isn't written as it stands, `end` is the index of its first segment.
+pub record IsKept (text : List ℕ) (segments : List KeptSegment) (kept : Sequence) (sequence : Listed) : Type 0 where
   pub number_is : kept.number ≡ sequence.number
   pub outer_is : outer_by kept ≡ sequence.outer
   pub ordinal_is : sequence.outer ≡ None → game_by kept ≡ sequence.ordinal
@@ -68,23 +68,23 @@ pub record IsKept (text : List ℕ) (stretches : List KeptStretch) (kept : Seque
   pub rises : is_written_by kept ≡ true → kept.first ≤ kept.end
   pub within : is_written_by kept ≡ true → kept.end ≤ length text
   pub written : is_written_by kept ≡ true → slice_range text kept.first kept.end ≡ flat_map node_text (nodes_of sequence)
-  pub stretched : is_written_by kept ≡ false → HasStretches text stretches kept.end (nodes_of sequence)
+  pub segmented : is_written_by kept ≡ false → HasSegments text segments kept.end (nodes_of sequence)
 
 -- the table keeps these sequences
-pub record AreKept (text : List ℕ) (stretches : List KeptStretch) (table : List Sequence) (sequences : List Listed) : Type 0 where
+pub record AreKept (text : List ℕ) (segments : List KeptSegment) (table : List Sequence) (sequences : List Listed) : Type 0 where
   pub count : length table ≡ length sequences
   pub each : (index : ℕ) (kept : Sequence) (sequence : Listed) → slice_get table index ≡ Some kept → slice_get sequences index ≡ Some sequence
-      → IsKept text stretches kept sequence
+      → IsKept text segments kept sequence
 
 -- what a reader keeps is right for the games of a stack, and for what has come of a further game
 pub record HoldsSequences (text : List ℕ) (kept : Sequences) (stack : Stack) (coming : Coming) : Type 0 where
-  pub are : AreKept text kept.stretches.items kept.table.items (open_list stack.closed stack.unclosed).sequences
-  pub nodes_counted : kept.nodes ≡ open_count stack.closed stack.unclosed
+  pub are : AreKept text kept.segments.items kept.table.items (unclosed_list stack.closed stack.unclosed).sequences
+  pub nodes_counted : kept.nodes ≡ unclosed_count stack.closed stack.unclosed
   pub games_counted : kept.games ≡ game_count stack.closed
-  pub innermost_is : kept.innermost ≡ (open_list stack.closed stack.unclosed).innermost
-  pub few : length kept.stretches.items ≤ MAX_LENGTH
-  pub begun_within : kept.begun ≤ length kept.stretches.items
-  pub told : AreTold text (drop kept.begun kept.stretches.items) coming.told
+  pub innermost_is : kept.innermost ≡ (unclosed_list stack.closed stack.unclosed).innermost
+  pub few : length kept.segments.items ≤ MAX_LENGTH
+  pub begun_within : kept.begun ≤ length kept.segments.items
+  pub told : AreTold text (drop kept.begun kept.segments.items) coming.told
 
 -- the table is that of the collection that the text spells
 pub record IsOutlined (text : List ℕ) (kept : Sequences) : Type 0 where

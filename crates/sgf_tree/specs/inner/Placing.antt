@@ -2,7 +2,7 @@
 use Rattle.std.specs.Prelude.{◌≡◌, ℕ, ◌<◌, List, ◌++◌, length, map, All}
 use Rattle.sgf_tree.specs.FileOrder.{OrderedNode}
 use Rattle.sgf_tree.specs.inner.Machine.{Stack}
-use Rattle.sgf_tree.specs.inner.GamesRead.{open_nodes, open_lasts}
+use Rattle.sgf_tree.specs.inner.GamesRead.{unclosed_nodes, unclosed_lasts}
 use Rattle.sgf_tree.specs.inner.OwnNodes.{Coming}
 use Rattle.sgf_tree.specs.inner.Outlining.{HoldsSequences}
 use Rattle.sgf_tree.specs.declared.numbered.Numbered.{Numbered}
@@ -14,6 +14,6 @@ ordered_places nodes = map (λ (ordered : OrderedNode). ordered.node.place) node
 -- what a reader keeps is right for the games of a stack, and for what has come of a further game
 pub record HoldsNodes (text : List ℕ) (kept : Numbered) (stack : Stack) (coming : Coming) : Type 0 where
   pub sequences : HoldsSequences text kept.sequences stack coming
-  pub places_are : kept.places.items ≡ ordered_places (open_nodes stack.closed stack.unclosed) ++ coming.places
+  pub places_are : kept.places.items ≡ ordered_places (unclosed_nodes stack.closed stack.unclosed) ++ coming.places
   pub places_within : All (λ place. place < length text) kept.places.items
-  pub lasts_are : kept.last_nodes.items ≡ open_lasts stack.closed stack.unclosed
+  pub lasts_are : kept.last_nodes.items ≡ unclosed_lasts stack.closed stack.unclosed

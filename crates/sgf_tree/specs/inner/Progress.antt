@@ -8,7 +8,7 @@ use Rattle.sgf_tree.specs.declared.fault.ReadFault.{ReadFault}
 use Rattle.sgf_tree.specs.declared.fault.ReadFault.TheVariants.{NotSgf as TextNotSgf, Memory as TextMemory}
 use Rattle.sgf_tree.specs.declared.reader.fault.PartFault.{PartFault}
 use Rattle.sgf_tree.specs.declared.reader.fault.PartFault.TheVariants.{NotSgf, Memory}
-use Rattle.sgf_properties.specs.Offsets.{IsSpan, IsTwoPlain, IsPropertyEnd}
+use Rattle.sgf_properties.specs.Offsets.{IsSpan, IsTwoOrdinary, IsPropertyEnd}
 
 -- after the first `at` bytes the machine has this state
 abbrev pub ComesTo : List ℕ → ℕ → MachineState → Type 0
@@ -24,11 +24,11 @@ abbrev pub text_fault : PartFault → ReadFault
 text_fault (NotSgf at) = TextNotSgf at
 text_fault Memory = TextMemory
 
--- a move stands at `at`, as in `B[pd]`: a capital, and two plain bytes between brackets
+-- a move stands at `at`, as in `B[pd]`: a capital, and two ordinary bytes between brackets
 pub record IsMove (text : List ℕ) (at : ℕ) : Type 0 where
   pub capital : IsTrue (is_upper (slice_index text at))
   pub bracket : slice_index text (at + 1) ≡ open_bracket
-  pub value : IsTwoPlain text (at + 2)
+  pub value : IsTwoOrdinary text (at + 2)
 
 -- a node that begins like `;B[pd]` is at `at`
 pub record IsMoveNode (text : List ℕ) (at : ℕ) : Type 0 where

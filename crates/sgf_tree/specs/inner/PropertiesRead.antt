@@ -8,7 +8,7 @@ use Rattle.sgf_tree.specs.Spelling.{is_white_space, is_upper}
 use Rattle.sgf_tree.specs.inner.Machine.{Stack, Started, MachineState, in_node, in_name, in_value, after_value, after_node, ended, next_state, accepted}
 use Rattle.sgf_tree.specs.inner.Progress.{ComesTo, IsTrueFault}
 use Rattle.sgf_tree.specs.inner.OwnNodes.{Coming, Copies}
-use Rattle.sgf_properties.specs.Offsets.{IsSpan, IsBracket, IsValueEnd, ArePlain, ArePoints}
+use Rattle.sgf_properties.specs.Offsets.{IsSpan, IsBracket, IsValueEnd, AreOrdinary, ArePoints}
 use Rattle.sgf_properties.specs.KeptLengths.{AreKeptLengths}
 use Rattle.sgf_properties.specs.declared.value.LongValue.{LongValue}
 use Rattle.sgf_tree.specs.declared.fault.TheConstants.{MAX_LENGTH}
@@ -20,12 +20,13 @@ pub record AreValuesEnded (text : List ℕ) (end next : ℕ) : Type 0 where
   pub white_space : IsSpan is_white_space text end next
   pub other : slice_index text next ≢ open_bracket
 
--- a property of two capitals begins at `at`, as in `BL[921.325]`, and its first value has plain bytes; the `]` of this value is at `close`
+-- a property of two capitals begins at `at`, as in `BL[921.325]`, and its first value has ordinary bytes; the `]` of this value is at
+-- `close`
 pub record IsShortProperty (text : List ℕ) (at close : ℕ) : Type 0 where
   pub first : IsTrue (is_upper (slice_index text at))
   pub second : IsTrue (is_upper (slice_index text (at + 1)))
   pub bracket : slice_index text (at + 2) ≡ open_bracket
-  pub plain : ArePlain text (at + 3) close
+  pub ordinary : AreOrdinary text (at + 3) close
   pub within : close < length text
   pub end : slice_index text close ≡ close_bracket
 
@@ -47,13 +48,13 @@ pub record AreValuesRead (text : List ℕ) (at : ℕ) (long : List LongValue) (c
   pub stands : IsBracket text last
   pub value : IsValueRead text (last + 1) long close
 
--- A property begins where the part before it ends, which is not before the end of its stretch. The text isn't too long.
+-- A property begins where the part before it ends, which is not before the end of its segment. The text isn't too long.
 pub record BeginsProperty (text : List ℕ) (before : PartRead) : Type 0 where
   pub short : length text ≤ MAX_LENGTH
   pub within : before.end < length text
   pub capital : IsTrue (is_upper (slice_index text before.end))
-  pub rises : before.stretch.start ≤ before.stretch.end
-  pub after : before.stretch.end ≤ before.end
+  pub rises : before.segment.start ≤ before.segment.end
+  pub after : before.segment.end ≤ before.end
 
 -- this stands from one offset to another
 abbrev pub StandsIn : List ℕ → ℕ → ℕ → List ℕ → Type 0
@@ -68,9 +69,9 @@ pub record IsNameRead (Wrote : List ℕ → Type 0) (text : List ℕ) (start bra
 
 -- The identifier that begins at the end of `before` was read up to the `[` at the end of `read`. What the sgf form writes for it is copied.
 pub record IsNameCopied (kept keeps : Stack → Coming → Type 0) (text : List ℕ) (before read : PartRead) : Type 0 where
-  pub rises : read.stretch.start ≤ read.stretch.end
-  pub after : read.stretch.end ≤ read.end
-  pub name : IsNameRead (Copies kept keeps text before.stretch read.stretch) text before.end read.end
+  pub rises : read.segment.start ≤ read.segment.end
+  pub after : read.segment.end ≤ read.end
+  pub name : IsNameRead (Copies kept keeps text before.segment read.segment) text before.end read.end
 
 -- The property whose identifier begins at `start` was read. White space may follow it, and then comes a byte that begins no value. `Wrote` holds of
 -- what the sgf form writes for it.

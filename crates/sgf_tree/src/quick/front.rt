@@ -3,7 +3,7 @@
 ghost use Rattle.std.specs.Prelude.{IsTrue};
 ghost use Rattle.sgf_tree.specs.inner.Progress.{IsLoneFront};
 
-use sgf_properties::{begins_value, is_two_plain};
+use sgf_properties::{begins_value, is_two_ordinary};
 
 /// Whether the first property of the node at the front of the text is written like `B[pd]`, and has no other value. The first byte is the
 /// `;` of the node, and isn't looked at.
@@ -13,6 +13,6 @@ pub(crate) fn is_lone_front(text: &[u8]) -> bool
     text.len() > 6
         && text[1].is_ascii_uppercase()
         && text[2] == b'['
-        && is_two_plain(text, 3)
+        && is_two_ordinary(text, 3)
         && !begins_value(text, 6)
 }

@@ -22,7 +22,7 @@ pub(crate) fn moves_in_place(text: &[u8], at: usize) -> u64
     if text.len() - at < NEAR {
         return 0;
     }
-    // A byte is in place if it is at most so much above the least one. This wraps, so only `\` and `]` aren't plain.
+    // A byte is in place if it is at most so much above the least one. This wraps, so only `\` and `]` aren't ordinary.
     let least = u8x16::from_array([
         b';', b'A', b'[', 94, 94, b']', b';', b'A', b'[', 94, 94, b']', 33, 0, 0, 0,
     ]);

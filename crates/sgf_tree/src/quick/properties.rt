@@ -83,7 +83,7 @@ fn after_move(text: &[u8], at: usize) -> Option<ShortRead>
     Some(read)
 }
 
-/// The `]` of the first value of a property that begins at `at`, if its name is two capitals, this value has few plain bytes, and the
+/// The `]` of the first value of a property that begins at `at`, if its name is two capitals, this value has few ordinary bytes, and the
 /// text goes on.
 #[inline(always)]
 pub(crate) fn near_property_close(text: &[u8], at: usize) -> Option<usize>

@@ -6,8 +6,8 @@ ghost use Rattle.sgf_tree.specs.inner.GamesRead.{whole};
 ghost use Rattle.sgf_tree.specs.inner.Counting.{IsTallyOf};
 
 use crate::extent::Extent;
-use crate::layout::{OwnNodes, Stretch};
-use crate::reader::keeper::Keeper;
+use crate::layout::{OwnNodes, Segment};
+use crate::reader::visitor::Visitor;
 use sgf_properties::MemoryFault;
 
 /// What was counted so far.
@@ -18,7 +18,7 @@ pub(crate) struct Tally {
     nodes: usize,
     /// The leaves of the games that have ended, at every depth.
     leaves: usize,
-    /// Whether a game is open and no game is below the innermost open one.
+    /// Whether a game is unclosed and no game is below the innermost unclosed one.
     is_bare: bool,
 }
 
@@ -47,14 +47,14 @@ impl Tally {
     }
 }
 
-impl Keeper for Tally {
+impl Visitor for Tally {
     ghost keeps = { λ _ tally stack _. IsTallyOf stack tally };
 
     fn node(&mut self, _place: usize) -> Result<(), MemoryFault> {
         Ok(())
     }
 
-    fn stretch(&mut self, _stretch: Stretch) -> Result<(), MemoryFault> {
+    fn segment(&mut self, _segment: Segment) -> Result<(), MemoryFault> {
         Ok(())
     }
 

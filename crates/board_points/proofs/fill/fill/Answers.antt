@@ -1,7 +1,7 @@
 use Rattle.std.proofs.Common.{◌<◌, ◌^◌, subst, arith, rules}
 use Rattle.board_points.specs.declared.fill.Direction.TheVariants.{Up, Down}
 use Rattle.board_points.specs.inner.Fill.{IsFilledBut}
-use Rattle.board_points.proofs.GiveLemmas.{turned, fewer_marks, IsClosed-all}
+use Rattle.board_points.proofs.GiveLemmas.{turned, fewer_flags, IsClosed-all}
 use Rattle.board_points.proofs.fill.fill.Goals as goal
 
 pub give_all-ups-requires-clause-within : goal.give_all-ups-requires-clause-within
@@ -13,8 +13,8 @@ give_all-ups-requires-clause-within c =
       within = up.grows.within;
     }
 
-pub give_all-ups-requires-clause-marks : goal.give_all-ups-requires-clause-marks
-give_all-ups-requires-clause-marks c = (c.give_all-downs.ensures.filled c.args.rows.now c.passes.invariant).back_in
+pub give_all-ups-requires-clause-flags : goal.give_all-ups-requires-clause-flags
+give_all-ups-requires-clause-flags c = (c.give_all-downs.ensures.filled c.args.rows.now c.passes.invariant).back_in
 
 pub passes-preserved : goal.passes-preserved
 passes-preserved c =
@@ -25,7 +25,7 @@ passes-preserved c =
 pub passes-smaller : goal.passes-smaller
 passes-smaller c =
     let low : c.give_all-ups.result < 2 ^ 64 = search rules in
-    fewer_marks c.passes.rows c.give_all-downs.new.rows c.give_all-ups.new.rows c.passes.ups c.give_all-downs.result c.give_all-ups.result c.passes-test.true low
+    fewer_flags c.passes.rows c.give_all-downs.new.rows c.give_all-ups.new.rows c.passes.ups c.give_all-downs.result c.give_all-ups.result c.passes-test.true low
     c.give_all-downs.ensures.more c.give_all-ups.ensures.more
 
 pub returns-clause-closed : goal.returns-clause-closed

@@ -10,9 +10,9 @@ pub columns_apart-lacks-requires : goal.columns_apart-lacks-requires
 columns_apart-lacks-requires c = λ col is. c.requires.within.within (record { col = col; row = c.args.first }) is
 
 pub returns-then-next-rows-clause-filled : goal.returns-then-next-rows-clause-filled
-returns-then-next-rows-clause-filled c = λ start marks was.
+returns-then-next-rows-clause-filled c = λ start flags was.
     let l = c.rows in
-    IsFilledBut-last c.args.direction c.args.region.now start l.rows marks l.marks l.row l.given (l.invariant.filled start marks was)
+    IsFilledBut-last c.args.direction c.args.region.now start l.rows flags l.flags l.row l.given (l.invariant.filled start flags was)
     (λ next step col there given.
     let past = row_there c.args.region.now next col there in
     let at : c.next-next.result ≡ next = c.next-next.ensures.only next step in
@@ -22,9 +22,9 @@ pub columns_apart-here-requires : goal.columns_apart-here-requires
 columns_apart-here-requires c = λ col is. c.rows.invariant.within.within (record { col = col; row = c.next-next.result }) is
 
 pub returns-then-here-given-eq0-clause-filled : goal.returns-then-here-given-eq0-clause-filled
-returns-then-here-given-eq0-clause-filled c = λ start marks was.
+returns-then-here-given-eq0-clause-filled c = λ start flags was.
     let l = c.rows in
-    IsFilledBut-last c.args.direction c.args.region.now start l.rows marks l.marks l.row l.given (l.invariant.filled start marks was)
+    IsFilledBut-last c.args.direction c.args.region.now start l.rows flags l.flags l.row l.given (l.invariant.filled start flags was)
     (λ next step col there given.
     let at : c.next-next.result ≡ next = c.next-next.ensures.only next step in
     ap (λ k. has_bit (slice_index l.rows k) col) (sym at)
@@ -60,7 +60,7 @@ rows-preserved c =
     let long : length after ≡ length l.rows = length-set l.rows next word in
     let few = l.invariant.within.few in
     let is_next = c.next-next.ensures.next (omega (arith, below, few)) in
-    let marks = c.with_mark-marks in
+    let flags = c.with_flag-flags in
     record {
       within = record {
         same = long ∙ l.invariant.within.same;
@@ -71,11 +71,11 @@ rows-preserved c =
       given = taken-there region l.rows next l.given here.result taken.result.0 below l.invariant.within.within here.ensures taken.ensures.within;
       lacks = left-there region l.rows next l.given here.result taken.result.0 below l.invariant.within.within here.ensures taken.ensures.within taken.result.1 taken.ensures.left;
       filled = λ start ahead was.
-          IsFilledBut-give c.args.direction region start l.rows ahead l.marks l.row next l.given here.result taken.result.0 (l.invariant.filled start ahead was) is_next below
+          IsFilledBut-give c.args.direction region start l.rows ahead l.flags l.row next l.given here.result taken.result.0 (l.invariant.filled start ahead was) is_next below
           l.invariant.given here.ensures taken.ensures.within taken.ensures.kept taken.ensures.closed taken.ensures.least
-          l.lacks marks.result l.invariant.lacks marks.ensures.there marks.ensures.elsewhere;
+          l.lacks flags.result l.invariant.lacks flags.ensures.there flags.ensures.elsewhere;
       more =
-          HaveMore-twice c.args.rows.now l.rows after c.args.back l.marks marks.result l.invariant.more
+          HaveMore-twice c.args.rows.now l.rows after c.args.back l.flags flags.result l.invariant.more
           (inr (lacking-taken region l.rows next l.given here.result taken.result.0 below l.invariant.within.within here.ensures taken.ensures.within
           c.if-here-given-eq0.false low room taken.ensures.kept));
     }

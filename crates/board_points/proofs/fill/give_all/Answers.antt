@@ -6,14 +6,14 @@ use Rattle.board_points.proofs.ColumnLemmas.{without_smaller}
 use Rattle.board_points.proofs.GiveLemmas.{IsFilledBut-first, HaveMore-twice}
 use Rattle.board_points.proofs.fill.give_all.Goals as goal
 
-pub marks-smaller : goal.marks-smaller
-marks-smaller c =
+pub flags-smaller : goal.flags-smaller
+flags-smaller c =
     let left = c.without_column-waiting in
-    without_smaller c.marks.waiting left.result c.first-row.result c.first-row.ensures.there left.ensures.there left.ensures.elsewhere
+    without_smaller c.flags.waiting left.result c.first-row.result c.first-row.ensures.there left.ensures.there left.ensures.elsewhere
 
-pub marks-preserved : goal.marks-preserved
-marks-preserved c =
-    let m = c.marks in
+pub flags-preserved : goal.flags-preserved
+flags-preserved c =
+    let m = c.flags in
     let left = c.without_column-waiting in
     let row = c.first-row.result in
     record {
@@ -31,4 +31,4 @@ marks-preserved c =
 
 pub returns-clause-filled : goal.returns-clause-filled
 returns-clause-filled c = λ first was.
-    subst (λ w. IsFilledBut c.args.region.now first c.marks.rows c.args.direction w c.marks.back 0 0) c.marks-test.false (c.marks.invariant.filled first was)
+    subst (λ w. IsFilledBut c.args.region.now first c.flags.rows c.args.direction w c.flags.back 0 0) c.flags-test.false (c.flags.invariant.filled first was)

@@ -20,7 +20,7 @@ rows-preserved c =
     record {
       swept = IsSwept-more c.args.region.now c.args.rows.now l.rows l.ups l.row l.above word l.invariant.swept below l.invariant.above
           w.ensures.within w.ensures.kept w.ensures.closed w.ensures.least
-          l.above_lacks c.with_mark-ups.result l.invariant.lacks c.with_mark-ups.ensures.there c.with_mark-ups.ensures.elsewhere;
+          l.above_lacks c.with_flag-ups.result l.invariant.lacks c.with_flag-ups.ensures.there c.with_flag-ups.ensures.elsewhere;
       above = sym (ap (row_above (set l.rows l.row word)) step ∙ next);
       lacks = λ r same col. after_sweep c.args.region.now (set l.rows l.row word) r l.row word w.result.1 (omega (arith, same)) next w.ensures.left col;
     }

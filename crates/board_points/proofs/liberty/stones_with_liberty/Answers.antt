@@ -1,17 +1,17 @@
 use Rattle.std.proofs.Common.{◌∙◌, refl, arith}
 use Rattle.board_points.proofs.RowLemmas.{written_more}
-use Rattle.board_points.proofs.LinkedLemmas.{AreAlive, AreAlive-row, HaveLiberty-all}
+use Rattle.board_points.proofs.LinkedLemmas.{HaveLibertyInRow, HaveLibertyInRow-row, HaveLiberty-all}
 use Rattle.board_points.proofs.liberty.stones_with_liberty.Goals as goal
 
 pub loop-row-preserved : goal.loop-row-preserved
 loop-row-preserved c =
     let l = c.loop-row in
     let near = c.columns_with_liberty in
-    written_more (AreAlive c.args.own.now c.args.others.now) l.alive l.row _ (omega (arith, c.loop-row-test.true, l.auto.alive, c.requires.alive)) l.invariant
-    (AreAlive-row c.args.own.now c.args.others.now l.row near.result near.ensures.from (λ col low free. near.ensures.to (record { col = col; row = l.row }) refl low free))
+    written_more (HaveLibertyInRow c.args.own.now c.args.others.now) l.found l.row _ (omega (arith, c.loop-row-test.true, l.auto.found, c.requires.found)) l.invariant
+    (HaveLibertyInRow-row c.args.own.now c.args.others.now l.row near.result near.ensures.from (λ col low free. near.ensures.to (record { col = col; row = l.row }) refl low free))
 
 pub returns : goal.returns
 returns c =
     let l = c.loop-row in
-    HaveLiberty-all c.args.own.now c.args.others.now l.alive (l.auto.alive ∙ c.requires.alive)
+    HaveLiberty-all c.args.own.now c.args.others.now l.found (l.auto.found ∙ c.requires.found)
     (λ r below. l.invariant r (omega (arith, below, c.loop-row-test.false)))

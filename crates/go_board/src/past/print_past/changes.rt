@@ -49,14 +49,14 @@ pub(crate) struct Older {
 #[derive(Clone, Copy, PartialEq, Eq)]
 pub(crate) enum Known {
     Nothing,
-    /// Every stone of it has a liberty.
+    /// Every stone of it is alive.
     Settled,
     /// The same; and neither it nor an older colouring of its stretch has a stone on the point of its step, which put one there.
     Fresh,
 }
 
 impl Known {
-    /// What is to be kept as known. `settled` says whether every stone has a liberty.
+    /// What is to be kept as known. `settled` says whether every stone is alive.
     pub(crate) fn new(settled: bool, fresh: bool) -> Known
         ensures settled { IsTrue (is_settled result) → IsTrue settled }
         ensures fresh { IsTrue (is_fresh result) → IsTrue fresh }
@@ -70,7 +70,7 @@ impl Known {
         }
     }
 
-    /// Whether every stone is known to have a liberty.
+    /// Whether every stone is known to be alive.
     pub(crate) fn is_settled(self) -> bool
         ensures { result ≡ is_settled self }
     {
@@ -174,18 +174,18 @@ pub(crate) fn keep_rows(old: &Board, new: &Board, all: bool, changes: &mut Vec<C
 pub(crate) fn keep_played(
     board: &Board,
     point: Point,
-    taken: &[u64],
+    cleared: &[u64],
     all: bool,
     changes: &mut Vec<Change>,
 )
-    requires stone { (colour : Colour) × IsMove board.now colour point taken.now }
+    requires stone { (colour : Colour) × IsMove board.now colour point cleared.now }
     requires room { length changes.old.items + board.now.side ≤ vec_capacity changes.old }
-    ensures { (colour : Colour) → IsMove board.now colour point taken.now
+    ensures { (colour : Colour) → IsMove board.now colour point cleared.now
         → KeepRows board.now (play board.now colour point) all board.now.side changes.old.items changes.new.items }
 {
     board.has_all_cells();
-    for row in 0..rows_to_keep(board.size().side(), point, taken, all) {
-        let apart = all | may_change(row, point, taken);
+    for row in 0..rows_to_keep(board.size().side(), point, cleared, all) {
+        let apart = all | may_change(row, point, cleared);
         if apart {
             keep_row(board, row, changes);
         }
@@ -193,23 +193,23 @@ pub(crate) fn keep_played(
 }
 
 /// The number of rows among which are all that a stone may change; all rows if `all` is true.
-fn rows_to_keep(side: u8, point: Point, taken: &[u64], all: bool) -> u8
+fn rows_to_keep(side: u8, point: Point, cleared: &[u64], all: bool) -> u8
     requires row { point.row < side }
-    requires few { length taken.now ≤ side }
+    requires few { length cleared.now ≤ side }
     ensures few { result ≤ side }
-    ensures rest { (row : ℕ) → result ≤ row → row < side → IsFalse all × (row ≢ point.row) × (slice_index taken.now row ≡ 0) }
+    ensures rest { (row : ℕ) → result ≤ row → row < side → IsFalse all × (row ≢ point.row) × (slice_index cleared.now row ≡ 0) }
 {
     if all {
         return side;
     }
-    (taken.len() as u8).max(point.row + 1)
+    (cleared.len() as u8).max(point.row + 1)
 }
 
-/// Whether a stone may change a row; `taken` is what the stone takes off.
-fn may_change(row: u8, point: Point, taken: &[u64]) -> bool
-    ensures { IsFalse result → (row ≢ point.row) × (slice_index taken.now row ≡ 0) }
+/// Whether a stone may change a row; `cleared` is what the stone clears.
+fn may_change(row: u8, point: Point, cleared: &[u64]) -> bool
+    ensures { IsFalse result → (row ≢ point.row) × (slice_index cleared.now row ≡ 0) }
 {
-    row == point.row || columns_in(taken, row) != 0
+    row == point.row || columns_in(cleared, row) != 0
 }
 
 /// Whether the step after `count` others keeps all rows of the colouring before it.

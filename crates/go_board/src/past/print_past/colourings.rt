@@ -83,18 +83,18 @@ impl Colourings {
         self.older.len() + 1
     }
 
-    /// Whether the newest steps show that a stone brings no colouring of the present stretch back; `taken` is what the stone takes off. False
-    /// says nothing.
+    /// Whether the newest steps show that a stone brings no colouring of the present stretch back; `cleared` is what the stone clears.
+    /// False says nothing.
     ///
     /// Behind steps that only put stones, no colouring has a stone where the newest has none, so none has the stone that is played. Behind a
     /// fresh stone that stays, no colouring has that stone. At most `LOOK_BACK` steps are gone over.
-    pub(crate) fn newest_steps_show_new(&self, point: Point, taken: &[u64]) -> bool
-        requires stone { (colour : Colour) × IsMove (newest_grid self.now) colour point taken.now }
-        ensures { (colour : Colour) → IsMove (newest_grid self.now) colour point taken.now → IsTrue result
+    pub(crate) fn newest_steps_show_new(&self, point: Point, cleared: &[u64]) -> bool
+        requires stone { (colour : Colour) × IsMove (newest_grid self.now) colour point cleared.now }
+        ensures { (colour : Colour) → IsMove (newest_grid self.now) colour point cleared.now → IsTrue result
             → ¬ Contains (present_stretch self.now) (play (newest_grid self.now) colour point) }
     {
         self.newest.has_all_cells();
-        if has_point(taken, point) {
+        if has_point(cleared, point) {
             return false;
         }
         let mut number = self.older.len();
@@ -104,7 +104,7 @@ impl Colourings {
             }
             number -= 1;
             let step = self.older[number];
-            if step.known.is_fresh() && !has_point(taken, step.point) {
+            if step.known.is_fresh() && !has_point(cleared, step.point) {
                 return true;
             }
             if !step.alone {
@@ -267,9 +267,9 @@ impl Colourings {
         !is_full(self.older.len())
     }
 
-    /// What a stone on an empty point takes off, by capture or else by suicide (`Board::find_taken`); None if that is nothing. The rows
-    /// are written to `words`, which must be 0. Those below the last stone that is taken off are left out.
-    pub(crate) fn find_taken<'a>(
+    /// What a stone on an empty point clears, by capture or else by suicide (`Board::find_cleared`); None if that is nothing. The rows
+    /// are written to `words`, which must be 0. Those below the last stone that is cleared are left out.
+    pub(crate) fn find_cleared<'a>(
         &mut self,
         colour: Colour,
         point: Point,
@@ -278,18 +278,18 @@ impl Colourings {
         requires stone { IsEmptyOnSettled (newest_grid self.old) point }
         requires none { words.old ≡ replicate MAX_ROWS 0 }
         ensures stone { MatchOption result (IsMove (newest_grid self.old) colour point [])
-            (λ taken. IsMove (newest_grid self.old) colour point taken.now) }
+            (λ cleared. IsMove (newest_grid self.old) colour point cleared.now) }
         ensures unchanged { self.new ≡ self.old }
     {
-        let taken = &mut words[..usize::from(self.newest.size().side())];
-        if self.newest.find_taken(colour, point, taken) {
-            Some(&taken[..rows_in_use(taken)])
+        let cleared = &mut words[..usize::from(self.newest.size().side())];
+        if self.newest.find_cleared(colour, point, cleared) {
+            Some(&cleared[..rows_in_use(cleared)])
         } else {
             None
         }
     }
 
-    /// Adds the colouring that a stone makes; `taken` is what the stone takes off. `known` is what is known of the newest colouring, and
+    /// Adds the colouring that a stone makes; `cleared` is what the stone clears. `known` is what is known of the newest colouring, and
     /// whether no colouring of the present stretch has a stone on that point. The colouring continues the present stretch. After a refusal
     /// nothing is changed.
     #[inline(always)]
@@ -297,10 +297,10 @@ impl Colourings {
         &mut self,
         colour: Colour,
         point: Point,
-        taken: &[u64],
+        cleared: &[u64],
         known: Known,
     ) -> Result<(), MemoryFault>
-        requires stone { IsMove (newest_grid self.old) colour point taken.now }
+        requires stone { IsMove (newest_grid self.old) colour point cleared.now }
         requires settled { IsTrue (is_settled known) → has_unreaching (newest_grid self.old) ≡ false }
         requires fresh { IsTrue (is_fresh known) → IsFreshStone (with_next self.old (play (newest_grid self.old) colour point) false) point }
         requires few { length (all_of self.old) ≤ MOST }
@@ -309,7 +309,7 @@ impl Colourings {
     {
         self.newest.has_all_cells();
         let all = is_full(self.older.len());
-        let alone = taken.is_empty() && !all;
+        let alone = cleared.is_empty() && !all;
         make_room(&mut self.older, &mut self.changes, !alone)?;
         let kept = Older {
             start: self.changes.len() as u32,
@@ -319,9 +319,9 @@ impl Colourings {
             known,
         };
         if !alone {
-            keep_played(&self.newest, point, taken, all, &mut self.changes);
+            keep_played(&self.newest, point, cleared, all, &mut self.changes);
         }
-        self.newest.put(colour, point, taken);
+        self.newest.place_and_clear(colour, point, cleared);
         self.older.push_reserved(kept);
         Ok(())
     }
@@ -344,7 +344,7 @@ impl Colourings {
     #[inline(always)]
     pub(crate) fn pop_point(&mut self) -> bool
         requires { 0 < length self.old.older }
-        ensures taken { IsTrue result → self.old.older ≡ self.new.newest ∷ self.new.older }
+        ensures cleared { IsTrue result → self.old.older ≡ self.new.newest ∷ self.new.older }
         ensures unchanged { IsFalse result → self.new ≡ self.old }
     {
         let kept = *self.older.last().unwrap();

@@ -2,7 +2,7 @@
 //!
 //! A print is a sum, so whoever writes a record can make many colourings with one print that part from one another at as many places of
 //! the board. Nobody can do that with this hash. It takes far longer to work out than a print. So it stands behind the print in a key,
-//! and keys have it only once a walk by a key without it got long (`table`).
+//! and keys have it only once a descent by a key without it got long (`table`).
 
 ghost use Rattle.std.specs.Prelude.{◌≡◌, ◌≤◌, ◌++◌, ℕ, List};
 ghost use Rattle.std.specs.Int.{w64, from_be_bytes};

@@ -46,12 +46,12 @@ impl<'a> ColouringKey<'a> {
         }
     }
 
-    /// The bit at a place.
+    /// The bit at a position.
     #[inline(never)]
-    fn later_bit(&self, place: u32) -> bool
-        ensures { result ≡ bits_of self.now place }
+    fn later_bit(&self, position: u32) -> bool
+        ensures { result ≡ bits_of self.now position }
     {
-        has_column(self.word(place / WORD), (place % WORD) as usize)
+        has_column(self.word(position / WORD), (position % WORD) as usize)
     }
 }
 
@@ -59,12 +59,12 @@ impl<'a> Key for ColouringKey<'a> {
     ghost bits = { bits_of };
 
     #[inline(always)]
-    fn bit(&self, place: u32) -> bool {
+    fn bit(&self, position: u32) -> bool {
         // nearly all nodes of a trie stand at bits of the print
-        if place < WORD {
-            return has_column(self.print, place as usize);
+        if position < WORD {
+            return has_column(self.print, position as usize);
         }
-        self.later_bit(place)
+        self.later_bit(position)
     }
 
     fn word(&self, index: u32) -> u64 {

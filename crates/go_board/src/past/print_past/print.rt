@@ -72,31 +72,31 @@ pub(crate) fn print_without(print: u64, board: &Board, point: Point) -> u64
     })
 }
 
-/// The print after a stone is put on an empty point, from the print before; `taken` is what the stone takes off. Only stones that change
+/// The print after a stone is put on an empty point, from the print before; `cleared` is what the stone clears. Only stones that change
 /// are looked at.
 #[inline(always)]
-pub(crate) fn print_after_taking(
+pub(crate) fn print_after_clearing(
     print: u64,
     board: &Board,
     colour: Colour,
     point: Point,
-    taken: &[u64],
+    cleared: &[u64],
 ) -> u64
-    requires stone { IsMove board.now colour point taken.now }
+    requires stone { IsMove board.now colour point cleared.now }
     requires print { print ≡ print_of board.now }
     ensures { result ≡ print_of (play board.now colour point) }
 {
     board.has_all_cells();
-    if taken.is_empty() {
+    if cleared.is_empty() {
         return print_after_stone(print, board, colour, point);
     }
-    let is_taken = has_point(taken, point);
-    let put = if is_taken {
+    let is_cleared = has_point(cleared, point);
+    let put = if is_cleared {
         print
     } else {
         print_after_stone(print, board, colour, point)
     };
-    put.wrapping_sub(print_within(board, taken))
+    put.wrapping_sub(print_within(board, cleared))
 }
 
 /// What those stones of a board that stand within a set of points add to its print.

@@ -1,19 +1,19 @@
 //! The table by which colourings are looked up.
 //!
-//! A look-up walks down a trie of keys (see `key`, and the crate `key_trie`) by the bits of the colouring that is looked up. It ends at one
-//! past colouring, and compares with that one alone: first by the print (`gap`). Only if a past colouring has the print, another walk goes on
-//! by the start of the stretch and the rows, and the two keys are compared to their ends (`gap_by_board`). So a look-up costs at most four
-//! walks, and one past colouring worked out, whatever was played before. It also tells where the new colouring comes in.
-//! To put a colouring into the trie that wasn't looked up costs at most two colourings worked out, its own and that at the end of its walk,
-//! and this only if they have the same print and the same stretch. To take one out is one step.
+//! A look-up descends a trie of keys (see `key`, and the crate `key_trie`) by the bits of the colouring that is looked up. It ends at one
+//! past colouring, and compares with that one alone: first by the print (`gap`). Only if a past colouring has the print, another descent
+//! goes on by the start of the stretch and the rows, and the two keys are compared to their ends (`gap_by_board`). So a look-up costs at
+//! most four descents, and one past colouring worked out, whatever was played before. It also tells where the new colouring comes in.
+//! To put a colouring into the trie that wasn't looked up costs at most two colourings worked out, its own and that at the end of its
+//! descent, and this only if they have the same print and the same stretch. To take one out is one step.
 //!
-//! A walk passes a node at each place of the key where past colourings part from the one that is looked up. It passes at most 64 in the
-//! print, and 26 in the start of the stretch: that is below 2^26, since no input has more bytes. On the board it passes hardly any, unless
-//! someone makes very many colourings of one print and one stretch, each of which parts from the others at another point. Once a walk
-//! passes more than `MOST_PASSED` nodes, keys have hashes, for the rest of the game: all colourings are put into the trie anew, and those of
-//! one print and one stretch part in the hash, which nobody can choose. To have them part at one bit more, one has to try twice as many
-//! boards. So a walk passes some 50 nodes there at most, after 2^50 boards tried, and goes on into the rows only if two hashes are equal.
-//! No proof rests on that. So no walk gets longer with more colourings, or with more of them that have one print.
+//! A descent passes a node at each position of the key where past colourings part from the one that is looked up. It passes at most 64 in
+//! the print, and 26 in the start of the stretch: that is below 2^26, since no input has more bytes. On the board it passes hardly any,
+//! unless someone makes very many colourings of one print and one stretch, each of which parts from the others at another point. Once a
+//! descent passes more than `MOST_PASSED` nodes, keys have hashes, for the rest of the game: all colourings are put into the trie anew, and
+//! those of one print and one stretch part in the hash, which nobody can choose. To have them part at one bit more, one has to try twice as
+//! many boards. So a descent passes some 50 nodes there at most, after 2^50 boards tried, and goes on into the rows only if two hashes are
+//! equal. No proof rests on that. So no descent gets longer with more colourings, or with more of them that have one print.
 //!
 //! With hashes, a look-up that goes on by the rows works out two hashes more at most: that of its own colouring, and that of the past one, if
 //! it isn't kept (`hashes`). For this hash the past colouring is worked out once more. To put a colouring in costs as much for each of the two.
@@ -33,7 +33,7 @@ ghost use Rattle.go_board.specs.inner.Key.{bits_of, hash_in_key, keys_of};
 ghost use Rattle.go_board.specs.inner.Print.{print_of};
 ghost use Rattle.go_board.specs.inner.Table.{GrowsTable, HasRoomForNext, HasUnlinked, IsAsleepTable, IsAwakeTable, IsGap, IsFirstApart, IsPrintOfNext, IsTable, LinksNext, SameButHashes};
 ghost use Rattle.key_trie.specs.Key.{Agree};
-ghost use Rattle.key_trie.specs.Trie.{item_count, nodes_of, room_of};
+ghost use Rattle.key_trie.specs.Trie.{item_count, nodes_of, capacity_of};
 ghost use Rattle.std.specs.Vec.{vec_capacity};
 
 use crate::board::Board;
@@ -54,8 +54,8 @@ const FIRST_ROOM: usize = 256;
 /// that one out takes one step. Without this look and the filter, short fights take 5 to 11 % more instructions.
 const NEAR: usize = 2;
 
-/// The most nodes that a walk passes before keys get hashes: 64 in the print, 26 in the start of the stretch, and some on the board. No game
-/// that wasn't made for it comes near.
+/// The most nodes that a descent passes before keys get hashes: 64 in the print, 26 in the start of the stretch, and some on the board. No
+/// game that wasn't made for it comes near.
 const MOST_PASSED: u32 = 128;
 
 /// The prints of colourings, oldest first, and a trie of their keys. Most colourings are never looked up, and no look-up comes before
@@ -81,8 +81,8 @@ pub(crate) struct Table {
 #[derive(Clone, Copy)]
 pub(crate) struct Gap {
     slot: Slot,
-    /// The place of the bit where it parts from the others.
-    place: u32,
+    /// The position of the bit where it parts from the others.
+    position: u32,
     /// That bit.
     bit: bool,
     /// The colouring's hash; 0 if it wasn't worked out.
@@ -170,14 +170,14 @@ impl Table {
     /// Makes room in the trie and for prints, for one more colouring than these.
     #[inline(never)]
     fn grow(&mut self, count: usize) -> Result<(), MemoryFault>
-        requires most { room_of self.old.trie < 2 ^ 32 }
+        requires most { capacity_of self.old.trie < 2 ^ 32 }
         requires prints { length self.old.prints.items ≤ count }
-        requires room { count ≤ room_of self.old.trie }
+        requires room { count ≤ capacity_of self.old.trie }
         ensures grows { GrowsTable self.old self.new }
-        ensures trie { OnOk result (count < room_of self.new.trie) }
+        ensures trie { OnOk result (count < capacity_of self.new.trie) }
         ensures prints { OnOk result (count < vec_capacity self.new.prints) }
     {
-        if count >= self.trie.room() {
+        if count >= self.trie.capacity() {
             self.trie.make_room()?;
         }
         if count >= self.prints.capacity() {
@@ -202,7 +202,7 @@ impl Table {
         let Some(gap) = gap else {
             return;
         };
-        self.trie.insert(gap.slot, gap.place, gap.bit);
+        self.trie.insert(gap.slot, gap.position, gap.bit);
         self.hashes.keep(self.prints.len() - 1, gap.hash);
     }
 
@@ -269,15 +269,15 @@ impl Table {
         self.link(colourings);
         let key = ColouringKey::new(0, print, 0, colourings.newest());
         let from = self.trie.descend(&key, WORD);
-        let apart = print ^ self.prints[self.trie.kid(from) as usize];
+        let apart = print ^ self.prints[self.trie.child(from) as usize];
         if apart == 0 {
             return None;
         }
-        let place = apart.trailing_zeros();
+        let position = apart.trailing_zeros();
         Some(Gap {
-            slot: self.trie.opening(&key, from, place),
-            place,
-            bit: key.bit(place),
+            slot: self.trie.opening(&key, from, position),
+            position,
+            bit: key.bit(position),
             hash: 0,
         })
     }
@@ -323,20 +323,20 @@ impl Table {
         let hash = self.hash_in_key(board);
         let key = ColouringKey::new(colourings.stretch_start(), print, hash, board);
         let from = self.trie.descend(&key, WIDTH);
-        let near = self.trie.kid(from) as usize;
+        let near = self.trie.child(from) as usize;
         match self.first_apart(colourings, &key, near) {
-            Some(place) => Some(Gap {
-                slot: self.trie.opening(&key, from, place),
-                place,
-                bit: key.bit(place),
+            Some(position) => Some(Gap {
+                slot: self.trie.opening(&key, from, position),
+                position,
+                bit: key.bit(position),
                 hash,
             }),
             None => None,
         }
     }
 
-    /// The first place where a key differs from that of the colouring with this number. The colouring is worked out only if the keys don't differ
-    /// before.
+    /// The first position where a key differs from that of the colouring with this number. The colouring is worked out only if the keys
+    /// don't differ before.
     fn first_apart(
         &mut self,
         colourings: &Colourings,
@@ -353,9 +353,9 @@ impl Table {
     {
         let hash = self.take_hash(colourings, number);
         let head = self.key_of(colourings, number, hash, colourings.newest());
-        let place = first_difference(key, &head, HEAD / WORD);
-        if place.is_some() {
-            return place;
+        let position = first_difference(key, &head, HEAD / WORD);
+        if position.is_some() {
+            return position;
         }
         let past = colourings.board_at(number);
         past.has_all_cells();
@@ -382,7 +382,8 @@ impl Table {
         hash
     }
 
-    /// Lets keys have hashes if a walk by the key of a board passes more nodes than it should. All colourings are put into the trie anew then.
+    /// Lets keys have hashes if a descent by the key of a board passes more nodes than it should. All colourings are put into the trie anew
+    /// then.
     fn hash_if_deep(&mut self, colourings: &Colourings, board: &Board, print: u64)
         requires table { IsAwakeTable (all_of colourings.now) self.old }
         requires all { item_count self.old.trie ≡ length self.old.prints.items }
@@ -396,7 +397,7 @@ impl Table {
         }
     }
 
-    /// Whether keys have no hashes yet, and a walk by this key passes more nodes than it should.
+    /// Whether keys have no hashes yet, and a descent by this key passes more nodes than it should.
     fn is_deep(&self, key: &ColouringKey<'_>) -> bool
         requires trie { (held : List Held) × IsAwakeTable held self.now }
         requires some { 0 < item_count self.now.trie }
@@ -490,15 +491,15 @@ impl Table {
     {
         let number = self.trie.len();
         if number == 0 {
-            self.trie.plant();
+            self.trie.insert_first();
             return;
         }
         let key = self.key_of(colourings, number, 0, colourings.newest());
         let from = self.trie.descend(&key, FRONT);
-        let near = self.trie.kid(from) as usize;
+        let near = self.trie.child(from) as usize;
         let other = self.key_of(colourings, near, 0, colourings.newest());
         match first_difference(&key, &other, FRONT / WORD) {
-            Some(place) => self.trie.part(&key, from, place),
+            Some(position) => self.trie.insert_parted(&key, from, position),
             None => self.link_by_board(colourings),
         }
     }
@@ -518,10 +519,10 @@ impl Table {
             return;
         }
         let from = self.trie.descend(&key, WIDTH);
-        let near = self.trie.kid(from) as usize;
+        let near = self.trie.child(from) as usize;
         match self.first_apart(colourings, &key, near) {
-            Some(place) => self.trie.part(&key, from, place),
-            None => self.trie.repeat(),
+            Some(position) => self.trie.insert_parted(&key, from, position),
+            None => self.trie.insert_equal(),
         }
     }
 }
@@ -529,8 +530,8 @@ impl Table {
 /// How many colourings have room in both: the least of the two rooms.
 fn room_of_both(prints: &Vec<u64>, trie: &Trie) -> usize
     ensures prints { result ≤ vec_capacity prints.now }
-    ensures trie { result ≤ room_of trie.now }
-    ensures least { (count : ℕ) → count ≤ vec_capacity prints.now → count ≤ room_of trie.now → count ≤ result }
+    ensures trie { result ≤ capacity_of trie.now }
+    ensures least { (count : ℕ) → count ≤ vec_capacity prints.now → count ≤ capacity_of trie.now → count ≤ result }
 {
-    trie.room().min(prints.capacity())
+    trie.capacity().min(prints.capacity())
 }

@@ -6,15 +6,15 @@ use Rattle.board_points.specs.Point.{DifferByOne}
 use Rattle.board_points.specs.inner.Look.{IsLookedAt}
 use Rattle.board_points.specs.Glance.{Lives, LeavesAlong, LeavesAcross}
 use Rattle.board_points.specs.Rows.{has_bit}
-use Rattle.board_points.proofs.GlanceLemmas.{row_here, free_here, none_free, free_elsewhere, stays_open, friend_there, left_there}
+use Rattle.board_points.proofs.GlanceLemmas.{row_here, free_here, none_free, free_elsewhere, keeps_liberty, friend_there, left_there}
 use Rattle.board_points.proofs.quick.glance.five_rows_show_alive.Goals as goal
-use Rattle.board_points.proofs.quick.glance.five_rows_show_alive.Goals.{After-columns_beside-shut}
+use Rattle.board_points.proofs.quick.glance.five_rows_show_alive.Goals.{After-columns_beside-in_doubt}
 
 -- the point's own row, without the point
-abbrev here : After-columns_beside-shut → RowStones
+abbrev here : After-columns_beside-in_doubt → RowStones
 here c = record { own = c.args.here.own; others = c.args.here.others; free = c.without_column-free.result }
 
-up : (c : After-columns_beside-shut) → IsLookedAt c.args.own.now c.args.others.now c.args.point 0 c.args.first.free c.args.above 0
+up : (c : After-columns_beside-in_doubt) → IsLookedAt c.args.own.now c.args.others.now c.args.point 0 c.args.first.free c.args.above 0
 up c =
     let p = c.args.point in
     let own = c.args.own.now in
@@ -26,7 +26,7 @@ up c =
       free_below = none_free own others p 2;
     }
 
-along : (c : After-columns_beside-shut) → IsLookedAt c.args.own.now c.args.others.now c.args.point 1 c.args.above.free (here c) c.args.below.free
+along : (c : After-columns_beside-in_doubt) → IsLookedAt c.args.own.now c.args.others.now c.args.point 1 c.args.above.free (here c) c.args.below.free
 along c =
     let p = c.args.point in
     let own = c.args.own.now in
@@ -43,7 +43,7 @@ along c =
       free_below = free_elsewhere own others p 3 c.args.below (omega arith) c.requires.below;
     }
 
-down : (c : After-columns_beside-shut) → IsLookedAt c.args.own.now c.args.others.now c.args.point 2 0 c.args.below c.args.last.free
+down : (c : After-columns_beside-in_doubt) → IsLookedAt c.args.own.now c.args.others.now c.args.point 2 0 c.args.below c.args.last.free
 down c =
     let p = c.args.point in
     let own = c.args.own.now in
@@ -56,26 +56,26 @@ down c =
     }
 
 -- no stone of the opponent beside the point is without a free point beside it
-abbrev NoneShut : After-columns_beside-shut → Type 0
-NoneShut c = has_bit c.columns_beside-shut.result c.from-col.result ≡ false
+abbrev NoneInDoubt : After-columns_beside-in_doubt → Type 0
+NoneInDoubt c = has_bit c.columns_beside-in_doubt.result c.from-col.result ≡ false
 
-leaves_along : (c : After-columns_beside-shut) → NoneShut c → LeavesAlong c.args.own.now c.args.others.now c.args.point
+leaves_along : (c : After-columns_beside-in_doubt) → NoneInDoubt c → LeavesAlong c.args.own.now c.args.others.now c.args.point
 leaves_along c none q set next =
-    let shut = c.columns_beside-shut in
+    let in_doubt = c.columns_beside-in_doubt in
     let middle = c.columns_beside-middle in
     let low : c.args.here.others < 2 ^ 64 = search rules in
     let few : middle.result < 2 ^ 64 = search rules in
     let column : c.from-col.result < 64 = omega (arith, c.from-col.ensures, c.requires.on_board.0, c.requires.rows.few) in
     left_there c.args.own.now c.args.others.now c.args.point 1 c.args.above.free (here c) c.args.below.free (along c) middle.result middle.ensures.from q low few
-    (λ is. false≢true (sym none ∙ shut.ensures.to c.from-col.result column (inr (inr (q.col, subst (λ n. DifferByOne n q.col) (sym c.from-col.ensures) next.1, is)))))
+    (λ is. false≢true (sym none ∙ in_doubt.ensures.to c.from-col.result column (inr (inr (q.col, subst (λ n. DifferByOne n q.col) (sym c.from-col.ensures) next.1, is)))))
     (omega (arith, next.0)) set
 
-leaves_across : (c : After-columns_beside-shut) → NoneShut c → LeavesAcross c.args.own.now c.args.others.now c.args.point
+leaves_across : (c : After-columns_beside-in_doubt) → NoneInDoubt c → LeavesAcross c.args.own.now c.args.others.now c.args.point
 leaves_across c none q set next =
     let p = c.args.point in
     let own = c.args.own.now in
     let others = c.args.others.now in
-    let shut = c.columns_beside-shut in
+    let in_doubt = c.columns_beside-in_doubt in
     let above = c.columns_beside-up in
     let below = c.columns_beside-down in
     let above_low : c.args.above.others < 2 ^ 64 = search rules in
@@ -86,29 +86,29 @@ leaves_across c none q set next =
     let same = c.from-col.ensures ∙ next.0 in
     elim next.1 [
       | inl row ↦ left_there own others p 2 0 c.args.below c.args.last.free (down c) below.result below.ensures.from q below_low down_low
-          (λ is. false≢true (sym none ∙ shut.ensures.to c.from-col.result column (inr (inl (ap (has_bit (bit_and c.args.below.others (bit_not w64 below.result))) same ∙ is)))))
+          (λ is. false≢true (sym none ∙ in_doubt.ensures.to c.from-col.result column (inr (inl (ap (has_bit (bit_and c.args.below.others (bit_not w64 below.result))) same ∙ is)))))
           (omega (arith, row)) set
       | inr row ↦ left_there own others p 0 c.args.first.free c.args.above 0 (up c) above.result above.ensures.from q above_low up_low
-          (λ is. false≢true (sym none ∙ shut.ensures.to c.from-col.result column (inl (ap (has_bit (bit_and c.args.above.others (bit_not w64 above.result))) same ∙ is))))
+          (λ is. false≢true (sym none ∙ in_doubt.ensures.to c.from-col.result column (inl (ap (has_bit (bit_and c.args.above.others (bit_not w64 above.result))) same ∙ is))))
           (omega (arith, row)) set
     ]
 
 pub returns-then-has_column-2 : goal.returns-then-has_column-2
 returns-then-has_column-2 c = λ _.
-    let b = (goal.at.returns-then-has_column-2 c).After-columns_beside-shut in
+    let b = (goal.at.returns-then-has_column-2 c).After-columns_beside-in_doubt in
     let p = c.args.point in
     let middle = c.columns_beside-middle in
     let none = sym c.has_column.ensures ∙ c.if-has_column.false in
     let there = ap (has_bit middle.result) (sym c.from-col.ensures) ∙ sym c.has_column-2.ensures ∙ c.if-has_column-2.true in
     record {
-      lives = inl (stays_open c.args.own.now c.args.others.now p 1 c.args.above.free (here b) c.args.below.free (along b) middle.result middle.ensures.from p (omega arith) there);
+      lives = inl (keeps_liberty c.args.own.now c.args.others.now p 1 c.args.above.free (here b) c.args.below.free (along b) middle.result middle.ensures.from p (omega arith) there);
       along = leaves_along b none;
       across = leaves_across b none;
     }
 
 pub returns : goal.returns
 returns c = λ some.
-    let b = (goal.at.returns c).After-columns_beside-shut in
+    let b = (goal.at.returns c).After-columns_beside-in_doubt in
     let p = c.args.point in
     let own = c.args.own.now in
     let others = c.args.others.now in

@@ -1,7 +1,7 @@
 use Rattle.std.proofs.Common.{inl, inr, sym, ◌∙◌, rules}
 use Rattle.go_board.proofs.GridLemmas.{Decides-same_cell}
 use Rattle.go_board.proofs.LibertyLemmas.{rows_of_opponent, Reaches-liberty}
-use Rattle.go_board.proofs.TakenLemmas.{AddsGroup-rows}
+use Rattle.go_board.proofs.ClearedLemmas.{AddsGroup-rows}
 use Rattle.go_board.proofs.board.Board.add_to_either.Goals as goal
 
 pub add_to_either-requires-clause-stone : goal.add_to_either-requires-clause-stone

@@ -4,7 +4,7 @@ use Rattle.board_points.specs.Rows.{is_set}
 use Rattle.go_board.specs.inner.Groups.{AddsGroup}
 use Rattle.go_board.proofs.GridLemmas.{Decides-same_cell}
 use Rattle.go_board.proofs.LibertyLemmas.{rows_of_opponent, Reaches-liberty}
-use Rattle.go_board.proofs.TakenLemmas.{AddsGroup-rows, AreShutGroups-none}
+use Rattle.go_board.proofs.ClearedLemmas.{AddsGroup-rows, AreShutGroups-none}
 use Rattle.go_board.proofs.board.Board.find_shut.Goals as goal
 use Rattle.go_board.proofs.board.Board.find_shut.Goals.{After-fill_if_shut}
 

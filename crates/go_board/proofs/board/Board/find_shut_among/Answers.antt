@@ -1,6 +1,6 @@
 use Rattle.std.proofs.Common.{◌∙◌, inl, inr, sym, ap, subst, refl, arith, rules}
 use Rattle.board_points.specs.Point.{IsOn}
-use Rattle.go_board.specs.inner.Groups.{IsTakenOrReaches}
+use Rattle.go_board.specs.inner.Groups.{IsClearedOrReaches}
 use Rattle.std.proofs.lemmas.Bool.{false≢true}
 use Rattle.board_points.specs.declared.points.Point.{Point}
 use Rattle.go_board.specs.Grid.{cell_at}
@@ -9,7 +9,7 @@ use Rattle.go_board.specs.declared.stones.Cell.TheVariants.{Empty}
 use Rattle.board_points.specs.Rows.{is_set}
 use Rattle.board_points.proofs.LinkedLemmas.{none_in_front}
 use Rattle.board_points.proofs.PointLemmas.{Contains-take_more}
-use Rattle.go_board.proofs.TakenLemmas.{adds_either, taken_still, beside_taken}
+use Rattle.go_board.proofs.ClearedLemmas.{adds_either, cleared_still, beside_cleared}
 use Rattle.go_board.proofs.board.Board.find_shut_among.Goals as goal
 use Rattle.go_board.proofs.board.Board.find_shut_among.Goals.{then-is_unsearched, else-is_unsearched}
 
@@ -43,8 +43,8 @@ loop-at-preserved c =
             adds = search (rules, adds_either, before.adds, now, w.some-is);
             beside = λ q among on.
                 elim ((turn q).0 among) [
-                  | inl earlier ↦ taken_still g k _ _ q now.adds.kept (before.beside q earlier on)
-                  | inr is ↦ subst (IsTakenOrReaches g k w.add_to_either-some.new.shut) (sym is) now.here
+                  | inl earlier ↦ cleared_still g k _ _ q now.adds.kept (before.beside q earlier on)
+                  | inr is ↦ subst (IsClearedOrReaches g k w.add_to_either-some.new.shut) (sym is) now.here
                 ];
           })
       | else-is_unsearched w ↦
@@ -72,4 +72,4 @@ loop-at-preserved c =
 pub returns-clause-beside : goal.returns-clause-beside
 returns-clause-beside c = λ q on next.
     c.loop-at.invariant.beside q
-    (beside_taken c.args.point q c.neighbours-beside.result c.loop-at.at-index c.args.self.now.side c.neighbours-beside.ensures (omega (arith, c.loop-at-test.false)) c.has_all_cells.ensures.few on next) on
+    (beside_cleared c.args.point q c.neighbours-beside.result c.loop-at.at-index c.args.self.now.side c.neighbours-beside.ensures (omega (arith, c.loop-at-test.false)) c.has_all_cells.ensures.few on next) on

@@ -1,11 +1,11 @@
 use Rattle.std.proofs.Common.{Contains, take}
 use Rattle.board_points.specs.Point.{IsOn}
-use Rattle.go_board.specs.inner.Groups.{AddsShut, AreKnownAlive, IsTakenOrReaches}
+use Rattle.go_board.specs.inner.Groups.{AddsShut, AreKnownAlive, IsClearedOrReaches}
 use Rattle.go_board.proofs.board.Board.find_shut_among.Given as goal
 
 abbrev pub invariant-loop-at : goal.invariant-loop-at
 invariant-loop-at l = record {
   adds : AddsShut l.self l.colour l.fn.shut l.shut l.some;
   alive : AreKnownAlive l.self l.colour l.alive;
-  beside : (q : _) → Contains (take l.at-index l.at-items) q → IsOn l.self.side q → IsTakenOrReaches l.self l.colour l.shut q;
+  beside : (q : _) → Contains (take l.at-index l.at-items) q → IsOn l.self.side q → IsClearedOrReaches l.self l.colour l.shut q;
 }

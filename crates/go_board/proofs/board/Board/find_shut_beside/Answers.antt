@@ -7,7 +7,7 @@ use Rattle.go_board.specs.Reaching.{Reaches}
 use Rattle.go_board.specs.declared.stones.Cell.TheVariants.{Empty}
 use Rattle.board_points.specs.Rows.{is_set}
 use Rattle.board_points.proofs.PointLemmas.{Contains-take_more}
-use Rattle.go_board.proofs.TakenLemmas.{beside_taken}
+use Rattle.go_board.proofs.ClearedLemmas.{beside_cleared}
 use Rattle.go_board.proofs.board.Board.find_shut_beside.Goals as goal
 use Rattle.go_board.proofs.board.Board.find_shut_beside.Goals.{then-may_be_shut+else-is_some, else-may_be_shut}
 
@@ -50,7 +50,7 @@ loop-at-preserved c =
 pub returns-in-Some-clause-beside : goal.returns-in-Some-clause-beside
 returns-in-Some-clause-beside c = λ some q on next stone.
     let few = c.has_all_cells.ensures.few in
-    let seen = beside_taken c.args.point q c.neighbours-beside.result c.loop-at.at-index c.args.self.now.side c.neighbours-beside.ensures (omega (arith, c.loop-at-test.false)) few on next in
+    let seen = beside_cleared c.args.point q c.neighbours-beside.result c.loop-at.at-index c.args.self.now.side c.neighbours-beside.ensures (omega (arith, c.loop-at-test.false)) few on next in
     elim (c.loop-at.invariant.beside q seen on) [
       | inl found ↦ (let is : c.in-Some.at ≡ q = cc in inl (ap (is_set c.find_shut.new.shut) (sym is) ∙ c.find_shut.ensures.here some))
       | inr reaches ↦ inr (reaches stone)
@@ -59,7 +59,7 @@ returns-in-Some-clause-beside c = λ some q on next stone.
 pub returns-in-Some-clause-lives : goal.returns-in-Some-clause-lives
 returns-in-Some-clause-lives c = λ none q on next stone.
     let few = c.has_all_cells.ensures.few in
-    let seen = beside_taken c.args.point q c.neighbours-beside.result c.loop-at.at-index c.args.self.now.side c.neighbours-beside.ensures (omega (arith, c.loop-at-test.false)) few on next in
+    let seen = beside_cleared c.args.point q c.neighbours-beside.result c.loop-at.at-index c.args.self.now.side c.neighbours-beside.ensures (omega (arith, c.loop-at-test.false)) few on next in
     elim (c.loop-at.invariant.beside q seen on) [
       | inl found ↦ (let is : c.in-Some.at ≡ q = cc in subst (Reaches c.args.self.now Empty) is (c.find_shut.ensures.lives none))
       | inr reaches ↦ reaches stone
@@ -68,7 +68,7 @@ returns-in-Some-clause-lives c = λ none q on next stone.
 pub returns-in-None-clause-lives : goal.returns-in-None-clause-lives
 returns-in-None-clause-lives c = λ _ q on next stone.
     let few = c.has_all_cells.ensures.few in
-    let seen = beside_taken c.args.point q c.neighbours-beside.result c.loop-at.at-index c.args.self.now.side c.neighbours-beside.ensures (omega (arith, c.loop-at-test.false)) few on next in
+    let seen = beside_cleared c.args.point q c.neighbours-beside.result c.loop-at.at-index c.args.self.now.side c.neighbours-beside.ensures (omega (arith, c.loop-at-test.false)) few on next in
     elim (c.loop-at.invariant.beside q seen on) [
       | inl some ↦ absurd cc
       | inr reaches ↦ reaches stone

@@ -9,7 +9,7 @@ returns-then-is_none-clause-shut c =
     let own = c.rows_of-own in
     let other = c.rows_of-others in
     let are = rows_of_opponent g k c.opponent.result other.result.now c.opponent.ensures other.ensures.are in
-    let first = c.stones_with_liberty.new.alive in
+    let first = c.stones_with_liberty.new.found in
     let left = c.difference.new.left in
     let small : g.side ≤ 52 = omega (arith, c.size.ensures, c.side.ensures.value, c.side.ensures.at_most) in
     let grows = Grows-first g k own.result.now other.result.now first small own.ensures.rows own.ensures.are are c.stones_with_liberty.ensures in
@@ -24,4 +24,4 @@ returns-clause-shut c =
     let other = c.rows_of-others in
     let are = rows_of_opponent g k c.opponent.result other.result.now c.opponent.ensures other.ensures.are in
     let small : g.side ≤ 52 = omega (arith, c.size.ensures, c.side.ensures.value, c.side.ensures.at_most) in
-    shut_left g k own.result.now other.result.now c.stones_with_liberty.new.alive small own.ensures.rows own.ensures.are are c.stones_with_liberty.ensures c.fill.new.rows c.difference-2.new.left c.difference-2.ensures c.fill.ensures.grows c.fill.ensures.closed
+    shut_left g k own.result.now other.result.now c.stones_with_liberty.new.found small own.ensures.rows own.ensures.are are c.stones_with_liberty.ensures c.fill.new.rows c.difference-2.new.left c.difference-2.ensures c.fill.ensures.grows c.fill.ensures.closed

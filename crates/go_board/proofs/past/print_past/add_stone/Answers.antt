@@ -57,4 +57,4 @@ returns-clause-emptied c =
     let p = c.args.point in
     rw c.in_ok-add_stone.ensures.ok
     (c.add.ensures.emptied (next_of was k p) was.newest was.older (c.reserve.ensures.emptied (all_of was) c.requires.emptied) c.len-number.ensures
-    (λ goes_on. emptied_by_play (newest_grid was) k p c.args.taken.now c.requires.stone))
+    (λ goes_on. emptied_by_play (newest_grid was) k p c.args.cleared.now c.requires.stone))

@@ -11,8 +11,8 @@ returns-in-Some-clause-gap c =
     let was = c.args.colourings.now in
     c.in-Some.ensures.gap (with_next was (play (newest_grid was) c.args.colour c.args.point) false).newest (sym c.requires.stone.print)
 
-made : (c : After-gap_by_board) → c.put.new.self ≡ play (newest_grid c.args.colourings.now) c.args.colour c.args.point
-made c = c.put.ensures ∙ ap (λ (g : Grid). play g c.args.colour c.args.point) (c.copy-made.ensures ∙ c.newest.ensures)
+made : (c : After-gap_by_board) → c.place_and_clear.new.self ≡ play (newest_grid c.args.colourings.now) c.args.colour c.args.point
+made c = c.place_and_clear.ensures ∙ ap (λ (g : Grid). play g c.args.colour c.args.point) (c.copy-made.ensures ∙ c.newest.ensures)
 
 pub returns-clause-gap : goal.returns-clause-gap
 returns-clause-gap c =

@@ -17,13 +17,13 @@ awake c = c.is_awake.ensures.awake c.args.colourings.now.newest c.args.colouring
 pub newest-requires : goal.newest-requires
 newest-requires c = omega (arith, tabled (all_of c.args.colourings.now) c.args.table.now (awake c))
 
-pub print_after_taking-requires-clause-print : goal.print_after_taking-requires-clause-print
-print_after_taking-requires-clause-print c =
+pub print_after_clearing-requires-clause-print : goal.print_after_clearing-requires-clause-print
+print_after_clearing-requires-clause-print c =
     let past = c.args.colourings.now in
-    c.newest.ensures past.newest past.older (awake (goal.at.print_after_taking-requires-clause-print c).After-has_all_cells) ∙ ap print_of (sym c.newest-newest.ensures)
+    c.newest.ensures past.newest past.older (awake (goal.at.print_after_clearing-requires-clause-print c).After-has_all_cells) ∙ ap print_of (sym c.newest-newest.ensures)
 
 pub returns : goal.returns
 returns c = record {
-  awake = (awake (goal.at.returns c).After-has_all_cells, c.print_after_taking.ensures ∙ ap (λ (g : Grid). print_of (play g c.args.colour c.args.point)) c.newest-newest.ensures);
+  awake = (awake (goal.at.returns c).After-has_all_cells, c.print_after_clearing.ensures ∙ ap (λ (g : Grid). print_of (play g c.args.colour c.args.point)) c.newest-newest.ensures);
   asleep = tt;
 }

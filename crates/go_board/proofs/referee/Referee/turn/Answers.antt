@@ -6,7 +6,7 @@ use Rattle.go_board.specs.Reason.{reason_of}
 use Rattle.go_board.proofs.referee.Referee.turn.Goals as goal
 
 -- the call that took no turn changed nothing
-pub returns-then-not-take_at_once-clause-illegal : goal.returns-then-not-take_at_once-clause-illegal
-returns-then-not-take_at_once-clause-illegal g c = subst
+pub returns-then-not-play_at_once-clause-illegal : goal.returns-then-not-play_at_once-clause-illegal
+returns-then-not-play_at_once-clause-illegal g c = subst
     (λ (states : States). (r : Reason) → IsErrOf c.turn_in_full.result (Illegal r) ↔ (reason_of states.present c.args.colour c.args.play ≡ Some r))
-    (c.if-not-take_at_once.ensures.unchanged refl) c.turn_in_full.ensures.illegal
+    (c.if-not-play_at_once.ensures.unchanged refl) c.turn_in_full.ensures.illegal

@@ -1,7 +1,7 @@
 use Rattle.std.proofs.Common.{◌≡◌, ◌+◌, ◌++◌, ◌∷◌, [], List, Bool, not, length, length-append, ap, sym, subst, ◌∙◌, arith, rules}
 use Rattle.std.proofs.lemmas.List.{length-set}
 use Rattle.key_trie.specs.declared.node.Node.{Node}
-use Rattle.key_trie.specs.Trie.{IsTrieOf, named, node_at, kid_of, with_kid, with_named}
+use Rattle.key_trie.specs.Trie.{IsTrieOf, named, node_at, child_of, with_child, with_named}
 use Rattle.key_trie.proofs.InsertLemmas.{trie_parted}
 use Rattle.key_trie.proofs.trie.Trie.insert.Goals as goal
 
@@ -9,7 +9,7 @@ pub returns-clause-more : goal.returns-clause-more
 returns-clause-more c =
     let nodes = c.args.self.now.nodes.items in
     let slot = c.args.slot in
-    omega (arith, ap length c.push_reserved.ensures.items, length-append c.name.new.nodes.items (c.parted_node-node.result ∷ []), ap length c.name.ensures.named, length-set nodes slot.node (with_kid (node_at nodes slot.node) slot.side c.len-number.result))
+    omega (arith, ap length c.push_reserved.ensures.items, length-append c.name.new.nodes.items (c.parted_node-node.result ∷ []), ap length c.name.ensures.named, length-set nodes slot.node (with_child (node_at nodes slot.node) slot.side c.len-number.result))
 
 pub returns-clause-trie : goal.returns-clause-trie
 returns-clause-trie c = λ width keys trie within opening bit.
@@ -17,7 +17,7 @@ returns-clause-trie c = λ width keys trie within opening bit.
     let slot = c.args.slot in
     let node = c.parted_node-node in
     let number : c.len-number.result ≡ length nodes = search rules in
-    let below : c.kid.result ≡ kid_of nodes slot.node slot.side = search rules in
+    let below : c.child.result ≡ child_of nodes slot.node slot.side = search rules in
     let named_so : c.name.new.nodes.items ≡ with_named nodes slot.node slot.side (length nodes) =
     c.name.ensures.named ∙ ap (λ n. with_named nodes slot.node slot.side n) number in
     let made : c.push_reserved.new.self.items ≡ with_named nodes slot.node slot.side (length nodes) ++ node.result ∷ [] =

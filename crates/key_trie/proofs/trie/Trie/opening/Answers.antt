@@ -5,13 +5,13 @@ use Rattle.key_trie.specs.Trie.{no_node, node_at}
 use Rattle.key_trie.proofs.TrieLemmas.{way_opens, end_opens}
 use Rattle.key_trie.proofs.trie.Trie.opening.Goals as goal
 
-pub returns-then-from-place-clause-opening : goal.returns-then-from-place-clause-opening
-returns-then-from-place-clause-opening g c = λ width keys bits end trie walk before same part.
+pub returns-then-from-position-clause-opening : goal.returns-then-from-position-clause-opening
+returns-then-from-position-clause-opening g c = λ width keys bits end trie descent before same part.
     let nodes = c.args.self.now.nodes.items in
     let from = c.args.from.node in
     let at : c.index.result.now ≡ node_at nodes from = c.index.ensures ∙ get_or_default nodes from c.index.result.now no_node c.requires.from in
-    end_opens width keys c.args.self.now trie c.args.from walk c.args.place before (omega (arith, c.if-from-place.true, c.from.ensures, ap (λ (x : Node). x.depth) at)) part
+    end_opens width keys c.args.self.now trie c.args.from descent c.args.position before (omega (arith, c.if-from-position.true, c.from.ensures, ap (λ (x : Node). x.depth) at)) part
 
 pub returns-clause-opening : goal.returns-clause-opening
-returns-clause-opening g c = λ width keys bits end trie walk before same part.
-    way_opens c.descend.result c.args.place (c.descend.ensures.way width keys trie) same part
+returns-clause-opening g c = λ width keys bits end trie descent before same part.
+    way_opens c.descend.result c.args.position (c.descend.ensures.way width keys trie) same part

@@ -1,7 +1,7 @@
 use Rattle.std.proofs.Common.{◌≡◌, suc, ◌+◌, ◌-◌, ◌<◌, ◌≤◌, ◌∙◌, ℕ, Bool, false, List, length, arith, rules, sym, ap, subst, inl, inr}
 use Rattle.std.proofs.lemmas.Bool.{cases_eq}
 use Rattle.key_trie.specs.declared.node.Node.{Node}
-use Rattle.key_trie.specs.Trie.{IsTrieOf, IsOnWay, GoesOn, after_steps, depth_of, kid_of}
+use Rattle.key_trie.specs.Trie.{IsTrieOf, IsOnWay, GoesOn, after_steps, depth_of, child_of}
 use Rattle.key_trie.proofs.TrieLemmas.{trie_tree, way_begins, way_goes_on, way_names}
 use Rattle.key_trie.proofs.trie.Trie.passes.Goals as goal
 
@@ -18,7 +18,7 @@ down-init g c =
       way = λ width keys trie. way_begins (trie_tree _ keys _ trie some) (g.K.Key.bits c.args.key.now) c.args.end some;
       left = sym (tree.root some);
       named = search rules;
-      there = subst (λ x. x < length nodes) (sym c.kid-below.ensures) (way_names tree (way_begins tree (g.K.Key.bits c.args.key.now) 0 some));
+      there = subst (λ x. x < length nodes) (sym c.child-below.ensures) (way_names tree (way_begins tree (g.K.Key.bits c.args.key.now) 0 some));
       depth = search rules;
       below = search rules;
       passed = λ steps low. absurd (omega (arith, low));
@@ -44,13 +44,13 @@ down-preserved g c =
       there_node = old.there;
       way = next;
       left = deeper;
-      named = c.kid-below-in-down.ensures;
-      there = subst (λ x. x < length nodes) (sym c.kid-below-in-down.ensures) (way_names (trie_tree _ is.1 _ is.2 (omega (arith, old.there_node))) (next is.0 is.1 is.2));
+      named = c.child-below-in-down.ensures;
+      there = subst (λ x. x < length nodes) (sym c.child-below-in-down.ensures) (way_names (trie_tree _ is.1 _ is.2 (omega (arith, old.there_node))) (next is.0 is.1 is.2));
       depth = subst (λ n. c.from-deeper.result ≡ (after_steps nodes key n).0) one (deeper ∙ ap (depth_of nodes) at);
-      below = subst (λ n. c.kid-below-in-down.result ≡ (after_steps nodes key n).1) one
-          (c.kid-below-in-down.ensures
-          ∙ ap (λ bit. kid_of nodes c.down.below bit) (c.bit.ensures ∙ ap (λ n. key (n - 1)) deeper)
-          ∙ ap (λ n. kid_of nodes n (key (depth_of nodes n - 1))) at);
+      below = subst (λ n. c.child-below-in-down.result ≡ (after_steps nodes key n).1) one
+          (c.child-below-in-down.ensures
+          ∙ ap (λ bit. child_of nodes c.down.below bit) (c.bit.ensures ∙ ap (λ n. key (n - 1)) deeper)
+          ∙ ap (λ n. child_of nodes n (key (depth_of nodes n - 1))) at);
       passed = λ steps low. elim (cases_eq steps c.down.counter) [
         | inr other ↦ old.passed steps (omega (arith, low, other))
         | inl same ↦ subst (λ n. GoesOn nodes key c.args.end n) (sym same) (

@@ -1,5 +1,5 @@
 use Rattle.std.proofs.Common.{◌≡◌, ◌<◌, ℕ, Bool, length}
-use Rattle.key_trie.specs.Trie.{IsTrieOf, IsOnWay, GoesOn, after_steps, depth_of, kid_of}
+use Rattle.key_trie.specs.Trie.{IsTrieOf, IsOnWay, GoesOn, after_steps, depth_of, child_of}
 use Rattle.key_trie.proofs.trie.Trie.passes.Given as goal
 
 abbrev pub invariant-down : goal.invariant-down
@@ -10,7 +10,7 @@ invariant-down g l = record {
   way : (width : ℕ) (keys : ℕ → ℕ → Bool) → IsTrieOf width (length l.nodes) keys l.nodes
       → IsOnWay (length l.nodes) keys (depth_of l.nodes) (g.K.Key.bits l.key) l.end node side;
   left : l.depth ≡ depth_of l.nodes node;
-  named : l.below ≡ kid_of l.nodes node side;
+  named : l.below ≡ child_of l.nodes node side;
   there : l.below < length l.nodes;
   depth : l.depth ≡ (after_steps l.nodes (g.K.Key.bits l.key) l.counter).0;
   below : l.below ≡ (after_steps l.nodes (g.K.Key.bits l.key) l.counter).1;

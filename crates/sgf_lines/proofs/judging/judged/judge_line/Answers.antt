@@ -6,9 +6,9 @@ use Rattle.tree_lines.specs.Following.{nodes_before}
 use Rattle.tree_lines.specs.Sequences.{nodes_in}
 use Rattle.sgf_lines.specs.JudgedGames.{game_kind, root_properties}
 use Rattle.tree_lines.proofs.Fronts.{next_part, none_after, rises_through}
-use Rattle.sgf_lines.proofs.JudgedLines.{Going, begun_front, countable, ends, finish, goes_on, settles, starts, stopped, stops}
+use Rattle.sgf_lines.proofs.JudgedLines.{Going, begun_front, countable, ends, finish, goes_on, decides, starts, stopped, stops}
 use Rattle.sgf_lines.proofs.Keeping.{judgement_kept, judging_front, taken_kept}
-use Rattle.sgf_lines.proofs.TakenNodes.{told_front}
+use Rattle.sgf_lines.proofs.LegalNodes.{told_front}
 use Rattle.sgf_lines.proofs.judging.judged.judge_line.Given.{Over}
 use Rattle.sgf_lines.proofs.judging.judged.judge_line.Goals as goal
 use Rattle.sgf_lines.proofs.judging.judged.judge_line.Goals.{After-sequences-end, After-nodes, In_ok-keep, then-held-eq0+in_ok-begin, else-held-eq0}
@@ -41,13 +41,13 @@ started g c =
     (taken_kept _ c.args.cursor.now c.args.held c.requires.held keeps c.args.judge.now.judgement (λ old h. h)) in
     starts (drop held line) _ _ judge (record { judged = judged.0; taken = told }) judged.1 (ap (λ k. drop k line) (sym c.requires.front.count))
 
-pub returns-then-is_settled : goal.returns-then-is_settled
-returns-then-is_settled g c =
-    finish _ c.args.held.nodes (within g (goal.at.returns-then-is_settled g c).After-sequences-end) _ _ _ c.if-held-eq0.judge
-    (settles (started g (goal.at.returns-then-is_settled g c).In_ok-keep) (c.is_settled.ensures.settled c.if-is_settled.true))
+pub returns-then-is_decided : goal.returns-then-is_decided
+returns-then-is_decided g c =
+    finish _ c.args.held.nodes (within g (goal.at.returns-then-is_decided g c).After-sequences-end) _ _ _ c.if-held-eq0.judge
+    (decides (started g (goal.at.returns-then-is_decided g c).In_ok-keep) (c.is_decided.ensures.decided c.if-is_decided.true))
 
 pub loop-index-init : goal.loop-index-init
-loop-index-init g c = record { going = started g (goal.at.loop-index-init g c).In_ok-keep; unsettled = c.is_settled.ensures.unsettled c.if-is_settled.false }
+loop-index-init g c = record { going = started g (goal.at.loop-index-init g c).In_ok-keep; unsettled = c.is_decided.ensures.unsettled c.if-is_decided.false }
 
 -- the next sequence, and the nodes after it
 module _ (g : Over) (c : After-nodes g) where
@@ -95,7 +95,7 @@ pub returns-then-not-all : goal.returns-then-not-all
 returns-then-not-all g c =
     let at = (goal.at.returns-then-not-all g c).After-nodes in
     finish _ c.args.held.nodes (within g (goal.at.returns-then-not-all g c).After-sequences-end) _ _ _ c.judge_sequence.new.judge
-    (settles
+    (decides
     (goes_on c.loop-index.invariant.going c.nodes.result.nodes (rest g at) (first g at) (g.K.StepKeeper.tells c.judge_sequence.new.keeper) c.judge_sequence.new.judge
     (c.in_ok-all.ensures.judged _ _ c.loop-index.invariant.going.on.has_judged))
-    (c.in_ok-all.ensures.settled (search rules)))
+    (c.in_ok-all.ensures.decided (search rules)))

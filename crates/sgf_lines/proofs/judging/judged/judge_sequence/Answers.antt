@@ -4,17 +4,17 @@ use Rattle.std.specs.Prelude.{IsSome, option_copied}
 use Rattle.std.proofs.lemmas.Bool.{eqb-true}
 use Rattle.std.proofs.lemmas.List.{nil_from_length}
 use Rattle.sgf_tree.specs.NodesLeft.{NodesLeft}
-use Rattle.sgf_tree.specs.Walk.{IsTakenOff}
-use Rattle.sgf_tree.specs.declared.walk.NextNode.{NextNode}
+use Rattle.sgf_tree.specs.Traversal.{IsTakenOff}
+use Rattle.sgf_tree.specs.declared.traversal.NextNode.{NextNode}
 use Rattle.sgf_lines.specs.inner.Gathered.{ComesAs}
 use Rattle.sgf_tree.specs.Tree.{Node}
 use Rattle.go_board.specs.Grid.{Grid}
 use Rattle.go_board.specs.State.{State}
-use Rattle.sgf_lines.specs.declared.judging.step.TakenStep.{TakenStep}
-use Rattle.sgf_lines.specs.inner.Judging.{IsSettled, IsTakenFrom, IsUnsettled, Judging, after, board_in}
+use Rattle.sgf_lines.specs.declared.judging.step.LegalStep.{LegalStep}
+use Rattle.sgf_lines.specs.inner.Judging.{IsDecided, IsStepFrom, IsUnsettled, Judging, after, board_in}
 use Rattle.sgf_lines.proofs.Gathered.{comes, setup_names}
 use Rattle.sgf_lines.proofs.JudgedLines.{TookOne, countable, ends, refuses, said, starts, step_taken, stops, unsaid}
-use Rattle.sgf_lines.proofs.Judgements.{board_after, settled_by, unsettled_by}
+use Rattle.sgf_lines.proofs.Judgements.{board_after, decided_by, unsettled_by}
 use Rattle.sgf_lines.proofs.judging.judged.judge_sequence.Given.{Over}
 use Rattle.sgf_lines.proofs.judging.judged.judge_sequence.Goals as goal
 use Rattle.sgf_lines.proofs.judging.judged.judge_sequence.Goals.{In_ok-step}
@@ -54,8 +54,8 @@ module _ (g : Over) (c : In_ok-step g) where
   one : TookOne c.steps.judge c.steps.nodes.nodes node c.take.new.nodes.nodes c.take.new.self
   one = record { unsettled = c.steps.invariant.unsettled; first = first; judged = judged; plays = c.in_ok-step.ensures.plays }
 
-  taken : (step : Option TakenStep) → c.in_ok-step.field-0 ≡ step → IsTakenFrom c.steps.judge.judgement node step
-  taken step is = subst (IsTakenFrom c.steps.judge.judgement node) is (c.in_ok-step.ensures.step node coming)
+  taken : (step : Option LegalStep) → c.in_ok-step.field-0 ≡ step → IsStepFrom c.steps.judge.judgement node step
+  legal step is = subst (IsStepFrom c.steps.judge.judgement node) is (c.in_ok-step.ensures.step node coming)
 
 pub steps-init : goal.steps-init
 steps-init g c = record {
@@ -82,10 +82,10 @@ returns-in_default-clause-judged g c kind before h =
     let at = (goal.at.returns-in_default-clause-judged g c).In_ok-step in
     refuses (c.steps.invariant.going kind before h) (one g at) (taken g at None c.in_default.is)
 
-pub returns-in_default-clause-settled : goal.returns-in_default-clause-settled
-returns-in_default-clause-settled g c all =
-    let at = (goal.at.returns-in_default-clause-settled g c).In_ok-step in
-    subst IsSettled (sym (judged g at)) (settled_by c.steps.judge.judgement (node g at) (taken g at None c.in_default.is))
+pub returns-in_default-clause-decided : goal.returns-in_default-clause-decided
+returns-in_default-clause-decided g c all =
+    let at = (goal.at.returns-in_default-clause-decided g c).In_ok-step in
+    subst IsDecided (sym (judged g at)) (decided_by c.steps.judge.judgement (node g at) (taken g at None c.in_default.is))
 
 pub unwrap-requires : goal.unwrap-requires
 unwrap-requires g c =
@@ -122,6 +122,6 @@ steps-preserved g c =
       going = λ kind before h.
           let going = c.steps.invariant.going kind before h in
           let step = step_taken going (one g at) c.in-Some.step c.unwrap.result.now known there in
-          said going (one g at) c.in-Some.step c.unwrap.result.now known there (g.K.StepKeeper.tells c.say.new.self) (c.in_ok-say.ensures _ _ _ going.on.has_judged.taken step);
+          said going (one g at) c.in-Some.step c.unwrap.result.now known there (g.K.StepKeeper.tells c.say.new.self) (c.in_ok-say.ensures _ _ _ going.on.has_judged.legal step);
       unsettled = subst IsUnsettled (sym (judged g at)) (unsettled_by c.steps.judge.judgement (node g at) known.0 known.1);
     }

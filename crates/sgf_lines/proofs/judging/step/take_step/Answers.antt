@@ -22,7 +22,7 @@ returns-in-Led-clause-told g c node is =
     let side = c.args.referee.now.present.colouring.side in
     c.take_contents.ensures.told node (gathered_alone side (lone_property c.in-Led.letter c.in-Led.value.now) node.properties c.of_lone.result (c.of_lone.ensures side) alone)
 
-pub returns-in-Open-clause-stepped : goal.returns-in-Open-clause-stepped
-returns-in-Open-clause-stepped g c node is =
-    let left : node.properties ≡ told_property c.in-Open.front ++ c.args.nodes.now.properties = (rw c.in-Open.is at is).1 in
+pub returns-in-Unread-clause-stepped : goal.returns-in-Unread-clause-stepped
+returns-in-Unread-clause-stepped g c node is =
+    let left : node.properties ≡ told_property c.in-Unread.front ++ c.args.nodes.now.properties = (rw c.in-Unread.is at is).1 in
     c.take_any_step.ensures.stepped node left

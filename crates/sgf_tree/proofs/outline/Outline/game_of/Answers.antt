@@ -11,11 +11,11 @@ climb-preserved c = grind (arith, common_steps, game-outer)
 pub index-requires : goal.index-requires
 index-requires c = omega (arith, c.climb.invariant.within, table-length c.self.inside.text.now c.self.inside.sequences c.self.invariant.0 _ c.self.view_is)
 
-entry : (c : After-index) → IsEntryOf c.self.inside.text.now c.self.inside.sequences.stretches.items c.args.self.now c.climb.at c.index.result.now
+entry : (c : After-index) → IsEntryOf c.self.inside.text.now c.self.inside.sequences.segments.items c.args.self.now c.climb.at c.index.result.now
 entry c = entry-in c.self.inside.text.now c.self.inside.sequences c.self.invariant.0 _ c.self.view_is c.climb.at c.index.result.now c.climb.invariant.within c.index.ensures
 
 root : (c : After-index) → outer_by c.index.result.now ≡ None
-root c = outer-none c.self.inside.text.now c.self.inside.sequences.stretches.items c.args.self.now c.climb.at c.index.result.now (entry c) c.in_default.ensures
+root c = outer-none c.self.inside.text.now c.self.inside.sequences.segments.items c.args.self.now c.climb.at c.index.result.now (entry c) c.in_default.ensures
 
 pub game-requires : goal.game-requires
 game-requires c = root (goal.at.game-requires c).After-index

@@ -6,7 +6,7 @@ use Rattle.sgf_tree.proofs.outline.Outline.sequence_outer.Goals.{After-outer}
 pub index-requires : goal.index-requires
 index-requires c = omega (arith, c.requires, table-length c.self.inside.text.now c.self.inside.sequences c.self.invariant.0 _ c.self.view_is)
 
-entry : (c : After-outer) → IsEntryOf c.self.inside.text.now c.self.inside.sequences.stretches.items c.args.self.now c.args.i c.index.result.now
+entry : (c : After-outer) → IsEntryOf c.self.inside.text.now c.self.inside.sequences.segments.items c.args.self.now c.args.i c.index.result.now
 entry c = entry-in c.self.inside.text.now c.self.inside.sequences c.self.invariant.0 _ c.self.view_is c.args.i c.index.result.now c.requires c.index.ensures
 
 pub returns-in-Some : goal.returns-in-Some

@@ -5,7 +5,7 @@ use Rattle.sgf_tree.proofs.reader.games.read_games.Given as goal
 
 abbrev pub invariant-games : goal.invariant-games
 invariant-games g l = record {
-  so_far : GamesSoFar l.text (g.K.Keeper.keeps l.text l.keeper) l.fn.at l.at l.depth;
+  so_far : GamesSoFar l.text (g.K.Visitor.keeps l.text l.visitor) l.fn.at l.at l.depth;
   long : AreKeptLengths l.text l.long.items;
 }
 

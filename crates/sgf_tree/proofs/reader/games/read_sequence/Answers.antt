@@ -7,7 +7,7 @@ nodes-init g c =
     let t = c.args.text.now in
     let first = c.skip_white_space in
     record {
-      so_far = λ k after held. rw c.none-read.ensures (own-start t (g.K.Keeper.keeps t c.args.keeper.now) c.args.at first.result k first.ensures after held);
+      so_far = λ k after held. rw c.none-read.ensures (own-start t (g.K.Visitor.keeps t c.args.visitor.now) c.args.at first.result k first.ensures after held);
       long = c.requires.long;
     }
 
@@ -24,12 +24,12 @@ own_nodes-requires-clause-few g c =
     let t = c.args.text.now in
     let (k, after, held, few) = c.requires.opened in
     let own = c.nodes.invariant.so_far k after held in
-    let game = own-game t (g.K.Keeper.keeps t c.nodes.keeper) c.args.at k c.nodes.read own (omega (arith, c.if-read-eq0.false)) in
+    let game = own-game t (g.K.Visitor.keeps t c.nodes.visitor) c.args.at k c.nodes.read own (omega (arith, c.if-read-eq0.false)) in
     (t, k, game.game, game.are, game.copied, omega (arith, few, own.few))
 
 pub returns-clause-read : goal.returns-clause-read
 returns-clause-read g c k after held few =
     let t = c.args.text.now in
-    let keeps = g.K.Keeper.keeps t in
-    own-done t (keeps c.nodes.keeper) c.args.at k c.nodes.read (c.nodes.invariant.so_far k after held) (keeps c.own_nodes.new.self) (omega (arith, c.if-read-eq0.false))
+    let keeps = g.K.Visitor.keeps t in
+    own-done t (keeps c.nodes.visitor) c.args.at k c.nodes.read (c.nodes.invariant.so_far k after held) (keeps c.own_nodes.new.self) (omega (arith, c.if-read-eq0.false))
     (c.stands_at.ensures.other c.nodes-test.false) (c.in_ok-own_nodes.ensures.kept t) few

@@ -8,7 +8,7 @@ use Rattle.sgf_tree.proofs.reader.games.read_sequence.Given as goal
 
 abbrev pub invariant-nodes : goal.invariant-nodes
 invariant-nodes g l = record {
-  so_far : (k : Stack) → ComesTo l.text l.at (opened k) → g.K.Keeper.keeps l.text l.fn.keeper k nothing → AreOwnRead (g.K.Keeper.keeps l.text l.keeper) l.text l.at k l.read;
+  so_far : (k : Stack) → ComesTo l.text l.at (opened k) → g.K.Visitor.keeps l.text l.fn.visitor k nothing → AreOwnRead (g.K.Visitor.keeps l.text l.visitor) l.text l.at k l.read;
   long : AreKeptLengths l.text l.long.items;
 }
 

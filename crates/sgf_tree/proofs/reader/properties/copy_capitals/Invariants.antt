@@ -7,9 +7,9 @@ abbrev pub invariant-letters : goal.invariant-letters
 invariant-letters g l = record {
   low : l.from ≤ l.at;
   high : l.at ≤ l.to;
-  rises : l.stretch.start ≤ l.stretch.end;
-  after : l.stretch.end ≤ l.at;
-  copied : Copies (g.K.Keeper.keeps l.text l.fn.keeper) (g.K.Keeper.keeps l.text l.keeper) l.text l.fn.stretch l.stretch (name_in (slice_range l.text l.from l.at));
+  rises : l.segment.start ≤ l.segment.end;
+  after : l.segment.end ≤ l.at;
+  copied : Copies (g.K.Visitor.keeps l.text l.fn.visitor) (g.K.Visitor.keeps l.text l.visitor) l.text l.fn.segment l.segment (name_in (slice_range l.text l.from l.at));
 }
 
 abbrev pub decreases-letters : goal.decreases-letters

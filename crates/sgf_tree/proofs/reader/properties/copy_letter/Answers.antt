@@ -7,14 +7,14 @@ use Rattle.sgf_tree.proofs.reader.properties.copy_letter.Goals as goal
 pub returns-then-not-capital_at-clause-copied : goal.returns-then-not-capital_at-clause-copied
 returns-then-not-capital_at-clause-copied g c =
     let t = c.args.text.now in
-    let keeps = g.K.Keeper.keeps t c.args.keeper.now in
-    subst (Copies keeps keeps t c.args.stretch c.args.stretch) (name-small t c.args.at c.requires.within (c.capital_at.ensures.other c.if-not-capital_at.true c.requires.within))
-    (copies-none keeps t c.args.stretch)
+    let keeps = g.K.Visitor.keeps t c.args.visitor.now in
+    subst (Copies keeps keeps t c.args.segment c.args.segment) (name-small t c.args.at c.requires.within (c.capital_at.ensures.other c.if-not-capital_at.true c.requires.within))
+    (copies-none keeps t c.args.segment)
 
 pub returns-clause-copied : goal.returns-clause-copied
 returns-clause-copied g c =
     let t = c.args.text.now in
-    let keeps = g.K.Keeper.keeps t in
-    subst (Copies (keeps c.args.keeper.now) (keeps c.then.new.keeper) t c.args.stretch c.in_ok-next.next)
+    let keeps = g.K.Visitor.keeps t in
+    subst (Copies (keeps c.args.visitor.now) (keeps c.then.new.visitor) t c.args.segment c.in_ok-next.next)
     (name-capital t c.args.at c.requires.within (c.capital_at.ensures.stands c.if-not-capital_at.false).1)
     (c.in_ok-next.ensures.copied t (omega (arith, c.requires.within)))

@@ -13,10 +13,10 @@ returns-then-not-stands_at-clause-fault g c n h =
 pub returns-clause-read : goal.returns-clause-read
 returns-clause-read g c =
     let (within, bracket) = c.stands_at.ensures.stands c.if-not-stands_at.false in
-    let stretch = c.in_ok-stretch.ensures in
+    let segment = c.in_ok-segment.ensures in
     record {
-      rises = stretch.rises;
-      after = omega (arith, stretch.end, c.skip_white_space-end.ensures.rises);
+      rises = segment.rises;
+      after = omega (arith, segment.end, c.skip_white_space-end.ensures.rises);
       name = name-read _ c.args.text.now c.args.before.end c.letters_end-text_end.result c.skip_white_space-end.result c.requires.within c.requires.capital
-          c.letters_end-text_end.ensures c.skip_white_space-end.ensures (record { within = within; bracket = bracket }) stretch.copied;
+          c.letters_end-text_end.ensures c.skip_white_space-end.ensures (record { within = within; bracket = bracket }) segment.copied;
     }

@@ -6,8 +6,8 @@ use Rattle.sgf_tree.proofs.reader.properties.read_properties.Given as goal
 
 abbrev pub invariant-properties : goal.invariant-properties
 invariant-properties g l = record {
-  rises : l.read.stretch.start ≤ l.read.stretch.end;
-  so_far : ReadSoFar (Copies (g.K.Keeper.keeps l.text l.fn.keeper) (g.K.Keeper.keeps l.text l.keeper) l.text l.fn.stretch l.read.stretch) l.text l.fn.stretch.end l.read.stretch.end l.read.end;
+  rises : l.read.segment.start ≤ l.read.segment.end;
+  so_far : ReadSoFar (Copies (g.K.Visitor.keeps l.text l.fn.visitor) (g.K.Visitor.keeps l.text l.visitor) l.text l.fn.segment l.read.segment) l.text l.fn.segment.end l.read.segment.end l.read.end;
   kept : AreKeptLengths l.text l.long.items;
 }
 

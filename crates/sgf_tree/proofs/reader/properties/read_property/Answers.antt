@@ -11,58 +11,58 @@ pub values-init : goal.values-init
 values-init g c =
     let t = c.args.text.now in
     let name = c.in_ok-name.ensures.read in
-    let keeps = g.K.Keeper.keeps t c.read_name.new.keeper in
+    let keeps = g.K.Visitor.keeps t c.read_name.new.visitor in
     record {
       rises = name.rises;
       after = name.after;
       stands = name.name.stands;
-      so_far = values-begin t (Copies keeps keeps t c.in_ok-name.name.stretch c.in_ok-name.name.stretch) c.in_ok-name.name.end (copies-none keeps t c.in_ok-name.name.stretch);
+      so_far = values-begin t (Copies keeps keeps t c.in_ok-name.name.segment c.in_ok-name.name.segment) c.in_ok-name.name.end (copies-none keeps t c.in_ok-name.name.segment);
       kept = c.requires.kept;
     }
 
 pub returns-then-not-stands_at-clause-read : goal.returns-then-not-stands_at-clause-read
 returns-then-not-stands_at-clause-read g c =
     let t = c.args.text.now in
-    let keeps = g.K.Keeper.keeps t in
+    let keeps = g.K.Visitor.keeps t in
     let start = c.args.before in
     let name = c.in_ok-name.name in
     let read = c.values.read in
     let so_far = c.values.invariant in
-    let next = c.in_ok-stretch.stretch in
+    let next = c.in_ok-segment.segment in
     let close = c.in_ok-text_end.field-0 in
     let end = c.skip_white_space-end in
     let values_read = c.in_ok-text_end.ensures.read in
     let value = values_read.value.ends in
-    let Named = Copies (keeps c.args.keeper.now) (keeps c.read_name.new.keeper) t start.stretch name.stretch in
-    let Valued = Copies (keeps c.read_name.new.keeper) (keeps c.then.new.keeper) t name.stretch next in
-    let Wrote = Copies (keeps c.args.keeper.now) (keeps c.then.new.keeper) t start.stretch next in
-    let values = values-run t (Copies (keeps c.read_name.new.keeper) (keeps c.values.keeper) t name.stretch read.stretch) Valued name.end read.end values_read.last close end.result
+    let Named = Copies (keeps c.args.visitor.now) (keeps c.read_name.new.visitor) t start.segment name.segment in
+    let Valued = Copies (keeps c.read_name.new.visitor) (keeps c.then.new.visitor) t name.segment next in
+    let Wrote = Copies (keeps c.args.visitor.now) (keeps c.then.new.visitor) t start.segment next in
+    let values = values-run t (Copies (keeps c.read_name.new.visitor) (keeps c.values.visitor) t name.segment read.segment) Valued name.end read.end values_read.last close end.result
     so_far.so_far values_read.points values_read.stands value end.ensures
-    (λ w h. copies-then (keeps c.read_name.new.keeper) (keeps c.values.keeper) (keeps c.then.new.keeper) t name.stretch read.stretch next w _ h (c.in_ok-stretch.ensures.copied t (omega (arith, value.within)))) in
-    subst (λ i. IsPropertyRead Wrote t start.end i end.result) (sym c.in_ok-stretch.ensures.end)
+    (λ w h. copies-then (keeps c.read_name.new.visitor) (keeps c.values.visitor) (keeps c.then.new.visitor) t name.segment read.segment next w _ h (c.in_ok-segment.ensures.copied t (omega (arith, value.within)))) in
+    subst (λ i. IsPropertyRead Wrote t start.end i end.result) (sym c.in_ok-segment.ensures.end)
     (property-read Named Valued Wrote t start.end name.end (close + 1) end.result c.in_ok-name.ensures.read.name values
     (omega (arith, so_far.so_far.rises, values_read.points.ends, value.rises)) end.ensures (c.stands_at.ensures.other c.if-not-stands_at.true)
-    (copies-then (keeps c.args.keeper.now) (keeps c.read_name.new.keeper) (keeps c.then.new.keeper) t start.stretch name.stretch next))
+    (copies-then (keeps c.args.visitor.now) (keeps c.read_name.new.visitor) (keeps c.then.new.visitor) t start.segment name.segment next))
 
 pub values-preserved : goal.values-preserved
 values-preserved g c =
     let t = c.args.text.now in
-    let keeps = g.K.Keeper.keeps t in
+    let keeps = g.K.Visitor.keeps t in
     let name = c.in_ok-name.name in
     let read = c.values.read in
     let so_far = c.values.invariant in
-    let next = c.in_ok-stretch.stretch in
+    let next = c.in_ok-segment.segment in
     let end = c.skip_white_space-end in
     let values_read = c.in_ok-text_end.ensures.read in
     let value = values_read.value.ends in
     let (within, bracket) = c.stands_at.ensures.stands c.if-not-stands_at.false in
-    let Valued = Copies (keeps c.read_name.new.keeper) (keeps c.then.new.keeper) t name.stretch next in
-    let values = values-run t (Copies (keeps c.read_name.new.keeper) (keeps c.values.keeper) t name.stretch read.stretch) Valued name.end read.end values_read.last c.in_ok-text_end.field-0 end.result
+    let Valued = Copies (keeps c.read_name.new.visitor) (keeps c.then.new.visitor) t name.segment next in
+    let values = values-run t (Copies (keeps c.read_name.new.visitor) (keeps c.values.visitor) t name.segment read.segment) Valued name.end read.end values_read.last c.in_ok-text_end.field-0 end.result
     so_far.so_far values_read.points values_read.stands value end.ensures
-    (λ w h. copies-then (keeps c.read_name.new.keeper) (keeps c.values.keeper) (keeps c.then.new.keeper) t name.stretch read.stretch next w _ h (c.in_ok-stretch.ensures.copied t (omega (arith, value.within)))) in
+    (λ w h. copies-then (keeps c.read_name.new.visitor) (keeps c.values.visitor) (keeps c.then.new.visitor) t name.segment read.segment next w _ h (c.in_ok-segment.ensures.copied t (omega (arith, value.within)))) in
     record {
-      rises = c.in_ok-stretch.ensures.rises;
-      after = omega (arith, c.in_ok-stretch.ensures.end, end.ensures.rises);
+      rises = c.in_ok-segment.ensures.rises;
+      after = omega (arith, c.in_ok-segment.ensures.end, end.ensures.rises);
       stands = record { within = within; bracket = bracket };
       so_far = values-more t Valued name.end end.result values within bracket;
       kept = values_read.value.kept;
@@ -71,9 +71,9 @@ values-preserved g c =
 pub returns-in_err-text_end-clause-fault : goal.returns-in_err-text_end-clause-fault
 returns-in_err-text_end-clause-fault g c =
     let t = c.args.text.now in
-    let keeps = g.K.Keeper.keeps t in
+    let keeps = g.K.Visitor.keeps t in
     let from = c.values.read.end in
-    let Wrote = Copies (keeps c.read_name.new.keeper) (keeps c.values.keeper) t c.in_ok-name.name.stretch c.values.read.stretch in
+    let Wrote = Copies (keeps c.read_name.new.visitor) (keeps c.values.visitor) t c.in_ok-name.name.segment c.values.read.segment in
     let fault = c.in_err-text_end.ensures.fault in
     let so_far = points-read t Wrote from c.in_ok-name.name.end from fault.last (omega arith)
     (values-as t Wrote (After Wrote t from from) c.in_ok-name.name.end from (after-none Wrote t from) c.values.invariant.so_far) fault.points fault.stands in

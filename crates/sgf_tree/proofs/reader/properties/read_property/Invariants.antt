@@ -7,10 +7,10 @@ use Rattle.sgf_tree.proofs.reader.properties.read_property.Given as goal
 
 abbrev pub invariant-values : goal.invariant-values
 invariant-values g l = record {
-  rises : l.read.stretch.start ≤ l.read.stretch.end;
-  after : l.read.stretch.end ≤ l.read.end;
+  rises : l.read.segment.start ≤ l.read.segment.end;
+  after : l.read.segment.end ≤ l.read.end;
   stands : IsBracket l.text l.read.end;
-  so_far : ValuesSoFar l.text (Copies (g.K.Keeper.keeps l.text l.initial.keeper) (g.K.Keeper.keeps l.text l.keeper) l.text l.initial.read.stretch l.read.stretch) l.initial.read.end l.read.end;
+  so_far : ValuesSoFar l.text (Copies (g.K.Visitor.keeps l.text l.initial.visitor) (g.K.Visitor.keeps l.text l.visitor) l.text l.initial.read.segment l.read.segment) l.initial.read.end l.read.end;
   kept : AreKeptLengths l.text l.long.items;
 }
 

@@ -10,9 +10,9 @@ returns c = λ is.
     let inside = c.self.inside.colourings in
     let k = c.args.colour in
     let p = c.args.point in
-    let made = c.put.ensures ∙ ap (λ (g : Grid). play g k p) (c.copy-made.ensures ∙ c.newest.ensures) in
+    let made = c.place_and_clear.ensures ∙ ap (λ (g : Grid). play g k p) (c.copy-made.ensures ∙ c.newest.ensures) in
     let number = c.is_at.ensures.0 is in
-    let has = has_colouring (all_of inside) c.in-Some.number c.put.new.self (omega (arith, c.in-Some.ensures.0, c.stretch_start-start.ensures.start))
+    let has = has_colouring (all_of inside) c.in-Some.number c.place_and_clear.new.self (omega (arith, c.in-Some.ensures.0, c.stretch_start-start.ensures.start))
     (omega (arith, c.in-Some.ensures.1, tabled (all_of inside) c.self.inside.table (with_prints (all_of inside) c.self.inside.table c.self.invariant.tabled (omega (arith, c.in-Some.ensures.1))))) number in
     subst (λ (past : PastColourings). Contains (present_stretch past) (play (newest_grid c.args.self.now) k p)) c.self.view_is (subst (λ (g : Grid). Contains (present_stretch inside) g) made has)
 

@@ -20,10 +20,10 @@ pub returns-clause-never : goal.returns-clause-never
 returns-clause-never c = λ k takes none has.
     let w = (goal.at.returns-clause-never c).After-has_point-2 in
     let unset = or_parts _ _ none in
-    never_back c.args.self.now k c.args.point c.args.taken.now c.self.inside.emptied.rows (all w) c.requires.one_side (kept w) (record { on_board = c.requires.on_board; empty = c.requires.empty; taken = takes }) (sym c.has_point.ensures ∙ unset.0) (sym c.has_point-2.ensures ∙ unset.1) has
+    never_back c.args.self.now k c.args.point c.args.cleared.now c.self.inside.emptied.rows (all w) c.requires.one_side (kept w) (record { on_board = c.requires.on_board; empty = c.requires.empty; cleared = takes }) (sym c.has_point.ensures ∙ unset.0) (sym c.has_point-2.ensures ∙ unset.1) has
 
 pub returns-clause-fresh : goal.returns-clause-fresh
 returns-clause-fresh c = λ k takes none.
     let w = (goal.at.returns-clause-fresh c).After-has_point-2 in
     let unset = or_parts _ _ none in
-    fresh_stone_put c.args.self.now k c.args.point c.args.taken.now c.self.inside.emptied.rows (all w) c.requires.one_side (kept w) (record { on_board = c.requires.on_board; empty = c.requires.empty; taken = takes }) (sym c.has_point.ensures ∙ unset.0) (sym c.has_point-2.ensures ∙ unset.1)
+    fresh_stone_put c.args.self.now k c.args.point c.args.cleared.now c.self.inside.emptied.rows (all w) c.requires.one_side (kept w) (record { on_board = c.requires.on_board; empty = c.requires.empty; cleared = takes }) (sym c.has_point.ensures ∙ unset.0) (sym c.has_point-2.ensures ∙ unset.1)

@@ -50,8 +50,8 @@ module _ (c : Joined-may_have) where
     | else-may_have w ↦ rw w.gap-is tt
   ]
 
-  pub printed : c.print_after_taking-print.result ≡ print_of (play (newest_grid c.self.inside.colourings) c.args.colour c.args.point)
-  printed = c.print_after_taking-print.ensures ∙ ap (λ (g : Grid). print_of (play g c.args.colour c.args.point)) c.newest-newest.ensures
+  pub printed : c.print_after_clearing-print.result ≡ print_of (play (newest_grid c.self.inside.colourings) c.args.colour c.args.point)
+  printed = c.print_after_clearing-print.ensures ∙ ap (λ (g : Grid). print_of (play g c.args.colour c.args.point)) c.newest-newest.ensures
 
   -- the stone brings no colouring back
   pub never : Contains (present_stretch c.args.self.now) (play (newest_grid c.args.self.now) c.args.colour c.args.point) → ⊥

@@ -11,7 +11,7 @@ invariant_of-self-2 c =
     let was = c.self.inside in
     let newest = was.colourings.newest in
     let left = all_of c.pop_point.new.self in
-    let older = c.if-not-pop_point.ensures.taken refl in
+    let older = c.if-not-pop_point.ensures.cleared refl in
     let held = subst (λ (all : List Held). IsTable (newest ∷ all) was.table) older c.self.invariant.tabled in
     record {
       tabled = inl (asleep_less was.table newest left (c.if-is_awake.ensures.asleep (newest ∷ left) held refl));
@@ -20,4 +20,4 @@ invariant_of-self-2 c =
 
 pub overflow_cast-len : goal.overflow_cast-len
 overflow_cast-len c =
-    Fits-of_lt (omega (arith, c.len.ensures, few_all (all_of c.self.inside.colourings) c.self.inside.table c.self.invariant.tabled, ap (λ (xs : List Held). length xs) (c.if-not-pop_point.ensures.taken refl)))
+    Fits-of_lt (omega (arith, c.len.ensures, few_all (all_of c.self.inside.colourings) c.self.inside.table c.self.invariant.tabled, ap (λ (xs : List Held). length xs) (c.if-not-pop_point.ensures.cleared refl)))

@@ -1,10 +1,10 @@
 use Rattle.std.proofs.Common.{fold, ap, ◌∙◌}
 use Rattle.go_board.specs.Grid.{Grid}
-use Rattle.go_board.specs.State.{with_area}
+use Rattle.go_board.specs.State.{with_rectangle}
 use Rattle.go_board.proofs.past.print_past.PrintPastPast.set_up.Goals as goal
 
 pub returns-clause-ok : goal.returns-clause-ok
 returns-clause-ok c =
-    let coloured = c.work_settled_out.ensures ∙ c.colour_areas.ensures.value in
-    let made = coloured ∙ ap (λ (b : Grid). fold with_area b c.args.ops.now) (c.copy-made.ensures ∙ c.newest.ensures) in
+    let coloured = c.work_settled_out.ensures ∙ c.colour_rectangles.ensures.value in
+    let made = coloured ∙ ap (λ (b : Grid). fold with_rectangle b c.args.ops.now) (c.copy-made.ensures ∙ c.newest.ensures) in
     rw (← made) c.restart.ensures.ok

@@ -26,7 +26,7 @@ loop-row-preserved c =
           let parts = or_parts _ _ w.if-apart.false in
           let still = c.may_change.ensures parts.1 in
           rw w.changes-is (record {
-            kept = λ k move. kept_same (was.kept k move) parts.0 (row_kept c.args.board.now k c.args.point c.args.taken.now c.loop-row.row move low still.0 still.1);
+            kept = λ k move. kept_same (was.kept k move) parts.0 (row_kept c.args.board.now k c.args.point c.args.cleared.now c.loop-row.row move low still.0 still.1);
             room = omega (arith, was.room);
           })
     ]
@@ -37,4 +37,4 @@ returns c = λ k move.
     let all : c.loop-row.row ≡ c.rows_to_keep-row-end.result = omega arith in
     kept_rest (c.loop-row.invariant.kept k move) g.side (omega (arith, all, c.rows_to_keep-row-end.ensures.few))
     (λ r rest low. let still = c.rows_to_keep-row-end.ensures.rest r (omega (arith, rest, all)) (omega (arith, low)) in
-    (still.0, row_kept g k c.args.point c.args.taken.now r move low still.1 still.2))
+    (still.0, row_kept g k c.args.point c.args.cleared.now r move low still.1 still.2))

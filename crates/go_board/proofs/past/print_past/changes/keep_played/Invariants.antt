@@ -9,6 +9,6 @@ use Rattle.go_board.proofs.past.print_past.changes.keep_played.Given as goal
 
 abbrev pub invariant-loop-row : goal.invariant-loop-row
 invariant-loop-row l = record {
-  kept : (colour : Colour) → IsMove l.board colour l.point l.taken → KeepRows l.board (play l.board colour l.point) l.all l.row l.fn.changes.items l.changes.items;
+  kept : (colour : Colour) → IsMove l.board colour l.point l.cleared → KeepRows l.board (play l.board colour l.point) l.all l.row l.fn.changes.items l.changes.items;
   room : length l.changes.items + l.board.side ≤ vec_capacity l.changes + l.row;
 }

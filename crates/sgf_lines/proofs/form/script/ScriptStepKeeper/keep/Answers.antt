@@ -2,12 +2,12 @@
 use Rattle.std.proofs.Common.{◌≡◌, ℕ, List, take, ap, ◌∙◌, arith, rules}
 use Rattle.std.proofs.lemmas.Grind.{common_steps}
 use Rattle.sgf_lines.specs.JudgedGames.{GameKind}
-use Rattle.sgf_lines.specs.Walk.{TakenNode}
+use Rattle.sgf_lines.specs.Walk.{LegalNode}
 use Rattle.sgf_lines.specs.inner.Scripting.{ScriptState, script_back, script_of}
 use Rattle.sgf_lines.proofs.Scripts.{script_cut}
 use Rattle.sgf_lines.proofs.form.script.ScriptStepKeeper.keep.Goals as goal
 
-cut_back : (old new : ScriptState) (held : ℕ) (kind : GameKind) (taken : List TakenNode) → old ≡ script_of kind taken → new ≡ script_back held old → new ≡ script_of kind (take held taken)
+cut_back : (old new : ScriptState) (held : ℕ) (kind : GameKind) (taken : List LegalNode) → old ≡ script_of kind taken → new ≡ script_back held old → new ≡ script_of kind (take held taken)
 cut_back old new held kind taken is back = back ∙ ap (script_back held) is ∙ script_cut kind taken held
 
 pub returns-then-held-gt0-clause-kept : goal.returns-then-held-gt0-clause-kept

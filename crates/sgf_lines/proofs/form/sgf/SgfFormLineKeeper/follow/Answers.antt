@@ -8,7 +8,7 @@ use Rattle.sgf_lines.specs.Record.{node_text}
 use Rattle.tree_lines.specs.Following.{nodes_before}
 use Rattle.sgf_lines.specs.inner.Fronts.{sequences_before}
 use Rattle.sgf_lines.specs.inner.Pieces.{pushed, closed}
-use Rattle.sgf_lines.specs.inner.Recording.{open_record}
+use Rattle.sgf_lines.specs.inner.Recording.{unclosed_record}
 use Rattle.tree_lines.proofs.Fronts.{as_many_parts}
 use Rattle.sgf_lines.proofs.Keeping.{record_kept}
 use Rattle.tree_lines.proofs.Lists.{element}
@@ -26,7 +26,7 @@ loop-index-init c =
       | inl some ↦ c.in_ok-keep.ensures.some some ∙ kept some
       | inr none ↦
           let zero : c.args.held.sequences ≡ 0 = omega arith in
-          c.in_ok-keep.ensures.none zero ∙ ap (λ k. open_record (take k sequences)) (sym zero)
+          c.in_ok-keep.ensures.none zero ∙ ap (λ k. unclosed_record (take k sequences)) (sym zero)
     ]
 
 pub loop-index-preserved : goal.loop-index-preserved

@@ -14,7 +14,7 @@ returns-in-Some-Move c = λ front h.
 pub returns-in_ok-good-in-Some-Stones : goal.returns-in_ok-good-in-Some-Stones
 returns-in_ok-good-in-Some-Stones c = λ front h.
     let is = sym c.in-Some-Stones.ensures ∙ ap Some c.in-Some-Stones.field-0-is in
-    rw c.with_stones-self.ensures (gathered_stones c.args.size front c.args.operations.now.items c.args.self.now h c.args.property.now c.in-Some-Stones.cell c.push_areas.new.operations.items
+    rw c.with_stones-self.ensures (gathered_stones c.args.size front c.args.operations.now.items c.args.self.now h c.args.property.now c.in-Some-Stones.cell c.push_rectangles.new.operations.items
     c.in_ok-good-in-Some-Stones.good is c.in_ok-good-in-Some-Stones.ensures)
 
 pub returns-in-Some-Player : goal.returns-in-Some-Player

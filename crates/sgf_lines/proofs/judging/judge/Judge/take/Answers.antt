@@ -1,4 +1,4 @@
--- The step leads to the state that it added, or the refusal settles the verdict.
+-- The step leads to the state that it added, or the refusal decides the verdict.
 use Rattle.std.proofs.Common.{◌≡◌, Err, subst}
 use Rattle.sgf_lines.specs.Step.{step}
 use Rattle.sgf_lines.specs.inner.Judging.{IsStepOf}

@@ -1,4 +1,4 @@
--- The board is that of the number at which the walk is, and that number isn't below the wanted one.
+-- The board is that of the number at which the loop is, and that number isn't below the wanted one.
 use Rattle.std.proofs.Common.{ℕ, ◌-◌, ◌≤◌, length}
 use Rattle.go_board.specs.Past.{all_of}
 use Rattle.go_board.proofs.ColouringsLemmas.{IsThere}

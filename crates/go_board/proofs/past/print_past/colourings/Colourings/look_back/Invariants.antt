@@ -1,4 +1,4 @@
--- The colouring of the number at which the walk is. The stretch has the looked for colouring exactly if the stretch of that number has it.
+-- The colouring of the number at which the loop is. The stretch has the looked for colouring exactly if the stretch of that number has it.
 use Rattle.std.proofs.Common.{◌≡◌, ◌↔◌, ◌-◌, ◌≤◌, Contains, length, drop}
 use Rattle.go_board.specs.Past.{all_of, present_stretch, stretch_of}
 use Rattle.go_board.proofs.ColouringsLemmas.{IsThere}

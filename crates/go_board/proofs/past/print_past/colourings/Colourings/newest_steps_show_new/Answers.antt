@@ -32,7 +32,7 @@ returns-then-not-has_point c = λ colour moved _ has.
     let p = c.self.inside in
     let g = p.newest in
     let point = c.args.point in
-    let rows = c.args.taken.now in
+    let rows = c.args.cleared.now in
     let one = c.index-step.result.now in
     let move = subst (λ (grid : Grid). IsMove grid colour point rows) (same at) moved in
     let fresh = sym c.is_fresh.ensures ∙ c.if-is_fresh.true in
@@ -49,6 +49,6 @@ pub each-preserved : goal.each-preserved
 each-preserved c =
     let at = (goal.at.each-preserved c).After-index-step in
     let p = c.self.inside in
-    let move = subst (λ (grid : Grid). IsMove grid c.requires.stone.0 c.args.point c.args.taken.now) (same at) c.requires.stone.1 in
+    let move = subst (λ (grid : Grid). IsMove grid c.requires.stone.0 c.args.point c.args.cleared.now) (same at) c.requires.stone.1 in
     passed_one (all_of c.args.self.now) p.older.items p.changes.items p.stretch_start c.each.number p.newest c.args.point move.on_board move.empty c.each.invariant c.index-step.result.now (some at) c.index-step.ensures
     (λ e. omega (arith, e, c.if-number-self.false)) (not-false _ c.if-not-step.false)

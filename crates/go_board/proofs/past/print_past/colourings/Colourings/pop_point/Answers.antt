@@ -33,11 +33,11 @@ invariant_of-self c =
       omega (arith, count, c.pop.ensures.capacity, c.self.invariant.1),
     )
 
-pub returns-clause-taken : goal.returns-clause-taken
-returns-clause-taken c = λ _.
+pub returns-clause-cleared : goal.returns-clause-cleared
+returns-clause-cleared c = λ _.
     let p = c.self.inside in
     let o = c.unwrap-kept.result.now in
-    let w = (goal.at.returns-clause-taken c).After-set in
+    let w = (goal.at.returns-clause-cleared c).After-set in
     let alone : o.alone ≡ true = search rules in
     let turned = ap reverse (parts w alone) ∙ reverse-append c.pop.new.self.items (o ∷ []) in
     rw (sym c.self.view_is) (simp (turned, board w alone, none w alone, c.restore.ensures, c.set.ensures) refl)

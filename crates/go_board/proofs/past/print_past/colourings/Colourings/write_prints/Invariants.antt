@@ -1,4 +1,4 @@
--- The colouring of the number at which the walk is, and its print. The prints from that number on are written.
+-- The colouring of the number at which the loop is, and its print. The prints from that number on are written.
 use Rattle.std.proofs.Common.{◌≡◌, ℕ, ◌+◌, ◌-◌, ◌≤◌, ◌++◌, length, drop, reverse}
 use Rattle.go_board.specs.Past.{all_of}
 use Rattle.go_board.specs.inner.Print.{print_of, prints_of}

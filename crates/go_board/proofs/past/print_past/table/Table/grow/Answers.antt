@@ -1,14 +1,14 @@
 use Rattle.std.proofs.Common.{◌<◌, ap, arith}
 use Rattle.key_trie.specs.declared.trie.Trie.{Trie}
-use Rattle.key_trie.specs.Trie.{room_of}
+use Rattle.key_trie.specs.Trie.{capacity_of}
 use Rattle.go_board.specs.declared.past.print_past.table.Table.{Table}
 use Rattle.go_board.proofs.past.print_past.table.Table.grow.Goals as goal
 use Rattle.go_board.proofs.past.print_past.table.Table.grow.Goals.{After-capacity, then-count-room+in_ok-make_room, else-count-room}
 
-room : (c : After-capacity) → c.args.count < room_of c.if-count-room.self.trie
+room : (c : After-capacity) → c.args.count < capacity_of c.if-count-room.self.trie
 room c = elim c.if-count-room.branch [
-  | then-count-room+in_ok-make_room w ↦ omega (arith, ap (λ (x : Table). room_of x.trie) w.self-is, w.in_ok-make_room.ensures.ok, c.requires.room)
-  | else-count-room w ↦ omega (arith, ap (λ (x : Table). room_of x.trie) w.self-is, w.if-count-room.false, c.room.ensures)
+  | then-count-room+in_ok-make_room w ↦ omega (arith, ap (λ (x : Table). capacity_of x.trie) w.self-is, w.in_ok-make_room.ensures.ok, c.requires.room)
+  | else-count-room w ↦ omega (arith, ap (λ (x : Table). capacity_of x.trie) w.self-is, w.if-count-room.false, c.room.ensures)
 ]
 
 pub returns-in_ok-reserve-clause-trie : goal.returns-in_ok-reserve-clause-trie

@@ -5,7 +5,7 @@ use Rattle.go_board.specs.inner.Key.{bits_of, hash_in_key, keys_of}
 use Rattle.go_board.specs.inner.Table.{SameButHashes}
 use Rattle.key_trie.specs.declared.trie.Trie.{Trie}
 use Rattle.key_trie.specs.Key.{Agree}
-use Rattle.key_trie.specs.Trie.{item_count, kid_at, IsNearest, IsParting, IsTrie, IsWayTo}
+use Rattle.key_trie.specs.Trie.{item_count, child_at, IsNearest, IsParting, IsTrie, IsWayTo}
 use Rattle.go_board.proofs.TableLemmas.{all_anew, links_with, same_both, tabled}
 use Rattle.key_trie.proofs.TrieLemmas.{agree_back, agree_on, agree_self, parts_as, way_nearest}
 use Rattle.go_board.proofs.past.print_past.table.Table.link_by_board.Goals as goal
@@ -21,19 +21,19 @@ module _ (c : After-first_apart) where
   pub linked : IsTrie WIDTH keys c.first_apart.new.self.trie
   linked = subst (λ (x : Trie). IsTrie WIDTH keys x) (sym c.first_apart.ensures.rest.trie) c.take_hash-hash.ensures.table.linked
 
-  pub walk : IsWayTo keys c.first_apart.new.self.trie (bits_of c.key_of-key.result) WIDTH c.descend-from.result
-  walk =
+  pub descent : IsWayTo keys c.first_apart.new.self.trie (bits_of c.key_of-key.result) WIDTH c.descend-from.result
+  descent =
       subst (λ (x : Trie). IsWayTo keys x (bits_of c.key_of-key.result) WIDTH c.descend-from.result) (sym c.first_apart.ensures.rest.trie)
       (c.descend-from.ensures.way WIDTH keys c.take_hash-hash.ensures.table.linked)
 
   -- the nearest colouring in the trie
-  pub near_is : c.kid-near.result ≡ kid_at c.first_apart.new.self.trie c.descend-from.result
-  near_is = c.kid-near.ensures ∙ ap (λ (x : Trie). kid_at x c.descend-from.result) (sym c.first_apart.ensures.rest.trie)
+  pub near_is : c.child-near.result ≡ child_at c.first_apart.new.self.trie c.descend-from.result
+  near_is = c.child-near.ensures ∙ ap (λ (x : Trie). child_at x c.descend-from.result) (sym c.first_apart.ensures.rest.trie)
 
-  pub nearest_is : IsNearest keys c.first_apart.new.self.trie (bits_of c.key_of-key.result) WIDTH c.kid-near.result
+  pub nearest_is : IsNearest keys c.first_apart.new.self.trie (bits_of c.key_of-key.result) WIDTH c.child-near.result
   nearest_is =
       subst (λ n. IsNearest keys c.first_apart.new.self.trie (bits_of c.key_of-key.result) WIDTH n) (sym near_is)
-      (way_nearest WIDTH keys c.first_apart.new.self.trie linked c.descend-from.result walk (omega arith))
+      (way_nearest WIDTH keys c.first_apart.new.self.trie linked c.descend-from.result descent (omega arith))
 
   -- the bits of the next colouring's key
   pub own : Agree (bits_of c.key_of-key.result) (keys (item_count c.first_apart.new.self.trie)) WIDTH
@@ -50,20 +50,20 @@ returns-in-Some c =
     let held = all_of c.args.colourings.now in
     let now = c.first_apart.new.self in
     let apart = c.in-Some.ensures.apart in
-    let near = c.kid-near.result in
-    let parts = parts_as (nearest_is w) (keys w (item_count now.trie)) (keys w near) c.in-Some.place apart.0 (own w) (agree_self (keys w near) WIDTH) apart.1 apart.2 in
-    links_with held c.args.self.now now c.part.new.self c.first_apart.ensures.table (same w) c.requires.unlinked.more c.part.ensures.room c.part.ensures.more
-    (subst (λ (h : Bool). IsTrie WIDTH (keys_of h held) c.part.new.self) c.take_hash-hash.ensures.rest.hashed
-    (c.part.ensures.trie WIDTH (keys w) WIDTH (linked w) apart.0 (walk w) apart.0 parts.0
-    (subst (λ n. IsParting (item_count now.trie) (keys w) (keys w (item_count now.trie)) n c.in-Some.place) (near_is w) parts.1)))
+    let near = c.child-near.result in
+    let parts = parts_as (nearest_is w) (keys w (item_count now.trie)) (keys w near) c.in-Some.position apart.0 (own w) (agree_self (keys w near) WIDTH) apart.1 apart.2 in
+    links_with held c.args.self.now now c.insert_parted.new.self c.first_apart.ensures.table (same w) c.requires.unlinked.more c.insert_parted.ensures.room c.insert_parted.ensures.more
+    (subst (λ (h : Bool). IsTrie WIDTH (keys_of h held) c.insert_parted.new.self) c.take_hash-hash.ensures.rest.hashed
+    (c.insert_parted.ensures.trie WIDTH (keys w) WIDTH (linked w) apart.0 (descent w) apart.0 parts.0
+    (subst (λ n. IsParting (item_count now.trie) (keys w) (keys w (item_count now.trie)) n c.in-Some.position) (near_is w) parts.1)))
 
 pub returns-in-None : goal.returns-in-None
 returns-in-None c =
     let w = (goal.at.returns-in-None c).After-first_apart in
     let held = all_of c.args.colourings.now in
-    links_with held c.args.self.now c.first_apart.new.self c.repeat.new.self c.first_apart.ensures.table (same w) c.requires.unlinked.more c.repeat.ensures.room c.repeat.ensures.more
-    (subst (λ (h : Bool). IsTrie WIDTH (keys_of h held) c.repeat.new.self) c.take_hash-hash.ensures.rest.hashed
-    (c.repeat.ensures.trie WIDTH (keys w) c.kid-near.result (linked w) (nearest_is w).there (agree_on (agree_back c.in-None.ensures.apart) (own w))))
+    links_with held c.args.self.now c.first_apart.new.self c.insert_equal.new.self c.first_apart.ensures.table (same w) c.requires.unlinked.more c.insert_equal.ensures.room c.insert_equal.ensures.more
+    (subst (λ (h : Bool). IsTrie WIDTH (keys_of h held) c.insert_equal.new.self) c.take_hash-hash.ensures.rest.hashed
+    (c.insert_equal.ensures.trie WIDTH (keys w) c.child-near.result (linked w) (nearest_is w).there (agree_on (agree_back c.in-None.ensures.apart) (own w))))
 
 pub returns-then-is_deep : goal.returns-then-is_deep
 returns-then-is_deep c =
@@ -86,4 +86,4 @@ first_apart-requires-clause-number c =
     let keys = keys_of t.hashed held in
     let is = c.take_hash-hash.ensures.table in
     let near = way_nearest WIDTH keys t.trie is.linked c.descend-from.result (c.descend-from.ensures.way WIDTH keys is.linked) (omega arith) in
-    omega (arith, c.kid-near.ensures, near.there, is.few, tabled held t is)
+    omega (arith, c.child-near.ensures, near.there, is.few, tabled held t is)

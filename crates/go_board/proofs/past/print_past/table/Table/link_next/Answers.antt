@@ -16,13 +16,13 @@ returns-in-Some c =
     let keys = keys_of t.hashed held in
     let own = rw c.len-number.ensures at c.key_of-key.ensures in
     let apart = c.in-Some.ensures in
-    let walk = c.descend-from.ensures.way WIDTH keys is.linked in
-    let near = way_nearest WIDTH keys t.trie is.linked c.descend-from.result walk (omega arith) in
-    let parts = parts_as near (keys (item_count t.trie)) _ c.in-Some.place apart.0 own.front (subst (λ n. Agree (bits_of c.key_of-other.result) (keys n) FRONT) c.kid-near.ensures c.key_of-other.ensures.front) apart.1 apart.2 in
+    let descent = c.descend-from.ensures.way WIDTH keys is.linked in
+    let near = way_nearest WIDTH keys t.trie is.linked c.descend-from.result descent (omega arith) in
+    let parts = parts_as near (keys (item_count t.trie)) _ c.in-Some.position apart.0 own.front (subst (λ n. Agree (bits_of c.key_of-other.result) (keys n) FRONT) c.child-near.ensures c.key_of-other.ensures.front) apart.1 apart.2 in
     record {
-      table = tabled_with held t (record t { trie = c.part.new.self }) is refl refl refl refl (omega (arith, is.room, c.part.ensures.room)) (omega (arith, is.most, c.part.ensures.room)) (omega (arith, c.part.ensures.more, c.requires.unlinked.more))
-          (c.part.ensures.trie WIDTH keys FRONT is.linked (omega (arith, apart.0)) walk apart.0 parts.0 parts.1);
-      fewer = one_linked t (record t { trie = c.part.new.self }) refl refl c.part.ensures.more c.requires.unlinked.more;
+      table = tabled_with held t (record t { trie = c.insert_parted.new.self }) is refl refl refl refl (omega (arith, is.room, c.insert_parted.ensures.room)) (omega (arith, is.most, c.insert_parted.ensures.room)) (omega (arith, c.insert_parted.ensures.more, c.requires.unlinked.more))
+          (c.insert_parted.ensures.trie WIDTH keys FRONT is.linked (omega (arith, apart.0)) descent apart.0 parts.0 parts.1);
+      fewer = one_linked t (record t { trie = c.insert_parted.new.self }) refl refl c.insert_parted.ensures.more c.requires.unlinked.more;
       prints = refl {A = List ℕ};
     }
 
@@ -38,4 +38,4 @@ key_of-other-requires-clause-number c =
     let keys = keys_of t.hashed held in
     let linked = c.requires.unlinked.table.linked in
     let near = way_nearest WIDTH keys t.trie linked c.descend-from.result (c.descend-from.ensures.way WIDTH keys linked) (omega arith) in
-    omega (arith, c.kid-near.ensures, near.there, c.requires.unlinked.more, tabled (all_of c.args.colourings.now) c.args.self.now c.requires.unlinked.table)
+    omega (arith, c.child-near.ensures, near.there, c.requires.unlinked.more, tabled (all_of c.args.colourings.now) c.args.self.now c.requires.unlinked.table)

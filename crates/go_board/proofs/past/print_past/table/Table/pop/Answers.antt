@@ -7,7 +7,7 @@ use Rattle.go_board.specs.inner.Key.{keys_of}
 use Rattle.go_board.specs.inner.Filter.{IsFilter}
 use Rattle.go_board.specs.inner.Print.{prints_of}
 use Rattle.go_board.specs.inner.Table.{IsAwakeTable}
-use Rattle.key_trie.specs.Trie.{item_count, room_of, IsTrie}
+use Rattle.key_trie.specs.Trie.{item_count, capacity_of, IsTrie}
 use Rattle.go_board.proofs.TableLemmas.{asleep_less, sleeps, with_prints, tabled, printed_back, linked_after}
 use Rattle.go_board.proofs.past.print_past.table.Table.pop.Goals as goal
 use Rattle.go_board.proofs.past.print_past.table.Table.pop.Goals.{then-len, else-len}
@@ -37,7 +37,7 @@ returns c = λ newest older any.
           (rw filter (subst (λ (xs : List ℕ). IsFilter xs t.filter) parts is.filtered)),
     )
     in
-    let table_of : (after.prints.items ≡ t.prints.items) → (after.filter ≡ t.filter) → (room_of after.trie ≡ room_of t.trie) → (after.hashed ≡ t.hashed) → (after.hashes ≡ t.hashes) → (after.room_asleep ≡ t.room_asleep) → (item_count after.trie ≤ length older) → IsTrie WIDTH (keys_of t.hashed (newest ∷ older)) after.trie
+    let table_of : (after.prints.items ≡ t.prints.items) → (after.filter ≡ t.filter) → (capacity_of after.trie ≡ capacity_of t.trie) → (after.hashed ≡ t.hashed) → (after.hashes ≡ t.hashes) → (after.room_asleep ≡ t.room_asleep) → (item_count after.trie ≤ length older) → IsTrie WIDTH (keys_of t.hashed (newest ∷ older)) after.trie
     → IsAwakeTable older (record { prints = c.pop.new.self; trie = after.trie; filter = c.go_back.new.self; hashed = after.hashed; hashes = c.go_back-2.new.self; room_asleep = after.room_asleep }) = λ same filter room hashed hashes awake few linked.
     let print = popped same filter in
     record {
@@ -54,12 +54,12 @@ returns c = λ newest older any.
     inr (elim c.if-len.branch [
       | then-len w ↦
           let trie : after.trie ≡ w.take_back.new.self = ap (λ (x : Table). x.trie) w.self-is in
-          table_of (ap (λ (x : Table). x.prints.items) w.self-is) (ap (λ (x : Table). x.filter) w.self-is) (ap room_of trie ∙ w.take_back.ensures.room) (ap (λ (x : Table). x.hashed) w.self-is) (ap (λ (x : Table). x.hashes) w.self-is) (ap (λ (x : Table). x.room_asleep) w.self-is)
+          table_of (ap (λ (x : Table). x.prints.items) w.self-is) (ap (λ (x : Table). x.filter) w.self-is) (ap capacity_of trie ∙ w.take_back.ensures.room) (ap (λ (x : Table). x.hashed) w.self-is) (ap (λ (x : Table). x.hashes) w.self-is) (ap (λ (x : Table). x.room_asleep) w.self-is)
           (omega (arith, ap item_count trie, w.take_back.ensures.fewer, w.if-len.true, c.len.ensures, c.len-2.ensures, t.prints.ok.0, all))
           (subst (λ (x : Trie). IsTrie WIDTH (keys_of t.hashed (newest ∷ older)) x) (sym trie) (w.take_back.ensures.trie WIDTH (keys_of t.hashed (newest ∷ older)) is.linked))
       | else-len w ↦
           let trie : after.trie ≡ t.trie = ap (λ (x : Table). x.trie) w.self-is in
-          table_of (ap (λ (x : Table). x.prints.items) w.self-is) (ap (λ (x : Table). x.filter) w.self-is) (ap room_of trie) (ap (λ (x : Table). x.hashed) w.self-is) (ap (λ (x : Table). x.hashes) w.self-is) (ap (λ (x : Table). x.room_asleep) w.self-is)
+          table_of (ap (λ (x : Table). x.prints.items) w.self-is) (ap (λ (x : Table). x.filter) w.self-is) (ap capacity_of trie) (ap (λ (x : Table). x.hashed) w.self-is) (ap (λ (x : Table). x.hashes) w.self-is) (ap (λ (x : Table). x.room_asleep) w.self-is)
           (omega (arith, ap item_count trie, w.if-len.false, c.len.ensures, c.len-2.ensures, t.prints.ok.0, all, is.few))
           (subst (λ (x : Trie). IsTrie WIDTH (keys_of t.hashed (newest ∷ older)) x) (sym trie) is.linked)
     ])

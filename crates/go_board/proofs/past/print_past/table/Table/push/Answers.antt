@@ -30,8 +30,8 @@ returns c = λ held next given some room.
     let after : Table = record t { prints = c.push_reserved.new.self; trie = c.insert.new.self; hashes = c.keep.new.self } in
     let number : c.len.result - 1 ≡ length held =
     omega (arith, c.len.ensures, c.push_reserved.new.self.ok.0, ap (λ (xs : List ℕ). length xs) c.push_reserved.ensures.items, length-append t.prints.items (c.in-Some.print ∷ []), tabled held t is) in
-    let trie = c.insert.ensures.trie WIDTH keys (linked_before t.hashed next held t.trie (omega (arith, gap.all)) is.linked) gap.within (subst (λ m. IsOpening keys t.trie (keys m) c.in-Some-gap.gap.slot c.in-Some-gap.gap.place) (sym gap.all) gap.opens)
-    (subst (λ m. keys m c.in-Some-gap.gap.place ≡ c.in-Some-gap.gap.bit) (sym gap.all) gap.bit) in
+    let trie = c.insert.ensures.trie WIDTH keys (linked_before t.hashed next held t.trie (omega (arith, gap.all)) is.linked) gap.within (subst (λ m. IsOpening keys t.trie (keys m) c.in-Some-gap.gap.slot c.in-Some-gap.gap.position) (sym gap.all) gap.opens)
+    (subst (λ m. keys m c.in-Some-gap.gap.position ≡ c.in-Some-gap.gap.bit) (sym gap.all) gap.bit) in
     inr (tabled_more held t after next c.in-Some.print is awake.1 c.push_reserved.ensures.items refl refl (omega (arith, room.trie, c.insert.ensures.room, tabled held t is)) (omega (arith, is.most, c.insert.ensures.room))
     (omega (arith, c.insert.ensures.more, gap.all, tabled held t is)) trie
     (c.keep.ensures (next ∷ held) (omega (arith, number)) (hashes_more next held t.hashes is.kept)

@@ -2,7 +2,7 @@ use Rattle.std.proofs.Common.{◌<◌, ◌≤◌, ◌^◌, [], inl, inr, length,
 use Rattle.std.specs.Vec.{vec_capacity}
 use Rattle.std.proofs.lemmas.List.{nil_from_length}
 use Rattle.go_board.specs.inner.Filter.{IsFilter}
-use Rattle.key_trie.specs.Trie.{room_of}
+use Rattle.key_trie.specs.Trie.{capacity_of}
 use Rattle.go_board.proofs.TableLemmas.{tabled}
 use Rattle.go_board.proofs.past.print_past.table.Table.reset.Goals as goal
 
@@ -13,8 +13,8 @@ returns c = λ first.
       | inl asleep ↦ rw asleep.no_prints asleep.filtered
       | inr awake ↦ awake.filtered
     ] in
-    let most : room_of t.trie < 2 ^ 32 = elim c.requires.1 [ inl asleep ↦ asleep.most | inr awake ↦ awake.most ] in
-    let room : 1 ≤ room_of t.trie = elim c.requires.1 [
+    let most : capacity_of t.trie < 2 ^ 32 = elim c.requires.1 [ inl asleep ↦ asleep.most | inr awake ↦ awake.most ] in
+    let room : 1 ≤ capacity_of t.trie = elim c.requires.1 [
       | inl asleep ↦ omega (arith, asleep.fits, asleep.room, c.requires.2)
       | inr awake ↦ omega (arith, awake.room, tabled c.requires.0 t awake, c.requires.2)
     ] in

@@ -1,0 +1,29 @@
+use Rattle.std.proofs.Common.{◌≡◌, ◌+◌, ◌++◌, [], ◌∷◌, false, true, refl, ap, sym, ◌∙◌, arith, rules}
+use Rattle.go_board.specs.Clearing.{play}
+use Rattle.go_board.specs.Past.{newest_grid, with_next}
+use Rattle.go_board.specs.State.{States}
+use Rattle.go_board.specs.Reason.{reason_of}
+use Rattle.go_board.specs.inner.Earlier.{grew, player_of, turned}
+use Rattle.go_board.proofs.EarlierLemmas.{IsRefereeKept-grown}
+use Rattle.go_board.proofs.SettledLemmas.{side_play}
+use Rattle.go_board.proofs.TurnLemmas.{reason_of-new}
+use Rattle.go_board.proofs.referee.Referee.play_at_once.Goals as goal
+
+pub invariant_of-self-2 : goal.invariant_of-self-2
+invariant_of-self-2 g c =
+    let was = c.self.inside in
+    let kept = c.present_kept-present in
+    let past = g.P.Past.held was.past in
+    let made = play (newest_grid past) c.args.colour c.in-Stone.point in
+    let now : g.P.Past.held c.play_at_once.new.self ≡ with_next past made false = c.if-not-play_at_once.ensures.played refl in
+    let items : c.push_reserved.new.self.items ≡ was.earlier.items ++ kept.result ∷ [] = search rules in
+    IsRefereeKept-grown past (player_of was.mover) was.passes was.turns was.earlier.items
+    kept.result true (kept.ensures.player ∙ sym (ap (λ (states : States). states.present.player) c.self.view_is)) (kept.ensures.passes ∙ sym (ap (λ (states : States). states.present.passes) c.self.view_is)) (ap grew kept.ensures.call) (ap turned kept.ensures.call)
+    (was.turns + 1) (omega arith) c.self.invariant (g.P.Past.held c.play_at_once.new.self) made false (player_of c.only-self-inside.result) c.push_reserved.new.self.items now (side_play (newest_grid past) c.args.colour c.in-Stone.point) items
+
+pub returns-clause-legal : goal.returns-clause-legal
+returns-clause-legal g c = λ _.
+    let present = c.args.self.now.present in
+    ap (reason_of present c.args.colour) c.in-Stone.is
+    ∙ reason_of-new present c.args.colour c.in-Stone.point _ _ (ap (λ (states : States). states.present.seen) c.self.view_is)
+    (ap (λ (states : States). play states.present.colouring c.args.colour c.in-Stone.point) c.self.view_is) c.in_default-reason_before_repeat.ensures.only_repeat (c.if-not-play_at_once.ensures.new refl)

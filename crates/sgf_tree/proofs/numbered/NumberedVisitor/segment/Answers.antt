@@ -1,0 +1,14 @@
+use Rattle.std.proofs.lemmas.Result.{on_ok_weaker}
+use Rattle.sgf_tree.proofs.numbered.NumberedVisitor.segment.Goals as goal
+
+pub returns : goal.returns
+returns c = record {
+  kept = on_ok_weaker c.segment.result
+      (λ kept text k coming holds within. record {
+        sequences = kept text k coming holds.sequences within;
+        places_are = holds.places_are;
+        places_within = holds.places_within;
+        lasts_are = holds.lasts_are;
+      })
+      c.segment.ensures.kept;
+}
