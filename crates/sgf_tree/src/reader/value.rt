@@ -14,7 +14,6 @@ const LONG: usize = 4096;
 
 /// Reads the value whose `[` is at `at`. Returns the offset of its `]`.
 // A shortcut passes over points, if such values begin there, and the value after them is read. Another one reads a short value.
-#[inline(always)]
 pub(crate) fn read_value(
     text: &[u8],
     at: usize,
