@@ -13,7 +13,7 @@ use Rattle.sgf_lines.specs.Walk.{LegalNode, IllegalNode, Walk, stepped, next, wa
 use Rattle.sgf_lines.specs.Verdict.{score_in, verdict_with, verdict_at, verdict_by, verdict_of}
 use Rattle.sgf_lines.proofs.Walking.{after_illegal}
 use Rattle.sgf_lines.specs.SplitAgain.{HaveSame, SaysSame, scored, illegal_at, another_game, another_size, IsKept}
-use Rattle.sgf_properties.specs.RawValue.{IsValue, no_unit, plain, escaped}
+use Rattle.sgf_properties.specs.RawValue.{IsValue, no_unit, ordinary, escaped}
 use Rattle.sgf_tree.specs.Spelling.{WhiteSpace, no_white_space, white_space, Letters, no_letter, upper, lower, IsPropValue, prop_value, ArePropValues, no_value, value, IsProperty, property, AreProperties, no_property, properties, IsNode, node, AreNodes, no_node, nodes, AreGames, no_game, games, no_byte_order_mark, Spells, spells}
 use Rattle.tree_lines.specs.Lines.{Line, through, node_lines, lines_of_game, lines_from, lines}
 use Rattle.sgf_lines.specs.Record.{value_text, property_text, node_text, sgf_record, output}
@@ -103,7 +103,7 @@ letters_again (lower h l) u = letters_again l u
 
 value_again : {v s r : List ℕ} → IsValue v s r → (u : List ℕ) → IsValue v (v ++ u) u
 value_again no_unit u = no_unit
-value_again (plain h k v) u = plain h k (value_again v u)
+value_again (ordinary h k v) u = ordinary h k (value_again v u)
 value_again (escaped v) u = escaped (value_again v u)
 
 prop_value_again : {v s r : List ℕ} → IsPropValue v s r → (u : List ℕ) → IsPropValue v (value_text v ++ u) u

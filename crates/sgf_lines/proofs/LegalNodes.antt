@@ -67,7 +67,7 @@ module _ (kind : GameKind) (nodes : List Node) (n : Node) (j : Judgement) (is : 
   told_last s taken = ap (λ o. legal_on kind nodes ++ legal_by o n) (sym taken) ∙ taken_next
 
   pub is_taken : (step : LegalStep) (grid : Grid) (taken : IsStepFrom j n (Some step)) → Some grid ≡ board_in (after j n) → IsLegalStep kind grid step (record { node = n; after = taken.0 })
-  is_legal step grid taken there =
+  is_taken step grid taken there =
       let both : Some grid ≡ Some taken.0.colouring = there ∙ board_after j n taken.0 taken.1 in
       let same : grid ≡ taken.0.colouring = cc in
       let next : board_in (judging kind (nodes ++ n ∷ [])) ≡ Some grid = ap board_in (judging_more kind nodes n ∙ ap (λ k. after k n) (sym is)) ∙ sym there in

@@ -55,7 +55,7 @@ module _ (g : Over) (c : In_ok-step g) where
   one = record { unsettled = c.steps.invariant.unsettled; first = first; judged = judged; plays = c.in_ok-step.ensures.plays }
 
   taken : (step : Option LegalStep) → c.in_ok-step.field-0 ≡ step → IsStepFrom c.steps.judge.judgement node step
-  legal step is = subst (IsStepFrom c.steps.judge.judgement node) is (c.in_ok-step.ensures.step node coming)
+  taken step is = subst (IsStepFrom c.steps.judge.judgement node) is (c.in_ok-step.ensures.step node coming)
 
 pub steps-init : goal.steps-init
 steps-init g c = record {
