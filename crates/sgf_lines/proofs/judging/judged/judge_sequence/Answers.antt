@@ -122,6 +122,6 @@ steps-preserved g c =
       going = λ kind before h.
           let going = c.steps.invariant.going kind before h in
           let step = step_taken going (one g at) c.in-Some.step c.unwrap.result.now known there in
-          said going (one g at) c.in-Some.step c.unwrap.result.now known there (g.K.StepKeeper.tells c.say.new.self) (c.in_ok-say.ensures _ _ _ going.on.has_judged.legal step);
+          said going (one g at) c.in-Some.step c.unwrap.result.now known there (g.K.StepKeeper.tells c.say.new.self) (c.in_ok-say.ensures _ _ _ going.on.has_judged.taken step);
       unsettled = subst IsUnsettled (sym (judged g at)) (unsettled_by c.steps.judge.judgement (node g at) known.0 known.1);
     }
