@@ -5,8 +5,8 @@
 # keeps of it, and the peak of one long game. If the variable TURNS names a program that prints the same times of another referee, the
 # two run by turns. The least time of ROUNDS runs (5) is printed for each.
 # The programs aren't crates of this repository, so that the gate doesn't prove them. They are built in the folder that BENCH_FOLDER
-# names, beside copies of board_points, key_trie and go_board. The first run proves all five, which takes minutes. A later run in the same folder
-# takes seconds.
+# names, beside copies of go_board and the crates below it. The first run proves all of them, which takes minutes. A later run in the same
+# folder takes seconds.
 # Numbers from a busy machine are worth little.
 set -eu
 top=$(cd "$(dirname "$0")/.." && pwd)
@@ -17,8 +17,8 @@ for name in board memory; do
     : > "$folder/crates/bench_$name/specs/Lib.antt"
 done
 cp "$top/HANDLES" "$folder/HANDLES"
-printf 'board_points:\nkey_trie:\ngo_board: board_points key_trie\nbench_board: board_points go_board\nbench_memory: board_points go_board\n' > "$folder/crates.txt"
-for library in board_points key_trie go_board; do
+printf 'board_points:\nkey_trie:\nboard_stones: board_points\nboard_past: board_points board_stones key_trie sha2\ngo_board: board_points board_stones board_past\nbench_board: board_points go_board\nbench_memory: board_points go_board\n' > "$folder/crates.txt"
+for library in board_points key_trie board_stones board_past go_board; do
     mkdir -p "$folder/crates/$library"
     for part in src specs proofs; do
         rm -rf "$folder/crates/$library/$part"

@@ -5,10 +5,10 @@ use Rattle.std.proofs.lemmas.List.{get_or-reverse, length-reverse, reverse-appen
 use Rattle.go_board.specs.declared.referee.Call.TheVariants.{Stay}
 use Rattle.go_board.specs.declared.referee.Mover.{Mover}
 use Rattle.go_board.specs.declared.referee.Earlier.{Earlier}
-use Rattle.go_board.specs.declared.stones.Colour.{Colour}
-use Rattle.go_board.specs.declared.stones.Colour.TheVariants.{Black}
-use Rattle.go_board.specs.Grid.{Grid, empty_grid}
-use Rattle.go_board.specs.Past.{Held, PastColourings, newest_grid, only, with_next, AllHaveSide, HaveSide}
+use Rattle.board_stones.specs.declared.stones.Colour.{Colour}
+use Rattle.board_stones.specs.declared.stones.Colour.TheVariants.{Black}
+use Rattle.board_stones.specs.Grid.{Grid, empty_grid}
+use Rattle.board_past.specs.Past.{Held, PastColourings, newest_grid, only, with_next, AllHaveSide, HaveSide}
 use Rattle.go_board.specs.State.{State, HadSameBoardSince, begun, starting}
 use Rattle.go_board.specs.inner.Earlier.{grew, turned, player_of, past_before, past_of_older, states_before, turns_before, grown, turn_count, state_of, states_of, IsRefereeKept}
 

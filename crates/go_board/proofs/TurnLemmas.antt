@@ -5,26 +5,26 @@ use Rattle.std.proofs.lemmas.Bool.{false≢true, cases_lt, cases_Bool}
 use Rattle.std.proofs.lemmas.Bool.Decides.{Decides-by_or, Decides-and, Decides-not, Decides-like, Decides-eqb, same_from_decides, not_from_Decides}
 use Rattle.std.proofs.lemmas.List.Elements.{Decides-contains}
 use Rattle.std.proofs.lemmas.Slice.Eq.{slice_eq-Decides}
-use Rattle.go_board.specs.declared.stones.Colour.{Colour}
+use Rattle.board_stones.specs.declared.stones.Colour.{Colour}
 use Rattle.board_points.specs.declared.points.Point.{Point}
 use Rattle.go_board.specs.declared.referee.plays.Play.{Play}
-use Rattle.go_board.specs.declared.setup_op.SetupOp.{SetupOp}
+use Rattle.board_stones.specs.declared.setup_op.SetupOp.{SetupOp}
 use Rattle.go_board.specs.declared.referee.plays.Play.TheVariants.{Pass, Stone}
 use Rattle.go_board.specs.declared.fault.TurnFault.TheVariants.{Illegal}
 use Rattle.go_board.specs.declared.reason.Reason.{Reason}
 use Rattle.go_board.specs.declared.reason.Reason.TheVariants.{Mixed, TwoMoves, BadSetup, BadPoint, Over, Turn, Occupied, Repeat}
-use Rattle.go_board.specs.declared.stones.Cell.TheVariants.{Empty}
-use Rattle.go_board.specs.declared.stones.Colour.TheVariants.{Black, White}
-use Rattle.go_board.specs.Colour.{opponent}
-use Rattle.go_board.specs.Grid.{Grid, cell_at}
-use Rattle.go_board.specs.Clearing.{play}
+use Rattle.board_stones.specs.declared.stones.Cell.TheVariants.{Empty}
+use Rattle.board_stones.specs.declared.stones.Colour.TheVariants.{Black, White}
+use Rattle.board_stones.specs.Colour.{opponent}
+use Rattle.board_stones.specs.Grid.{Grid, cell_at}
+use Rattle.board_stones.specs.Clearing.{play}
 use Rattle.go_board.specs.State.{State, is_over, set_up, turned}
 use Rattle.go_board.specs.Reason.{must_move, is_occupied, is_repeat, same_grid, reason_of, Forbids, IsFirstReason, rank_of}
 use Rattle.go_board.specs.inner.Earlier.{MayOnlyRepeat}
-use Rattle.go_board.proofs.GridLemmas.{one_grid, Decides-same_cell}
-use Rattle.go_board.proofs.RuleLemmas.{false_from_Decides}
-use Rattle.go_board.proofs.SettledLemmas.{side_play}
-use Rattle.go_board.proofs.RectangleLemmas.{side-with_rectangles}
+use Rattle.board_stones.proofs.GridLemmas.{one_grid, Decides-same_cell}
+use Rattle.board_stones.proofs.RuleLemmas.{false_from_Decides}
+use Rattle.board_stones.proofs.SettledLemmas.{side_play}
+use Rattle.board_stones.proofs.RectangleLemmas.{side-with_rectangles}
 
 pub Decides-grids : (g h : Grid) → Decides (same_grid g h) (g ≡ h)
 Decides-grids g h =

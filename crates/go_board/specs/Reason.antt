@@ -1,17 +1,16 @@
 -- Why a turn is illegal: the reasons as facts, in their order, and as a function that computes.
-use Rattle.std.specs.Prelude.{◌≡◌, ◌≢◌, ◌⊎◌, ℕ, ◌<◌, Bool, false, not, ◌&&◌, ◌==◌, if◌then◌else◌, Option, Some, None, List, [], ◌∷◌, Contains, codes}
+use Rattle.std.specs.Prelude.{◌≡◌, ◌≢◌, ℕ, ◌<◌, Bool, false, not, ◌&&◌, ◌==◌, if◌then◌else◌, Option, Some, None, List, Contains, codes}
 use Rattle.std.specs.List.{list_any}
 use Rattle.std.specs.Cmp.Lexicographic.{pointwise}
-use Rattle.go_board.specs.declared.stones.Cell.TheVariants.{Empty}
-use Rattle.go_board.specs.declared.stones.Colour.{Colour}
-use Rattle.board_points.specs.declared.points.Point.{Point}
+use Rattle.board_stones.specs.declared.stones.Cell.TheVariants.{Empty}
+use Rattle.board_stones.specs.declared.stones.Colour.{Colour}
 use Rattle.go_board.specs.declared.referee.plays.Play.{Play}
 use Rattle.go_board.specs.declared.referee.plays.Play.TheVariants.{Pass, Stone}
 use Rattle.go_board.specs.declared.reason.Reason.{Reason}
 use Rattle.go_board.specs.declared.reason.Reason.TheVariants.{Mixed, TwoMoves, BadSetup, BadPoint, Over, Turn, Occupied, Repeat}
-use Rattle.go_board.specs.Colour.{opponent, stone_of, same_cell}
-use Rattle.go_board.specs.Grid.{Grid, cell_at}
-use Rattle.go_board.specs.Clearing.{play}
+use Rattle.board_stones.specs.Colour.{opponent, stone_of, same_cell}
+use Rattle.board_stones.specs.Grid.{Grid, cell_at}
+use Rattle.board_stones.specs.Clearing.{play}
 use Rattle.go_board.specs.State.{State, is_over}
 
 -- The reason holds of the turn:
@@ -42,13 +41,6 @@ rank_of Repeat = 7
 pub record IsFirstReason (state : State) (colour : Colour) (turn : Play) (reason : Reason) : Type 0 where
   pub holds : Forbids state colour turn reason
   pub first : (other : Reason) → rank_of other < rank_of reason → ¬ Forbids state colour turn other
-
--- Somewhere in the stretch a colouring has a stone on the point, and the next colouring has none there. The list is newest first.
-abbrev pub WasEmptied : Point → List Grid → Type 0
-WasEmptied point [] = ⊥
-WasEmptied point (later ∷ []) = ⊥
-WasEmptied point (later ∷ (earlier ∷ others)) =
-    ((cell_at earlier point ≢ Empty) × (cell_at later point ≡ Empty)) ⊎ WasEmptied point (earlier ∷ others)
 
 -- Below, the same as a function that computes; the laws say that the two agree.
 

@@ -1,16 +1,15 @@
 -- The state of a game, and what setups and turns do to it (Tromp-Taylor; setup by SGF FF[4]).
-use Rattle.std.specs.Prelude.{◌≡◌, ℕ, ◌+◌, ◌≤◌, Bool, ◌&&◌, ◌==◌, nat_le, if◌then◌else◌, Option, Some, List, [], ◌∷◌, ◌++◌, fold, length}
-use Rattle.go_board.specs.declared.stones.Colour.{Colour}
-use Rattle.go_board.specs.declared.stones.Colour.TheVariants.{Black}
-use Rattle.board_points.specs.declared.points.Point.{Point}
-use Rattle.board_points.specs.declared.points.Rect.{Rect}
+use Rattle.std.specs.Prelude.{◌≡◌, ℕ, ◌+◌, ◌≤◌, Bool, ◌==◌, Option, Some, List, [], ◌∷◌, ◌++◌, fold, length}
+use Rattle.board_stones.specs.declared.stones.Colour.{Colour}
+use Rattle.board_stones.specs.declared.stones.Colour.TheVariants.{Black}
 use Rattle.go_board.specs.declared.referee.plays.Play.{Play}
 use Rattle.go_board.specs.declared.referee.plays.Play.TheVariants.{Pass, Stone}
-use Rattle.go_board.specs.declared.setup_op.SetupOp.{SetupOp}
-use Rattle.go_board.specs.Colour.{opponent}
+use Rattle.board_stones.specs.declared.setup_op.SetupOp.{SetupOp}
+use Rattle.board_stones.specs.Colour.{opponent}
 use Rattle.board_points.specs.Point.{IsOn}
-use Rattle.go_board.specs.Grid.{Grid, cell_at, empty_grid, grid_of}
-use Rattle.go_board.specs.Clearing.{play}
+use Rattle.board_stones.specs.Grid.{Grid, empty_grid}
+use Rattle.board_stones.specs.Clearing.{play}
+use Rattle.board_stones.specs.Rectangle.{with_rectangle}
 
 -- A state:
 -- - the colouring;
@@ -29,16 +28,6 @@ pub record State : Type 0 where
 abbrev pub starting : ℕ → State
 starting side =
     record { colouring = empty_grid side; seen = empty_grid side ∷ []; player = Some Black; passes = 0; turns = 0 }
-
--- the point is in the rectangle
-abbrev pub is_in : Rect → Point → Bool
-is_in area point =
-    (nat_le area.first.col point.col && nat_le point.col area.last.col)
-    && (nat_le area.first.row point.row && nat_le point.row area.last.row)
-
--- the grid with the rectangle's points coloured, whatever stood there
-unfoldable pub with_rectangle : Grid → SetupOp → Grid
-with_rectangle grid op = grid_of grid.side (λ point. if is_in op.area point then op.cell else cell_at grid point)
 
 -- The state after a setup. The setup's rectangles are coloured in order, and nothing is captured. The list of
 -- colourings begins anew, so a ko doesn't reach back over a setup. Passes are 0, and the player who must

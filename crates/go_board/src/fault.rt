@@ -1,36 +1,13 @@
-//! Refused memory, and why a turn wasn't taken.
+//! Why a turn wasn't taken.
 
 ghost use Rattle.std.specs.Prelude.{◌≡◌};
 ghost use Rattle.go_board.specs.declared.fault.TurnFault.TheVariants.{Memory};
 
 use crate::reason::Reason;
-use std::alloc::{AllocError, AllocFailed};
+use board_past::MemoryFault;
+use std::alloc::AllocError;
 use std::error::Error;
 use std::fmt;
-
-/// A call was refused memory. The value that the call was made on is unchanged.
-#[derive(Clone, Copy, Debug, PartialEq, Eq)]
-pub struct MemoryFault;
-
-impl fmt::Display for MemoryFault {
-    fn fmt<W: fmt::Write>(&self, f: &mut fmt::Formatter<W>) -> fmt::Result {
-        f.write_str("out of memory")
-    }
-}
-
-impl Error for MemoryFault {}
-
-impl From<AllocError> for MemoryFault {
-    fn from(_refused: AllocError) -> MemoryFault {
-        MemoryFault
-    }
-}
-
-impl<T: Drop> From<AllocFailed<T>> for MemoryFault {
-    fn from(_refused: AllocFailed<T>) -> MemoryFault {
-        MemoryFault
-    }
-}
 
 /// Why a turn wasn't taken.
 #[derive(Clone, Copy, Debug, PartialEq, Eq)]

@@ -2,20 +2,20 @@
 //! call, and which call it was (`Earlier`). `undo` restores these. If the call added a colouring to the past, `undo` removes it.
 
 ghost use Rattle.std.specs.Prelude.{Some, reverse, ◌≡◌, ◌<◌, ◌≤◌, ◌∷◌, length, IsTrue, IfOk, OnOk, OnErr};
-ghost use Rattle.go_board.specs.declared.stones.Colour.TheVariants.{Black, White};
+ghost use Rattle.board_stones.specs.declared.stones.Colour.TheVariants.{Black, White};
 ghost use Rattle.go_board.specs.State.{States, HadSameBoard, HadSameBoardSince, HaveBegun, begun, followed_by, is_over};
 ghost use Rattle.go_board.specs.Reason.{must_move};
-ghost use Rattle.go_board.specs.Score.{score_of};
+ghost use Rattle.board_stones.specs.Score.{score_of};
 ghost use Rattle.go_board.specs.inner.Earlier.{grew, turned, player_of, states_of, IsRefereeKept};
 
 mod plays;
 mod setup;
 mod turn;
 
-use crate::board::Board;
-use crate::fault::MemoryFault;
-use crate::past::Past;
-use crate::stones::Colour;
+use board_stones::Board;
+use board_past::MemoryFault;
+use board_past::Past;
+use board_stones::Colour;
 use board_points::Size;
 pub use plays::Play;
 use std::alloc::Global;

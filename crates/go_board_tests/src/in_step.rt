@@ -1,7 +1,7 @@
 //! The same calls of both pasts. After each call, both must have the same newest colouring, and hold the same colourings.
 
 ghost use Rattle.std.specs.Prelude.{◌≡◌, ◌≤◌, length};
-ghost use Rattle.go_board.specs.Past.{HaveSide};
+ghost use Rattle.board_past.specs.Past.{HaveSide};
 ghost use Rattle.board_points.specs.Point.{IsOn};
 
 use crate::given::{at, next_number, size};
@@ -26,7 +26,7 @@ struct Both {
 
 impl Model for Both {
     ghost use Rattle.std.specs.Prelude.{ℕ, ◌≤◌, length};
-    ghost use Rattle.go_board.specs.Past.{HaveSide};
+    ghost use Rattle.board_past.specs.Past.{HaveSide};
 
     ghost Value = { ℕ };
 

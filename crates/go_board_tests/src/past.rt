@@ -1,7 +1,7 @@
 //! Worked examples of a past.
 
 ghost use Rattle.std.specs.Prelude.{◌≡◌};
-ghost use Rattle.go_board.specs.Past.{only, HaveSide};
+ghost use Rattle.board_past.specs.Past.{only, HaveSide};
 ghost use Rattle.board_points.specs.Point.{IsOn};
 
 use crate::given::{at, size};

@@ -8,12 +8,12 @@ use Rattle.std.proofs.lemmas.Bool.{false_from_ne_true}
 use Rattle.std.proofs.lemmas.List.{take_all, length-drop, append-nil, append_assoc}
 use Rattle.memchr.specs.Find.{IsFirstByte}
 use Rattle.sgf_lines.specs.Script.{text_rows, comment_row, play_command, stone_commands}
-use Rattle.go_board.specs.declared.stones.Colour.{Colour}
+use Rattle.board_stones.specs.declared.stones.Colour.{Colour}
 use Rattle.board_points.specs.declared.points.Point.{Point}
 use Rattle.go_board.specs.declared.referee.plays.Play.TheVariants.{Stone}
-use Rattle.go_board.specs.Colour.{stone_of, same_cell}
+use Rattle.board_stones.specs.Colour.{stone_of, same_cell}
 use Rattle.board_points.specs.Point.{points}
-use Rattle.go_board.specs.Grid.{Grid, cell_at}
+use Rattle.board_stones.specs.Grid.{Grid, cell_at}
 use Rattle.sgf_lines.specs.inner.Cutting.{commands_at}
 
 module _ (test : ℕ → Bool) where

@@ -3,10 +3,10 @@ use Rattle.std.proofs.Common.{◌≡◌, ℕ, List, [], ◌∷◌, map, Option, 
 use Rattle.std.specs.Prelude.{codes, option_map}
 use Rattle.sgf_tree.specs.Tree.{Node, Games, no_games, game}
 use Rattle.board_points.specs.Point.{points}
-use Rattle.go_board.specs.Reaching.{reaches, reaching_within, spread}
-use Rattle.go_board.specs.Clearing.{clear, play, cleared_cell}
-use Rattle.go_board.specs.Score.{score_of, counts_for}
-use Rattle.go_board.specs.State.{with_rectangle}
+use Rattle.board_stones.specs.Reaching.{reaches, reaching_within, spread}
+use Rattle.board_stones.specs.Clearing.{clear, play, cleared_cell}
+use Rattle.board_stones.specs.Score.{score_of, counts_for}
+use Rattle.board_stones.specs.Rectangle.{with_rectangle}
 use Rattle.board_points.specs.Values.{point_value, rect_value}
 use Rattle.tree_lines.specs.Lines.{lines}
 use Rattle.sgf_lines.specs.Page.{page}

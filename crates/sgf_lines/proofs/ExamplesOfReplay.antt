@@ -2,12 +2,12 @@
 use Rattle.std.proofs.Common.{◌≡◌, ℕ, List, [], ◌∷◌, map, codes, Option, Some, None, refl}
 use Rattle.board_points.specs.declared.points.Point.{Point}
 use Rattle.board_points.specs.declared.vertices.Vertex.{Vertex}
-use Rattle.go_board.specs.declared.stones.Cell.TheVariants.{Black, Empty}
-use Rattle.go_board.specs.declared.stones.Colour.TheVariants.{Black as BlackPlayer}
-use Rattle.go_board.specs.Grid.{empty_grid}
+use Rattle.board_stones.specs.declared.stones.Cell.TheVariants.{Black, Empty}
+use Rattle.board_stones.specs.declared.stones.Colour.TheVariants.{Black as BlackPlayer}
+use Rattle.board_stones.specs.Grid.{empty_grid}
 use Rattle.board_points.specs.Point.{points}
-use Rattle.go_board.specs.Reaching.{spread, reaching_within, reaches}
-use Rattle.go_board.specs.Clearing.{cleared_cell, clear, play}
+use Rattle.board_stones.specs.Reaching.{spread, reaching_within, reaches}
+use Rattle.board_stones.specs.Clearing.{cleared_cell, clear, play}
 use Rattle.sgf_lines.specs.Replay.{Command, Engine, sets_size, plays_stone, does_nothing, words, command_of, point_of, sized, shows, refused, replayed}
 
 -- rows, and their commands

@@ -5,10 +5,10 @@ use Rattle.std.specs.Fmt.{digits}
 use Rattle.sgf_tree.specs.Tree.{Property, Node}
 use Rattle.go_board.specs.declared.reason.Reason.TheVariants.{Mixed, TwoMoves, BadSetup, BadPoint, Over, Turn, Occupied, Repeat}
 use Rattle.board_points.specs.Point.{points}
-use Rattle.go_board.specs.Reaching.{reaches, reaching_within, spread}
-use Rattle.go_board.specs.Clearing.{clear, play, cleared_cell, has_unreaching}
-use Rattle.go_board.specs.Score.{score_of, counts_for}
-use Rattle.go_board.specs.State.{with_rectangle}
+use Rattle.board_stones.specs.Reaching.{reaches, reaching_within, spread}
+use Rattle.board_stones.specs.Clearing.{clear, play, cleared_cell, has_unreaching}
+use Rattle.board_stones.specs.Score.{score_of, counts_for}
+use Rattle.board_stones.specs.Rectangle.{with_rectangle}
 use Rattle.board_points.specs.Values.{point_value, rect_value}
 use Rattle.board_points.specs.Vertex.{vertex_of}
 use Rattle.sgf_lines.specs.declared.verdict.Verdict.{Verdict}

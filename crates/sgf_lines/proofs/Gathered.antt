@@ -15,10 +15,10 @@ use Rattle.sgf_tree.specs.declared.traversal.NextNode.{NextNode}
 use Rattle.sgf_tree.specs.declared.traversal.NextNode.TheVariants.{Led, Empty as EmptyNode, Unread}
 use Rattle.sgf_tree.specs.Lead.{IsOtherName, IsLedBy}
 use Rattle.sgf_tree.specs.Traversal.{IsTakenOff}
-use Rattle.go_board.specs.declared.stones.Colour.{Colour}
-use Rattle.go_board.specs.declared.stones.Cell.{Cell}
+use Rattle.board_stones.specs.declared.stones.Colour.{Colour}
+use Rattle.board_stones.specs.declared.stones.Cell.{Cell}
 use Rattle.board_points.specs.declared.points.Rect.{Rect}
-use Rattle.go_board.specs.declared.setup_op.SetupOp.{SetupOp}
+use Rattle.board_stones.specs.declared.setup_op.SetupOp.{SetupOp}
 use Rattle.board_points.specs.Point.{IsRectOn}
 use Rattle.board_points.specs.Values.{rect_value}
 use Rattle.sgf_lines.specs.declared.judging.contents.Moves.{Moves}

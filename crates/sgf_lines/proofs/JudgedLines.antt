@@ -4,12 +4,12 @@ use Rattle.std.proofs.Math.Seq.{take-append_seam}
 use Rattle.std.proofs.lemmas.List.{length-take, length-take-le, take-append-drop}
 use Rattle.std.specs.Result.{IsErr}
 use Rattle.sgf_tree.specs.Tree.{Node}
-use Rattle.go_board.specs.Grid.{Grid}
+use Rattle.board_stones.specs.Grid.{Grid}
 use Rattle.sgf_lines.specs.declared.judging.step.LegalStep.{LegalStep}
 use Rattle.sgf_lines.specs.JudgedGames.{GameKind, game_kind, root_properties}
 use Rattle.sgf_lines.specs.Walk.{LegalNode, legal_on}
 use Rattle.sgf_lines.specs.Verdict.{judged_on}
-use Rattle.sgf_lines.specs.inner.Judging.{Judging, IsDecided, IsLegalStep, IsStepFrom, IsUnsettled, after, begun_game, board_in, judging, state_after}
+use Rattle.sgf_lines.specs.inner.Judging.{Judging, IsDecided, IsLegalStep, IsStepFrom, IsUndecided, after, begun_game, board_in, judging, state_after}
 use Rattle.sgf_lines.specs.inner.Keeping.{HasJudged, PlaysUpTo, WentOn, fresh_plays, plays_for}
 use Rattle.sgf_lines.proofs.Judgements.{judging_more, plays_one, decided_all, decided_by}
 use Rattle.sgf_lines.proofs.Keeping.{judging_front}
@@ -112,7 +112,7 @@ module _ {holds : GameKind → List LegalNode → Type 0} {kind : GameKind} {bef
 
 -- a judge took the first of these nodes, and the others are left
 pub record TookOne (judge : Judging) (rest : List Node) (node : Node) (others : List Node) (new : Judging) : Type 0 where
-  pub unsettled : IsUnsettled judge.judgement
+  pub undecided : IsUndecided judge.judgement
   pub first : rest ≡ node ∷ others
   pub judged : new.judgement ≡ after judge.judgement node
   pub plays : new.plays ≡ judge.plays + 1
@@ -125,7 +125,7 @@ module _ {holds : GameKind → List LegalNode → Type 0} {kind : GameKind} {bef
       let nodes = before ++ h.done in
       goes_on h (node ∷ []) others one.first tells new (record {
         has_judged = record { judged = one.judged ∙ ap (λ j. after j node) h.on.has_judged.judged ∙ sym (judging_more kind nodes node); taken = told };
-        plays = omega (arith, one.plays, plays_one kind nodes node (subst IsUnsettled h.on.has_judged.judged one.unsettled));
+        plays = omega (arith, one.plays, plays_one kind nodes node (subst IsUndecided h.on.has_judged.judged one.undecided));
       })
 
   -- which wasn't taken

@@ -3,7 +3,7 @@ use Rattle.std.proofs.Common.{◌≡◌, ℕ, ◌<◌, ◌≤◌, List, [], ◌�
 use Rattle.std.proofs.lemmas.Grind.{common_steps}
 use Rattle.std.proofs.lemmas.Bool.{le-leb, lt-leb}
 use Rattle.go_board.specs.State.{State, States, followed_by}
-use Rattle.sgf_lines.specs.inner.Judging.{back_from, back_to, Judgement, Judging, IsDecided, IsUnsettled, unjudged, judged, judgement_of, side_in, begun_game, stepped, after, judging, back, verdict_in, board_in, state_after, state_of, legal_by}
+use Rattle.sgf_lines.specs.inner.Judging.{back_from, back_to, Judgement, Judging, IsDecided, IsUndecided, unjudged, judged, judgement_of, side_in, begun_game, stepped, after, judging, back, verdict_in, board_in, state_after, state_of, legal_by}
 use Rattle.std.specs.Prelude.{fold}
 use Rattle.std.proofs.lemmas.List.{take_all, take-append-le, take-append-drop, length-take-le}
 use Rattle.std.proofs.lemmas.List.Sums.{fold-append}
@@ -211,16 +211,16 @@ plays_more (board side) nodes node =
     ap (λ w. length (judged_by w)) (walk_step side nodes node) ∙ one_played (judging (board side) nodes) (walk side nodes) node (of_walk side nodes)
 
 -- one, until the verdict is known
-unsettled_one : (j : Judgement) → IsUnsettled j → next_plays j ≡ 1
-unsettled_one (judged states None) known = refl
-unsettled_one (judged states (Some told)) known = absurd known
-unsettled_one (unjudged told) known = absurd known
+undecided_one : (j : Judgement) → IsUndecided j → next_plays j ≡ 1
+undecided_one (judged states None) known = refl
+undecided_one (judged states (Some told)) known = absurd known
+undecided_one (unjudged told) known = absurd known
 
-pub plays_one : (kind : GameKind) (nodes : List Node) (node : Node) → IsUnsettled (judging kind nodes) → length (judged_on kind (nodes ++ node ∷ [])) ≡ length (judged_on kind nodes) + 1
-plays_one kind nodes node known = omega (arith, plays_more kind nodes node, unsettled_one (judging kind nodes) known)
+pub plays_one : (kind : GameKind) (nodes : List Node) (node : Node) → IsUndecided (judging kind nodes) → length (judged_on kind (nodes ++ node ∷ [])) ≡ length (judged_on kind nodes) + 1
+plays_one kind nodes node known = omega (arith, plays_more kind nodes node, undecided_one (judging kind nodes) known)
 
-pub unsettled_by : (j : Judgement) (node : Node) (s : State) → state_after j node ≡ Some s → IsUnsettled (after j node)
-unsettled_by j node s some = first_of (search rules, grind (arith, common_steps))
+pub undecided_by : (j : Judgement) (node : Node) (s : State) → state_after j node ≡ Some s → IsUndecided (after j node)
+undecided_by j node s some = first_of (search rules, grind (arith, common_steps))
 
 -- none, once the verdict is known
 decided_stays : (j : Judgement) (node : Node) → IsDecided j → after j node ≡ j
@@ -247,9 +247,9 @@ decided_all kind nodes (n ∷ ns) h =
     )
 
 -- no verdict is held while it isn't known
-no_verdict : (ended : Option Verdict) (r : States) → IsUnsettled (judged r ended) → ended ≡ None
-no_verdict None r unsettled = refl
-no_verdict (Some told) r unsettled = absurd unsettled
+no_verdict : (ended : Option Verdict) (r : States) → IsUndecided (judged r ended) → ended ≡ None
+no_verdict None r undecided = refl
+no_verdict (Some told) r undecided = absurd undecided
 
 -- what a judge says of one node more
 module _ (ended : Option Verdict) (referee : Option States) (r : States) (plays : ℕ) (now : Judging) (view : record { judgement = judgement_of ended referee; plays = plays } ≡ now) (is : referee ≡ Some r) where
@@ -268,9 +268,9 @@ module _ (ended : Option Verdict) (referee : Option States) (r : States) (plays 
   untaken new same =
       ap (λ (s : States). record { judgement = judgement_of ended (Some s); plays = plays }) same ∙ ap (λ o. record { judgement = judgement_of ended o; plays = plays }) (sym is) ∙ view
 
-  module _ (unsettled : IsUnsettled now.judgement) where
+  module _ (undecided : IsUndecided now.judgement) where
     none : ended ≡ None
-    none = no_verdict ended r (subst IsUnsettled stood unsettled)
+    none = no_verdict ended r (subst IsUndecided stood undecided)
 
     open_before : now.judgement ≡ judged r None
     open_before = stood ∙ ap (judged r) none

@@ -6,9 +6,9 @@ use Rattle.sgf_tree.specs.Tree.{Node}
 use Rattle.go_board.specs.declared.reason.Reason.{Reason}
 use Rattle.go_board.specs.declared.fault.TurnFault.{TurnFault}
 use Rattle.go_board.specs.declared.fault.TurnFault.TheVariants.{Illegal, Memory}
-use Rattle.go_board.specs.declared.stones.Colour.TheVariants.{Black, White}
-use Rattle.go_board.specs.Grid.{Grid}
-use Rattle.go_board.specs.Score.{score_of}
+use Rattle.board_stones.specs.declared.stones.Colour.TheVariants.{Black, White}
+use Rattle.board_stones.specs.Grid.{Grid}
+use Rattle.board_stones.specs.Score.{score_of}
 use Rattle.go_board.specs.State.{State, States, HadSameBoardSince}
 use Rattle.sgf_lines.specs.Step.{step}
 use Rattle.sgf_lines.specs.inner.Judging.{IsScoreAt, IsScoreOf, IsStepped, back_from, back_to}

@@ -6,19 +6,19 @@ use Rattle.std.specs.List.{flat_map, range_with_len}
 use Rattle.std.proofs.lemmas.Bool.{cases_Bool, cases_eq, cases_lt}
 use Rattle.std.proofs.lemmas.List.{get_or-replicate, length-replicate}
 use Rattle.std.proofs.lemmas.Option.{slice_get_within}
-use Rattle.go_board.specs.declared.stones.Cell.{Cell}
-use Rattle.go_board.specs.declared.stones.Cell.TheVariants.{Black, White, Empty}
-use Rattle.go_board.specs.declared.stones.Colour.{Colour}
-use Rattle.go_board.specs.declared.stones.Colour.TheVariants.{Black as BlackPlayer, White as WhitePlayer}
+use Rattle.board_stones.specs.declared.stones.Cell.{Cell}
+use Rattle.board_stones.specs.declared.stones.Cell.TheVariants.{Black, White, Empty}
+use Rattle.board_stones.specs.declared.stones.Colour.{Colour}
+use Rattle.board_stones.specs.declared.stones.Colour.TheVariants.{Black as BlackPlayer, White as WhitePlayer}
 use Rattle.board_points.specs.declared.points.Point.{Point}
 use Rattle.go_board.specs.declared.referee.plays.Play.TheVariants.{Stone}
-use Rattle.go_board.specs.Colour.{stone_of, same_cell}
+use Rattle.board_stones.specs.Colour.{stone_of, same_cell}
 use Rattle.board_points.specs.Point.{IsOn, index_of, point_at, points}
-use Rattle.go_board.specs.Grid.{Grid, cell_at, with_cell, empty_grid}
-use Rattle.go_board.specs.Reaching.{Leads, Reaches, reaches}
-use Rattle.go_board.specs.Clearing.{clear, play, HasUnreaching, has_unreaching}
+use Rattle.board_stones.specs.Grid.{Grid, cell_at, with_cell, empty_grid}
+use Rattle.board_stones.specs.Reaching.{Leads, Reaches, reaches}
+use Rattle.board_stones.specs.Clearing.{clear, play, HasUnreaching, has_unreaching}
 use Rattle.board_points.specs.Vertex.{vertex_of}
-use Rattle.go_board.proofs.GridLemmas.{Decides-same_cell}
+use Rattle.board_stones.proofs.GridLemmas.{Decides-same_cell}
 use Rattle.sgf_lines.specs.Script.{colour_letter, vertex_text, play_command, stone_commands, colouring_commands}
 use Rattle.sgf_lines.specs.Replay.{shows}
 use Rattle.tree_lines.proofs.Lists.{Each}

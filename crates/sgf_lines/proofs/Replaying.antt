@@ -7,20 +7,21 @@ use Rattle.std.proofs.lemmas.List.{length-map, length-replicate}
 use Rattle.std.proofs.lemmas.Bool.{not-false, or_parts}
 use Rattle.std.proofs.lemmas.Bool.Decides.{nat_tests}
 use Rattle.sgf_tree.specs.Tree.{Property, Node}
-use Rattle.go_board.specs.declared.stones.Cell.{Cell}
-use Rattle.go_board.specs.declared.stones.Cell.TheVariants.{Empty}
-use Rattle.go_board.specs.declared.stones.Colour.{Colour}
+use Rattle.board_stones.specs.declared.stones.Cell.{Cell}
+use Rattle.board_stones.specs.declared.stones.Cell.TheVariants.{Empty}
+use Rattle.board_stones.specs.declared.stones.Colour.{Colour}
 use Rattle.board_points.specs.declared.points.Point.{Point}
 use Rattle.board_points.specs.declared.vertices.TheConstants.{MAX_VERTEX_SIDE}
 use Rattle.go_board.specs.declared.reason.Reason.{Reason}
 use Rattle.go_board.specs.declared.referee.plays.Play.{Play}
 use Rattle.go_board.specs.declared.referee.plays.Play.TheVariants.{Stone}
-use Rattle.go_board.specs.declared.setup_op.SetupOp.{SetupOp}
+use Rattle.board_stones.specs.declared.setup_op.SetupOp.{SetupOp}
 use Rattle.board_points.specs.Point.{IsOn, points}
-use Rattle.go_board.specs.Grid.{Grid, empty_grid}
-use Rattle.go_board.specs.Clearing.{play, has_unreaching}
+use Rattle.board_stones.specs.Grid.{Grid, empty_grid}
+use Rattle.board_stones.specs.Clearing.{play, has_unreaching}
 use Rattle.board_points.specs.Values.{coordinate, point_value}
-use Rattle.go_board.specs.State.{State, with_rectangle, set_up, turned}
+use Rattle.go_board.specs.State.{State, set_up, turned}
+use Rattle.board_stones.specs.Rectangle.{with_rectangle}
 use Rattle.go_board.specs.Reason.{reason_of}
 use Rattle.tree_lines.specs.Lines.{Line}
 use Rattle.sgf_lines.specs.NodeContents.{Move, Stones, moves, stones, players, first_value}

@@ -14,8 +14,8 @@ use Rattle.sgf_lines.specs.Script.{comment_row, text_rows, colour_letter, vertex
 use Rattle.sgf_lines.specs.Replay.{Engine, after_row, after_text, before_comment, is_word, words, capital, vertex_named, point_there, point_of, plays_stone, play_command_of, sets_size, size_command, command_of}
 use Rattle.tree_lines.proofs.Lists.{Each, each_append}
 use Rattle.sgf_properties.specs.Number.{magnitude_of}
-use Rattle.go_board.specs.declared.stones.Colour.{Colour}
-use Rattle.go_board.specs.declared.stones.Colour.TheVariants.{Black, White}
+use Rattle.board_stones.specs.declared.stones.Colour.{Colour}
+use Rattle.board_stones.specs.declared.stones.Colour.TheVariants.{Black, White}
 use Rattle.board_points.specs.declared.points.Point.{Point}
 use Rattle.board_points.specs.Point.{IsOn}
 use Rattle.board_points.specs.declared.vertices.Vertex.{Vertex}

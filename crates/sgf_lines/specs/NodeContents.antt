@@ -2,10 +2,10 @@
 use Rattle.std.specs.Prelude.{ℕ, Bool, if◌then◌else◌, Option, option_map, List, [], map, find, codes, bytes_eq}
 use Rattle.std.specs.List.{flat_map}
 use Rattle.sgf_tree.specs.Tree.{Property, Node, values}
-use Rattle.go_board.specs.declared.stones.Colour.{Colour}
-use Rattle.go_board.specs.declared.stones.Colour.TheVariants.{Black, White}
-use Rattle.go_board.specs.declared.stones.Cell.{Cell}
-use Rattle.go_board.specs.declared.stones.Cell.TheVariants.{Black as BlackStone, White as WhiteStone, Empty}
+use Rattle.board_stones.specs.declared.stones.Colour.{Colour}
+use Rattle.board_stones.specs.declared.stones.Colour.TheVariants.{Black, White}
+use Rattle.board_stones.specs.declared.stones.Cell.{Cell}
+use Rattle.board_stones.specs.declared.stones.Cell.TheVariants.{Black as BlackStone, White as WhiteStone, Empty}
 
 -- the property has this name
 abbrev pub is_named : List ℕ → Property → Bool

@@ -1,10 +1,10 @@
 -- What raw values say on a board of a given side (SGF FF[4], "Move", "Stone", "Color").
 use Rattle.std.specs.Prelude.{ℕ, Bool, ◌==◌, ◌||◌, ◌&&◌, nat_le, if◌then◌else◌, Option, Some, None, option_map, option_and_then, List, [], ◌∷◌, length, codes, bytes_eq}
-use Rattle.go_board.specs.declared.stones.Colour.{Colour}
-use Rattle.go_board.specs.declared.stones.Colour.TheVariants.{Black, White}
+use Rattle.board_stones.specs.declared.stones.Colour.{Colour}
+use Rattle.board_stones.specs.declared.stones.Colour.TheVariants.{Black, White}
 use Rattle.go_board.specs.declared.referee.plays.Play.{Play}
 use Rattle.go_board.specs.declared.referee.plays.Play.TheVariants.{Pass, Stone}
-use Rattle.go_board.specs.declared.setup_op.SetupOp.{SetupOp}
+use Rattle.board_stones.specs.declared.setup_op.SetupOp.{SetupOp}
 use Rattle.board_points.specs.Values.{point_value, rect_value}
 use Rattle.sgf_lines.specs.NodeContents.{Stones}
 

@@ -3,8 +3,8 @@
 use Rattle.std.specs.Prelude.{◌≡◌, ℕ, ◌+◌, Option, Some, None, option_map, List, [], slice_get}
 use Rattle.sgf_tree.specs.Tree.{Node, Games}
 use Rattle.sgf_tree.specs.FileOrder.{place_at}
-use Rattle.go_board.specs.declared.stones.Colour.TheVariants.{Black, White}
-use Rattle.go_board.specs.Score.{score_of}
+use Rattle.board_stones.specs.declared.stones.Colour.TheVariants.{Black, White}
+use Rattle.board_stones.specs.Score.{score_of}
 use Rattle.go_board.specs.State.{State, is_over}
 use Rattle.sgf_lines.specs.declared.verdict.Verdict.{Verdict}
 use Rattle.sgf_lines.specs.declared.verdict.Verdict.TheVariants.{Score, Illegal, NotGo, BadSize}

@@ -3,7 +3,7 @@
 //! that needs more room.
 
 ghost use Rattle.std.specs.Prelude.{◌≡◌, true, false, IfOk, OnOk};
-ghost use Rattle.go_board.specs.Past.{only, with_next, HaveSide};
+ghost use Rattle.board_past.specs.Past.{only, with_next, HaveSide};
 ghost use Rattle.board_points.specs.Point.{IsOn};
 
 use crate::seen::Seen;

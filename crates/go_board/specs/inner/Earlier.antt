@@ -1,16 +1,16 @@
 -- A referee's states, made from a past and from what else the referee keeps of each earlier state.
 use Rattle.std.specs.Prelude.{◌≡◌, ℕ, ◌+◌, ◌-◌, ◌≤◌, Bool, true, false, Option, Some, None, List, [], ◌∷◌, if◌then◌else◌, length, reverse}
 use Rattle.std.specs.Int.{from_bool}
-use Rattle.go_board.specs.declared.stones.Colour.{Colour}
+use Rattle.board_stones.specs.declared.stones.Colour.{Colour}
 use Rattle.go_board.specs.declared.referee.plays.Play.{Play}
-use Rattle.go_board.specs.declared.stones.Colour.TheVariants.{Black, White}
+use Rattle.board_stones.specs.declared.stones.Colour.TheVariants.{Black, White}
 use Rattle.go_board.specs.declared.referee.Call.{Call}
 use Rattle.go_board.specs.declared.referee.Call.TheVariants.{Stay, Pass, Stone, Setup}
 use Rattle.go_board.specs.declared.referee.Mover.{Mover}
 use Rattle.go_board.specs.declared.referee.Earlier.{Earlier}
-use Rattle.go_board.specs.Colour.{opponent}
-use Rattle.go_board.specs.Grid.{Grid}
-use Rattle.go_board.specs.Past.{Held, PastColourings, newest_grid, present_stretch, HaveSide}
+use Rattle.board_stones.specs.Colour.{opponent}
+use Rattle.board_stones.specs.Grid.{Grid}
+use Rattle.board_past.specs.Past.{Held, PastColourings, newest_grid, present_stretch, HaveSide}
 use Rattle.go_board.specs.State.{State, States, starting, oldest_of, is_over}
 use Rattle.go_board.specs.Reason.{must_move, is_occupied}
 

@@ -2,14 +2,15 @@
 
 ghost use Rattle.std.specs.Prelude.{◌≡◌, ◌<◌, ◌⊎◌, All, IsSome, OnOk, OnErr, fold, length};
 ghost use Rattle.board_points.specs.Point.{IsRectOn};
-ghost use Rattle.go_board.specs.State.{followed_by, set_up, with_rectangle};
+ghost use Rattle.go_board.specs.State.{followed_by, set_up};
+ghost use Rattle.board_stones.specs.Rectangle.{with_rectangle};
 ghost use Rattle.go_board.specs.inner.Earlier.{with_setup};
 
-use crate::fault::MemoryFault;
-use crate::past::Past;
+use board_past::MemoryFault;
+use board_past::Past;
 use crate::referee::{Call, Mover, Referee};
-use crate::setup_op::SetupOp;
-use crate::stones::Colour;
+use board_stones::SetupOp;
+use board_stones::Colour;
 
 impl<P: Past> Referee<P> {
     /// Sets up stones (AB, AW, AE) or the player (PL; SGF FF[4]).

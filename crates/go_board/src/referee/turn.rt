@@ -10,11 +10,12 @@ ghost use Rattle.go_board.specs.State.{IsPlayOn, followed_by, turned};
 ghost use Rattle.go_board.specs.Reason.{reason_of};
 ghost use Rattle.go_board.specs.inner.Earlier.{MayOnlyRepeat};
 
-use crate::fault::{MemoryFault, TurnFault};
-use crate::past::Past;
+use board_past::MemoryFault;
+use crate::fault::TurnFault;
+use board_past::Past;
 use crate::reason::Reason;
 use crate::referee::{Call, Mover, Play, Referee};
-use crate::stones::{Cell, Colour};
+use board_stones::{Cell, Colour};
 use board_points::Point;
 
 impl<P: Past> Referee<P> {
@@ -86,7 +87,7 @@ impl<P: Past> Referee<P> {
     fn play_at_once(&mut self, colour: Colour, play: Play) -> bool
         requires { IsPlayOn self.old.present.colouring.side play }
         ensures legal { IsTrue result → reason_of self.old.present colour play ≡ None }
-        ensures cleared { IsTrue result → self.new ≡ followed_by self.old (turned self.old.present colour play) }
+        ensures taken { IsTrue result → self.new ≡ followed_by self.old (turned self.old.present colour play) }
         ensures unchanged { IsFalse result → self.new ≡ self.old }
     {
         let Play::Stone(point) = play else {
@@ -128,11 +129,11 @@ impl<P: Past> Referee<P> {
     fn play_stone(&mut self, colour: Colour, point: Point) -> Result<bool, MemoryFault>
         requires on_board { IsOn self.old.present.colouring.side point }
         requires only_repeat { MayOnlyRepeat self.old.present colour (Stone point) }
-        ensures known { IfOk result (λ cleared. reason_of self.old.present colour (Stone point)
-            ≡ (if cleared then None else Some Repeat)) }
+        ensures known { IfOk result (λ taken. reason_of self.old.present colour (Stone point)
+            ≡ (if taken then None else Some Repeat)) }
         ensures allowed { OnErr result (reason_of self.old.present colour (Stone point) ≡ None) }
-        ensures ok { IfOk result (λ cleared. self.new
-            ≡ (if cleared then followed_by self.old (turned self.old.present colour (Stone point)) else self.old)) }
+        ensures ok { IfOk result (λ taken. self.new
+            ≡ (if taken then followed_by self.old (turned self.old.present colour (Stone point)) else self.old)) }
         ensures err { OnErr result (self.new ≡ self.old) }
     {
         let present = self.present_kept(Call::Stone);

@@ -1,12 +1,12 @@
 -- How the stones of a script are appended, point after point.
 use Rattle.std.specs.Prelude.{◌≡◌, ℕ, if◌then◌else◌, List, [], ◌++◌, codes, take}
 use Rattle.std.specs.List.{flat_map}
-use Rattle.go_board.specs.declared.stones.Colour.{Colour}
+use Rattle.board_stones.specs.declared.stones.Colour.{Colour}
 use Rattle.board_points.specs.declared.points.Point.{Point}
 use Rattle.go_board.specs.declared.referee.plays.Play.TheVariants.{Stone}
-use Rattle.go_board.specs.Colour.{stone_of, same_cell}
+use Rattle.board_stones.specs.Colour.{stone_of, same_cell}
 use Rattle.board_points.specs.Point.{points}
-use Rattle.go_board.specs.Grid.{Grid, cell_at}
+use Rattle.board_stones.specs.Grid.{Grid, cell_at}
 use Rattle.board_points.specs.declared.vertices.Vertex.{Vertex}
 use Rattle.sgf_lines.specs.Script.{colour_letter, vertex_text, play_command}
 

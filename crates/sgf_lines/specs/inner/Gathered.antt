@@ -4,10 +4,10 @@ use Rattle.std.specs.List.{flat_map}
 use Rattle.sgf_tree.specs.Tree.{Property, Node, lone_property, told_property}
 use Rattle.sgf_tree.specs.declared.traversal.NextNode.{NextNode}
 use Rattle.sgf_tree.specs.declared.traversal.NextNode.TheVariants.{Led, Empty as EmptyNode, Unread}
-use Rattle.go_board.specs.declared.stones.Colour.{Colour}
-use Rattle.go_board.specs.declared.stones.Colour.TheVariants.{Black, White}
-use Rattle.go_board.specs.declared.stones.Cell.TheVariants.{Black as BlackStone, White as WhiteStone, Empty}
-use Rattle.go_board.specs.declared.setup_op.SetupOp.{SetupOp}
+use Rattle.board_stones.specs.declared.stones.Colour.{Colour}
+use Rattle.board_stones.specs.declared.stones.Colour.TheVariants.{Black, White}
+use Rattle.board_stones.specs.declared.stones.Cell.TheVariants.{Black as BlackStone, White as WhiteStone, Empty}
+use Rattle.board_stones.specs.declared.setup_op.SetupOp.{SetupOp}
 use Rattle.board_points.specs.Point.{IsRectOn}
 use Rattle.sgf_lines.specs.declared.judging.contents.Moves.{Moves}
 use Rattle.sgf_lines.specs.declared.judging.contents.Moves.TheVariants.{Nothing, One, Several}

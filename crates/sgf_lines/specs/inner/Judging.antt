@@ -4,10 +4,10 @@ use Rattle.sgf_tree.specs.Tree.{Node}
 use Rattle.go_board.specs.declared.reason.Reason.{Reason}
 use Rattle.go_board.specs.declared.fault.TurnFault.{TurnFault}
 use Rattle.go_board.specs.declared.fault.TurnFault.TheVariants.{Illegal as IllegalTurn, Memory}
-use Rattle.go_board.specs.declared.setup_op.SetupOp.{SetupOp}
-use Rattle.go_board.specs.Grid.{Grid}
-use Rattle.go_board.specs.Score.{score_of}
-use Rattle.go_board.specs.declared.stones.Colour.TheVariants.{Black, White}
+use Rattle.board_stones.specs.declared.setup_op.SetupOp.{SetupOp}
+use Rattle.board_stones.specs.Grid.{Grid}
+use Rattle.board_stones.specs.Score.{score_of}
+use Rattle.board_stones.specs.declared.stones.Colour.TheVariants.{Black, White}
 use Rattle.go_board.specs.State.{State, States, begun, followed_by, IsPlayOn}
 use Rattle.sgf_lines.specs.NodeContents.{Move, Stones, moves, stones, first_value}
 use Rattle.sgf_lines.specs.NodeValues.{move_value}
@@ -117,10 +117,10 @@ IsDecided (judged states (Some told)) = Unit {0}
 IsDecided (judged states None) = ⊥
 
 -- the verdict isn't known before the next node
-abbrev pub IsUnsettled : Judgement → Type 0
-IsUnsettled (unjudged told) = ⊥
-IsUnsettled (judged states (Some told)) = ⊥
-IsUnsettled (judged states None) = Unit {0}
+abbrev pub IsUndecided : Judgement → Type 0
+IsUndecided (unjudged told) = ⊥
+IsUndecided (judged states (Some told)) = ⊥
+IsUndecided (judged states None) = Unit {0}
 
 -- the judgement that a judge in memory holds
 abbrev pub judgement_of : Option Verdict → Option States → Judgement

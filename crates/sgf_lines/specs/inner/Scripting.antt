@@ -2,8 +2,8 @@
 use Rattle.std.specs.Prelude.{ℕ, suc, ◌+◌, ◌==◌, min, Bool, false, nat_lt, if◌then◌else◌, List, [], ◌∷◌, ◌++◌, length, map, option_copied}
 use Rattle.std.specs.List.{concat, position_or_len}
 use Rattle.board_points.specs.declared.vertices.TheConstants.{MAX_VERTEX_SIDE}
-use Rattle.go_board.specs.Clearing.{has_unreaching}
-use Rattle.go_board.specs.Grid.{Grid}
+use Rattle.board_stones.specs.Clearing.{has_unreaching}
+use Rattle.board_stones.specs.Grid.{Grid}
 use Rattle.go_board.specs.State.{IsPlayOn}
 use Rattle.sgf_lines.specs.JudgedGames.{GameKind, not_go, bad_size, board}
 use Rattle.sgf_lines.specs.Walk.{LegalNode}

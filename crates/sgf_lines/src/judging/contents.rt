@@ -3,7 +3,7 @@
 
 ghost use Rattle.std.specs.Prelude.{◌≡◌, ◌∷◌, ◌++◌, [], ℕ, List, Option, IfOk, OnOk, option_map, Some};
 ghost use Rattle.sgf_tree.specs.Tree.{Property, lone_property, told_property, values};
-ghost use Rattle.go_board.specs.declared.stones.Colour.{Colour};
+ghost use Rattle.board_stones.specs.declared.stones.Colour.{Colour};
 ghost use Rattle.sgf_lines.specs.NodeContents.{Move, moves_by, stones_of};
 ghost use Rattle.sgf_lines.specs.NodeValues.{last_player as last_player_rule};
 ghost use Rattle.sgf_lines.specs.inner.Gathered.{AreMoves, AddsRectangles, IsGathered, kind_of as kind_of_rule, setup_with_stones, setup_with_player};

@@ -3,8 +3,8 @@
 
 ghost use Rattle.std.specs.Prelude.{◌≡◌, ◌<◌, ◌≤◌, ◌⊎◌, Some, length, IfOk, IfSome, OnOk, OnErr};
 ghost use Rattle.sgf_tree.specs.Tree.{Node};
-ghost use Rattle.go_board.specs.declared.stones.Colour.TheVariants.{Black, White};
-ghost use Rattle.go_board.specs.Score.{score_of};
+ghost use Rattle.board_stones.specs.declared.stones.Colour.TheVariants.{Black, White};
+ghost use Rattle.board_stones.specs.Score.{score_of};
 ghost use Rattle.go_board.specs.State.{States, HadSameBoardSince, begun};
 ghost use Rattle.sgf_lines.specs.Step.{step};
 ghost use Rattle.sgf_lines.specs.Verdict.{score_in};

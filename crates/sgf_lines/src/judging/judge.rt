@@ -41,7 +41,7 @@ impl Model for Judge {
 
 impl Judge {
     ghost use Rattle.sgf_lines.specs.declared.verdict.Verdict.TheVariants.{NotGo};
-    ghost use Rattle.sgf_lines.specs.inner.Judging.{unjudged, IsDecided, IsUnsettled, begun_game, after, IsStepFrom, back, verdict_in, board_in};
+    ghost use Rattle.sgf_lines.specs.inner.Judging.{unjudged, IsDecided, IsUndecided, begun_game, after, IsStepFrom, back, verdict_in, board_in};
 
     /// A judge before the first game.
     pub(crate) fn new(alloc: Global) -> Judge
@@ -93,7 +93,7 @@ impl Judge {
         next: NextNode<'a>,
         nodes: &mut SequenceNodes<'_, 'a>,
     ) -> Result<Option<LegalStep<'a>>, MemoryFault>
-        requires unsettled { IsUnsettled self.old.judgement }
+        requires undecided { IsUndecided self.old.judgement }
         requires countable { self.old.plays < u64.MAX }
         ensures judged { (node : Node) → ComesAs node nodes.old.properties next.entry
             → OnOk result (self.new.judgement ≡ after self.old.judgement node) }
@@ -130,7 +130,7 @@ impl Judge {
     #[inline(always)]
     pub(crate) fn is_decided(&self) -> bool
         ensures decided { IsTrue result → IsDecided self.now.judgement }
-        ensures unsettled { IsFalse result → IsUnsettled self.now.judgement }
+        ensures undecided { IsFalse result → IsUndecided self.now.judgement }
     {
         self.game.is_none() || self.ended.is_some()
     }

@@ -7,7 +7,7 @@ ghost use Rattle.sgf_lines.specs.JudgedGames.{GameKind};
 ghost use Rattle.sgf_lines.specs.Walk.{LegalNode};
 ghost use Rattle.sgf_lines.specs.inner.Fronts.{HasFront};
 ghost use Rattle.sgf_lines.specs.inner.GoingOn.{IsHeldOf};
-ghost use Rattle.sgf_lines.specs.inner.Judging.{IsDecided, IsLegalStep, IsUnsettled, begun_game, board_in};
+ghost use Rattle.sgf_lines.specs.inner.Judging.{IsDecided, IsLegalStep, IsUndecided, begun_game, board_in};
 ghost use Rattle.sgf_lines.specs.inner.Keeping.{HasJudged, HoldsLine, HoldsVerdict, PlaysUpTo, WentOn, fresh_plays, plays_for};
 
 use crate::judging::contents::NEEDED_NAMES;
@@ -145,12 +145,12 @@ fn judge_sequence<K: StepKeeper>(
     keeper: &mut K,
 ) -> Result<bool, MemoryFault>
     requires known { (kind : GameKind) × (before : List Node) × HasJudged (K.tells keeper.old) kind before judge.old.judgement }
-    requires unsettled { IsUnsettled judge.old.judgement }
+    requires undecided { IsUndecided judge.old.judgement }
     requires countable { judge.old.plays + length nodes.nodes < u64.MAX }
     ensures judged { (kind : GameKind) (before : List Node) → HasJudged (K.tells keeper.old) kind before judge.old.judgement
         → OnOk result (WentOn (K.tells keeper.new) kind before nodes.entry.nodes judge.old.plays judge.new) }
     ensures decided { IfOk result (λ all. IsFalse all → IsDecided judge.new.judgement) }
-    ensures unsettled { IfOk result (λ all. IsTrue all → IsUnsettled judge.new.judgement) }
+    ensures undecided { IfOk result (λ all. IsTrue all → IsUndecided judge.new.judgement) }
     ensures refused { (kind : GameKind) (before : List Node) → HasJudged (K.tells keeper.old) kind before judge.old.judgement
         → OnErr result ((judge.old.plays ≤ judge.new.plays) × (judge.new.plays ≤ judge.old.plays + plays_for kind before nodes.entry.nodes)) }
 {

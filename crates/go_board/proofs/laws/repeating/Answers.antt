@@ -1,9 +1,9 @@
 use Rattle.std.proofs.Common.{subst, sym}
-use Rattle.go_board.specs.Clearing.{play}
-use Rattle.go_board.specs.Grid.{Grid}
+use Rattle.board_stones.specs.Clearing.{play}
+use Rattle.board_stones.specs.Grid.{Grid}
 use Rattle.std.proofs.Common.{List, Contains}
-use Rattle.go_board.specs.Reason.{WasEmptied}
-use Rattle.go_board.proofs.RepeatLemmas.{emptied-if_back}
+use Rattle.board_past.specs.Past.{WasEmptied}
+use Rattle.board_past.proofs.RepeatLemmas.{emptied-if_back}
 use Rattle.go_board.proofs.laws.repeating.Goals as goal
 
 pub returns : goal.returns

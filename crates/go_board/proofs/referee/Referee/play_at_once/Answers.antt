@@ -1,11 +1,11 @@
 use Rattle.std.proofs.Common.{◌≡◌, ◌+◌, ◌++◌, [], ◌∷◌, false, true, refl, ap, sym, ◌∙◌, arith, rules}
-use Rattle.go_board.specs.Clearing.{play}
-use Rattle.go_board.specs.Past.{newest_grid, with_next}
+use Rattle.board_stones.specs.Clearing.{play}
+use Rattle.board_past.specs.Past.{newest_grid, with_next}
 use Rattle.go_board.specs.State.{States}
 use Rattle.go_board.specs.Reason.{reason_of}
 use Rattle.go_board.specs.inner.Earlier.{grew, player_of, turned}
 use Rattle.go_board.proofs.EarlierLemmas.{IsRefereeKept-grown}
-use Rattle.go_board.proofs.SettledLemmas.{side_play}
+use Rattle.board_stones.proofs.SettledLemmas.{side_play}
 use Rattle.go_board.proofs.TurnLemmas.{reason_of-new}
 use Rattle.go_board.proofs.referee.Referee.play_at_once.Goals as goal
 

@@ -2,13 +2,13 @@ use Rattle.std.proofs.Common.{◌≡◌, ◌+◌, ◌-◌, ◌≤◌, ◌++◌, 
 use Rattle.std.proofs.lemmas.Bool.{false≢true}
 use Rattle.std.proofs.lemmas.List.{length-reverse, reverse-append}
 use Rattle.go_board.specs.declared.referee.plays.Play.TheVariants.{Stone}
-use Rattle.go_board.specs.Clearing.{play}
-use Rattle.go_board.specs.Past.{newest_grid, with_next, present_stretch}
+use Rattle.board_stones.specs.Clearing.{play}
+use Rattle.board_past.specs.Past.{newest_grid, with_next, present_stretch}
 use Rattle.go_board.specs.State.{States}
 use Rattle.go_board.specs.Reason.{reason_of}
 use Rattle.go_board.specs.inner.Earlier.{grew, player_of, turned}
 use Rattle.go_board.proofs.EarlierLemmas.{IsRefereeKept-grown}
-use Rattle.go_board.proofs.SettledLemmas.{side_play}
+use Rattle.board_stones.proofs.SettledLemmas.{side_play}
 use Rattle.go_board.proofs.TurnLemmas.{reason_by_past, reason_of-new, on_err}
 use Rattle.go_board.proofs.referee.Referee.play_stone.Given.{Over}
 use Rattle.go_board.proofs.referee.Referee.play_stone.Goals as goal

@@ -1,5 +1,5 @@
 use Rattle.std.specs.Prelude.{codes}
-use Rattle.go_board.specs.declared.stones.Colour.TheVariants.{Black, White}
+use Rattle.board_stones.specs.declared.stones.Colour.TheVariants.{Black, White}
 use Rattle.sgf_lines.specs.Script.{stone_commands}
 use Rattle.sgf_lines.proofs.CutTexts.{joins_three}
 use Rattle.sgf_lines.proofs.form.commands.push_board.Goals as goal

@@ -1,7 +1,7 @@
 -- The last player of all values is that of those left after the one that was met last.
 use Rattle.std.proofs.Common.{◌≡◌, Option, Some, length}
 use Rattle.sgf_tree.specs.Tree.{values}
-use Rattle.go_board.specs.declared.stones.Colour.{Colour}
+use Rattle.board_stones.specs.declared.stones.Colour.{Colour}
 use Rattle.sgf_lines.specs.NodeValues.{last_player}
 use Rattle.sgf_lines.proofs.judging.contents.last_player.Given as goal
 

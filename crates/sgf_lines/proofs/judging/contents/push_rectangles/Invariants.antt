@@ -1,7 +1,7 @@
 -- The operations of the values so far were appended.
 use Rattle.std.proofs.Common.{◌≡◌, ◌++◌, ℕ, List, map, Some, All, length}
 use Rattle.sgf_tree.specs.Tree.{values}
-use Rattle.go_board.specs.declared.setup_op.SetupOp.{SetupOp}
+use Rattle.board_stones.specs.declared.setup_op.SetupOp.{SetupOp}
 use Rattle.board_points.specs.Point.{IsRectOn}
 use Rattle.sgf_lines.specs.NodeValues.{operations}
 use Rattle.sgf_lines.proofs.judging.contents.push_rectangles.Given as goal

@@ -47,7 +47,7 @@ returns-then-is_decided g c =
     (decides (started g (goal.at.returns-then-is_decided g c).In_ok-keep) (c.is_decided.ensures.decided c.if-is_decided.true))
 
 pub loop-index-init : goal.loop-index-init
-loop-index-init g c = record { going = started g (goal.at.loop-index-init g c).In_ok-keep; unsettled = c.is_decided.ensures.unsettled c.if-is_decided.false }
+loop-index-init g c = record { going = started g (goal.at.loop-index-init g c).In_ok-keep; undecided = c.is_decided.ensures.undecided c.if-is_decided.false }
 
 -- the next sequence, and the nodes after it
 module _ (g : Over) (c : After-nodes g) where
@@ -74,7 +74,7 @@ loop-index-preserved g c =
     record {
       going = goes_on c.loop-index.invariant.going c.nodes.result.nodes (rest g at) (first g at) (g.K.StepKeeper.tells c.judge_sequence.new.keeper) c.judge_sequence.new.judge
           (c.in_ok-all.ensures.judged _ _ c.loop-index.invariant.going.on.has_judged);
-      unsettled = c.in_ok-all.ensures.unsettled (search rules);
+      undecided = c.in_ok-all.ensures.undecided (search rules);
     }
 
 pub returns-in_err-all-clause-plays : goal.returns-in_err-all-clause-plays

@@ -3,7 +3,7 @@ use Rattle.std.proofs.Common.{drop, take}
 use Rattle.tree_lines.specs.Following.{nodes_before}
 use Rattle.tree_lines.specs.Sequences.{nodes_in}
 use Rattle.sgf_lines.specs.JudgedGames.{game_kind, root_properties}
-use Rattle.sgf_lines.specs.inner.Judging.{IsUnsettled}
+use Rattle.sgf_lines.specs.inner.Judging.{IsUndecided}
 use Rattle.sgf_lines.proofs.JudgedLines.{Going}
 use Rattle.sgf_lines.proofs.judging.judged.judge_line.Given as goal
 
@@ -13,5 +13,5 @@ invariant-loop-index g l =
     let held = l.fn.held.nodes in
     record {
       going : Going (g.K.StepKeeper.tells l.keeper) (game_kind (root_properties line)) (take held line) (drop held line) (drop (nodes_in l.cursor.ends l.index) line) l.fn.judge.plays l.judge;
-      unsettled : IsUnsettled l.judge.judgement;
+      undecided : IsUndecided l.judge.judgement;
     }

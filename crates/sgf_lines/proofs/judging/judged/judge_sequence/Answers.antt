@@ -8,13 +8,13 @@ use Rattle.sgf_tree.specs.Traversal.{IsTakenOff}
 use Rattle.sgf_tree.specs.declared.traversal.NextNode.{NextNode}
 use Rattle.sgf_lines.specs.inner.Gathered.{ComesAs}
 use Rattle.sgf_tree.specs.Tree.{Node}
-use Rattle.go_board.specs.Grid.{Grid}
+use Rattle.board_stones.specs.Grid.{Grid}
 use Rattle.go_board.specs.State.{State}
 use Rattle.sgf_lines.specs.declared.judging.step.LegalStep.{LegalStep}
-use Rattle.sgf_lines.specs.inner.Judging.{IsDecided, IsStepFrom, IsUnsettled, Judging, after, board_in}
+use Rattle.sgf_lines.specs.inner.Judging.{IsDecided, IsStepFrom, IsUndecided, Judging, after, board_in}
 use Rattle.sgf_lines.proofs.Gathered.{comes, setup_names}
 use Rattle.sgf_lines.proofs.JudgedLines.{TookOne, countable, ends, refuses, said, starts, step_taken, stops, unsaid}
-use Rattle.sgf_lines.proofs.Judgements.{board_after, decided_by, unsettled_by}
+use Rattle.sgf_lines.proofs.Judgements.{board_after, decided_by, undecided_by}
 use Rattle.sgf_lines.proofs.judging.judged.judge_sequence.Given.{Over}
 use Rattle.sgf_lines.proofs.judging.judged.judge_sequence.Goals as goal
 use Rattle.sgf_lines.proofs.judging.judged.judge_sequence.Goals.{In_ok-step}
@@ -52,7 +52,7 @@ module _ (g : Over) (c : In_ok-step g) where
   judged = c.in_ok-step.ensures.judged node coming
 
   one : TookOne c.steps.judge c.steps.nodes.nodes node c.take.new.nodes.nodes c.take.new.self
-  one = record { unsettled = c.steps.invariant.unsettled; first = first; judged = judged; plays = c.in_ok-step.ensures.plays }
+  one = record { undecided = c.steps.invariant.undecided; first = first; judged = judged; plays = c.in_ok-step.ensures.plays }
 
   taken : (step : Option LegalStep) → c.in_ok-step.field-0 ≡ step → IsStepFrom c.steps.judge.judgement node step
   taken step is = subst (IsStepFrom c.steps.judge.judgement node) is (c.in_ok-step.ensures.step node coming)
@@ -60,7 +60,7 @@ module _ (g : Over) (c : In_ok-step g) where
 pub steps-init : goal.steps-init
 steps-init g c = record {
   going = λ kind before h. starts c.args.nodes.nodes c.args.nodes.nodes c.args.judge.now.plays c.args.judge.now h refl refl;
-  unsettled = c.requires.unsettled;
+  undecided = c.requires.undecided;
 }
 
 pub returns-clause-judged : goal.returns-clause-judged
@@ -123,5 +123,5 @@ steps-preserved g c =
           let going = c.steps.invariant.going kind before h in
           let step = step_taken going (one g at) c.in-Some.step c.unwrap.result.now known there in
           said going (one g at) c.in-Some.step c.unwrap.result.now known there (g.K.StepKeeper.tells c.say.new.self) (c.in_ok-say.ensures _ _ _ going.on.has_judged.taken step);
-      unsettled = subst IsUnsettled (sym (judged g at)) (unsettled_by c.steps.judge.judgement (node g at) known.0 known.1);
+      undecided = subst IsUndecided (sym (judged g at)) (undecided_by c.steps.judge.judgement (node g at) known.0 known.1);
     }

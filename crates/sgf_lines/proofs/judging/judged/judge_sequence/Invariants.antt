@@ -2,7 +2,7 @@
 use Rattle.std.proofs.Common.{List, length}
 use Rattle.sgf_tree.specs.Tree.{Node}
 use Rattle.sgf_lines.specs.JudgedGames.{GameKind}
-use Rattle.sgf_lines.specs.inner.Judging.{IsUnsettled}
+use Rattle.sgf_lines.specs.inner.Judging.{IsUndecided}
 use Rattle.sgf_lines.specs.inner.Keeping.{HasJudged}
 use Rattle.sgf_lines.proofs.JudgedLines.{Going}
 use Rattle.sgf_lines.proofs.judging.judged.judge_sequence.Given as goal
@@ -11,7 +11,7 @@ abbrev pub invariant-steps : goal.invariant-steps
 invariant-steps g l = record {
   going : (kind : GameKind) (before : List Node) → HasJudged (g.K.StepKeeper.tells l.fn.keeper) kind before l.fn.judge.judgement
       → Going (g.K.StepKeeper.tells l.keeper) kind before l.fn.nodes.nodes l.nodes.nodes l.fn.judge.plays l.judge;
-  unsettled : IsUnsettled l.judge.judgement;
+  undecided : IsUndecided l.judge.judgement;
 }
 
 abbrev pub decreases-steps : goal.decreases-steps

@@ -1,6 +1,6 @@
 use Rattle.std.proofs.Common.{◌≡◌, Some, sym, ap, ◌∙◌, arith}
 use Rattle.std.proofs.lemmas.Grind.{common_steps}
-use Rattle.go_board.specs.Grid.{Grid}
+use Rattle.board_stones.specs.Grid.{Grid}
 use Rattle.sgf_lines.specs.NodeValues.{move_value}
 use Rattle.sgf_lines.specs.Step.{move_step}
 use Rattle.sgf_lines.proofs.Steps.{takes_turn, refuses_turn}

@@ -1,0 +1,130 @@
+-- The points that were emptied, and the rows that lead back to earlier sets of them.
+use Rattle.std.proofs.Common.{◌≡◌, ℕ, suc, ◌+◌, ◌-◌, ◌<◌, ◌≤◌, Bool, List, [], ◌∷◌, ◌++◌, length, length-append, reverse, drop, get_or, slice_index, slice_set, bit_or, inl, inr, sym, ap, subst, ◌∙◌, arith}
+use Rattle.std.specs.Vec.{vec_capacity}
+use Rattle.std.proofs.lemmas.Bool.{cases_eq, or_left}
+use Rattle.std.proofs.lemmas.List.{get_or_append_left, get_or-set_same, get_or-set_other, length-set, set-get_or, reverse-append, set-set}
+use Rattle.std.proofs.lemmas.List.Elements.{All-push}
+use Rattle.board_past.specs.declared.past.print_past.emptied.Emptied.{Emptied}
+use Rattle.board_past.specs.declared.past.print_past.emptied.OldRow.{OldRow}
+use Rattle.board_points.specs.declared.points.Point.{Point}
+use Rattle.board_past.specs.Past.{Held}
+use Rattle.board_past.specs.inner.Emptied.{HasAllEmptied, HasHistory, HasRowsBelow, IsBelow, IsEmptied, IsLogged}
+use Rattle.board_past.specs.inner.Key.{oldest}
+use Rattle.board_points.specs.Rows.{has_bit, is_set, IsAmong}
+use Rattle.board_past.proofs.RepeatLemmas.{HasAllEmptied-more}
+use Rattle.board_points.proofs.RowLemmas.{AddedBelow}
+use Rattle.board_points.proofs.WordLemmas.{has_bit-or}
+
+oldest-same : (count : ℕ) (x : Held) (xs : List Held) → count ≤ length xs → oldest count (x ∷ xs) ≡ oldest count xs
+oldest-same count x xs le = let next : suc (length xs) - count ≡ suc (length xs - count) = omega (arith, le) in ap (λ n. drop n (x ∷ xs)) next
+
+oldest-all : (held : List Held) (count : ℕ) → count ≡ length held → oldest count held ≡ held
+oldest-all held count e = let none : length held - count ≡ 0 = omega (arith, e) in ap (λ n. drop n held) none
+
+pub history_all : (rows : List ℕ) (log : List OldRow) (held : List Held) → HasHistory rows log held → HasAllEmptied (is_set rows) held
+history_all rows [] held has = has
+history_all rows (last ∷ older) held has = has.0
+
+-- a row that got points
+among_set : (rows : List ℕ) (row more : ℕ) → row < length rows → IsAmong (is_set rows) (is_set (slice_set rows row (bit_or (get_or rows row 0) more)))
+among_set rows row more low = λ p is. elim (cases_eq p.row row) [
+  | inl same ↦
+      ap (λ r. has_bit (slice_index (slice_set rows row (bit_or (get_or rows row 0) more)) r) p.col) same
+      ∙ ap (λ w. has_bit w p.col) (get_or-set_same rows row (bit_or (get_or rows row 0) more) 0 low)
+      ∙ has_bit-or (get_or rows row 0) more p.col
+      ∙ or_left (has_bit (get_or rows row 0) p.col) (has_bit more p.col) (ap (λ r. has_bit (get_or rows r 0) p.col) (sym same) ∙ is)
+  | inr other ↦ ap (λ w. has_bit w p.col) (get_or-set_other rows row p.row (bit_or (get_or rows row 0) more) 0 other) ∙ is
+]
+
+history_added : (rows : List ℕ) (log : List OldRow) (held : List Held) (last : OldRow) (more : ℕ) → last.row < length rows → last.word ≡ get_or rows last.row 0 → last.number ≡ length held
+    → HasHistory rows log held → HasHistory (slice_set rows last.row (bit_or (get_or rows last.row 0) more)) (last ∷ log) held
+history_added rows log held last more low word number has =
+    let wider = slice_set rows last.row (bit_or (get_or rows last.row 0) more) in
+    let back : slice_set wider last.row last.word ≡ rows =
+    set-set rows last.row (bit_or (get_or rows last.row 0) more) last.word ∙ ap (λ w. slice_set rows last.row w) word ∙ set-get_or rows last.row 0 in (
+      HasAllEmptied-more (is_set rows) (is_set wider) held (among_set rows last.row more low) (history_all rows log held has),
+      omega (arith, number),
+      subst (λ (xs : List ℕ). HasHistory xs log (oldest last.number held)) (sym back) (subst (λ (hs : List Held). HasHistory rows log hs) (sym (oldest-all held last.number number)) has),
+    )
+
+history_back : (rows : List ℕ) (log : List OldRow) (held : List Held) (last : OldRow) → last.number ≡ length held → HasHistory rows (last ∷ log) held → HasHistory (slice_set rows last.row last.word) log held
+history_back rows log held last number has = subst (λ (hs : List Held). HasHistory (slice_set rows last.row last.word) log hs) (oldest-all held last.number number) has.2
+
+history_next : (rows : List ℕ) (log : List OldRow) (newest : Held) (older : List Held) → HasHistory rows log older → HasAllEmptied (is_set rows) (newest ∷ older) → HasHistory rows log (newest ∷ older)
+history_next rows [] newest older has all = all
+history_next rows (last ∷ log) newest older has all =
+    (all, omega (arith, has.1), subst (λ (hs : List Held). HasHistory (slice_set rows last.row last.word) log hs) (sym (oldest-same last.number newest older has.1)) has.2)
+
+emptied_tail : (set : Point → Bool) (newest : Held) (older : List Held) → HasAllEmptied set (newest ∷ older) → HasAllEmptied set older
+emptied_tail set newest [] all = tt
+emptied_tail set newest (x ∷ xs) all = all.1
+
+history_tail : (rows : List ℕ) (log : List OldRow) (newest : Held) (older : List Held) → IsBelow log (length older + 1) → HasHistory rows log (newest ∷ older) → HasHistory rows log older
+history_tail rows [] newest older below has = emptied_tail (is_set rows) newest older has
+history_tail rows (last ∷ log) newest older below has =
+    let few : last.number ≤ length older = omega (arith, below.0) in
+    (emptied_tail (is_set rows) newest older has.0, few, subst (λ (hs : List Held). HasHistory (slice_set rows last.row last.word) log hs) (oldest-same last.number newest older few) has.2)
+
+below_more : (log : List OldRow) (a b : ℕ) → a ≤ b → IsBelow log a → IsBelow log b
+below_more [] a b le below = tt
+below_more (last ∷ log) a b le below = (omega (arith, le, below.0), below.1)
+
+-- the old rows, newest first
+turned : (more log : List OldRow) (last : OldRow) → more ≡ log ++ last ∷ [] → reverse more ≡ last ∷ reverse log
+turned more log last is = ap reverse is ∙ reverse-append log (last ∷ [])
+
+pub all_but_one : (log : List OldRow) (last : OldRow) → HasRowsBelow (log ++ last ∷ []) → HasRowsBelow log
+all_but_one log last below = λ k d in_all.
+    subst (λ (x : OldRow). x.row < 52) (get_or_append_left log (last ∷ []) d k in_all) (below k d (omega (arith, in_all, length-append log (last ∷ []))))
+
+-- a step that begins
+pub logged_more : (held : List Held) (emptied : Emptied) → IsEmptied held emptied → IsLogged held (length held + 1) emptied
+logged_more held emptied is = record { rows = is.rows; inside = is.inside; history = is.history; below = below_more (reverse emptied.log.items) (length held) (length held + 1) (omega arith) is.below }
+
+-- a row that gets points
+pub logged_row : (held : List Held) (now new : Emptied) (last : OldRow) (more : ℕ) → last.row < 52 → last.number ≡ length held → last.word ≡ get_or now.rows last.row 0
+    → new.rows ≡ slice_set now.rows last.row (bit_or (get_or now.rows last.row 0) more) → new.log.items ≡ now.log.items ++ last ∷ []
+    → IsLogged held (length held + 1) now → IsLogged held (length held + 1) new
+logged_row held now new last more low number word rows log is =
+    let back = turned new.log.items now.log.items last log in
+    record {
+      rows = ap length rows ∙ length-set now.rows last.row _ ∙ is.rows;
+      inside = rw log (All-push (λ old. old.row < 52) now.log.items last is.inside low);
+      history = rw (rows, back) (history_added now.rows (reverse now.log.items) held last more (omega (arith, low, is.rows)) word number is.history);
+      below = rw back (omega (arith, number), below_more (reverse now.log.items) (length held + 1) (last.number + 1) (omega (arith, number)) is.below);
+    }
+
+-- a row that is as it was before
+pub logged_back : (held : List Held) (now new : Emptied) (last : OldRow) → length held ≤ last.number → new.rows ≡ slice_set now.rows last.row last.word → now.log.items ≡ new.log.items ++ last ∷ []
+    → IsLogged held (length held + 1) now → IsLogged held (length held + 1) new
+logged_back held now new last from rows log is =
+    let back = turned now.log.items new.log.items last log in
+    let below : IsBelow (last ∷ reverse new.log.items) (length held + 1) = rw back at is.below in
+    record {
+      rows = ap length rows ∙ length-set now.rows last.row _ ∙ is.rows;
+      inside = all_but_one new.log.items last (rw log at is.inside);
+      history = rw rows (history_back now.rows (reverse new.log.items) held last (omega (arith, from, below.0)) (rw back at is.history));
+      below = below_more (reverse new.log.items) (last.number + 1) (length held + 1) (omega (arith, below.0)) below.1;
+    }
+
+-- a step, once the set has what it empties
+pub logged_next : (held : List Held) (next : Held) (emptied : Emptied) → HasAllEmptied (is_set emptied.rows) (next ∷ held) → IsLogged held (length held + 1) emptied → IsEmptied (next ∷ held) emptied
+logged_next held next emptied all is = record {
+  rows = is.rows;
+  inside = is.inside;
+  history = history_next emptied.rows (reverse emptied.log.items) next held is.history all;
+  below = below_more (reverse emptied.log.items) (length held + 1) (length (next ∷ held)) (omega arith) is.below;
+}
+
+-- a step to be taken back
+pub logged_tail : (newest : Held) (older : List Held) (emptied : Emptied) → IsEmptied (newest ∷ older) emptied → IsLogged older (length older + 1) emptied
+logged_tail newest older emptied is =
+    let below = below_more (reverse emptied.log.items) (length (newest ∷ older)) (length older + 1) (omega arith) is.below in
+    record { rows = is.rows; inside = is.inside; history = history_tail emptied.rows (reverse emptied.log.items) newest older below is.history; below = below }
+
+-- the rows below `row` got their points
+pub record IsAddedBelow (old : Emptied) (points : List ℕ) (number row : ℕ) (new : Emptied) : Type 0 where
+  pub rows : AddedBelow old.rows points row new.rows
+  pub count : length new.rows ≡ 52
+  pub room : length new.log.items + (length points - row) ≤ vec_capacity new.log
+  pub logged : (held : List Held) → number ≡ length held → IsEmptied held old → IsLogged held (length held + 1) new

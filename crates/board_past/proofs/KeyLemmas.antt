@@ -1,0 +1,114 @@
+-- Keys of colourings: their words, and what keys that agree tell.
+use Rattle.std.proofs.Common.{◌≡◌, ℕ, suc, ◌+◌, ◌-◌, ◌*◌, ◌/◌, ◌%◌, ◌^◌, ◌<◌, ◌≤◌, ◌==◌, ◌&&◌, nat_lt, if◌then◌else◌, length, inl, inr, refl, sym, ap, subst, ◌∙◌, arith}
+use Rattle.std.proofs.lemmas.Bool.{cases_lt, false≢true, lt-ltb}
+use Rattle.std.proofs.lemmas.Nat.Bits.{same_from_bits_below}
+use Rattle.board_stones.specs.declared.stones.Cell.{Cell}
+use Rattle.board_stones.specs.declared.stones.Cell.TheVariants.{Black, White, Empty}
+use Rattle.board_stones.specs.Colour.{same_cell}
+use Rattle.board_stones.specs.Grid.{Grid, cell_at}
+use Rattle.board_past.specs.inner.Key.{has_stone, key_bit, key_bits}
+use Rattle.board_points.specs.Rows.{has_bit}
+use Rattle.key_trie.specs.Key.{Agree}
+use Rattle.board_stones.proofs.GroupLemmas.{one_colouring}
+use Rattle.board_stones.proofs.StoneRowsLemmas.{bit_same}
+
+-- The front of a key: the print, and the start of the stretch.
+
+key_at : (start print hash : ℕ) (grid : Grid) (index col : ℕ) → col < 64 → key_bits start print hash grid (64 * index + col) ≡ key_bit start print hash grid index col
+key_at start print hash grid index col low =
+    let word : (64 * index + col) / 64 ≡ index = omega (arith, low) in
+    let position : (64 * index + col) % 64 ≡ col = omega (arith, low) in
+    ap (λ n. key_bit start print hash grid n ((64 * index + col) % 64)) word ∙ ap (λ n. key_bit start print hash grid index n) position
+
+-- the first bits of a key are those of its print
+pub print_bit : (start print hash : ℕ) (grid : Grid) (position : ℕ) → position < 64 → key_bits start print hash grid position ≡ has_bit print position
+print_bit start print hash grid position low =
+    let at : 64 * 0 + position ≡ position = omega arith in
+    ap (λ n. key_bits start print hash grid n) (sym at) ∙ key_at start print hash grid 0 position low
+
+module _ (start start' print print' hash hash' : ℕ) (grid grid' : Grid) where
+  pub front_same : start < 2 ^ 64 → start' < 2 ^ 64 → print < 2 ^ 64 → print' < 2 ^ 64 → Agree (key_bits start print hash grid) (key_bits start' print' hash' grid') 128 → (start ≡ start') × (print ≡ print')
+  front_same few few' small small' a = (
+    same_from_bits_below 64 start start' few few' (λ i h. bit_same start start' i (
+        sym (key_at start print hash grid 1 i h) ∙ a.each (64 * 1 + i) (omega (arith, h)) ∙ key_at start' print' hash' grid' 1 i h
+        )),
+    same_from_bits_below 64 print print' small small' (λ i h. bit_same print print' i (
+        sym (key_at start print hash grid 0 i h) ∙ a.each (64 * 0 + i) (omega (arith, h)) ∙ key_at start' print' hash' grid' 0 i h
+        )),
+  )
+
+  pub front_agrees : start ≡ start' → print ≡ print' → Agree (key_bits start print hash grid) (key_bits start' print' hash' grid') 128
+  front_agrees e f = record {
+    each = λ p h. elim (cases_lt p 64) [
+      | inl low ↦
+          let at : 64 * 0 + p ≡ p = omega arith in
+          subst (λ m. key_bits start print hash grid m ≡ key_bits start' print' hash' grid' m) at
+          (key_at start print hash grid 0 p low ∙ ap (λ n. has_bit n p) f ∙ sym (key_at start' print' hash' grid' 0 p low))
+      | inr high ↦
+          let col = p - 64 in
+          let low : col < 64 = omega (arith, h, high) in
+          let at : 64 * 1 + col ≡ p = omega (arith, high) in
+          subst (λ m. key_bits start print hash grid m ≡ key_bits start' print' hash' grid' m) at
+          (key_at start print hash grid 1 col low ∙ ap (λ n. has_bit n col) e ∙ sym (key_at start' print' hash' grid' 1 col low))
+    ];
+  }
+
+-- the words before those of the board
+pub head_agrees : (start print hash : ℕ) (grid grid' : Grid) → Agree (key_bits start print hash grid) (key_bits start print hash grid') 192
+head_agrees start print hash grid grid' = record {
+  each = λ p h. elim (cases_lt p 128) [
+    | inl low ↦ (front_agrees start start print print hash hash grid grid' refl refl).each p low
+    | inr high ↦
+        let col = p - 128 in
+        let low : col < 64 = omega (arith, h, high) in
+        let at : 64 * 2 + col ≡ p = omega (arith, high) in
+        subst (λ m. key_bits start print hash grid m ≡ key_bits start print hash grid' m) at (key_at start print hash grid 2 col low ∙ sym (key_at start print hash grid' 2 col low))
+  ];
+}
+
+-- The whole of a key.
+
+stone-on : (grid : Grid) (stone : Cell) (row col : ℕ) → row < grid.side → col < grid.side → has_stone grid stone row col ≡ same_cell (cell_at grid (record { col = col; row = row })) stone
+stone-on grid stone row col low left =
+    ap (λ t. (t && nat_lt col grid.side) && same_cell (cell_at grid (record { col = col; row = row })) stone) (lt-ltb row grid.side low)
+    ∙ ap (λ t. t && same_cell (cell_at grid (record { col = col; row = row })) stone) (lt-ltb col grid.side left)
+
+cells_one : (a b : Cell) → same_cell a Black ≡ same_cell b Black → same_cell a White ≡ same_cell b White → a ≡ b
+cells_one Black Black e f = refl
+cells_one Black White e f = absurd (false≢true f)
+cells_one Black Empty e f = absurd (false≢true (sym e))
+cells_one White Black e f = absurd (false≢true e)
+cells_one White White e f = refl
+cells_one White Empty e f = absurd (false≢true (sym f))
+cells_one Empty Black e f = absurd (false≢true e)
+cells_one Empty White e f = absurd (false≢true f)
+cells_one Empty Empty e f = refl
+
+-- the word of a row for Black, and the one for White
+stone_at : (start print hash : ℕ) (grid : Grid) (row col white : ℕ) → col < 64 → white < 2 → key_bits start print hash grid (64 * (2 * row + 3 + white) + col) ≡ has_stone grid (if white == 0 then Black else White) row col
+stone_at start print hash grid row col white left few =
+    let index : 2 * row + 3 + white ≡ suc (suc (suc (2 * row + white))) = omega arith in
+    let side : (2 * row + white) % 2 ≡ white = omega (arith, few) in
+    let half : (2 * row + white) / 2 ≡ row = omega (arith, few) in
+    key_at start print hash grid (2 * row + 3 + white) col left
+    ∙ ap (λ n. key_bit start print hash grid n col) index
+    ∙ ap (λ n. has_stone grid (if n == 0 then Black else White) ((2 * row + white) / 2) col) side
+    ∙ ap (λ n. has_stone grid (if white == 0 then Black else White) n col) half
+
+pub whole_same : (start start' print print' hash hash' : ℕ) (grid grid' : Grid) → grid.side ≡ grid'.side → grid.side ≤ 52 → length grid.cells ≡ grid.side * grid.side → length grid'.cells ≡ grid'.side * grid'.side
+    → Agree (key_bits start print hash grid) (key_bits start' print' hash' grid') 6848 → grid ≡ grid'
+whole_same start start' print print' hash hash' grid grid' side few all all' a =
+    one_colouring grid grid' side all all'
+    (λ p on.
+    let row = p.row in
+    let col = p.col in
+    let left : col < 64 = omega (arith, on.0, few) in
+    let low' : row < grid'.side = omega (arith, on.1, side) in
+    let left' : col < grid'.side = omega (arith, on.0, side) in
+    let same : (white : ℕ) → white < 2 → same_cell (cell_at grid p) (if white == 0 then Black else White) ≡ same_cell (cell_at grid' p) (if white == 0 then Black else White) = λ white two.
+    sym (stone-on grid (if white == 0 then Black else White) row col on.1 on.0)
+    ∙ sym (stone_at start print hash grid row col white left two)
+    ∙ a.each (64 * (2 * row + 3 + white) + col) (omega (arith, on.1, few, left, two))
+    ∙ stone_at start' print' hash' grid' row col white left two
+    ∙ stone-on grid' (if white == 0 then Black else White) row col low' left' in
+    cells_one (cell_at grid p) (cell_at grid' p) (same 0 (omega arith)) (same 1 (omega arith)))

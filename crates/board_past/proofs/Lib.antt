@@ -1,0 +1,17 @@
+-- Some goals that the search proves have an answer all the same: where it is a term, a wrong body is refused at once, and not after a
+-- long search. So the edits of must-fail/ cost less.
+mod Examples
+pub mod ListPastLemmas
+pub mod RepeatLemmas
+pub mod PowerLemmas
+pub mod PrintLemmas
+pub mod ByteLemmas
+pub mod PrintPastLemmas
+pub mod EmptiedLemmas
+pub mod ChangesLemmas
+pub mod ColouringsLemmas
+pub mod FilterLemmas
+pub mod NumberLemmas
+pub mod TableLemmas
+pub mod KeyLemmas
+pub mod HashLemmas

@@ -1,0 +1,43 @@
+-- The newest stretch of past colourings that stand oldest first, looked at from the newest on.
+use Rattle.std.proofs.Common.{◌≡◌, ◌≢◌, ℕ, zero, suc, ◌+◌, ◌<◌, ◌⊎◌, inl, inr, true, false, List, [], ◌∷◌, length, get_or, take, reverse, Bool, Contains, refl, ap, ◌∙◌, arith, cond}
+use Rattle.std.proofs.lemmas.List.{reverse-append, take_more}
+use Rattle.std.proofs.lemmas.List.Elements.{Contains-append_right}
+use Rattle.board_stones.specs.Grid.{Grid}
+use Rattle.board_past.specs.Past.{Held, stretch_of}
+
+-- a list has its first element, what the rest has, and nothing else
+Contains-cases : (x y : Grid) (xs : List Grid) → Contains (x ∷ xs) y → (x ≡ y) ⊎ Contains xs y
+Contains-cases x y xs (zero, h, e) = inl e
+Contains-cases x y xs (suc k, h, e) = inr (k, omega (arith, h), e)
+
+-- a stretch goes on after its first colouring only if that doesn't begin it
+pub going_on : (x y : Grid) (b : Bool) (xs : List Grid) → b ≡ false → Contains xs y → Contains (x ∷ cond b [] xs) y
+going_on x y false xs e h = Contains-append_right (x ∷ []) xs y h
+going_on x y true xs e h = absurd (cc)
+
+pub only_later : (x y : Grid) (b : Bool) (xs : List Grid) → x ≢ y → Contains (x ∷ cond b [] xs) y → (b ≡ false) × Contains xs y
+only_later x y false xs other h = elim (Contains-cases x y xs h) [ inl e ↦ absurd (other e) | inr l ↦ (refl, l) ]
+only_later x y true xs other h =
+    elim (Contains-cases x y [] h) [ inl e ↦ absurd (other e) | inr l ↦ absurd (omega (arith, l.1)) ]
+
+module _ (all : List Held) (g : Grid) where
+  -- the stretch of the first n colourings has it
+  abbrev pub Has : ℕ → Type 0
+  Has n = Contains (stretch_of (reverse (take n all))) g
+
+  more : (i n : ℕ) (d : Held) → i ≡ n + 1 → n < length all → stretch_of (reverse (take i all)) ≡ (get_or all n d).colouring ∷ cond (get_or all n d).begins [] (stretch_of (reverse (take n all)))
+  more i n d next low =
+      ap (λ k. stretch_of (reverse (take k all))) next ∙ ap (λ l. stretch_of (reverse l)) (take_more all n d low)
+      ∙ ap stretch_of (reverse-append (take n all) (get_or all n d ∷ []))
+
+  pub Has-none : (i : ℕ) → i ≡ 0 → Has i → ⊥
+  Has-none i e h = let none : Contains [] g = rw e at h in absurd (omega (arith, none.1))
+
+  pub Has-found : (i n : ℕ) (d : Held) → i ≡ n + 1 → n < length all → (get_or all n d).colouring ≡ g → Has i
+  Has-found i n d next low same = rw (more i n d next low) (0, omega arith, same)
+
+  pub Has-more : (i n : ℕ) (d : Held) → i ≡ n + 1 → n < length all → (get_or all n d).begins ≡ false → Has n → Has i
+  Has-more i n d next low on h = rw (more i n d next low) (going_on _ _ (get_or all n d).begins _ on h)
+
+  pub Has-cases : (i n : ℕ) (d : Held) → i ≡ n + 1 → n < length all → (get_or all n d).colouring ≢ g → Has i → ((get_or all n d).begins ≡ false) × Has n
+  Has-cases i n d next low other h = only_later _ _ (get_or all n d).begins _ other (rw (more i n d next low) at h)

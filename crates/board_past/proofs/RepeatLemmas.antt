@@ -1,0 +1,116 @@
+-- A stone that stays can repeat a colouring of the stretch only on a point that was emptied.
+use Rattle.std.proofs.Common.{◌≡◌, ◌≢◌, ◌*◌, zero, suc, inl, inr, ℕ, Bool, true, false, cond, List, [], ◌∷◌, length, Contains, Result, Ok, Err, refl, ap, sym, subst, ◌∙◌, arith}
+use Rattle.std.specs.Result.{IsErr}
+use Rattle.std.proofs.lemmas.Bool.{cases_Bool, false≢true}
+use Rattle.board_stones.specs.declared.stones.Cell.TheVariants.{Empty}
+use Rattle.board_stones.specs.declared.stones.Colour.{Colour}
+use Rattle.board_points.specs.declared.points.Point.{Point}
+use Rattle.board_stones.specs.Colour.{same_cell, stone_of}
+use Rattle.board_points.specs.Point.{IsOn}
+use Rattle.board_stones.specs.Grid.{Grid, cell_at}
+use Rattle.board_stones.specs.Clearing.{play}
+use Rattle.board_past.specs.Past.{Held, PastColourings, all_of, newest_grid, with_next, stretch_of, present_stretch, AllHaveSide, HaveSide, IsPlayed, WasEmptied}
+use Rattle.board_past.specs.inner.Changes.{IsFreshStone}
+use Rattle.board_past.specs.inner.Emptied.{HasEmptied, HasAllEmptied}
+use Rattle.board_stones.specs.Move.{IsMove}
+use Rattle.board_points.specs.Rows.{is_set, IsAmong}
+use Rattle.board_points.proofs.PointLemmas.{same_or_not}
+use Rattle.board_stones.proofs.GridLemmas.{Decides-same_cell, cell_at-with_cell, cell_at-with_cell_elsewhere}
+use Rattle.board_stones.proofs.GroupLemmas.{stone_of≢Empty}
+use Rattle.board_stones.proofs.SettledLemmas.{side_play}
+
+-- a colouring that has a stone where the newest has none comes back only where that point was emptied
+pub emptied-if_back : (point : Point) (made newest : Grid) (others : List Grid) → cell_at newest point ≡ Empty → cell_at made point ≢ Empty → Contains (newest ∷ others) made → WasEmptied point (newest ∷ others)
+emptied-if_back point made newest others none stone (zero, h, e) = absurd (stone (ap (λ (g : Grid). cell_at g point) (sym e) ∙ none))
+emptied-if_back point made newest [] none stone (suc k, h, e) = absurd (omega (arith, h))
+emptied-if_back point made newest (earlier ∷ others) none stone (suc k, h, e) =
+    let here = Decides-same_cell (cell_at earlier point) Empty in
+    elim (cases_Bool (same_cell (cell_at earlier point) Empty)) [
+      | inl free ↦ inr (emptied-if_back point made earlier others (here.0 free) stone (k, omega (arith, h), e))
+      | inr cleared ↦ inl (λ is. false≢true (sym cleared ∙ here.1 is), none)
+    ]
+
+-- among the colourings of a stretch, as far as the second one
+stretch_goes_on : (b : Bool) (point : Point) (later : Grid) (rest : List Grid) → WasEmptied point (later ∷ cond b [] rest) → (b ≡ false) × WasEmptied point (later ∷ rest)
+stretch_goes_on true point later rest was = absurd was
+stretch_goes_on false point later rest was = (refl, was)
+
+-- a point that was emptied in the present stretch is in a set that has all that were
+pub was_in_set : (set : Point → Bool) (side : ℕ) (point : Point) → IsOn side point → (held : List Held) → AllHaveSide side held → HasAllEmptied set held → WasEmptied point (stretch_of held) → set point ≡ true
+was_in_set set side point on [] sides all was = absurd was
+was_in_set set side point on (later ∷ []) sides all was = absurd (stretch_goes_on later.begins point later.colouring [] was).1
+was_in_set set side point on (later ∷ (earlier ∷ others)) sides all was =
+    let on_next = stretch_goes_on later.begins point later.colouring (stretch_of (earlier ∷ others)) was in
+    elim on_next.1 [
+      | inl gone ↦ all.0 on_next.0 point (subst (λ n. IsOn n point) (sym sides.1.0) on) gone.0 gone.1
+      | inr before ↦ was_in_set set side point on (earlier ∷ others) sides.1 all.1 before
+    ]
+
+-- with more points a set still has all
+pub HasAllEmptied-more : (a b : Point → Bool) (held : List Held) → IsAmong a b → HasAllEmptied a held → HasAllEmptied b held
+HasAllEmptied-more a b [] among all = tt
+HasAllEmptied-more a b (later ∷ []) among all = tt
+HasAllEmptied-more a b (later ∷ (earlier ∷ others)) among all =
+    (λ goes_on p on stone free. among p (all.0 goes_on p on stone free), HasAllEmptied-more a b (earlier ∷ others) among all.1)
+
+-- a stone empties what it clears, and no other point
+pub emptied_by_play : (g : Grid) (k : Colour) (p : Point) (rows : List ℕ) → IsMove g k p rows → HasEmptied (is_set rows) g (play g k p)
+emptied_by_play g k p rows move = λ q at stone free.
+    elim (cases_Bool (is_set rows q)) [
+      | inl cleared ↦ cleared
+      | inr left ↦
+          absurd (elim (same_or_not q p) [
+            | inl same ↦ stone (ap (cell_at g) same ∙ move.empty)
+            | inr other ↦
+                stone (sym (cell_at-with_cell_elsewhere g p q (stone_of k) move.on_board at other) ∙ sym (move.cleared.played.kept q at (λ cleared. false≢true (sym left ∙ cleared))) ∙ free)
+          ])
+    ]
+
+-- a stone that stays on a point that isn't in the set makes no colouring of the present stretch
+pub never_back : (past : PastColourings) (k : Colour) (p : Point) (rows emptied : List ℕ) → length (newest_grid past).cells ≡ (newest_grid past).side * (newest_grid past).side → HaveSide (newest_grid past).side past → HasAllEmptied (is_set emptied) (all_of past)
+    → IsMove (newest_grid past) k p rows → is_set emptied p ≡ false → is_set rows p ≡ false → Contains (present_stretch past) (play (newest_grid past) k p) → ⊥
+never_back past k p rows emptied all sides kept move fresh stays has =
+    let g = newest_grid past in
+    let there : cell_at (play g k p) p ≡ stone_of k = move.cleared.played.kept p move.on_board (λ cleared. false≢true (sym stays ∙ cleared)) ∙ cell_at-with_cell g p (stone_of k) move.on_board all in
+    let was = emptied-if_back p (play g k p) g (cond past.newest.begins [] (stretch_of past.older)) move.empty (λ e. stone_of≢Empty k (sym there ∙ e)) has in
+    false≢true (sym fresh ∙ was_in_set (is_set emptied) g.side p move.on_board (all_of past) sides kept was)
+
+-- a stone that stays on such a point is in no older colouring of the stretch
+pub fresh_stone_put : (past : PastColourings) (k : Colour) (p : Point) (rows emptied : List ℕ) → length (newest_grid past).cells ≡ (newest_grid past).side * (newest_grid past).side → HaveSide (newest_grid past).side past → HasAllEmptied (is_set emptied) (all_of past)
+    → IsMove (newest_grid past) k p rows → is_set emptied p ≡ false → is_set rows p ≡ false → IsFreshStone (with_next past (play (newest_grid past) k p) false) p
+fresh_stone_put past k p rows emptied all sides kept move fresh stays =
+    let g = newest_grid past in
+    let there : cell_at (play g k p) p ≡ stone_of k = move.cleared.played.kept p move.on_board (λ cleared. false≢true (sym stays ∙ cleared)) ∙ cell_at-with_cell g p (stone_of k) move.on_board all in
+    record {
+      on = subst (λ n. IsOn n p) (sym (side_play g k p)) move.on_board;
+      there = λ e. stone_of≢Empty k (sym there ∙ e);
+      new = λ grid has.
+          let here = Decides-same_cell (cell_at grid p) Empty in
+          elim (cases_Bool (same_cell (cell_at grid p) Empty)) [
+            | inl free ↦ here.0 free
+            | inr cleared ↦
+                let was = emptied-if_back p grid g (cond past.newest.begins [] (stretch_of past.older)) move.empty (λ is. false≢true (sym cleared ∙ here.1 is)) has in
+                absurd (false≢true (sym fresh ∙ was_in_set (is_set emptied) g.side p move.on_board (all_of past) sides kept was))
+          ];
+    }
+
+-- What a stone leaves on the grid that it makes, if it isn't cleared at once: itself, and each stone that it doesn't clear.
+module _ (g : Grid) (k : Colour) (p : Point) (rows : List ℕ) (all : length g.cells ≡ g.side * g.side) (move : IsMove g k p rows) where
+  pub stone_put : is_set rows p ≡ false → cell_at (play g k p) p ≢ Empty
+  stone_put stays =
+      let there : cell_at (play g k p) p ≡ stone_of k = move.cleared.played.kept p move.on_board (λ cleared. false≢true (sym stays ∙ cleared)) ∙ cell_at-with_cell g p (stone_of k) move.on_board all in
+      λ e. stone_of≢Empty k (sym there ∙ e)
+
+  pub stone_left : (q : Point) → IsOn g.side q → cell_at g q ≢ Empty → is_set rows q ≡ false → cell_at (play g k p) q ≢ Empty
+  stone_left q on there stays =
+      let other : q ≢ p = λ same. there (ap (cell_at g) same ∙ move.empty) in
+      λ free. there (sym (cell_at-with_cell_elsewhere g p q (stone_of k) move.on_board on other) ∙ sym (move.cleared.played.kept q on (λ cleared. false≢true (sym stays ∙ cleared))) ∙ free)
+
+-- what becomes of a past when a stone is played: a stone is played, or memory is refused
+module _ {E : Type 0} (k : Colour) (p : Point) (old new : PastColourings) where
+  pub played_new : (Contains (present_stretch old) (play (newest_grid old) k p) → ⊥) → new ≡ with_next old (play (newest_grid old) k p) false → IsPlayed {E = E} k p old new (Ok true)
+  played_new never made = record { known = (λ t. absurd (false≢true (sym t)), λ has. absurd (never has)); ok = made; refused = tt; err = tt }
+
+  pub played_refused : (r : Result Bool E) → IsErr r → (Contains (present_stretch old) (play (newest_grid old) k p) → ⊥) → new ≡ old → IsPlayed k p old new r
+  played_refused (Ok b) is never same = absurd (false≢true is)
+  played_refused (Err e) is never same = record { known = tt; ok = tt; refused = never; err = same }

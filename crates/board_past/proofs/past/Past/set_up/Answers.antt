@@ -1,0 +1,9 @@
+use Rattle.std.proofs.Common.{fold, ap, ◌∙◌}
+use Rattle.board_stones.specs.Grid.{Grid}
+use Rattle.board_stones.specs.Rectangle.{with_rectangle}
+use Rattle.board_past.proofs.past.Past.set_up.Goals as goal
+
+pub returns-clause-ok : goal.returns-clause-ok
+returns-clause-ok g c =
+    let made = c.colour_rectangles.ensures.value ∙ ap (λ (b : Grid). fold with_rectangle b c.args.ops.now) (c.copy-made.ensures ∙ c.newest.ensures) in
+    rw (← made) c.restart.ensures.ok

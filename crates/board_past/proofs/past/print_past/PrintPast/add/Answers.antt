@@ -1,0 +1,64 @@
+use Rattle.std.proofs.Common.{◌≡◌, ◌≢◌, true, subst, arith}
+use Rattle.std.proofs.Math.Facts.{Fits-of_lt}
+use Rattle.board_stones.specs.declared.stones.Cell.TheVariants.{Empty}
+use Rattle.board_points.specs.declared.points.Point.{Point}
+use Rattle.board_points.specs.Point.{IsOn}
+use Rattle.board_stones.specs.Grid.{Grid, cell_at}
+use Rattle.board_past.specs.Past.{Held, all_of}
+use Rattle.board_past.specs.inner.Table.{IsPrintOfNext}
+use Rattle.board_points.specs.Rows.{is_set}
+use Rattle.board_past.proofs.TableLemmas.{few_all, print_same, table_same}
+use Rattle.board_past.proofs.past.print_past.PrintPast.add.Goals as goal
+use Rattle.board_past.proofs.past.print_past.PrintPast.add.Goals.{After-add_stones, then-is_awake, else-is_awake}
+
+abbrev next_of : After-add_stones → Held
+next_of c = record { colouring = c.args.board.now; begins = c.args.begins }
+
+-- the print that is given
+given : (c : After-add_stones) → IsPrintOfNext (all_of c.self.inside.colourings) c.self.inside.table (next_of c) c.if-is_awake.print
+given c =
+    let was = c.self.inside.colourings in
+    elim c.if-is_awake.branch [
+      | then-is_awake w ↦ rw w.print-is (record { awake = (c.is_awake.ensures.awake was.newest was.older c.self.invariant.tabled w.if-is_awake.true, w.print_if_unknown.ensures); asleep = tt })
+      | else-is_awake w ↦ rw w.print-is (record { awake = tt; asleep = c.is_awake.ensures.asleep (all_of was) c.self.invariant.tabled w.if-is_awake.false })
+    ]
+
+pub invariant_of-self-in_err-reserve-2 : goal.invariant_of-self-in_err-reserve-2
+invariant_of-self-in_err-reserve-2 c =
+    let held = all_of c.self.inside.colourings in
+    record {
+      tabled = table_same held c.self.inside.table c.reserve-2.new.self (c.reserve-2.ensures.asleep held) (c.reserve-2.ensures.awake held) c.self.invariant.tabled;
+      emptied_in = c.reserve.ensures.emptied held c.self.invariant.emptied_in;
+    }
+
+pub invariant_of-self-in_err-add : goal.invariant_of-self-in_err-add
+invariant_of-self-in_err-add c =
+    let held = all_of c.self.inside.colourings in
+    rw c.in_err-add.ensures.err (record {
+      tabled = table_same held c.self.inside.table c.reserve-2.new.self (c.reserve-2.ensures.asleep held) (c.reserve-2.ensures.awake held) c.self.invariant.tabled;
+      emptied_in = c.reserve.ensures.emptied held c.self.invariant.emptied_in;
+    })
+
+pub overflow_cast-number : goal.overflow_cast-number
+overflow_cast-number c = Fits-of_lt (omega (arith, c.len-number.ensures, few_all (all_of c.self.inside.colourings) c.self.inside.table c.self.invariant.tabled))
+
+pub add-requires-clause-few : goal.add-requires-clause-few
+add-requires-clause-few c = omega (arith, few_all (all_of c.self.inside.colourings) c.self.inside.table c.self.invariant.tabled)
+
+pub push-requires : goal.push-requires
+push-requires c =
+    let held = all_of c.self.inside.colourings in
+    let w = (goal.at.push-requires c).After-add_stones in
+    record { table = (held, next_of w, print_same held c.self.inside.table c.reserve-2.new.self (c.reserve-2.ensures.asleep held) (c.reserve-2.ensures.awake held) (next_of w) c.if-is_awake.print (given w), tt, c.in_ok-reserve-2.ensures.ok held c.len-number.ensures) }
+
+pub invariant_of-self-2 : goal.invariant_of-self-2
+invariant_of-self-2 c =
+    let was = c.self.inside.colourings in
+    let held = all_of was in
+    let w = (goal.at.invariant_of-self-2 c).After-add_stones in
+    let next = next_of w in
+    let stones = subst (λ (g : Grid). (q : Point) → IsOn g.side q → cell_at g q ≢ Empty → is_set c.add_stones.new.all q ≡ true) c.newest.ensures c.add_stones.ensures.stones in
+    rw c.in_ok-add.ensures.ok (record {
+      tabled = c.push.ensures held next (print_same held c.self.inside.table c.reserve-2.new.self (c.reserve-2.ensures.asleep held) (c.reserve-2.ensures.awake held) next c.if-is_awake.print (given w)) tt (c.in_ok-reserve-2.ensures.ok held c.len-number.ensures);
+      emptied_in = c.add-2.ensures.emptied next was.newest was.older (c.reserve.ensures.emptied held c.self.invariant.emptied_in) c.len-number.ensures (λ goes_on q on some free. stones q on some);
+    })

@@ -1,0 +1,16 @@
+use Rattle.std.proofs.Common.{◌∷◌, List, subst}
+use Rattle.board_past.specs.Past.{Held, all_of}
+use Rattle.board_past.specs.inner.Emptied.{IsEmptied}
+use Rattle.board_past.specs.inner.Table.{IsTable}
+use Rattle.board_past.proofs.past.print_past.PrintPast.pop_in_full.Goals as goal
+
+pub invariant_of-self : goal.invariant_of-self
+invariant_of-self c =
+    let was = c.self.inside in
+    let newest = was.colourings.newest in
+    let left = all_of c.pop-2.new.self in
+    let table = c.pop.ensures newest left (subst (λ (held : List Held). IsTable (newest ∷ held) was.table) c.pop-2.ensures c.self.invariant.tabled) in
+    record {
+      tabled = table;
+      emptied_in = c.go_back.ensures newest left (subst (λ (held : List Held). IsEmptied (newest ∷ held) was.emptied) c.pop-2.ensures c.self.invariant.emptied_in) c.len.ensures;
+    }

@@ -1,0 +1,23 @@
+use Rattle.std.proofs.Common.{◌∷◌, List, length, inl, refl, ap, subst, arith}
+use Rattle.std.proofs.Math.Facts.{Fits-of_lt}
+use Rattle.board_past.specs.Past.{Held, all_of}
+use Rattle.board_past.specs.inner.Emptied.{IsEmptied}
+use Rattle.board_past.specs.inner.Table.{IsTable}
+use Rattle.board_past.proofs.TableLemmas.{asleep_less, few_all}
+use Rattle.board_past.proofs.past.print_past.PrintPastPast.pop.Goals as goal
+
+pub invariant_of-self-2 : goal.invariant_of-self-2
+invariant_of-self-2 c =
+    let was = c.self.inside in
+    let newest = was.colourings.newest in
+    let left = all_of c.pop_point.new.self in
+    let older = c.if-not-pop_point.ensures.taken_back refl in
+    let held = subst (λ (all : List Held). IsTable (newest ∷ all) was.table) older c.self.invariant.tabled in
+    record {
+      tabled = inl (asleep_less was.table newest left (c.if-is_awake.ensures.asleep (newest ∷ left) held refl));
+      emptied_in = c.go_back.ensures newest left (subst (λ (held : List Held). IsEmptied (newest ∷ held) was.emptied) older c.self.invariant.emptied_in) c.len.ensures;
+    }
+
+pub overflow_cast-len : goal.overflow_cast-len
+overflow_cast-len c =
+    Fits-of_lt (omega (arith, c.len.ensures, few_all (all_of c.self.inside.colourings) c.self.inside.table c.self.invariant.tabled, ap (λ (xs : List Held). length xs) (c.if-not-pop_point.ensures.taken_back refl)))

@@ -1,0 +1,11 @@
+use Rattle.std.proofs.Common.{sym, subst}
+use Rattle.board_past.specs.Past.{PastColourings, all_of}
+use Rattle.board_past.specs.inner.Emptied.{IsEmptied}
+use Rattle.board_past.specs.inner.Table.{IsTable}
+use Rattle.board_past.proofs.past.print_past.PrintPastPast.reset.Goals as goal
+
+pub invariant_of-self : goal.invariant_of-self
+invariant_of-self c = record {
+  tabled = subst (λ (past : PastColourings). IsTable (all_of past) c.reset-2.new.self) (sym c.reset.ensures) (c.reset-2.ensures _);
+  emptied_in = search (subst (λ (past : PastColourings). IsEmptied (all_of past) c.clear.new.self) (sym c.reset.ensures) (c.clear.ensures _));
+}

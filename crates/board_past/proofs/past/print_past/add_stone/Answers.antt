@@ -1,0 +1,60 @@
+use Rattle.std.proofs.Common.{false, arith}
+use Rattle.board_stones.specs.declared.stones.Colour.{Colour}
+use Rattle.board_points.specs.declared.points.Point.{Point}
+use Rattle.board_stones.specs.Clearing.{play}
+use Rattle.board_past.specs.Past.{Held, PastColourings, all_of, newest_grid}
+use Rattle.board_past.proofs.RepeatLemmas.{emptied_by_play}
+use Rattle.board_past.proofs.TableLemmas.{few_all, gap_same, print_same, table_same}
+use Rattle.board_past.proofs.past.print_past.add_stone.Goals as goal
+use Rattle.board_past.proofs.past.print_past.add_stone.Goals.{In_ok-reserve-2}
+
+abbrev next_of : PastColourings → Colour → Point → Held
+next_of was k p = record { colouring = play (newest_grid was) k p; begins = false }
+
+pub returns-in_err-reserve-2-clause-table : goal.returns-in_err-reserve-2-clause-table
+returns-in_err-reserve-2-clause-table c =
+    let held = all_of c.args.colourings.now in
+    table_same held c.args.table.now c.reserve-2.new.self (c.reserve-2.ensures.asleep held) (c.reserve-2.ensures.awake held) c.requires.table
+
+pub returns-in_err-add_stone-clause-table : goal.returns-in_err-add_stone-clause-table
+returns-in_err-add_stone-clause-table c =
+    let held = all_of c.args.colourings.now in
+    rw c.in_err-add_stone.ensures.err (table_same held c.args.table.now c.reserve-2.new.self (c.reserve-2.ensures.asleep held) (c.reserve-2.ensures.awake held) c.requires.table)
+
+pub returns-clause-table : goal.returns-clause-table
+returns-clause-table c =
+    let was = c.args.colourings.now in
+    let held = all_of was in
+    let next = next_of was c.args.colour c.args.point in
+    rw c.in_ok-add_stone.ensures.ok
+    (c.push.ensures held next
+    (print_same held c.args.table.now c.reserve-2.new.self (c.reserve-2.ensures.asleep held) (c.reserve-2.ensures.awake held) next c.args.print c.requires.print)
+    (gap_same held c.args.table.now c.reserve-2.new.self next c.args.gap c.reserve-2.ensures.trie c.reserve-2.ensures.hashed c.requires.gap)
+    (c.in_ok-reserve-2.ensures.ok held c.len-number.ensures))
+
+pub add_stone-requires-clause-few : goal.add_stone-requires-clause-few
+add_stone-requires-clause-few c = omega (arith, few_all (all_of c.args.colourings.now) c.args.table.now c.requires.table)
+
+pub push-requires : goal.push-requires
+push-requires c =
+    let was = c.args.colourings.now in
+    let held = all_of was in
+    let next = next_of was c.args.colour c.args.point in
+    record {
+      table = (
+        held,
+        next,
+        print_same held c.args.table.now c.reserve-2.new.self (c.reserve-2.ensures.asleep held) (c.reserve-2.ensures.awake held) next c.args.print c.requires.print,
+        gap_same held c.args.table.now c.reserve-2.new.self next c.args.gap c.reserve-2.ensures.trie c.reserve-2.ensures.hashed c.requires.gap,
+        c.in_ok-reserve-2.ensures.ok held c.len-number.ensures,
+      );
+    }
+
+pub returns-clause-emptied : goal.returns-clause-emptied
+returns-clause-emptied c =
+    let was = c.args.colourings.now in
+    let k = c.args.colour in
+    let p = c.args.point in
+    rw c.in_ok-add_stone.ensures.ok
+    (c.add.ensures.emptied (next_of was k p) was.newest was.older (c.reserve.ensures.emptied (all_of was) c.requires.emptied) c.len-number.ensures
+    (λ goes_on. emptied_by_play (newest_grid was) k p c.args.cleared.now c.requires.stone))

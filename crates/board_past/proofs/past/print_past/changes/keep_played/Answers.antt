@@ -1,0 +1,40 @@
+use Rattle.std.proofs.Common.{◌≡◌, ◌<◌, ◌∷◌, [], length, length-append, ap, arith}
+use Rattle.std.proofs.lemmas.Bool.{or_parts}
+use Rattle.board_stones.specs.Clearing.{play}
+use Rattle.board_past.proofs.ChangesLemmas.{kept_none, kept_more, kept_same, kept_rest, row_kept}
+use Rattle.board_past.proofs.past.print_past.changes.keep_played.Goals as goal
+use Rattle.board_past.proofs.past.print_past.changes.keep_played.Goals.{then-apart, else-apart}
+
+pub loop-row-init : goal.loop-row-init
+loop-row-init c = record {
+  kept = λ k move. kept_none c.args.board.now (play c.args.board.now k c.args.point) c.args.all c.args.changes.now.items;
+  room = omega (arith, c.requires.room);
+}
+
+pub loop-row-preserved : goal.loop-row-preserved
+loop-row-preserved c =
+    let was = c.loop-row.invariant in
+    let low : c.loop-row.row < c.args.board.now.side = omega (arith, c.rows_to_keep-row-end.ensures.few) in
+    elim c.if-apart.branch [
+      | then-apart w ↦
+          let adds = w.keep_row.ensures.row in
+          rw w.changes-is (record {
+            kept = λ k move. kept_more (was.kept k move) adds;
+            room = omega (arith, was.room, w.keep_row.ensures.room, ap length adds.added, length-append c.loop-row.changes.items (adds.change ∷ []));
+          })
+      | else-apart w ↦
+          let parts = or_parts _ _ w.if-apart.false in
+          let still = c.may_change.ensures parts.1 in
+          rw w.changes-is (record {
+            kept = λ k move. kept_same (was.kept k move) parts.0 (row_kept c.args.board.now k c.args.point c.args.cleared.now c.loop-row.row move low still.0 still.1);
+            room = omega (arith, was.room);
+          })
+    ]
+
+pub returns : goal.returns
+returns c = λ k move.
+    let g = c.args.board.now in
+    let all : c.loop-row.row ≡ c.rows_to_keep-row-end.result = omega arith in
+    kept_rest (c.loop-row.invariant.kept k move) g.side (omega (arith, all, c.rows_to_keep-row-end.ensures.few))
+    (λ r rest low. let still = c.rows_to_keep-row-end.ensures.rest r (omega (arith, rest, all)) (omega (arith, low)) in
+    (still.0, row_kept g k c.args.point c.args.cleared.now r move low still.1 still.2))

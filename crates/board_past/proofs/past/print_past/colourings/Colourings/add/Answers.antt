@@ -1,0 +1,45 @@
+use Rattle.std.proofs.Common.{◌≡◌, ◌+◌, ◌<◌, cond, false, ◌++◌, [], ◌∷◌, length, reverse, refl, ap, sym, ◌∙◌, arith, rules}
+use Rattle.std.proofs.lemmas.Bool.{false≢true}
+use Rattle.std.proofs.Math.Facts.{Fits-of_lt}
+use Rattle.board_past.specs.declared.past.print_past.changes.Older.{Older}
+use Rattle.board_stones.specs.Grid.{Grid}
+use Rattle.board_past.specs.Past.{PastColourings, newest_grid, with_next}
+use Rattle.board_past.specs.inner.Changes.{is_full, IsPast, KeepRows}
+use Rattle.board_past.proofs.ColouringsLemmas.{count-all, started-below, past_held, room_for_all, grown}
+use Rattle.board_past.proofs.past.print_past.colourings.Colourings.add.Goals as goal
+use Rattle.board_past.proofs.past.print_past.colourings.Colourings.add.Goals.{After-copy-self-inside, then-begins, else-begins}
+
+pub overflow_cast-kept-2 : goal.overflow_cast-kept-2
+overflow_cast-kept-2 c =
+    let was = c.self.inside in
+    let few : length was.older.items < 4294967295 = omega (arith, c.requires.few, count-all was.newest was.stretch_start was.older.items was.changes.items c.args.self.now c.self.view_is) in
+    Fits-of_lt (omega (arith, started-below was.older.items was.older.items was.stretch_start 4294967295 refl few c.self.invariant.0.started))
+
+-- what is kept, and what it tells
+next : (c : After-copy-self-inside) → IsPast c.copy-self-inside.result c.if-begins.stretch_start c.push_reserved.new.self.items c.keep_rows.new.changes.items
+    × (past_held c.copy-self-inside.result c.if-begins.stretch_start (reverse c.push_reserved.new.self.items) c.keep_rows.new.changes.items ≡ with_next c.args.self.now c.args.board.now c.args.begins)
+next c =
+    let was = c.self.inside in
+    let board : Grid = c.args.board.now in
+    let kept : Older = record { start = c.len.result; stretch_start = was.stretch_start; point = record { col = 0; row = 0 }; alone = false; known = c.new.result } in
+    let side : board.side ≡ was.newest.side = sym c.requires.side ∙ sym (ap (λ (past : PastColourings). (newest_grid past).side) c.self.view_is) in
+    let count : c.len-2.result ≡ length was.older.items = search rules in
+    let start : c.len.result ≡ length was.changes.items = search rules in
+    let older : c.push_reserved.new.self.items ≡ was.older.items ++ kept ∷ [] = search rules in
+    let rows : KeepRows was.newest board c.is_full-all.result was.newest.side was.changes.items c.keep_rows.new.changes.items = rw c.in_ok-make_room.ensures.changes at c.keep_rows.ensures in
+    let follows : c.if-begins.stretch_start ≡ cond c.args.begins (length was.older.items + 1) was.stretch_start = elim c.if-begins.branch [
+      | then-begins w ↦ rw w.if-begins.true (w.stretch_start-is ∙ search rules)
+      | else-begins w ↦ rw w.if-begins.false w.stretch_start-is
+    ] in
+    rw c.copy-self-inside.ensures
+    (grown was.newest board was.stretch_start c.if-begins.stretch_start was.older.items c.push_reserved.new.self.items kept was.changes.items c.keep_rows.new.changes.items c.is_full-all.result c.args.begins c.args.self.now
+    c.self.view_is c.self.invariant.0 c.has_all_cells.ensures.all side c.has_all_cells-2.ensures.all rows older follows refl start refl
+    (λ is. c.is_settled.ensures (c.new.ensures.settled is)) (λ is. absurd (false≢true (c.new.ensures.fresh is))) (c.is_full-all.ensures ∙ ap is_full count) (room_for_all c.in_ok-make_room.ensures.changes (c.in_ok-make_room.ensures.few_rows refl) c.has_all_cells.ensures.few))
+
+pub invariant_of-self-2 : goal.invariant_of-self-2
+invariant_of-self-2 c =
+    let count : length c.push_reserved.new.self.items ≡ length c.make_room.new.older.items + 1 = search rules in
+    ((next (goal.at.invariant_of-self-2 c).After-copy-self-inside).0, omega (arith, count, c.push_reserved.ensures.capacity, c.in_ok-make_room.ensures.next))
+
+pub returns-clause-ok : goal.returns-clause-ok
+returns-clause-ok c = (next (goal.at.returns-clause-ok c).After-copy-self-inside).1

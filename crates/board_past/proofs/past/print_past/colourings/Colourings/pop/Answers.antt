@@ -1,0 +1,66 @@
+use Rattle.std.proofs.Common.{◌≡◌, ◌+◌, ◌≤◌, ◌++◌, [], ◌∷◌, List, length, reverse, refl, ap, sym, subst, ◌∙◌, arith, rules}
+use Rattle.std.proofs.lemmas.List.{reverse-append, take_rest}
+use Rattle.board_past.specs.declared.past.print_past.changes.Change.{Change}
+use Rattle.board_past.specs.declared.past.print_past.changes.Older.{Older}
+use Rattle.board_stones.specs.Grid.{Grid}
+use Rattle.board_past.specs.inner.Changes.{AreKept}
+use Rattle.board_past.proofs.ColouringsLemmas.{past-pop}
+use Rattle.board_past.proofs.past.print_past.colourings.Colourings.pop.Goals as goal
+
+turned : (older older' : List Older) (o : Older) → older ≡ older' ++ o ∷ [] → reverse older ≡ o ∷ reverse older'
+turned older older' o parts = ap reverse parts ∙ reverse-append older' (o ∷ [])
+
+-- what is kept of the colouring that gets the newest
+kept-first : (g : Grid) (older older' : List Older) (o : Older) (changes : List Change) → older ≡ older' ++ o ∷ [] → AreKept g (reverse older) changes → AreKept g (o ∷ reverse older') changes
+kept-first g older older' o changes parts kept = subst (λ (os : List Older). AreKept g os changes) (turned older older' o parts) kept
+
+pub invariant_of-self : goal.invariant_of-self
+invariant_of-self c =
+    let p = c.self.inside in
+    let o = c.unwrap-kept.result in
+    let parts : p.older.items ≡ c.pop.new.self.items ++ o ∷ [] = search rules in
+    let less = past-pop p.newest p.stretch_start p.older.items c.pop.new.self.items o p.changes.items parts c.self.invariant.0 in
+    let board = rw (c.deref.ensures.value, take_rest p.changes.items o.start) at c.step_back.ensures in
+    let count : length p.older.items ≡ length c.pop.new.self.items + 1 = search rules in
+    (rw (c.set_settled.ensures, board, c.truncate.ensures.items) less, omega (arith, count, c.pop.ensures.capacity, c.self.invariant.1))
+
+-- the rest is only there for speed
+pub offset_bounds-deref-start : goal.offset_bounds-deref-start
+offset_bounds-deref-start c =
+    let p = c.self.inside in
+    let parts : p.older.items ≡ c.pop.new.self.items ++ c.unwrap-kept.result ∷ [] = search rules in
+    let low : c.unwrap-kept.result.start ≤ length c.deref.result.now = rw c.deref.ensures.value (kept-first p.newest p.older.items c.pop.new.self.items c.unwrap-kept.result p.changes.items parts c.self.invariant.0.kept).0 in
+    search rules
+
+pub slice_bounds-step_back-count : goal.slice_bounds-step_back-count
+slice_bounds-step_back-count c =
+    let p = c.self.inside in
+    let parts : p.older.items ≡ c.pop.new.self.items ++ c.unwrap-kept.result ∷ [] = search rules in
+    rw c.deref.ensures.value (kept-first p.newest p.older.items c.pop.new.self.items c.unwrap-kept.result p.changes.items parts c.self.invariant.0.kept).0
+
+pub slice_bounds-step_back-start : goal.slice_bounds-step_back-start
+slice_bounds-step_back-start c =
+    let p = c.self.inside in
+    let parts : p.older.items ≡ c.pop.new.self.items ++ c.unwrap-kept.result ∷ [] = search rules in
+    let low : c.unwrap-kept.result.start ≤ length c.deref.result.now = rw c.deref.ensures.value (kept-first p.newest p.older.items c.pop.new.self.items c.unwrap-kept.result p.changes.items parts c.self.invariant.0.kept).0 in
+    search rules
+
+pub step_back-requires-clause-point : goal.step_back-requires-clause-point
+step_back-requires-clause-point c = λ is.
+    let p = c.self.inside in
+    let parts : p.older.items ≡ c.pop.new.self.items ++ c.unwrap-kept.result ∷ [] = search rules in
+    ((kept-first p.newest p.older.items c.pop.new.self.items c.unwrap-kept.result p.changes.items parts c.self.invariant.0.kept).1 is).0
+
+pub set_settled-requires : goal.set_settled-requires
+set_settled-requires c = λ is.
+    let p = c.self.inside in
+    let parts : p.older.items ≡ c.pop.new.self.items ++ c.unwrap-kept.result ∷ [] = search rules in
+    let board = rw (c.deref.ensures.value, take_rest p.changes.items c.unwrap-kept.result.start) at c.step_back.ensures in
+    rw board ((kept-first p.newest p.older.items c.pop.new.self.items c.unwrap-kept.result p.changes.items parts c.self.invariant.0.kept).2 (sym c.is_settled.ensures ∙ is))
+
+pub returns : goal.returns
+returns c =
+    let p = c.self.inside in
+    let parts : p.older.items ≡ c.pop.new.self.items ++ c.unwrap-kept.result ∷ [] = search rules in
+    let board = rw (c.deref.ensures.value, take_rest p.changes.items c.unwrap-kept.result.start) at c.step_back.ensures in
+    rw (sym c.self.view_is) (simp (turned p.older.items c.pop.new.self.items c.unwrap-kept.result parts, c.set_settled.ensures, board, c.truncate.ensures.items) refl)

@@ -1,0 +1,43 @@
+use Rattle.std.proofs.Common.{◌≡◌, ◌+◌, ◌++◌, [], ◌∷◌, true, List, length, drop, cond, reverse, refl, ap, sym, subst, ◌∙◌, arith, rules}
+use Rattle.std.proofs.lemmas.List.{reverse-append}
+use Rattle.board_stones.specs.declared.stones.Cell.TheVariants.{Empty}
+use Rattle.board_past.specs.declared.past.print_past.changes.Change.{Change}
+use Rattle.board_stones.specs.Grid.{Grid, with_cell}
+use Rattle.board_past.specs.inner.Changes.{after_changes, before, changes_before, IsPast}
+use Rattle.board_past.proofs.ColouringsLemmas.{none_kept, past-pop}
+use Rattle.board_past.proofs.past.print_past.colourings.Colourings.pop_point.Goals as goal
+use Rattle.board_past.proofs.past.print_past.colourings.Colourings.pop_point.Goals.{After-set}
+
+-- the colouring before the step, and its changes: the step has none
+module _ (c : After-set) (alone : c.unwrap-kept.result.now.alone ≡ true) where
+  pub parts : c.self.inside.older.items ≡ c.pop.new.self.items ++ c.unwrap-kept.result.now ∷ []
+  parts = search rules
+
+  pub board : before c.self.inside.newest c.unwrap-kept.result.now c.self.inside.changes.items ≡ with_cell c.self.inside.newest c.unwrap-kept.result.now.point Empty
+  board = ap (λ b. cond b (with_cell c.self.inside.newest c.unwrap-kept.result.now.point Empty) (after_changes c.self.inside.newest (drop c.unwrap-kept.result.now.start c.self.inside.changes.items))) alone
+
+  pub none : changes_before c.unwrap-kept.result.now c.self.inside.changes.items ≡ c.self.inside.changes.items
+  none = none_kept c.self.inside.newest c.self.inside.stretch_start c.self.inside.older.items c.pop.new.self.items c.unwrap-kept.result.now c.self.inside.changes.items parts c.self.invariant.0 alone
+
+pub invariant_of-self : goal.invariant_of-self
+invariant_of-self c =
+    let p = c.self.inside in
+    let o = c.unwrap-kept.result.now in
+    let w = (goal.at.invariant_of-self c).After-set in
+    let alone : o.alone ≡ true = search rules in
+    let less = past-pop p.newest p.stretch_start p.older.items c.pop.new.self.items o p.changes.items (parts w alone) c.self.invariant.0 in
+    let count : length p.older.items ≡ length c.pop.new.self.items + 1 = search rules in (
+      rw (c.set_settled.ensures, c.set.ensures)
+          (subst (λ (grid : Grid). IsPast grid o.stretch_start c.pop.new.self.items p.changes.items) (board w alone)
+          (subst (λ (changes : List Change). IsPast (before p.newest o p.changes.items) o.stretch_start c.pop.new.self.items changes) (none w alone) less)),
+      omega (arith, count, c.pop.ensures.capacity, c.self.invariant.1),
+    )
+
+pub returns-clause-taken_back : goal.returns-clause-taken_back
+returns-clause-taken_back c = λ _.
+    let p = c.self.inside in
+    let o = c.unwrap-kept.result.now in
+    let w = (goal.at.returns-clause-taken_back c).After-set in
+    let alone : o.alone ≡ true = search rules in
+    let turned = ap reverse (parts w alone) ∙ reverse-append c.pop.new.self.items (o ∷ []) in
+    rw (sym c.self.view_is) (simp (turned, board w alone, none w alone, c.set_settled.ensures, c.set.ensures) refl)

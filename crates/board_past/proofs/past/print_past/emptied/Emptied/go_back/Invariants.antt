@@ -1,0 +1,15 @@
+use Rattle.std.proofs.Common.{◌≡◌, ◌+◌, ◌∷◌, List, length}
+use Rattle.board_past.specs.Past.{Held}
+use Rattle.board_past.specs.inner.Emptied.{HasRowsBelow, IsEmptied, IsLogged}
+use Rattle.board_past.proofs.past.print_past.emptied.Emptied.go_back.Given as goal
+
+abbrev pub invariant-each : goal.invariant-each
+invariant-each l = record {
+  count : length l.self.rows ≡ 52;
+  inside : HasRowsBelow l.self.log.items;
+  logged : (newest : Held) (older : List Held) → IsEmptied (newest ∷ older) l.initial.self → l.number ≡ length older
+      → IsLogged older (length older + 1) l.self;
+}
+
+abbrev pub decreases-each : goal.decreases-each
+decreases-each l = length l.self.log.items

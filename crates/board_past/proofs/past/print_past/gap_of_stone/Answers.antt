@@ -1,0 +1,24 @@
+use Rattle.std.proofs.Common.{◌≡◌, Contains, IfNone, IfSome, false, ap, sym, subst, ◌∙◌}
+use Rattle.board_stones.specs.Clearing.{play}
+use Rattle.board_stones.specs.Grid.{Grid}
+use Rattle.board_past.specs.Past.{all_of, newest_grid, present_stretch, with_next}
+use Rattle.board_past.specs.inner.Table.{IsGap}
+use Rattle.board_past.proofs.past.print_past.gap_of_stone.Goals as goal
+use Rattle.board_past.proofs.past.print_past.gap_of_stone.Goals.{After-gap_by_board}
+
+pub returns-in-Some-clause-gap : goal.returns-in-Some-clause-gap
+returns-in-Some-clause-gap c =
+    let was = c.args.colourings.now in
+    c.in-Some.ensures.gap (with_next was (play (newest_grid was) c.args.colour c.args.point) false).newest (sym c.requires.stone.print)
+
+made : (c : After-gap_by_board) → c.place_and_clear.new.self ≡ play (newest_grid c.args.colourings.now) c.args.colour c.args.point
+made c = c.place_and_clear.ensures ∙ ap (λ (g : Grid). play g c.args.colour c.args.point) (c.copy-made.ensures ∙ c.newest.ensures)
+
+pub returns-clause-gap : goal.returns-clause-gap
+returns-clause-gap c =
+    let was = c.args.colourings.now in
+    subst (λ (g : Grid). IfSome c.gap_by_board.result (IsGap (all_of was) c.gap_by_board.new.self (with_next was g false).newest)) (made (goal.at.returns-clause-gap c).After-gap_by_board) c.gap_by_board.ensures.gap
+
+pub returns-clause-has : goal.returns-clause-has
+returns-clause-has c =
+    subst (λ (g : Grid). IfNone c.gap_by_board.result (Contains (present_stretch c.args.colourings.now) g)) (made (goal.at.returns-clause-has c).After-gap_by_board) c.gap_by_board.ensures.has

@@ -1,0 +1,31 @@
+use Rattle.std.proofs.Common.{◌≡◌, ℕ, ◌*◌, ◌-◌, ◌%◌, ◌^◌, ap, ◌∙◌, sym, arith}
+use Rattle.board_stones.specs.Colour.{stone_of}
+use Rattle.board_points.specs.Point.{index_of}
+use Rattle.board_past.specs.inner.Print.{code}
+use Rattle.board_past.proofs.PrintLemmas.{stone_added}
+use Rattle.board_past.proofs.past.print_past.print.print_after_stone.Goals as goal
+use Rattle.board_past.proofs.past.print_past.print.print_after_stone.Goals.{in-Black, in-White}
+
+alone : (n : ℕ) → n % 2 ^ 64 % 2 ^ 64 ≡ (1 * n) % 2 ^ 64
+alone n = omega arith
+
+twice : (n : ℕ) → n % 2 ^ 64 * 2 % 2 ^ 64 % 2 ^ 64 ≡ (2 * n) % 2 ^ 64
+twice n = omega arith
+
+pub returns : goal.returns
+returns c =
+    let m = 2 ^ 64 in
+    let g = c.args.board.now in
+    let p = c.args.point in
+    let k = c.args.colour in
+    let power = 31 ^ (g.side * g.side - 1 - index_of g.side p) in
+    let side = c.side.ensures.value ∙ c.size.ensures in
+    let weight : c.power-weight.result ≡ power % m =
+    c.power-weight.ensures ∙ ap (λ n. 31 ^ n % m) (c.points_after.ensures.value ∙ ap (λ n. n * n - 1 - index_of n p) side) in
+    stone_added g p (stone_of k) c.requires.on_board c.requires.empty c.has_all_cells.ensures.all c.args.print c.match-colour.result c.requires.print
+    (elim c.match-colour.branch [
+      | in-Black w ↦
+          ap (λ n. n % m) (w.result-is ∙ weight) ∙ alone power ∙ ap (λ x. (code (stone_of x) * power) % m) (sym w.in-Black.is)
+      | in-White w ↦
+          ap (λ n. n % m) (w.result-is ∙ ap (λ n. (n * 2) % m) weight) ∙ twice power ∙ ap (λ x. (code (stone_of x) * power) % m) (sym w.in-White.is)
+    ])

@@ -1,0 +1,11 @@
+-- None of the numbers from that index on is the colouring.
+use Rattle.std.proofs.Common.{ℕ, ◌<◌, ◌≤◌, length}
+use Rattle.board_past.specs.Past.{all_of}
+use Rattle.board_past.specs.inner.Changes.{IsNumber}
+use Rattle.board_past.proofs.past.print_past.table.Table.has.Given as goal
+
+abbrev pub invariant-each : goal.invariant-each
+invariant-each l = record {
+  within : l.number ≤ length (all_of l.colourings);
+  none : (y : ℕ) → l.number ≤ y → y < length (all_of l.colourings) → IsNumber (all_of l.colourings) y l.board → ⊥;
+}

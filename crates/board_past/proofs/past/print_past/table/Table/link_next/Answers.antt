@@ -1,0 +1,41 @@
+use Rattle.std.proofs.Common.{ℕ, List, refl, subst, arith}
+use Rattle.board_past.specs.Past.{all_of}
+use Rattle.board_past.specs.declared.past.print_past.key.TheConstants.{FRONT, WIDTH}
+use Rattle.board_past.specs.inner.Key.{bits_of, keys_of}
+use Rattle.key_trie.specs.Key.{Agree}
+use Rattle.key_trie.specs.Trie.{item_count}
+use Rattle.board_past.proofs.TableLemmas.{one_linked, tabled, tabled_with}
+use Rattle.key_trie.proofs.TrieLemmas.{parts_as, way_nearest}
+use Rattle.board_past.proofs.past.print_past.table.Table.link_next.Goals as goal
+
+pub returns-in-Some : goal.returns-in-Some
+returns-in-Some c =
+    let t = c.args.self.now in
+    let held = all_of c.args.colourings.now in
+    let is = c.requires.unlinked.table in
+    let keys = keys_of t.hashed held in
+    let own = rw c.len-number.ensures at c.key_of-key.ensures in
+    let apart = c.in-Some.ensures in
+    let descent = c.descend-from.ensures.way WIDTH keys is.linked in
+    let near = way_nearest WIDTH keys t.trie is.linked c.descend-from.result descent (omega arith) in
+    let parts = parts_as near (keys (item_count t.trie)) _ c.in-Some.position apart.0 own.front (subst (λ n. Agree (bits_of c.key_of-other.result) (keys n) FRONT) c.child-near.ensures c.key_of-other.ensures.front) apart.1 apart.2 in
+    record {
+      table = tabled_with held t (record t { trie = c.insert_parted.new.self }) is refl refl refl refl (omega (arith, is.room, c.insert_parted.ensures.room)) (omega (arith, is.most, c.insert_parted.ensures.room)) (omega (arith, c.insert_parted.ensures.more, c.requires.unlinked.more))
+          (c.insert_parted.ensures.trie WIDTH keys FRONT is.linked (omega (arith, apart.0)) descent apart.0 parts.0 parts.1);
+      fewer = one_linked t (record t { trie = c.insert_parted.new.self }) refl refl c.insert_parted.ensures.more c.requires.unlinked.more;
+      prints = refl {A = List ℕ};
+    }
+
+-- these two are only there for speed
+pub key_of-key-requires-clause-number : goal.key_of-key-requires-clause-number
+key_of-key-requires-clause-number c =
+    omega (arith, c.len-number.ensures, c.requires.unlinked.more, tabled (all_of c.args.colourings.now) c.args.self.now c.requires.unlinked.table)
+
+pub key_of-other-requires-clause-number : goal.key_of-other-requires-clause-number
+key_of-other-requires-clause-number c =
+    let held = all_of c.args.colourings.now in
+    let t = c.args.self.now in
+    let keys = keys_of t.hashed held in
+    let linked = c.requires.unlinked.table.linked in
+    let near = way_nearest WIDTH keys t.trie linked c.descend-from.result (c.descend-from.ensures.way WIDTH keys linked) (omega arith) in
+    omega (arith, c.child-near.ensures, near.there, c.requires.unlinked.more, tabled (all_of c.args.colourings.now) c.args.self.now c.requires.unlinked.table)

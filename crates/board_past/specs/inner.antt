@@ -1,0 +1,8 @@
+-- Words of private contracts, views and invariants.
+pub mod Print
+pub mod Changes
+pub mod Hash
+pub mod Key
+pub mod Filter
+pub mod Table
+pub mod Emptied

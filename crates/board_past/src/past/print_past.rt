@@ -1,0 +1,535 @@
+//! The past of a run, and how it finds a stone that repeats a colouring (positional superko).
+//!
+//! A colouring can come back only by a stone on a point that was emptied before, or by suicide. So most stones are played without a look-up
+//! (`may_repeat`). For any other one, the newest steps are gone over (`decide_by_newest`). Nearly always they tell: behind steps
+//! that only put stones no colouring has the stone that is played, and behind a fresh stone none has that one. If they don't tell, the newest
+//! colourings are compared one by one, and then a table of prints and a trie of keys decide, for all colourings at once (`play_by_print`).
+//! `ListPast` is the plainest past.
+//!
+//! | Module | What it has |
+//! |---|---|
+//! | `colourings`, `changes` | past colourings as what leads back to them, a point or rows; the look back over the newest ones |
+//! | `emptied` | the points that were emptied, where a colouring can come back |
+//! | `print`, `powers`, `bytes` | the print of a colouring, a number in base 31; the numbers that it is made from |
+//! | `table` | how a past colouring is looked up if the newest ones don't tell, and what that costs |
+//! | `filter` | a filter of prints, which answers most look-ups by print |
+//! | `key`, `hash`, `hashes` | a colouring as a key, which is a string of bits; a hash that is part of it; those that are kept. The crate `key_trie` has the trie of keys |
+
+mod bytes;
+mod changes;
+mod colourings;
+mod emptied;
+mod filter;
+mod hash;
+mod hashes;
+mod key;
+mod powers;
+mod print;
+mod table;
+
+ghost use Rattle.std.specs.Prelude.{◌≡◌, ◌≢◌, ◌<◌, ◌↔◌, ◌∷◌, false, IsTrue, IfSome, IfNone, OnOk, OnErr, Contains, length, IsFalse};
+ghost use Rattle.board_stones.specs.declared.stones.Cell.TheVariants.{Empty};
+ghost use Rattle.board_points.specs.declared.points.Point.{Point};
+ghost use Rattle.board_stones.specs.declared.stones.Colour.{Colour};
+ghost use Rattle.board_points.specs.Point.{IsOn};
+ghost use Rattle.board_stones.specs.Grid.{Grid, cell_at};
+ghost use Rattle.board_stones.specs.Clearing.{has_unreaching, play};
+ghost use Rattle.board_past.specs.Past.{all_of, newest_grid, with_next, present_stretch, HaveSide, PastColourings, IsPlayed};
+ghost use Rattle.board_past.specs.inner.Changes.{is_fresh, is_settled, IsFreshStone};
+ghost use Rattle.board_past.specs.inner.Emptied.{IsEmptied, IsPrintPast};
+ghost use Rattle.board_stones.specs.Move.{IsMove, IsEmptyOnSettled, Clears};
+ghost use Rattle.board_past.specs.inner.Print.{print_of, IsPrintedMove};
+ghost use Rattle.board_points.specs.Rows.{is_set};
+ghost use Rattle.board_past.specs.inner.Table.{IsAwakeTable, IsGap, IsPrintOfNext, IsTable};
+
+use board_stones::Board;
+use crate::fault::MemoryFault;
+use crate::past::Past;
+use crate::past::print_past::changes::Known;
+use crate::past::print_past::colourings::Colourings;
+use crate::past::print_past::emptied::Emptied;
+use crate::past::print_past::print::{has_point, print_after_clearing, print_of};
+use crate::past::print_past::table::{Gap, Table};
+use board_stones::SetupOp;
+use board_stones::Colour;
+use board_points::rows::{add_points, no_rows};
+use board_points::{MAX_ROWS, Point};
+use std::alloc::Global;
+use std::marker::Model;
+
+/// A past that keeps the newest colouring whole. Of each older one it keeps what leads back to it. A colouring is looked up only in the
+/// present stretch, and only if a stone may repeat one. At first it is looked for among the newest colourings. Once these haven't told in a
+/// game, it is looked up by its print, a 64-bit number made from what stands on all its points. If two prints are equal, all points are
+/// compared, or hashes, if very many colourings have that print.
+///
+/// A colouring that only adds one stone to the one before it takes 12 bytes. Room for its print and for a node of the trie, 24 bytes, is
+/// kept beside.
+#[derive(Drop)]
+pub struct PrintPast {
+    colourings: Colourings,
+    /// The table by which colourings are looked up.
+    table: Table,
+    /// The points that were emptied. A stone that stays can bring a colouring back only on one of these.
+    emptied: Emptied,
+}
+
+impl Model for PrintPast {
+    ghost Value = { PastColourings };
+
+    ghost view = { λ p. p.colourings };
+
+    ghost invariant = { λ p. IsPrintPast p.colourings p.table p.emptied };
+}
+
+impl Past for PrintPast {
+    ghost held = { λ past. past };
+
+    fn new(alloc: Global, board: &Board) -> Result<PrintPast, MemoryFault> {
+        Ok(PrintPast {
+            colourings: Colourings::new(alloc, board)?,
+            table: Table::new(alloc)?,
+            emptied: Emptied::new(alloc),
+        })
+    }
+
+    fn holds(&self, board: &Board) -> bool {
+        self.table.has(&self.colourings, board, print_of(board))
+    }
+
+    fn newest(&self) -> &Board {
+        self.colourings.newest()
+    }
+
+    fn push(&mut self, board: &Board) -> Result<(), MemoryFault> {
+        self.add(board, None, false)
+    }
+
+    fn restart(&mut self, board: &Board) -> Result<(), MemoryFault> {
+        self.link_stretch();
+        self.add(board, None, true)
+    }
+
+    /// Finds captures and suicide near the stone (`find_cleared`), unless a glance shows that there are none. If `play_at_once` would have
+    /// found by a glance alone that it can't play the stone, there is no second glance. A repetition (positional superko) is looked up by
+    /// `play_asked`. The plain ways are `Past::play` and `Board::place`; the second is taken on a board that isn't settled (`play_on_copy`).
+    fn play(&mut self, colour: Colour, point: Point) -> Result<bool, MemoryFault> {
+        let newest = self.colourings.newest();
+        if !newest.is_settled() {
+            return self.play_on_copy(colour, point);
+        }
+        let unseen = self.needs_more_than_a_point() || self.may_repeat(point, &[]);
+        if unseen && newest.clears_nothing_at_a_glance(colour, point) {
+            return self.play_clearing(colour, point, &[]);
+        }
+        self.play_in_doubt(colour, point)
+    }
+
+    /// Plays most stones. A table that is awake needs prints, so it answers false then.
+    #[inline(always)]
+    fn play_at_once(&mut self, colour: Colour, point: Point) -> bool {
+        let newest = self.colourings.newest();
+        if !newest.is_settled() || self.needs_more_than_a_point() || self.may_repeat(point, &[]) {
+            return false;
+        }
+        if !newest.clears_nothing_at_a_glance(colour, point) {
+            return false;
+        }
+        match self.play_new(colour, point, &[], Known::Fresh) {
+            Ok(played) => played,
+            Err(_) => false,
+        }
+    }
+
+    /// The same as the plain one; then the board is settled if that can be.
+    fn set_up(&mut self, ops: &[SetupOp]) -> Result<(), MemoryFault> {
+        let mut made = self.newest().copy();
+        made.colour_rectangles(ops);
+        made.work_settled_out();
+        self.restart(&made)
+    }
+
+    /// Most steps put a stone, and no more.
+    fn pop(&mut self) {
+        if self.table.is_awake() {
+            return self.pop_in_full();
+        }
+        if !self.colourings.pop_point() {
+            return self.pop_in_full();
+        }
+        // a table that sleeps has nothing of the colouring
+        self.emptied.go_back(self.colourings.len() as u32);
+    }
+
+    fn reset(&mut self, _alloc: Global, board: &Board) -> Result<(), MemoryFault> {
+        self.colourings.reset(board);
+        self.table.reset();
+        self.emptied.clear();
+        Ok(())
+    }
+}
+
+impl PrintPast {
+    /// Wakes the table and puts the colourings of the present stretch into the trie, if there are several. After a setup this would cost
+    /// more: to work out a colouring, one goes back over later ones, and a setup may have changed all rows.
+    fn link_stretch(&mut self)
+        ensures { self.new ≡ self.old }
+    {
+        if self.colourings.stretch_start() + 1 < self.colourings.len() {
+            self.table.wake(&self.colourings);
+            self.table.link(&self.colourings);
+        }
+    }
+
+    /// Adds a colouring, which begins a stretch or continues the present one. `print` is its print, if that is known.
+    fn add(&mut self, board: &Board, print: Option<u64>, begins: bool) -> Result<(), MemoryFault>
+        requires side { HaveSide board.now.side self.old }
+        requires print { IfSome print (λ number. number ≡ print_of board.now) }
+        ensures ok { OnOk result (self.new ≡ with_next self.old board.now begins) }
+        ensures err { OnErr result (self.new ≡ self.old) }
+    {
+        let print = if self.table.is_awake() {
+            Some(print_if_unknown(print, board))
+        } else {
+            None
+        };
+        let number = self.colourings.len();
+        let mut stones = no_rows();
+        add_stones(self.colourings.newest(), &mut stones);
+        self.emptied.reserve(stones.len())?;
+        self.table.reserve(number)?;
+        self.colourings.add(board, begins)?;
+        self.emptied.add(&stones, number as u32);
+        self.table.push(print, None);
+        Ok(())
+    }
+
+    /// The same as `pop`, for every step.
+    #[inline(never)]
+    fn pop_in_full(&mut self)
+        requires { 0 < length self.old.older }
+        ensures { self.old.older ≡ self.new.newest ∷ self.new.older }
+    {
+        self.table.pop();
+        self.colourings.pop();
+        self.emptied.go_back(self.colourings.len() as u32);
+    }
+
+    /// Whether a stone that clears nothing needs memory, or has its print or a row kept. If not, its point alone is kept.
+    #[inline(always)]
+    fn needs_more_than_a_point(&self) -> bool {
+        !self.colourings.has_room_for_point() || !self.table.has_room_asleep(self.colourings.len())
+    }
+
+    /// The same as `play`, on a settled board, for a stone that may capture or be suicide: a glance doesn't rule it out.
+    #[inline(never)]
+    fn play_in_doubt(&mut self, colour: Colour, point: Point) -> Result<bool, MemoryFault>
+        requires one_side { HaveSide (newest_grid self.old).side self.old }
+        requires stone { IsEmptyOnSettled (newest_grid self.old) point }
+        ensures { IsPlayed colour point self.old self.new result }
+    {
+        let mut words = no_rows();
+        match self.colourings.find_cleared(colour, point, &mut words) {
+            Some(cleared) => self.play_clearing(colour, point, cleared),
+            None => self.play_clearing(colour, point, &[]),
+        }
+    }
+
+    /// The same as `play`; `cleared` is what the stone clears.
+    #[inline(always)]
+    fn play_clearing(
+        &mut self,
+        colour: Colour,
+        point: Point,
+        cleared: &[u64],
+    ) -> Result<bool, MemoryFault>
+        requires one_side { HaveSide (newest_grid self.old).side self.old }
+        requires stone { IsMove (newest_grid self.old) colour point cleared.now }
+        ensures { IsPlayed colour point self.old self.new result }
+    {
+        if self.may_repeat(point, cleared) {
+            return self.play_asked(colour, point, cleared);
+        }
+        let known = Known::new(self.newest().is_settled(), true);
+        self.play_new(colour, point, cleared, known)
+    }
+
+    /// Whether a stone may bring a colouring of the present stretch back: it is put on a point that was emptied, or is suicide.
+    #[inline(always)]
+    fn may_repeat(&self, point: Point, cleared: &[u64]) -> bool
+        requires one_side { HaveSide (newest_grid self.now).side self.now }
+        requires on_board { IsOn (newest_grid self.now).side point }
+        requires empty { cell_at (newest_grid self.now) point ≡ Empty }
+        ensures never { (colour : Colour) → Clears (newest_grid self.now) colour point cleared.now
+            → IsFalse result → ¬ Contains (present_stretch self.now) (play (newest_grid self.now) colour point) }
+        ensures fresh { (colour : Colour) → Clears (newest_grid self.now) colour point cleared.now
+            → IsFalse result → IsFreshStone (with_next self.now (play (newest_grid self.now) colour point) false) point }
+    {
+        self.colourings.newest().has_all_cells();
+        board_points::rows::has_point(&self.emptied.rows, point) | has_point(cleared, point)
+    }
+
+    /// The same as `play_clearing`, for a stone that may bring a colouring back. Decides by positional superko whether the stone may be
+    /// played.
+    #[inline(never)]
+    fn play_asked(
+        &mut self,
+        colour: Colour,
+        point: Point,
+        cleared: &[u64],
+    ) -> Result<bool, MemoryFault>
+        requires one_side { HaveSide (newest_grid self.old).side self.old }
+        requires stone { IsMove (newest_grid self.old) colour point cleared.now }
+        ensures { IsPlayed colour point self.old self.new result }
+    {
+        match self.decide_by_newest(colour, point, cleared) {
+            Some(true) => Ok(false),
+            Some(false) => {
+                let known = Known::new(self.newest().is_settled(), false);
+                self.play_new(colour, point, cleared, known)
+            }
+            None => self.play_by_print(colour, point, cleared),
+        }
+    }
+
+    /// Whether the present stretch has the colouring that a stone makes, if the newest colourings tell; None if they don't. A table that is
+    /// awake tells sooner than a look back.
+    fn decide_by_newest(&self, colour: Colour, point: Point, cleared: &[u64]) -> Option<bool>
+        requires stone { IsMove (newest_grid self.now) colour point cleared.now }
+        ensures { IfSome result (λ has. IsTrue has ↔ Contains (present_stretch self.now) (play (newest_grid self.now) colour point)) }
+    {
+        if self.colourings.newest_steps_show_new(point, cleared) {
+            return Some(false);
+        }
+        if self.table.is_awake() {
+            return None;
+        }
+        let mut made = self.newest().copy();
+        made.place_and_clear(colour, point, cleared);
+        self.colourings.look_back(&made)
+    }
+
+    /// Plays a stone that brings no colouring back; `cleared` is what the stone clears. `known` is what is known of the newest colouring,
+    /// and whether no colouring of the present stretch has a stone on that point.
+    #[inline(always)]
+    fn play_new(
+        &mut self,
+        colour: Colour,
+        point: Point,
+        cleared: &[u64],
+        known: Known,
+    ) -> Result<bool, MemoryFault>
+        requires stone { IsMove (newest_grid self.old) colour point cleared.now }
+        requires never { ¬ Contains (present_stretch self.old) (play (newest_grid self.old) colour point) }
+        requires settled { IsTrue (is_settled known) → has_unreaching (newest_grid self.old) ≡ false }
+        requires fresh { IsTrue (is_fresh known) → IsFreshStone (with_next self.old (play (newest_grid self.old) colour point) false) point }
+        ensures { IsPlayed colour point self.old self.new result }
+    {
+        let print = print_if_awake(&self.table, &self.colourings, colour, point, cleared);
+        add_stone(
+            &mut self.colourings,
+            &mut self.table,
+            &mut self.emptied,
+            colour,
+            point,
+            cleared,
+            known,
+            print,
+            None,
+        )?;
+        Ok(true)
+    }
+
+    /// The same as `play_asked`, by the table. Wakes it first. If a look-up is needed to tell, this puts the colouring into the trie at once.
+    #[inline(never)]
+    fn play_by_print(
+        &mut self,
+        colour: Colour,
+        point: Point,
+        cleared: &[u64],
+    ) -> Result<bool, MemoryFault>
+        requires one_side { HaveSide (newest_grid self.old).side self.old }
+        requires stone { IsMove (newest_grid self.old) colour point cleared.now }
+        ensures { IsPlayed colour point self.old self.new result }
+    {
+        self.table.wake(&self.colourings);
+        let newest = self.colourings.newest();
+        newest.has_all_cells();
+        let known = Known::new(newest.is_settled(), false);
+        let print = print_after_clearing(self.table.newest(), newest, colour, point, cleared);
+        let mut gap = None;
+        if self.table.may_have(print) {
+            if self.has_near(colour, point, cleared, print) {
+                return Ok(false);
+            }
+            gap = gap_of_stone(
+                &self.colourings,
+                &mut self.table,
+                colour,
+                point,
+                cleared,
+                print,
+            );
+            if gap.is_none() {
+                return Ok(false);
+            }
+        }
+        add_stone(
+            &mut self.colourings,
+            &mut self.table,
+            &mut self.emptied,
+            colour,
+            point,
+            cleared,
+            known,
+            Some(print),
+            gap,
+        )?;
+        Ok(true)
+    }
+
+    /// Whether the colouring that a stone makes is one of the newest two, and in the present stretch: the newest, after suicide of one stone,
+    /// or the one before it, in a simple ko. False says nothing. `print` is its print, and `cleared` is what the stone clears.
+    fn has_near(&self, colour: Colour, point: Point, cleared: &[u64], print: u64) -> bool
+        requires stone { IsMove (newest_grid self.now) colour point cleared.now }
+        ensures { IsTrue result → Contains (present_stretch self.now) (play (newest_grid self.now) colour point) }
+    {
+        let start = self.colourings.stretch_start();
+        let Some(number) = self.table.near(start, print) else {
+            return false;
+        };
+        let mut made = self.newest().copy();
+        made.place_and_clear(colour, point, cleared);
+        self.colourings.is_at(number, &made)
+    }
+
+    /// The same as `play`, the plain way (`Board::place`) on a copy of the newest board. It is for boards that aren't settled.
+    #[inline(never)]
+    fn play_on_copy(&mut self, colour: Colour, point: Point) -> Result<bool, MemoryFault>
+        requires one_side { HaveSide (newest_grid self.old).side self.old }
+        requires on_board { IsOn (newest_grid self.old).side point }
+        requires empty { cell_at (newest_grid self.old) point ≡ Empty }
+        ensures { IsPlayed colour point self.old self.new result }
+    {
+        let mut made = self.newest().copy();
+        made.place(colour, point);
+        made.set_settled(true);
+        let print = print_of(&made);
+        self.table.wake(&self.colourings);
+        let Some(_gap) = self.table.gap_of(&self.colourings, &made, print) else {
+            return Ok(false);
+        };
+        self.add(&made, Some(print), false)?;
+        Ok(true)
+    }
+}
+
+/// The print of a board, which is worked out if it isn't known.
+fn print_if_unknown(known: Option<u64>, board: &Board) -> u64
+    requires { IfSome known (λ number. number ≡ print_of board.now) }
+    ensures { result ≡ print_of board.now }
+{
+    match known {
+        Some(print) => print,
+        None => print_of(board),
+    }
+}
+
+/// The print of the colouring that a stone makes; None if the table sleeps. `cleared` is what the stone clears.
+#[inline(always)]
+fn print_if_awake(
+    table: &Table,
+    colourings: &Colourings,
+    colour: Colour,
+    point: Point,
+    cleared: &[u64],
+) -> Option<u64>
+    requires table { IsTable (all_of colourings.now) table.now }
+    requires stone { IsMove (newest_grid colourings.now) colour point cleared.now }
+    ensures { IsPrintOfNext (all_of colourings.now) table.now
+        (with_next colourings.now (play (newest_grid colourings.now) colour point) false).newest result }
+{
+    if !table.is_awake() {
+        return None;
+    }
+    let newest = colourings.newest();
+    newest.has_all_cells();
+    Some(print_after_clearing(table.newest(), newest, colour, point, cleared))
+}
+
+/// Adds the colouring that a stone makes; `cleared` is what the stone clears. `known` is what is known of the newest colouring, and whether
+/// no colouring of the present stretch has a stone on that point. `print` is the colouring's print, or None if the table sleeps. Puts the colouring into the trie if its gap there
+/// is known. After a refusal nothing is changed.
+// No method: between its steps the invariant of the past doesn't hold.
+#[inline(always)]
+fn add_stone(
+    colourings: &mut Colourings,
+    table: &mut Table,
+    emptied: &mut Emptied,
+    colour: Colour,
+    point: Point,
+    cleared: &[u64],
+    known: Known,
+    print: Option<u64>,
+    gap: Option<Gap>,
+) -> Result<(), MemoryFault>
+    requires table { IsTable (all_of colourings.old) table.old }
+    requires emptied { IsEmptied (all_of colourings.old) emptied.old }
+    requires stone { IsMove (newest_grid colourings.old) colour point cleared.now }
+    requires settled { IsTrue (is_settled known) → has_unreaching (newest_grid colourings.old) ≡ false }
+    requires fresh { IsTrue (is_fresh known) → IsFreshStone (with_next colourings.old (play (newest_grid colourings.old) colour point) false) point }
+    requires print { IsPrintOfNext (all_of colourings.old) table.old
+        (with_next colourings.old (play (newest_grid colourings.old) colour point) false).newest print }
+    requires gap { IfSome gap (IsGap (all_of colourings.old) table.old
+        (with_next colourings.old (play (newest_grid colourings.old) colour point) false).newest) }
+    ensures ok { OnOk result (colourings.new ≡ with_next colourings.old (play (newest_grid colourings.old) colour point) false) }
+    ensures err { OnErr result (colourings.new ≡ colourings.old) }
+    ensures table { IsTable (all_of colourings.new) table.new }
+    ensures emptied { IsEmptied (all_of colourings.new) emptied.new }
+{
+    colourings.newest().has_all_cells();
+    let number = colourings.len();
+    emptied.reserve(cleared.len())?;
+    table.reserve(number)?;
+    colourings.add_stone(colour, point, cleared, known)?;
+    emptied.add(cleared, number as u32);
+    table.push(print, gap);
+    Ok(())
+}
+
+/// Where the colouring that a stone makes comes into the trie, which gets all colourings first; None if the present stretch has it, so that
+/// positional superko forbids the stone. `print` is that colouring's print, and `cleared` is what the stone clears. All points are looked
+/// at only if another colouring has the print.
+fn gap_of_stone(
+    colourings: &Colourings,
+    table: &mut Table,
+    colour: Colour,
+    point: Point,
+    cleared: &[u64],
+    print: u64,
+) -> Option<Gap>
+    requires table { IsAwakeTable (all_of colourings.now) table.old }
+    requires one_side { HaveSide (newest_grid colourings.now).side colourings.now }
+    requires stone { IsPrintedMove (newest_grid colourings.now) colour point cleared.now print }
+    ensures table { IsAwakeTable (all_of colourings.now) table.new }
+    ensures gap { IfSome result (IsGap (all_of colourings.now) table.new
+        (with_next colourings.now (play (newest_grid colourings.now) colour point) false).newest) }
+    ensures has { IfNone result (Contains (present_stretch colourings.now) (play (newest_grid colourings.now) colour point)) }
+{
+    if let Some(gap) = table.gap(colourings, print) {
+        return Some(gap);
+    }
+    let mut made = colourings.newest().copy();
+    made.place_and_clear(colour, point, cleared);
+    table.gap_by_board(colourings, &made, print)
+}
+
+/// Adds the points of a board's stones to a set.
+fn add_stones(board: &Board, all: &mut [u64])
+    requires { length all.old ≡ MAX_ROWS }
+    ensures stones { (point : Point) → IsOn board.now.side point → cell_at board.now point ≢ Empty → IsTrue (is_set all.new point) }
+    ensures rows { length all.new ≡ length all.old }
+{
+    board.has_all_cells();
+    add_points(board.rows_of(Colour::Black), all);
+    add_points(board.rows_of(Colour::White), all);
+}

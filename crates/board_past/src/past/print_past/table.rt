@@ -1,0 +1,537 @@
+//! The table by which colourings are looked up.
+//!
+//! A look-up descends a trie of keys (see `key`, and the crate `key_trie`) by the bits of the colouring that is looked up. It ends at one
+//! past colouring, and compares with that one alone: first by the print (`gap`). Only if a past colouring has the print, another descent
+//! goes on by the start of the stretch and the rows, and the two keys are compared to their ends (`gap_by_board`). So a look-up costs at
+//! most four descents, and one past colouring worked out, whatever was played before. It also tells where the new colouring comes in.
+//! To put a colouring into the trie that wasn't looked up costs at most two colourings worked out, its own and that at the end of its
+//! descent, and this only if they have the same print and the same stretch. To take one out is one step.
+//!
+//! A descent passes a node at each position of the key where past colourings part from the one that is looked up. It passes at most 64 in
+//! the print, and 26 in the start of the stretch: that is below 2^26, since no input has more bytes. On the board it passes hardly any,
+//! unless someone makes very many colourings of one print and one stretch, each of which parts from the others at another point. Once a
+//! descent passes more than `MOST_PASSED` nodes, keys have hashes, for the rest of the game: all colourings are put into the trie anew, and
+//! those of one print and one stretch part in the hash, which nobody can choose. To have them part at one bit more, one has to try twice as
+//! many boards. So a descent passes some 50 nodes there at most, after 2^50 boards tried, and goes on into the rows only if two hashes are
+//! equal. No proof rests on that. So no descent gets longer with more colourings, or with more of them that have one print.
+//!
+//! With hashes, a look-up that goes on by the rows works out two hashes more at most: that of its own colouring, and that of the past one, if
+//! it isn't kept (`hashes`). For this hash the past colouring is worked out once more. To put a colouring in costs as much for each of the two.
+//!
+//! This is so once `link` has put all colourings into the trie. `gap` calls it first: the past asks `gap` for a stone that `may_have`
+//! doesn't answer (see `filter`). `has` asks no trie: it compares one by one.
+//!
+//! In most games the newest colourings answer all that is asked (`Colourings::look_back`). So the table sleeps at first: it has no prints,
+//! and a stone costs no more here than the test that there is room. `wake` works the prints out, once a game, one for each colouring; from
+//! then on the table has those of all colourings.
+
+ghost use Rattle.std.specs.Prelude.{◌≡◌, ◌↔◌, ◌+◌, ◌*◌, ◌^◌, ◌<◌, ◌≤◌, [], ◌∷◌, List, ℕ, length, false, slice_index, IsTrue, IsFalse, IfNone, IfSome, IfOk, OnOk, Contains};
+ghost use Rattle.board_stones.specs.Grid.{Grid};
+ghost use Rattle.board_past.specs.Past.{Held, all_of, present_stretch, stretch_of, with_next, HaveSide};
+ghost use Rattle.board_past.specs.inner.Changes.{IsNumber};
+ghost use Rattle.board_past.specs.inner.Key.{bits_of, hash_in_key, keys_of};
+ghost use Rattle.board_past.specs.inner.Print.{print_of};
+ghost use Rattle.board_past.specs.inner.Table.{GrowsTable, HasRoomForNext, HasUnlinked, IsAsleepTable, IsAwakeTable, IsGap, IsFirstApart, IsPrintOfNext, IsTable, LinksNext, SameButHashes};
+ghost use Rattle.key_trie.specs.Key.{Agree};
+ghost use Rattle.key_trie.specs.Trie.{item_count, nodes_of, capacity_of};
+ghost use Rattle.std.specs.Vec.{vec_capacity};
+
+use board_stones::Board;
+use crate::fault::MemoryFault;
+use crate::past::print_past::colourings::Colourings;
+use crate::past::print_past::filter::Filter;
+use crate::past::print_past::hash::hash_of;
+use crate::past::print_past::hashes::Hashes;
+use crate::past::print_past::key::{ColouringKey, FRONT, HEAD, WIDTH, WORD};
+use board_points::columns::has_column;
+use key_trie::{Key, Slot, Trie, first_difference};
+use std::alloc::Global;
+
+/// The number of colourings that a new table has room for.
+const FIRST_ROOM: usize = 256;
+
+/// How many of the newest colourings are looked at before the trie is asked: the newest, and the one that a simple ko brings back. To work
+/// that one out takes one step. Without this look and the filter, short fights take 5 to 11 % more instructions.
+const NEAR: usize = 2;
+
+/// The most nodes that a descent passes before keys get hashes: 64 in the print, 26 in the start of the stretch, and some on the board. No
+/// game that wasn't made for it comes near.
+const MOST_PASSED: u32 = 128;
+
+/// The prints of colourings, oldest first, and a trie of their keys. Most colourings are never looked up, and no look-up comes before
+/// they are taken back. So a colouring is put into the trie only when a look-up comes. There is always room for all of them, so this
+/// takes no memory.
+#[derive(Drop)]
+pub(crate) struct Table {
+    /// The prints of all colourings; none while the table sleeps.
+    prints: Vec<u64>,
+    /// The trie of the oldest colourings. The newest ones may not be in it yet.
+    trie: Trie,
+    /// A filter of the prints.
+    filter: Filter,
+    /// Whether keys have hashes.
+    hashed: bool,
+    /// The hashes that were worked out.
+    hashes: Hashes,
+    /// While the table sleeps, how many colourings it has room for; 0 once it is awake.
+    room_asleep: usize,
+}
+
+/// Where a colouring comes into the trie.
+#[derive(Clone, Copy)]
+pub(crate) struct Gap {
+    slot: Slot,
+    /// The position of the bit where it parts from the others.
+    position: u32,
+    /// That bit.
+    bit: bool,
+    /// The colouring's hash; 0 if it wasn't worked out.
+    hash: u64,
+}
+
+impl Table {
+    /// The table of one colouring. It sleeps.
+    pub(crate) fn new(alloc: Global) -> Result<Table, MemoryFault>
+        ensures { IfOk result (λ table. (first : Held) → IsTable (first ∷ []) table) }
+    {
+        let prints = Vec::with_capacity(alloc, FIRST_ROOM)?;
+        let trie = Trie::new(alloc)?;
+        Ok(Table {
+            room_asleep: room_of_both(&prints, &trie),
+            prints,
+            trie,
+            filter: Filter::new(),
+            hashed: false,
+            hashes: Hashes::new(alloc),
+        })
+    }
+
+    /// Whether the table has the prints of all colourings. If not, it has none.
+    pub(crate) fn is_awake(&self) -> bool
+        ensures awake { (newest : Held) (older : List Held) → IsTable (newest ∷ older) self.now → IsTrue result
+            → IsAwakeTable (newest ∷ older) self.now }
+        ensures asleep { (held : List Held) → IsTable held self.now → IsFalse result → IsAsleepTable held self.now }
+        ensures room { IsTrue result → self.now.room_asleep ≡ 0 }
+    {
+        self.room_asleep == 0
+    }
+
+    /// The newest print. The table must be awake.
+    pub(crate) fn newest(&self) -> u64
+        requires { 0 < length self.now.prints.items }
+        ensures { (newest : Held) (older : List Held) → IsAwakeTable (newest ∷ older) self.now → result ≡ print_of newest.colouring }
+    {
+        self.prints[self.prints.len() - 1]
+    }
+
+    /// Works out the prints of all colourings, if the table sleeps. This takes no memory, since there is room for them.
+    pub(crate) fn wake(&mut self, colourings: &Colourings)
+        requires { IsTable (all_of colourings.now) self.old }
+        ensures { IsAwakeTable (all_of colourings.now) self.new }
+    {
+        if !self.prints.is_empty() {
+            return;
+        }
+        'each: for _ in 0..colourings.len() {
+            self.prints.push_reserved(0);
+        }
+        colourings.write_prints(&mut self.prints);
+        self.room_asleep = 0;
+    }
+
+    /// Whether the table sleeps, and has room for one more colouring; `count` is how many there are.
+    #[inline(always)]
+    pub(crate) fn has_room_asleep(&self, count: usize) -> bool
+        ensures { IsTrue result ↔ count < self.now.room_asleep }
+    {
+        count < self.room_asleep
+    }
+
+    /// Makes room for one more colouring than these; `count` is how many there are.
+    #[inline(always)]
+    pub(crate) fn reserve(&mut self, count: usize) -> Result<(), MemoryFault>
+        requires { (held : List Held) × IsTable held self.old × (count ≡ length held) }
+        ensures asleep { (held : List Held) → IsAsleepTable held self.old → IsAsleepTable held self.new }
+        ensures awake { (held : List Held) → IsAwakeTable held self.old → IsAwakeTable held self.new }
+        ensures trie { nodes_of self.new.trie ≡ nodes_of self.old.trie }
+        ensures hashed { self.new.hashed ≡ self.old.hashed }
+        ensures ok { (held : List Held) → count ≡ length held → OnOk result (HasRoomForNext held self.new) }
+    {
+        if self.has_room_asleep(count) {
+            return Ok(());
+        }
+        self.grow(count)?;
+        if !self.is_awake() {
+            self.room_asleep = room_of_both(&self.prints, &self.trie);
+        }
+        Ok(())
+    }
+
+    /// Makes room in the trie and for prints, for one more colouring than these.
+    #[inline(never)]
+    fn grow(&mut self, count: usize) -> Result<(), MemoryFault>
+        requires most { capacity_of self.old.trie < 2 ^ 32 }
+        requires prints { length self.old.prints.items ≤ count }
+        requires room { count ≤ capacity_of self.old.trie }
+        ensures grows { GrowsTable self.old self.new }
+        ensures trie { OnOk result (count < capacity_of self.new.trie) }
+        ensures prints { OnOk result (count < vec_capacity self.new.prints) }
+    {
+        if count >= self.trie.capacity() {
+            self.trie.make_room()?;
+        }
+        if count >= self.prints.capacity() {
+            self.prints.reserve(count + 1 - self.prints.len())?;
+        }
+        Ok(())
+    }
+
+    /// Adds a colouring. `print` is its print, or None if the table sleeps. Puts it into the trie if its gap there is known. There must
+    /// be room for it.
+    #[inline(always)]
+    pub(crate) fn push(&mut self, print: Option<u64>, gap: Option<Gap>)
+        requires table { (held : List Held) × (next : Held) × IsPrintOfNext held self.old next print
+            × IfSome gap (IsGap held self.old next) × HasRoomForNext held self.old }
+        ensures { (held : List Held) (next : Held) → IsPrintOfNext held self.old next print → IfSome gap (IsGap held self.old next)
+            → HasRoomForNext held self.old → IsTable (next ∷ held) self.new }
+    {
+        let Some(print) = print else {
+            return;
+        };
+        self.prints.push_reserved(print);
+        let Some(gap) = gap else {
+            return;
+        };
+        self.trie.insert(gap.slot, gap.position, gap.bit);
+        self.hashes.keep(self.prints.len() - 1, gap.hash);
+    }
+
+    /// Takes back the newest colouring.
+    pub(crate) fn pop(&mut self)
+        requires { (newest : Held) × (older : List Held) × IsTable (newest ∷ older) self.old }
+        ensures { (newest : Held) (older : List Held) → IsTable (newest ∷ older) self.old → IsTable older self.new }
+    {
+        if self.prints.is_empty() {
+            return;
+        }
+        if self.trie.len() == self.prints.len() {
+            self.trie.take_back();
+        }
+        let _ = self.prints.pop();
+        self.filter.go_back(self.prints.len());
+        self.hashes.go_back(self.prints.len());
+    }
+
+    /// Replaces all colourings by one. The table sleeps then.
+    pub(crate) fn reset(&mut self)
+        requires { (held : List Held) × IsTable held self.old × (0 < length held) }
+        ensures { (first : Held) → IsTable (first ∷ []) self.new }
+    {
+        self.trie.clear();
+        self.prints.clear();
+        self.filter.go_back(0);
+        self.hashed = false;
+        self.hashes.clear();
+        self.room_asleep = room_of_both(&self.prints, &self.trie);
+    }
+
+    /// The newest colouring with this print, if it is one of the last `NEAR` and not before `start`.
+    pub(crate) fn near(&self, start: usize, print: u64) -> Option<usize>
+        ensures { IfSome result (λ number. (start ≤ number) × (number < length self.now.prints.items)) }
+    {
+        let len = self.prints.len();
+        'each: for number in (start.max(len.saturating_sub(NEAR))..len).rev() {
+            if self.prints[number] == print {
+                return Some(number);
+            }
+        }
+        None
+    }
+
+    /// Whether a colouring may have this print. This doesn't ask the trie.
+    pub(crate) fn may_have(&mut self, print: u64) -> bool
+        requires { (held : List Held) × IsAwakeTable held self.old }
+        ensures table { (held : List Held) → IsAwakeTable held self.old → IsAwakeTable held self.new }
+        ensures lacks { (held : List Held) (grid : Grid) → IsAwakeTable held self.old → IsFalse result → print ≡ print_of grid
+            → ¬ Contains (stretch_of held) grid }
+    {
+        self.filter.may_have(&self.prints, print)
+    }
+
+    /// Where a colouring with this print comes in, if none has this print; None otherwise. Puts all colourings into the trie first.
+    pub(crate) fn gap(&mut self, colourings: &Colourings, print: u64) -> Option<Gap>
+        requires { IsAwakeTable (all_of colourings.now) self.old }
+        ensures table { IsAwakeTable (all_of colourings.now) self.new }
+        ensures all { item_count self.new.trie ≡ length self.new.prints.items }
+        ensures gap { IfSome result (λ gap. (next : Held) → print_of next.colouring ≡ print
+            → IsGap (all_of colourings.now) self.new next gap) }
+    {
+        self.link(colourings);
+        let key = ColouringKey::new(0, print, 0, colourings.newest());
+        let from = self.trie.descend(&key, WORD);
+        let apart = print ^ self.prints[self.trie.child(from) as usize];
+        if apart == 0 {
+            return None;
+        }
+        let position = apart.trailing_zeros();
+        Some(Gap {
+            slot: self.trie.opening(&key, from, position),
+            position,
+            bit: key.bit(position),
+            hash: 0,
+        })
+    }
+
+    /// Where a colouring comes in that goes on with the present stretch; None if the stretch has it. `print` is its print. Puts all
+    /// colourings into the trie first.
+    pub(crate) fn gap_of(
+        &mut self,
+        colourings: &Colourings,
+        board: &Board,
+        print: u64,
+    ) -> Option<Gap>
+        requires table { IsAwakeTable (all_of colourings.now) self.old }
+        requires side { HaveSide board.now.side colourings.now }
+        requires print { print ≡ print_of board.now }
+        ensures table { IsAwakeTable (all_of colourings.now) self.new }
+        ensures gap { IfSome result (IsGap (all_of colourings.now) self.new (with_next colourings.now board.now false).newest) }
+        ensures has { IfNone result (Contains (present_stretch colourings.now) board.now) }
+    {
+        if let Some(gap) = self.gap(colourings, print) {
+            return Some(gap);
+        }
+        self.gap_by_board(colourings, board, print)
+    }
+
+    /// The same, by all bits of the key. The trie must have all colourings. A run asks this last, if nothing before decides positional superko.
+    pub(crate) fn gap_by_board(
+        &mut self,
+        colourings: &Colourings,
+        board: &Board,
+        print: u64,
+    ) -> Option<Gap>
+        requires table { IsAwakeTable (all_of colourings.now) self.old }
+        requires all { item_count self.old.trie ≡ length self.old.prints.items }
+        requires side { HaveSide board.now.side colourings.now }
+        requires print { print ≡ print_of board.now }
+        ensures table { IsAwakeTable (all_of colourings.now) self.new }
+        ensures gap { IfSome result (IsGap (all_of colourings.now) self.new (with_next colourings.now board.now false).newest) }
+        ensures has { IfNone result (Contains (present_stretch colourings.now) board.now) }
+    {
+        self.hash_if_deep(colourings, board, print);
+        board.has_all_cells();
+        let hash = self.hash_in_key(board);
+        let key = ColouringKey::new(colourings.stretch_start(), print, hash, board);
+        let from = self.trie.descend(&key, WIDTH);
+        let near = self.trie.child(from) as usize;
+        match self.first_apart(colourings, &key, near) {
+            Some(position) => Some(Gap {
+                slot: self.trie.opening(&key, from, position),
+                position,
+                bit: key.bit(position),
+                hash,
+            }),
+            None => None,
+        }
+    }
+
+    /// The first position where a key differs from that of the colouring with this number. The colouring is worked out only if the keys
+    /// don't differ before.
+    fn first_apart(
+        &mut self,
+        colourings: &Colourings,
+        key: &ColouringKey<'_>,
+        number: usize,
+    ) -> Option<u32>
+        requires table { IsAwakeTable (all_of colourings.now) self.old }
+        requires number { number < length (all_of colourings.now) }
+        ensures table { IsAwakeTable (all_of colourings.now) self.new }
+        ensures rest { SameButHashes self.old self.new }
+        ensures apart { IsFirstApart (bits_of key.now) (keys_of self.old.hashed (all_of colourings.now) number) result }
+        ensures cells { IfNone result ((grid : Grid) × IsNumber (all_of colourings.now) number grid
+            × (length grid.cells ≡ grid.side * grid.side)) }
+    {
+        let hash = self.take_hash(colourings, number);
+        let head = self.key_of(colourings, number, hash, colourings.newest());
+        let position = first_difference(key, &head, HEAD / WORD);
+        if position.is_some() {
+            return position;
+        }
+        let past = colourings.board_at(number);
+        past.has_all_cells();
+        let whole = self.key_of(colourings, number, hash, &past);
+        first_difference(key, &whole, WIDTH / WORD)
+    }
+
+    /// What stands for its hash in the key of the colouring with this number. A hash that is worked out is kept.
+    fn take_hash(&mut self, colourings: &Colourings, number: usize) -> u64
+        requires table { IsAwakeTable (all_of colourings.now) self.old }
+        requires number { number < length (all_of colourings.now) }
+        ensures table { IsAwakeTable (all_of colourings.now) self.new }
+        ensures rest { SameButHashes self.old self.new }
+        ensures hash { (grid : Grid) → IsNumber (all_of colourings.now) number grid → result ≡ hash_in_key self.old.hashed grid }
+    {
+        if !self.hashed {
+            return 0;
+        }
+        if let Some(hash) = self.hashes.get(number) {
+            return hash;
+        }
+        let hash = hash_of(&colourings.board_at(number));
+        self.hashes.keep(number, hash);
+        hash
+    }
+
+    /// Lets keys have hashes if a descent by the key of a board passes more nodes than it should. All colourings are put into the trie anew
+    /// then.
+    fn hash_if_deep(&mut self, colourings: &Colourings, board: &Board, print: u64)
+        requires table { IsAwakeTable (all_of colourings.now) self.old }
+        requires all { item_count self.old.trie ≡ length self.old.prints.items }
+        ensures table { IsAwakeTable (all_of colourings.now) self.new }
+        ensures all { item_count self.new.trie ≡ length self.new.prints.items }
+    {
+        let key = ColouringKey::new(colourings.stretch_start(), print, 0, board);
+        if self.is_deep(&key) {
+            self.begin_anew();
+            self.link(colourings);
+        }
+    }
+
+    /// Whether keys have no hashes yet, and a descent by this key passes more nodes than it should.
+    fn is_deep(&self, key: &ColouringKey<'_>) -> bool
+        requires trie { (held : List Held) × IsAwakeTable held self.now }
+        requires some { 0 < item_count self.now.trie }
+        ensures { IsTrue result → IsFalse self.now.hashed }
+    {
+        !self.hashed && self.trie.passes(key, WIDTH, MOST_PASSED)
+    }
+
+    /// Lets keys have hashes, and takes all colourings out of the trie.
+    fn begin_anew(&mut self)
+        requires { (held : List Held) × IsAwakeTable held self.old }
+        ensures table { (held : List Held) → IsAwakeTable held self.old → IsAwakeTable held self.new }
+        ensures hashed { IsTrue self.new.hashed }
+        ensures prints { self.new.prints.items ≡ self.old.prints.items }
+    {
+        self.trie.clear();
+        self.hashed = true;
+    }
+
+    /// What stands in a key for the hash of a board: 0 if keys have no hashes.
+    fn hash_in_key(&self, board: &Board) -> u64
+        ensures { result ≡ hash_in_key self.now.hashed board.now }
+    {
+        if self.hashed { hash_of(board) } else { 0 }
+    }
+
+    /// Whether the present stretch has this colouring; `print` is its print. All that may have the print are compared one by one: this
+    /// is the plain way.
+    pub(crate) fn has(&self, colourings: &Colourings, board: &Board, print: u64) -> bool
+        requires table { IsTable (all_of colourings.now) self.now }
+        requires print { print ≡ print_of board.now }
+        ensures { IsTrue result ↔ Contains (present_stretch colourings.now) board.now }
+    {
+        let start = colourings.stretch_start();
+        'each: for number in (start..colourings.len()).rev() {
+            if self.may_be(number, print) && colourings.is_at(number, board) {
+                return true;
+            }
+        }
+        false
+    }
+
+    /// Whether the colouring with this number may have this print. While the table sleeps, each may.
+    fn may_be(&self, number: usize, print: u64) -> bool
+        ensures { (held : List Held) (grid : Grid) → IsTable held self.now → IsNumber held number grid → number < length held
+            → print ≡ print_of grid → IsTrue result }
+    {
+        number >= self.prints.len() || self.prints[number] == print
+    }
+
+    /// The front of the key of the colouring with this number, and for its rest a hash and the bits of a board.
+    fn key_of<'a>(
+        &self,
+        colourings: &Colourings,
+        number: usize,
+        hash: u64,
+        board: &'a Board,
+    ) -> ColouringKey<'a>
+        requires table { IsAwakeTable (all_of colourings.now) self.now }
+        requires number { number < length (all_of colourings.now) }
+        ensures front { Agree (bits_of result) (keys_of self.now.hashed (all_of colourings.now) number) FRONT }
+        ensures head { ((grid : Grid) → IsNumber (all_of colourings.now) number grid → hash ≡ hash_in_key self.now.hashed grid)
+            → Agree (bits_of result) (keys_of self.now.hashed (all_of colourings.now) number) HEAD }
+        ensures whole { IsNumber (all_of colourings.now) number board.now → hash ≡ hash_in_key self.now.hashed board.now
+            → bits_of result ≡ keys_of self.now.hashed (all_of colourings.now) number }
+    {
+        ColouringKey::new(
+            colourings.start_at(number),
+            self.prints[number],
+            hash,
+            board,
+        )
+    }
+
+    /// Puts all colourings into the trie.
+    #[inline(never)]
+    pub(crate) fn link(&mut self, colourings: &Colourings)
+        requires { IsAwakeTable (all_of colourings.now) self.old }
+        ensures table { IsAwakeTable (all_of colourings.now) self.new }
+        ensures all { item_count self.new.trie ≡ length self.new.prints.items }
+    {
+        'each: while self.trie.len() < self.prints.len() {
+            self.link_next(colourings);
+        }
+    }
+
+    /// Puts the oldest colouring that isn't there yet into the trie, or takes all out and lets keys have hashes.
+    fn link_next(&mut self, colourings: &Colourings)
+        requires unlinked { HasUnlinked (all_of colourings.now) self.old }
+        ensures { LinksNext (all_of colourings.now) self.old self.new }
+    {
+        let number = self.trie.len();
+        if number == 0 {
+            self.trie.insert_first();
+            return;
+        }
+        let key = self.key_of(colourings, number, 0, colourings.newest());
+        let from = self.trie.descend(&key, FRONT);
+        let near = self.trie.child(from) as usize;
+        let other = self.key_of(colourings, near, 0, colourings.newest());
+        match first_difference(&key, &other, FRONT / WORD) {
+            Some(position) => self.trie.insert_parted(&key, from, position),
+            None => self.link_by_board(colourings),
+        }
+    }
+
+    /// The same, by all bits of the keys.
+    fn link_by_board(&mut self, colourings: &Colourings)
+        requires unlinked { HasUnlinked (all_of colourings.now) self.old }
+        requires some { 0 < item_count self.old.trie }
+        ensures { LinksNext (all_of colourings.now) self.old self.new }
+    {
+        let next = self.trie.len();
+        let board = colourings.board_at(next);
+        let hash = self.take_hash(colourings, next);
+        let key = self.key_of(colourings, next, hash, &board);
+        if self.is_deep(&key) {
+            self.begin_anew();
+            return;
+        }
+        let from = self.trie.descend(&key, WIDTH);
+        let near = self.trie.child(from) as usize;
+        match self.first_apart(colourings, &key, near) {
+            Some(position) => self.trie.insert_parted(&key, from, position),
+            None => self.trie.insert_equal(),
+        }
+    }
+}
+
+/// How many colourings have room in both: the least of the two rooms.
+fn room_of_both(prints: &Vec<u64>, trie: &Trie) -> usize
+    ensures prints { result ≤ vec_capacity prints.now }
+    ensures trie { result ≤ capacity_of trie.now }
+    ensures least { (count : ℕ) → count ≤ vec_capacity prints.now → count ≤ capacity_of trie.now → count ≤ result }
+{
+    trie.capacity().min(prints.capacity())
+}

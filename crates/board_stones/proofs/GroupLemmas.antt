@@ -1,0 +1,58 @@
+-- A group without a liberty can be removed before its colour is cleared: the cleared grid is the same.
+use Rattle.std.proofs.Common.{◌≡◌, ◌≢◌, ◌⊎◌, ℕ, ◌*◌, false, List, [], ◌∷◌, length, get_or, refl, sym, ap, subst, ◌∙◌, arith}
+use Rattle.std.proofs.lemmas.Grind.{common_steps}
+use Rattle.std.proofs.lemmas.Bool.{true≢false}
+use Rattle.std.proofs.lemmas.Bool.Decides.{not_from_Decides}
+use Rattle.board_stones.specs.declared.stones.Cell.{Cell}
+use Rattle.board_stones.specs.declared.stones.Cell.TheVariants.{Black as BlackStone, White as WhiteStone, Empty}
+use Rattle.board_stones.specs.declared.stones.Colour.{Colour}
+use Rattle.board_stones.specs.declared.stones.Colour.TheVariants.{Black, White}
+use Rattle.board_points.specs.declared.points.Point.{Point}
+use Rattle.board_stones.specs.Colour.{opponent, stone_of, same_cell}
+use Rattle.board_points.specs.Point.{IsOn, point_at}
+use Rattle.board_stones.specs.Grid.{Grid, cell_at, grid_of}
+use Rattle.board_stones.specs.Reaching.{Leads, Reaches}
+use Rattle.board_points.proofs.PointLemmas.{is_map-points, index_of-point_at, IsOn-point_at}
+use Rattle.board_stones.proofs.GridLemmas.{Decides-same_cell, cell_at-grid_of, length-grid_of}
+
+-- a point has that colour or not
+pub coloured_or_not : (a b : Cell) → (a ≡ b) ⊎ (a ≢ b)
+coloured_or_not a b = grind (arith, common_steps, Decides-same_cell, not_from_Decides)
+
+pub stone_of≢Empty : (k : Colour) → stone_of k ≢ Empty
+stone_of≢Empty Black = λ e. cc
+stone_of≢Empty White = λ e. cc
+
+-- a cell with neither player's stone is empty
+pub neither_stone : (k : Colour) (c : Cell) → same_cell c (stone_of k) ≡ false → same_cell c (stone_of (opponent k)) ≡ false → c ≡ Empty
+neither_stone k Empty own other = refl
+neither_stone Black BlackStone own other = absurd (true≢false own)
+neither_stone Black WhiteStone own other = absurd (true≢false other)
+neither_stone White BlackStone own other = absurd (true≢false other)
+neither_stone White WhiteStone own other = absurd (true≢false own)
+
+-- where a path leads from a point, the point reaches its end
+pub Reaches-Leads : (g : Grid) (own k : Cell) (p : Point) (path : List Point) → Leads g own k p path → Reaches g k p
+Reaches-Leads g own k p [] way = ([], way)
+Reaches-Leads g own k p (q ∷ path) way = (q ∷ path, subst (λ c. Leads g c k p (q ∷ path)) (sym way.1) way)
+
+-- a grid made by a function that reads another grid is that grid
+pub grid_of-cells : (g : Grid) (f : Point → Cell) → length g.cells ≡ g.side * g.side → ((p : Point) → IsOn g.side p → f p ≡ cell_at g p) → grid_of g.side f ≡ g
+grid_of-cells g f all each =
+    ap (λ l. record { side = g.side; cells = l })
+    (sym (is_map-points f g.side g.cells Empty all
+    (λ i below.
+    let on = IsOn-point_at g.side i below in
+    ap (λ j. get_or g.cells j Empty) (sym (index_of-point_at g.side i below)) ∙ sym (each (point_at g.side i) on))))
+
+-- functions that agree on the points of a grid make the same one
+pub same_colours : (side : ℕ) (f h : Point → Cell) → ((p : Point) → IsOn side p → f p ≡ h p) → grid_of side f ≡ grid_of side h
+same_colours side f h each =
+    grid_of-cells (grid_of side h) f (length-grid_of side h) (λ p on. each p on ∙ sym (cell_at-grid_of side h p on))
+
+-- two colourings of one side with the same on each point are one
+pub one_colouring : (g h : Grid) → g.side ≡ h.side → length g.cells ≡ g.side * g.side → length h.cells ≡ h.side * h.side → ((p : Point) → IsOn g.side p → cell_at g p ≡ cell_at h p) → g ≡ h
+one_colouring g h side all all' each =
+    sym (grid_of-cells g (cell_at g) all (λ p on. refl))
+    ∙ ap (λ n. grid_of n (cell_at g)) side
+    ∙ grid_of-cells h (cell_at g) all' (λ p on. each p (subst (λ n. IsOn n p) (sym side) on))

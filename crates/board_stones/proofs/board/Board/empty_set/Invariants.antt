@@ -1,0 +1,8 @@
+use Rattle.std.proofs.Common.{◌≡◌}
+use Rattle.board_stones.specs.declared.stones.Cell.TheVariants.{Empty}
+use Rattle.board_points.specs.Rows.{is_set}
+use Rattle.board_stones.proofs.SweepLemmas.{painted}
+use Rattle.board_stones.proofs.board.Board.empty_set.Given as goal
+
+abbrev pub invariant-rows : goal.invariant-rows
+invariant-rows l = l.self ≡ painted l.initial.self (is_set l.rows) Empty l.row

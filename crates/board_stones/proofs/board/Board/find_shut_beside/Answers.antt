@@ -1,0 +1,75 @@
+use Rattle.std.proofs.Common.{inl, inr, sym, ◌∙◌, ap, subst, arith, Some, is_some, ◌≡◌}
+use Rattle.std.proofs.lemmas.Bool.{false≢true}
+use Rattle.board_points.specs.Point.{IsOn}
+use Rattle.board_points.specs.declared.points.Point.{Point}
+use Rattle.board_stones.specs.inner.Groups.{ReachesIfStone}
+use Rattle.board_stones.specs.Reaching.{Reaches}
+use Rattle.board_stones.specs.declared.stones.Cell.TheVariants.{Empty}
+use Rattle.board_points.specs.Rows.{is_set}
+use Rattle.board_points.proofs.PointLemmas.{Contains-take_more}
+use Rattle.board_stones.proofs.ClearedLemmas.{beside_cleared}
+use Rattle.board_stones.proofs.board.Board.find_shut_beside.Goals as goal
+use Rattle.board_stones.proofs.board.Board.find_shut_beside.Goals.{then-may_be_shut+else-is_some, else-may_be_shut}
+
+pub loop-at-preserved : goal.loop-at-preserved
+loop-at-preserved c =
+    let g = c.args.self.now in
+    let k = c.args.colour in
+    let before = c.loop-at.invariant in
+    let turn = λ (q : Point). Contains-take_more c.neighbours-beside.result c.loop-at.at-index q (omega arith) in
+    elim c.if-may_be_shut.branch [
+      | then-may_be_shut+else-is_some w ↦
+          rw (w.doubted-is)
+          (record {
+            same = before.same;
+            stone = c.may_be_shut.ensures.stone w.if-may_be_shut.true;
+            beside = λ q among on.
+                elim ((turn q).0 among) [
+                  | inl earlier ↦
+                      elim (before.beside q earlier on) [
+                        | inl some ↦ absurd (false≢true (sym w.if-is_some.false ∙ w.is_some.ensures ∙ ap is_some some))
+                        | inr reaches ↦ inr reaches
+                      ]
+                  | inr is ↦ inl (ap Some (sym is))
+                ];
+          })
+      | else-may_be_shut w ↦
+          rw (w.doubted-is)
+          (record {
+            same = before.same;
+            stone = before.stone;
+            beside = λ q among on.
+                elim ((turn q).0 among) [
+                  | inl earlier ↦ before.beside q earlier on
+                  | inr is ↦
+                      inr (subst (λ p. IsOn g.side p → ReachesIfStone g k p) (sym is) (c.may_be_shut.ensures.lives w.if-may_be_shut.false) on)
+                ];
+          })
+    ]
+
+pub returns-in-Some-clause-beside : goal.returns-in-Some-clause-beside
+returns-in-Some-clause-beside c = λ some q on next stone.
+    let few = c.has_all_cells.ensures.few in
+    let seen = beside_cleared c.args.point q c.neighbours-beside.result c.loop-at.at-index c.args.self.now.side c.neighbours-beside.ensures (omega (arith, c.loop-at-test.false)) few on next in
+    elim (c.loop-at.invariant.beside q seen on) [
+      | inl found ↦ (let is : c.in-Some.at ≡ q = cc in inl (ap (is_set c.find_shut.new.shut) (sym is) ∙ c.find_shut.ensures.here some))
+      | inr reaches ↦ inr (reaches stone)
+    ]
+
+pub returns-in-Some-clause-lives : goal.returns-in-Some-clause-lives
+returns-in-Some-clause-lives c = λ none q on next stone.
+    let few = c.has_all_cells.ensures.few in
+    let seen = beside_cleared c.args.point q c.neighbours-beside.result c.loop-at.at-index c.args.self.now.side c.neighbours-beside.ensures (omega (arith, c.loop-at-test.false)) few on next in
+    elim (c.loop-at.invariant.beside q seen on) [
+      | inl found ↦ (let is : c.in-Some.at ≡ q = cc in subst (Reaches c.args.self.now Empty) is (c.find_shut.ensures.lives none))
+      | inr reaches ↦ reaches stone
+    ]
+
+pub returns-in-None-clause-lives : goal.returns-in-None-clause-lives
+returns-in-None-clause-lives c = λ _ q on next stone.
+    let few = c.has_all_cells.ensures.few in
+    let seen = beside_cleared c.args.point q c.neighbours-beside.result c.loop-at.at-index c.args.self.now.side c.neighbours-beside.ensures (omega (arith, c.loop-at-test.false)) few on next in
+    elim (c.loop-at.invariant.beside q seen on) [
+      | inl some ↦ absurd cc
+      | inr reaches ↦ reaches stone
+    ]

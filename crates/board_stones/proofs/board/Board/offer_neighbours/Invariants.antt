@@ -1,0 +1,8 @@
+use Rattle.std.proofs.Common.{Contains, take}
+use Rattle.board_stones.specs.inner.Flood.{ReachesThrough}
+use Rattle.board_points.specs.Search.{Finds}
+use Rattle.board_stones.proofs.board.Board.offer_neighbours.Given as goal
+
+abbrev pub invariant-loop-to : goal.invariant-loop-to
+invariant-loop-to l =
+    Finds (λ q. Contains (take l.to-index l.to-items) q × ReachesThrough l.self l.target l.from q) l.initial.search l.search

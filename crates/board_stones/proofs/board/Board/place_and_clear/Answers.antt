@@ -1,0 +1,35 @@
+use Rattle.std.proofs.Common.{◌≡◌, ◌*◌, ap, ◌∙◌, List, ℕ, length, true, subst}
+use Rattle.std.proofs.lemmas.List.{length-set}
+use Rattle.board_points.specs.declared.points.Point.{Point}
+use Rattle.board_stones.specs.declared.stones.Colour.{Colour}
+use Rattle.board_stones.specs.Colour.{stone_of}
+use Rattle.board_points.specs.Point.{index_of}
+use Rattle.board_stones.specs.Grid.{Grid, with_cell}
+use Rattle.board_stones.specs.Clearing.{play, has_unreaching}
+use Rattle.board_points.specs.Rows.{is_set}
+use Rattle.board_stones.specs.Move.{IsWithout, Clears}
+use Rattle.board_stones.proofs.SettledLemmas.{settled_by_play}
+use Rattle.board_stones.proofs.ClearedLemmas.{same_without}
+use Rattle.board_stones.proofs.board.Board.place_and_clear.Goals as goal
+
+played : (g h i : Grid) (k : Colour) (p : Point) (rows : List ℕ) → length g.cells ≡ g.side * g.side → h ≡ with_cell g p (stone_of k) → IsWithout h i (λ q. is_set rows q ≡ true) → Clears g k p rows → i ≡ play g k p
+played g h i k p rows all here is takes =
+    same_without (with_cell g p (stone_of k)) i (play g k p) rows (length-set g.cells (index_of g.side p) (stone_of k) ∙ all)
+    (subst (λ x. IsWithout x i (λ q. is_set rows q ≡ true)) here is)
+    takes.played
+
+pub set_settled-requires : goal.set_settled-requires
+set_settled-requires c = λ _.
+    let g = c.args.self.now in
+    let k = c.args.colour in
+    let p = c.args.point in
+    ap has_unreaching (played g c.add.new.self c.empty_set.new.self k p c.args.cleared.now c.has_all_cells.ensures.all c.add.ensures c.empty_set.ensures c.requires.cleared)
+    ∙ settled_by_play g k p
+
+pub returns : goal.returns
+returns c =
+    let g = c.args.self.now in
+    let k = c.args.colour in
+    let p = c.args.point in
+    c.set_settled.ensures
+    ∙ played g c.add.new.self c.empty_set.new.self k p c.args.cleared.now c.has_all_cells.ensures.all c.add.ensures c.empty_set.ensures c.requires.cleared

@@ -1,0 +1,9 @@
+use Rattle.std.proofs.Common.{◌≡◌, ◌<◌}
+use Rattle.board_points.specs.Point.{index_of}
+use Rattle.board_stones.specs.Grid.{cell_at}
+use Rattle.board_points.specs.Search.{Finds, nothing_found}
+use Rattle.board_stones.proofs.board.Board.search_from.Given as goal
+
+abbrev pub invariant-loop-index : goal.invariant-loop-index
+invariant-loop-index l =
+    Finds (λ p. (index_of l.self.side p < l.index) × (cell_at l.self p ≡ l.target)) (nothing_found l.self.side) l.search

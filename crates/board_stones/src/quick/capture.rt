@@ -1,0 +1,205 @@
+//! What a stone clears, as rows of bits: the groups beside it that it captures, or its own group by suicide. `Board::place` is the
+//! plain way.
+
+ghost use Rattle.std.specs.Prelude.{◌≡◌, ◌↔◌, ◌⊎◌, [], IsTrue, IsFalse, length};
+ghost use Rattle.board_stones.specs.declared.stones.Cell.TheVariants.{Empty};
+ghost use Rattle.board_points.specs.declared.points.Point.{Point};
+ghost use Rattle.board_points.specs.Point.{IsOn};
+ghost use Rattle.board_stones.specs.Colour.{stone_of};
+ghost use Rattle.board_stones.specs.Grid.{cell_at};
+ghost use Rattle.board_stones.specs.Clearing.{play};
+ghost use Rattle.board_stones.specs.Reaching.{Reaches};
+ghost use Rattle.board_stones.specs.inner.Groups.{AreKnownAlive, ReachesIfStone, AddsGroup, AddsShut, AreShutGroups, AreClearedOrReachBeside, IsAsked, ReachBeside};
+ghost use Rattle.board_stones.specs.Move.{IsEmptyOnSettled, IsMove, Clears};
+ghost use Rattle.board_points.specs.Rows.{is_set, HasNoPoint};
+
+use crate::board::Board;
+use crate::stones::{Cell, Colour};
+use board_points::Point;
+use board_points::columns::has_column;
+use board_points::quick::group::{add_to_either, fill_if_shut, lives_in_row};
+use board_points::rows::{has_point, no_rows, remove_all};
+
+impl Board {
+    /// Finds what a stone on an empty point clears, by capture or else by suicide. `cleared` must be empty. If the stone clears something,
+    /// `cleared` becomes that; if not, false is returned, and what is in `cleared` says nothing.
+    /// Before the move every stone on the board must reach empty. So after it only the stone's own group and the groups beside the
+    /// stone can be without a liberty. The stone is put on the board for this search, and removed again.
+    pub fn find_cleared(&mut self, colour: Colour, point: Point, cleared: &mut [u64]) -> bool
+        requires stone { IsEmptyOnSettled self.old point }
+        requires none { HasNoPoint self.old.side cleared.old }
+        ensures cleared { IsTrue result → Clears self.old colour point cleared.new }
+        ensures none { IsFalse result → Clears self.old colour point [] }
+        ensures unchanged { self.new ≡ self.old }
+    {
+        self.has_all_cells();
+        self.add(colour, point);
+        let mut some = self.find_shut_beside(colour.opponent(), point, cleared);
+        if !some {
+            some = self.find_suicide(colour, point, cleared);
+        }
+        self.set(point, Cell::Empty);
+        self.set_settled(true);
+        some
+    }
+
+    /// Whether the group of the stone on a point has no liberty. If so, `shut` becomes the group.
+    fn find_suicide(&self, colour: Colour, point: Point, shut: &mut [u64]) -> bool
+        requires on_board { IsOn self.now.side point }
+        requires stone { cell_at self.now point ≡ stone_of colour }
+        requires all { length shut.old ≡ self.now.side }
+        ensures shut { IsTrue result → AreShutGroups self.now colour shut.new }
+        ensures here { IsTrue result → IsTrue (is_set shut.new point) }
+        ensures lives { IsFalse result → Reaches self.now Empty point }
+    {
+        if !self.may_be_shut(colour, point) {
+            return false;
+        }
+        // a search that found a liberty left stones here
+        remove_all(shut);
+        self.find_shut(colour, point, shut)
+    }
+
+    /// Whether a group of a colour beside a point has no liberty. If so, `shut` becomes all such groups. It must be empty.
+    fn find_shut_beside(&self, colour: Colour, point: Point, shut: &mut [u64]) -> bool
+        requires on_board { IsOn self.now.side point }
+        requires none { HasNoPoint self.now.side shut.old }
+        ensures shut { IsTrue result → AreShutGroups self.now colour shut.new }
+        ensures some { IsTrue result → (stone : Point) × IsTrue (is_set shut.new stone) }
+        ensures beside { IsTrue result → AreClearedOrReachBeside self.now colour point shut.new }
+        ensures lives { IsFalse result → ReachBeside self.now colour point }
+        ensures all { length shut.new ≡ self.now.side }
+    {
+        self.has_all_cells();
+        let beside = point.neighbours();
+        let mut doubted = None;
+        for at in beside {
+            // most of these points have no such stone, or one that lives by a stone in its row
+            if self.may_be_shut(colour, at) {
+                if doubted.is_some() {
+                    return self.find_shut_among(colour, point, shut);
+                }
+                doubted = Some(at);
+            }
+        }
+        match doubted {
+            Some(at) => self.find_shut(colour, at, shut),
+            None => false,
+        }
+    }
+
+    /// Adds to `shut` the groups of a colour that are beside a point and have no liberty. Returns whether there are any. No group is filled
+    /// twice: stones that a search has found aren't asked about again, whether their group is shut or not.
+    #[inline(never)]
+    fn find_shut_among(&self, colour: Colour, point: Point, shut: &mut [u64]) -> bool
+        requires on_board { IsOn self.now.side point }
+        requires shut { AreShutGroups self.now colour shut.old }
+        ensures adds { AddsShut self.now colour shut.old shut.new result }
+        ensures beside { AreClearedOrReachBeside self.now colour point shut.new }
+    {
+        self.has_all_cells();
+        let mut words = no_rows();
+        let alive = &mut words[..usize::from(self.size().side())];
+        let mut some = false;
+        let beside = point.neighbours();
+        for at in beside {
+            if self.is_unsearched(colour, at, shut, alive) {
+                some |= self.add_to_either(colour, at, shut, alive);
+            }
+        }
+        some
+    }
+
+    /// Whether a point has a stone of a colour, and no stone in its row shows that it lives.
+    #[inline(always)]
+    fn may_be_shut(&self, colour: Colour, point: Point) -> bool
+        ensures stone { IsTrue result → IsOn self.now.side point × (cell_at self.now point ≡ stone_of colour) }
+        ensures lives { IsFalse result → IsOn self.now.side point → ReachesIfStone self.now colour point }
+    {
+        self.has_all_cells();
+        if !self.has_stone(colour, point) {
+            return false;
+        }
+        !lives_in_row(self.rows_of(colour), self.rows_of(colour.opponent()), point)
+    }
+
+    /// Whether a point has a stone of a colour that isn't among those found already.
+    fn is_unsearched(&self, colour: Colour, point: Point, shut: &[u64], alive: &[u64]) -> bool
+        requires shut { length shut.now ≡ self.now.side }
+        requires alive { length alive.now ≡ self.now.side }
+        ensures stone { IsTrue result → IsOn self.now.side point × (cell_at self.now point ≡ stone_of colour) }
+        ensures known { IsFalse result → IsOn self.now.side point → cell_at self.now point ≡ stone_of colour
+            → IsTrue (is_set shut.now point) ⊎ IsTrue (is_set alive.now point) }
+    {
+        self.has_all_cells();
+        if !self.has_stone(colour, point) {
+            return false;
+        }
+        if has_point(shut, point) {
+            return false;
+        }
+        !has_point(alive, point)
+    }
+
+    /// Adds the group of the stone on a point to `shut` if it has no liberty, otherwise stones of it to `alive`. Returns whether it has none.
+    fn add_to_either(
+        &self,
+        colour: Colour,
+        point: Point,
+        shut: &mut [u64],
+        alive: &mut [u64],
+    ) -> bool
+        requires asked { IsAsked self.now colour point shut.old }
+        requires alive { AreKnownAlive self.now colour alive.old }
+        ensures group { AddsGroup self.now colour point shut.old shut.new result }
+        ensures alive { AreKnownAlive self.now colour alive.new }
+    {
+        self.has_all_cells();
+        add_to_either(
+            self.rows_of(colour),
+            self.rows_of(colour.opponent()),
+            point,
+            shut,
+            alive,
+        )
+    }
+
+    /// Whether the group of the stone on a point has no liberty. If so, `shut` becomes the group. It must be empty.
+    #[inline(always)]
+    fn find_shut(&self, colour: Colour, point: Point, shut: &mut [u64]) -> bool
+        requires on_board { IsOn self.now.side point }
+        requires stone { cell_at self.now point ≡ stone_of colour }
+        requires none { HasNoPoint self.now.side shut.old }
+        ensures shut { IsTrue result → AreShutGroups self.now colour shut.new }
+        ensures here { IsTrue result → IsTrue (is_set shut.new point) }
+        ensures lives { IsFalse result → Reaches self.now Empty point }
+        ensures all { length shut.new ≡ self.now.side }
+    {
+        self.has_all_cells();
+        fill_if_shut(
+            self.rows_of(colour),
+            self.rows_of(colour.opponent()),
+            point,
+            shut,
+        )
+    }
+
+    /// Whether a point is on the board and has a stone of a colour.
+    fn has_stone(&self, colour: Colour, point: Point) -> bool
+        ensures { IsTrue result ↔ (IsOn self.now.side point × (cell_at self.now point ≡ stone_of colour)) }
+    {
+        point.is_on(self.size())
+            && has_column(self.columns_of(point.row, colour), usize::from(point.col))
+    }
+
+    /// Places a stone on an empty point; `cleared` is what it clears. After that every stone reaches empty.
+    pub fn place_and_clear(&mut self, colour: Colour, point: Point, cleared: &[u64])
+        requires { IsMove self.old colour point cleared.now }
+        ensures { self.new ≡ play self.old colour point }
+    {
+        self.has_all_cells();
+        self.add(colour, point);
+        self.empty_set(cleared);
+        self.set_settled(true);
+    }
+}

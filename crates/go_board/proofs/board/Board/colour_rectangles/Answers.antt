@@ -1,6 +1,0 @@
-use Rattle.go_board.proofs.RectangleLemmas.{rectangles_more}
-use Rattle.go_board.proofs.board.Board.colour_rectangles.Goals as goal
-
-pub loop-op-preserved : goal.loop-op-preserved
-loop-op-preserved c =
-    rectangles_more _ _ _ _ _ _ c.loop-op-test.true c.colour_rectangle.ensures c.loop-op.invariant.0 c.loop-op.invariant.1

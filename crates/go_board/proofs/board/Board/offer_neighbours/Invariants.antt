@@ -1,8 +1,0 @@
-use Rattle.std.proofs.Common.{Contains, take}
-use Rattle.go_board.specs.inner.Flood.{ReachesThrough}
-use Rattle.board_points.specs.Search.{Finds}
-use Rattle.go_board.proofs.board.Board.offer_neighbours.Given as goal
-
-abbrev pub invariant-loop-to : goal.invariant-loop-to
-invariant-loop-to l =
-    Finds (λ q. Contains (take l.to-index l.to-items) q × ReachesThrough l.self l.target l.from q) l.initial.search l.search

@@ -1,5 +1,0 @@
-use Rattle.go_board.proofs.GridLemmas.{cell_at-with_cell_elsewhere}
-use Rattle.go_board.proofs.laws.setting.Goals as goal
-
-pub returns-clause-elsewhere : goal.returns-clause-elsewhere
-returns-clause-elsewhere c = λ g p q k on at other. cell_at-with_cell_elsewhere g p q k on at other

@@ -1,9 +1,0 @@
-use Rattle.std.proofs.Common.{fold, ap, ◌∙◌}
-use Rattle.go_board.specs.Grid.{Grid}
-use Rattle.go_board.specs.State.{with_rectangle}
-use Rattle.go_board.proofs.past.Past.set_up.Goals as goal
-
-pub returns-clause-ok : goal.returns-clause-ok
-returns-clause-ok g c =
-    let made = c.colour_rectangles.ensures.value ∙ ap (λ (b : Grid). fold with_rectangle b c.args.ops.now) (c.copy-made.ensures ∙ c.newest.ensures) in
-    rw (← made) c.restart.ensures.ok

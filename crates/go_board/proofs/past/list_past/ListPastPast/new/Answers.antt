@@ -1,4 +1,0 @@
-use Rattle.go_board.proofs.past.list_past.ListPastPast.new.Goals as goal
-
-pub returns : goal.returns
-returns c = rw (c.copy.ensures, c.new.ensures.items)

@@ -1,4 +1,0 @@
-use Rattle.go_board.proofs.past.list_past.ListPastPast.restart.Goals as goal
-
-pub returns-clause-ok : goal.returns-clause-ok
-returns-clause-ok c = c.add.ensures.ok

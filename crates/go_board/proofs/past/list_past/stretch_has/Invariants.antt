@@ -1,8 +1,0 @@
--- The whole stretch has the colouring exactly if the part that is left to look at has it.
-use Rattle.std.proofs.Common.{◌↔◌, reverse, Contains}
-use Rattle.go_board.specs.Past.{stretch_of}
-use Rattle.go_board.proofs.ListPastLemmas.{Has}
-use Rattle.go_board.proofs.past.list_past.stretch_has.Given as goal
-
-abbrev pub invariant-loop-i : goal.invariant-loop-i
-invariant-loop-i l = Contains (stretch_of (reverse l.older)) l.board ↔ Has l.older l.board l.i

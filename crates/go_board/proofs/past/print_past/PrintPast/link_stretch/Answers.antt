@@ -1,9 +1,0 @@
-use Rattle.std.proofs.Common.{arith}
-use Rattle.std.proofs.Math.Facts.{Fits-of_lt}
-use Rattle.go_board.specs.Past.{all_of}
-use Rattle.go_board.proofs.TableLemmas.{few_all}
-use Rattle.go_board.proofs.past.print_past.PrintPast.link_stretch.Goals as goal
-
-pub overflow_add-stretch_start : goal.overflow_add-stretch_start
-overflow_add-stretch_start c =
-    Fits-of_lt (omega (arith, c.stretch_start.ensures.below, few_all (all_of c.self.inside.colourings) c.self.inside.table c.self.invariant.tabled))

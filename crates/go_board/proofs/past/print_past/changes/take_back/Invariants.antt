@@ -1,7 +1,0 @@
--- The changes looked at so far are made.
-use Rattle.std.proofs.Common.{take}
-use Rattle.go_board.proofs.ChangesLemmas.{IsMade}
-use Rattle.go_board.proofs.past.print_past.changes.take_back.Given as goal
-
-abbrev pub invariant-each : goal.invariant-each
-invariant-each l = IsMade l.fn.board l.board (take l.change-index l.changes) l.left

@@ -1,6 +1,0 @@
-use Rattle.sha2.specs.Hashers.{Holds512}
-use Rattle.go_board.specs.inner.Hash.{rows_bytes}
-use Rattle.go_board.proofs.past.print_past.hash.hash_of.Given as goal
-
-abbrev pub invariant-loop-row : goal.invariant-loop-row
-invariant-loop-row l = Holds512 l.hasher (rows_bytes l.board l.row)

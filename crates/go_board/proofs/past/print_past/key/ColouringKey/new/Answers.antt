@@ -1,5 +1,0 @@
-use Rattle.std.proofs.Common.{refl}
-use Rattle.go_board.proofs.past.print_past.key.ColouringKey.new.Goals as goal
-
-pub returns : goal.returns
-returns c = refl

@@ -1,5 +1,0 @@
-use Rattle.std.proofs.Common.{arith}
-use Rattle.go_board.proofs.past.print_past.print.in_both.Goals as goal
-
-pub returns : goal.returns
-returns c = omega arith

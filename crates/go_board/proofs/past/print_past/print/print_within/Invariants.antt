@@ -1,7 +1,0 @@
-use Rattle.std.proofs.Common.{◌≡◌, ◌%◌, ◌^◌, slice_index}
-use Rattle.go_board.specs.inner.Print.{in_base, row_within}
-use Rattle.go_board.proofs.past.print_past.print.print_within.Given as goal
-
-abbrev pub invariant-loop-row : goal.invariant-loop-row
-invariant-loop-row l =
-    l.print ≡ in_base (31 ^ l.board.side) l.row (λ row. row_within l.board (slice_index l.points row) row) % 2 ^ 64

@@ -1,5 +1,0 @@
-use Rattle.go_board.specs.Past.{all_of}
-use Rattle.go_board.proofs.past.print_past.table.Table.hash_if_deep.Goals as goal
-
-pub link-requires : goal.link-requires
-link-requires c = c.begin_anew.ensures.table (all_of c.args.colourings.now) c.requires.table

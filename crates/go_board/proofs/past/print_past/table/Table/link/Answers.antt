@@ -1,5 +1,0 @@
-use Rattle.std.proofs.Common.{arith}
-use Rattle.go_board.proofs.past.print_past.table.Table.link.Goals as goal
-
-pub returns-clause-all : goal.returns-clause-all
-returns-clause-all c = omega (arith, c.each-test.false, c.len.ensures, c.len-in-each.ensures, c.each.invariant.few)
