@@ -40,7 +40,7 @@
 //! | points and rectangles that values name | `point`, `rect` (`values`) |
 //! | vertices | `vertex` (`vertices`) |
 //! | the points that a path within a region connects | `fill` (`fill`) |
-//! | stones with a liberty of their own; a group's liberty is found by `Board::shut_stones` of `go_board` | `stones_with_liberty` (`liberty`); shortcuts: `leaves_all_alive` (`quick/glance`), `lives_in_row`, `fill_if_shut`, `add_to_either` (`quick/group`) |
+//! | stones with a liberty of their own; all stones of groups without one: `Board::shut_stones` of `board_stones` (`board/regions`) | `stones_with_liberty` (`liberty`); shortcuts: `leaves_all_alive` (`quick/glance`), `lives_in_row`, `fill_if_shut`, `add_to_either` (`quick/group`) |
 //! | the points that one area has and the other hasn't | `count_apart` (`rows`); shortcut below side 32: `count_halves` (`quick/halves`) |
 //!
 //! No function here takes memory. Worked examples are in the crate `go_board_tests`.

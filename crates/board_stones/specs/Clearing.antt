@@ -23,7 +23,7 @@ clear grid colour = grid_of grid.side (cleared_cell grid colour)
 
 -- Playing a stone: the point takes the player's colour. Then the opponent's colour is cleared, which
 -- captures. Then the player's own colour is cleared, which is suicide. Suicide is legal. But the suicide
--- of a lone stone repeats the colouring before it, and is refused for that (Reason.antt).
+-- of a lone stone repeats the colouring before it, and is refused for that (Reason.antt of `go_board`).
 unfoldable pub play : Grid → Colour → Point → Grid
 play grid colour point = clear (clear (with_cell grid point (stone_of colour)) (opponent colour)) colour
 

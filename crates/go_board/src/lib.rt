@@ -2,10 +2,11 @@
 //!
 //! A `Referee` is seen as the list of the states that a game went through. An accepted setup or turn adds the state that the
 //! rules give. A refusal changes nothing, and undo takes the newest state back. A stone that would repeat a colouring made since
-//! the last setup of stones is refused (positional superko). A `Past` holds the colourings for this check.
+//! the last setup of stones is refused (positional superko). A `Past` holds the colourings for this check; in a run it
+//! is a `PrintPast`.
 //!
 //! ```text
-//! let mut referee = Referee::<ListPast>::new(alloc, size)?;
+//! let mut referee = Referee::<PrintPast>::new(alloc, size)?;
 //! referee.turn(Colour::Black, Play::Stone(Point { col: 3, row: 3 }))?;
 //! let (black, white) = referee.score();
 //! referee.undo();

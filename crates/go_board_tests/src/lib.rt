@@ -1,4 +1,4 @@
-//! Worked examples of `go_board`, and of `board_points` through it. They call it as any other crate does.
+//! Worked examples of `go_board` and the crates below it: `board_points`, `board_stones` and `board_past`. They call it as any other crate does.
 //!
 //! They are in a crate of their own, because a crate that has tests is proved a second time together with them.
 //!

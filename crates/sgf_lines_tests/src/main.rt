@@ -11,7 +11,7 @@
 //! 1: something was wrong, and standard error says what.
 //!
 //! - `seen` counts the calls, and keeps what was wrong.
-//! - `tree` has the calls of `sgf_tree`, `past` and `referee` those of `go_board`, `lines` and `runs` those of `sgf_lines`.
+//! - `tree` has the calls of `sgf_tree`, `past` those of `board_past`, `referee` those of `go_board`, `lines` and `runs` those of `sgf_lines`.
 //! - `rooms` reads texts with more nodes than there is room for at first, `long_games` plays games with more turns and setups.
 //! - `long_texts` has texts longer than the buffers that they are read into, and counts how often their sources are asked.
 //! - `page` is a sink over an array, and counts its flushes.

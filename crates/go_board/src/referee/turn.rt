@@ -1,5 +1,5 @@
-//! A referee's turns. The past plays the stones (`Past::play`), and doesn't play one that would repeat a colouring made since the last
-//! setup of stones (positional superko).
+//! A referee's turns. The past plays the stones (`Past::play`, in a run that of `PrintPast`), and doesn't play one that would repeat a
+//! colouring made since the last setup of stones (positional superko).
 
 ghost use Rattle.std.specs.Prelude.{◌≡◌, ◌≢◌, ◌↔◌, if◌then◌else◌, None, Some, IfNone, IfOk, IfSome, IsErrOf, IsFalse, IsTrue, OnOk, OnErr};
 ghost use Rattle.go_board.specs.declared.reason.Reason.{Reason};
