@@ -342,7 +342,7 @@ def check_verdicts(table):
     helps = [next(help for other, _, help in table["verdict"] if other == name) for name in names]
     rows = [words for _, words, _ in table["verdict"]]
     variants = [in_rust(name) for name in names]
-    lists("crates/sgf_lines/src/**/*.rt", "the verdicts", r"pub enum Verdict \{(.*?)^\}", r"^    (\w+)[, ]", variants)
+    lists("crates/judged_lines/src/**/*.rt", "the verdicts", r"pub enum Verdict \{(.*?)^\}", r"^    (\w+)[, ]", variants)
     lists("crates/sgf_lines_c/src/**/*.rt", "the numbers of verdicts", r"fn of\(verdict(.*?)^    \}",
           r"Verdict::(\w+)[^=]*=> \{?\s*answer\.verdict = (\d+)", numbered(variants, 1))
     shown("verdicts", "Verdicts", [[words, help] for _, words, help in table["verdict"]])

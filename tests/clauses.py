@@ -12,7 +12,7 @@ import re
 import sys
 
 TOP = os.path.dirname(os.path.dirname(os.path.realpath(__file__)))
-CRATES = ["sgf_properties", "sgf_tree", "tree_lines", "board_points", "key_trie", "board_stones", "board_past", "go_board", "byte_streams", "sgf_lines", "sgf_lines_c",
+CRATES = ["sgf_properties", "sgf_tree", "tree_lines", "board_points", "key_trie", "board_stones", "board_past", "go_board", "judged_lines", "byte_streams", "sgf_lines", "sgf_lines_c",
           "sgfsplit_job", "sgfsplit", "sgfsplit_job_tests", "lines_in_memory"]  # the other crates of tests have no promises
 PROGRAM = "sgfsplit::status"  # a program has no public function; this one has its contract
 TABLE = "tests/clauses.txt"

@@ -5,13 +5,13 @@ use Rattle.std.specs.List.{flat_map, AllZip}
 use Rattle.sgf_tree.specs.Tree.{Property, Node, Games, no_games, game}
 use Rattle.go_board.specs.declared.reason.Reason.{Reason}
 use Rattle.go_board.specs.State.{State, starting}
-use Rattle.sgf_lines.specs.declared.verdict.Verdict.TheVariants.{Illegal}
-use Rattle.sgf_lines.specs.NodeContents.{moves_in, stones_in, players_in}
-use Rattle.sgf_lines.specs.JudgedGames.{GameKind, not_go, bad_size, board, root_properties}
-use Rattle.sgf_lines.specs.Step.{step_by, step}
-use Rattle.sgf_lines.specs.Walk.{LegalNode, IllegalNode, Walk, stepped, next, walk}
-use Rattle.sgf_lines.specs.Verdict.{score_in, verdict_with, verdict_at, verdict_by, verdict_of}
-use Rattle.sgf_lines.proofs.Walking.{after_illegal}
+use Rattle.judged_lines.specs.declared.verdict.Verdict.TheVariants.{Illegal}
+use Rattle.judged_lines.specs.NodeContents.{moves_in, stones_in, players_in}
+use Rattle.judged_lines.specs.JudgedGames.{GameKind, not_go, bad_size, board, root_properties}
+use Rattle.judged_lines.specs.Step.{step_by, step}
+use Rattle.judged_lines.specs.Walk.{LegalNode, IllegalNode, Walk, stepped, next, walk}
+use Rattle.judged_lines.specs.Verdict.{score_in, verdict_with, verdict_at, verdict_by, verdict_of}
+use Rattle.judged_lines.proofs.Walking.{after_illegal}
 use Rattle.sgf_lines.specs.SplitAgain.{HaveSame, SaysSame, scored, illegal_at, another_game, another_size, IsKept}
 use Rattle.sgf_properties.specs.RawValue.{IsValue, no_unit, ordinary, escaped}
 use Rattle.sgf_tree.specs.Spelling.{WhiteSpace, no_white_space, white_space, Letters, no_letter, upper, lower, IsPropValue, prop_value, ArePropValues, no_value, value, IsProperty, property, AreProperties, no_property, properties, IsNode, node, AreNodes, no_node, nodes, AreGames, no_game, games, no_byte_order_mark, Spells, spells}

@@ -7,9 +7,9 @@ use Rattle.std.proofs.lemmas.List.{map-append, length-map}
 use Rattle.sgf_tree.specs.Tree.{Node, Games, no_games, game, game_count, joined}
 use Rattle.sgf_tree.specs.Appending.{raised_node, raised}
 use Rattle.sgf_lines.specs.declared.options.Form.TheVariants.{List as list_form}
-use Rattle.sgf_lines.specs.declared.verdict.Verdict.{Verdict}
+use Rattle.judged_lines.specs.declared.verdict.Verdict.{Verdict}
 use Rattle.tree_lines.specs.Lines.{Line, node_lines, lines_of_game, lines_from, lines, last_number}
-use Rattle.sgf_lines.specs.Verdict.{verdict_of}
+use Rattle.judged_lines.specs.Verdict.{verdict_of}
 use Rattle.sgf_lines.specs.Record.{record_of}
 use Rattle.sgf_lines.specs.Appending.{raised_verdict, raised_record}
 use Rattle.tree_lines.specs.Paths.{Path, paths, IsPathOf}

@@ -10,7 +10,7 @@ use Rattle.board_stones.specs.Rectangle.{with_rectangle}
 use Rattle.board_points.specs.Values.{point_value, rect_value}
 use Rattle.tree_lines.specs.Lines.{lines}
 use Rattle.sgf_lines.specs.Page.{page}
-use Rattle.sgf_lines.specs.Plays.{touched_places, all_judged_places}
+use Rattle.judged_lines.specs.Plays.{touched_places, all_judged_places}
 use Rattle.sgf_lines.specs.RunPlays.{plays_of}
 use Rattle.sgf_lines.specs.declared.options.Form.{Form}
 use Rattle.sgf_lines.specs.declared.options.Form.TheVariants.{List as list_form, Sgf as sgf_form, Gtp as gtp_form}

@@ -26,22 +26,6 @@ found_at (l ∷ ls) (suc k) place e none =
     let other : place_of l ≢ place = λ same. none 0 (omega arith) (ap Some same) in
     rw (ne_eqb (place_of l) place other) (found_at ls k place e (λ j lt at. none (suc j) (omega arith) at))
 
-pub get_dropped : {X : Type 0} (xs : List X) (g k : ℕ) → slice_get (drop g xs) k ≡ slice_get xs (g + k)
-get_dropped xs zero k = let same : k ≡ 0 + k = omega arith in ap (λ n. slice_get xs n) same
-get_dropped [] (suc g) k = refl
-get_dropped (x ∷ xs) (suc g) k = grind (arith, common_steps, get_dropped xs g k)
-
-pub get_taken : {X : Type 0} (xs : List X) (n k : ℕ) → k < n → slice_get (take n xs) k ≡ slice_get xs k
-get_taken xs zero k lt = absurd (omega arith)
-get_taken [] (suc n) k lt = refl
-get_taken (x ∷ xs) (suc n) zero lt = refl
-get_taken (x ∷ xs) (suc n) (suc k) lt = get_taken xs n k (omega arith)
-
-pub get_none : {X : Type 0} (xs : List X) (k : ℕ) → slice_get xs k ≡ None → length xs ≤ k
-get_none [] k e = omega arith
-get_none (x ∷ xs) zero e = absurd cc
-get_none (x ∷ xs) (suc k) e = omega (arith, get_none xs k e)
-
 -- a limit that is not below the number of lines is none
 pub limited_is : (limit : Option ℕ) (most : ℕ) (ls : List Line) → length ls ≤ most → limited limit ls ≡ take (unwrap_or limit most) ls
 limited_is limit most ls le = grind (arith, common_steps, take_all)

@@ -1,16 +1,16 @@
 -- How many nodes a run plays for its page: a line adds those of its judged nodes that it doesn't share with the line before it.
 use Rattle.std.proofs.lemmas.Grind.{common_steps, flat_map-append}
-use Rattle.std.proofs.Common.{◌≡◌, ℕ, zero, suc, ◌+◌, ◌<◌, ◌≤◌, List, length, take, inl, inr, refl, ap, ◌∙◌, arith, ◌-◌, drop, slice_get, Some, sym, length-append, Option, None, Result, Ok, Err, add-one, append_assoc}
+use Rattle.std.proofs.Common.{◌≡◌, ℕ, zero, suc, ◌+◌, ◌<◌, ◌≤◌, List, length, take, inl, inr, refl, ap, ◌∙◌, arith, ◌-◌, drop, slice_get, Some, sym, Option, None, Result, Ok, Err}
 use Rattle.std.proofs.lemmas.Bool.{cases_Bool}
 use Rattle.sgf_tree.specs.Tree.{Games, node_count}
 use Rattle.sgf_tree.specs.FileOrder.{PlacesRise}
 use Rattle.tree_lines.specs.Lines.{Line, lines}
-use Rattle.sgf_lines.proofs.Touched.{SharesAfter, adds_fresh, judged_first, judged_shared, judged_few, fewer_in_front}
-use Rattle.std.proofs.lemmas.List.{take-append-drop, length-map, length-drop, take_all, length-take}
+use Rattle.judged_lines.proofs.Touched.{fewer_in_front}
+use Rattle.std.proofs.lemmas.List.{length-drop, take_all, length-take}
 use Rattle.std.proofs.Math.Seq.{take-add}
 use Rattle.std.proofs.lemmas.Option.{slice_get_within}
-use Rattle.sgf_lines.specs.Verdict.{judged_nodes}
-use Rattle.sgf_lines.specs.Plays.{all_judged_places, judged_places}
+use Rattle.judged_lines.specs.Verdict.{judged_nodes}
+use Rattle.judged_lines.specs.Plays.{all_judged_places}
 use Rattle.std.specs.Prelude.{true, unwrap_or}
 use Rattle.std.specs.Io.KnownBytes.{Appends}
 use Rattle.std.proofs.KnownBytes.{Appends-trans}
@@ -23,19 +23,17 @@ use Rattle.sgf_lines.specs.RunPlays.{plays_of, plays_in, ArePlaysFor}
 use Rattle.sgf_lines.specs.inner.Running.{WritesLines}
 use Rattle.sgf_lines.specs.declared.options.Form.{Form}
 use Rattle.sgf_lines.specs.declared.fault.RunFault.{RunFault}
-use Rattle.sgf_lines.proofs.Pages.{get_dropped, get_taken, get_none, limited_is}
+use Rattle.judged_lines.proofs.Lists.{get_dropped, get_taken, get_none}
+use Rattle.sgf_lines.proofs.Pages.{limited_is}
 use Rattle.tree_lines.proofs.LeafLines.{lines_within}
 use Rattle.sgf_lines.proofs.Running.{one_more, cut_in, all_taken}
 use Rattle.sgf_properties.specs.declared.fault.MemoryFault.{MemoryFault}
 use Rattle.sgf_lines.specs.Form.{entry_of}
 use Rattle.sgf_lines.specs.declared.fault.RunFault.TheVariants.{Read, TooLong, NotSgf, NoSuchLine, Write, Memory}
-use Rattle.sgf_lines.specs.inner.GoingOn.{AreHeld, HasPlays, PlaysLine, index_by, next_by}
-use Rattle.sgf_lines.specs.declared.over_lines.Before.{Before}
-use Rattle.sgf_lines.specs.declared.over_lines.Before.TheVariants.{Unheld, Held}
-
--- at most `limit` of the lines from the index `first` on
-abbrev pub page_from : Games → ℕ → ℕ → List Line
-page_from c first limit = take limit (drop first (lines c))
+use Rattle.judged_lines.specs.GoingOn.{HasPlays, PlaysLine, index_by, next_by}
+use Rattle.judged_lines.specs.declared.over_lines.Before.{Before}
+use Rattle.judged_lines.specs.declared.over_lines.Before.TheVariants.{Unheld, Held}
+use Rattle.judged_lines.proofs.StreakPlays.{Shares, adds_judged, few_judged, page_from, shares_by}
 
 -- k lines of the page were written, and the cursor stands after them
 pub record IsSoFar (form : Form) (c : Games) (first limit : ℕ) (old : SinkState) (k : ℕ) (at : CursorState) (now : SinkState) : Type 0 where
@@ -103,27 +101,16 @@ all_plays : (form : Form) (ls : List Line) (k : ℕ) → length ls ≤ k → pla
 all_plays form ls k le = ap (plays_of form) (take_all k ls le)
 
 module _ (c : Games) (rise : PlacesRise c) (first limit : ℕ) where
-  stands : (k : ℕ) (line : Line) → slice_get (page_from c first limit) k ≡ Some line → slice_get (lines c) (first + k) ≡ Some line
-  stands k line e = grind (arith, common_steps, slice_get_within, length-take, get_taken, get_dropped)
-
-  -- how many nodes a line shares with the one before it on the page
-  abbrev pub Shares : ℕ → ℕ → Type 0
-  Shares k shared = SharesAfter c first k shared
-
   -- a line adds its judged nodes that it doesn't share with the one before it
-  pub adds : (form : Form) (k shared : ℕ) (line : Line) → slice_get (page_from c first limit) k ≡ Some line → Shares k shared
+  pub adds : (form : Form) (k shared : ℕ) (line : Line) → slice_get (page_from c first limit) k ≡ Some line → Shares c rise first limit k shared
       → plays_of form (take (k + 1) (page_from c first limit)) ≡ plays_of form (take k (page_from c first limit)) + plays_in form (length (judged_nodes line) - shared)
   adds form k shared line e h =
       let page = page_from c first limit in
-      let more = adds_fresh c rise judged_places judged_first judged_shared first page stands k shared line e h in
-      rw add-one grind (arith, common_steps, added_in, length-append, length-drop, length-map)
+      added_in form (length (all_judged_places (take (k + 1) page))) (length (all_judged_places (take k page))) (length (judged_nodes line) - shared) (adds_judged c rise first limit k shared line e h)
 
   -- no more than there are nodes
   pub few : (form : Form) (k : ℕ) → plays_of form (take k (page_from c first limit)) ≤ node_count c
-  few form k =
-      let rest = drop first (lines c) in
-      let page = page_from c first limit in
-      grind (arith, common_steps, take-append-drop first (lines c), take-append-drop limit rest, take-append-drop k page, append_assoc (take k page) (drop k page) (drop limit rest), not_more_in form (length (all_judged_places (take k page))), judged_few)
+  few form k = omega (arith, not_more_in form (length (all_judged_places (take k (page_from c first limit)))), few_judged c rise first limit k)
 
   pub few_played : (form : Form) (old new : SinkState) (plays : ℕ) (result : Result ℕ RunFault) → WritesLines form (page_from c first limit) old new plays result → plays ≤ node_count c
   few_played form old new plays (Ok k) h = omega (arith, h.2, few form (length (page_from c first limit)), ap (plays_of form) (take_all (length (page_from c first limit)) (page_from c first limit) (omega arith)))
@@ -133,12 +120,6 @@ module _ (c : Games) (rise : PlacesRise c) (first limit : ℕ) where
   few_played form old new plays (Err (NoSuchLine place)) h = absurd h
   few_played form old new plays (Err (Write k)) h = omega (arith, h.1.at_most, few form (k + 1))
   few_played form old new plays (Err (Memory k)) h = omega (arith, h.2.at_most, few form (k + 1))
-
--- what a line shares with the one before it, by where the cursor stands
-pub shares_by : (c : Games) (rise : PlacesRise c) (first limit k : ℕ) (before : Before) (at : CursorState) (held : ℕ) → at.games ≡ c → at.index ≡ first + k → (k ≡ 0 → before ≡ Unheld) → (0 < k → before ≡ Held)
-    → AreHeld before at held → Shares c rise first limit k held
-shares_by c rise first limit zero before at held same index first_line later h = rw (first_line refl) at h
-shares_by c rise first limit (suc k) before at held same index first_line later h = grind (arith, common_steps, add-one)
 
 -- a run never goes back to a line for which memory was refused
 pub goes_forth : (k : ℕ) (before : Before) (at : CursorState) → (k ≡ 0 → before ≡ Unheld) → (0 < k → before ≡ Held) → next_by before at ≡ at
@@ -151,7 +132,12 @@ module _ (form : Form) (counts : ℕ → ℕ) (counts_are : (n : ℕ) → counts
   found_there line found = ap (λ (p : CursorState). slice_get (lines at.games) p.index) (sym (goes_forth k before at first_line later)) ∙ found
 
   next_adds : (n : ℕ) → HasPlays counts before at n → plays_of form (take (k + 1) (page_from c first limit)) ≡ plays_of form (take k (page_from c first limit)) + n
-  next_adds n p = grind (arith, common_steps, found_there, get_taken, get_dropped, adds, shares_by)
+  next_adds n p =
+      let page = page_from c first limit in
+      let here : slice_get page k ≡ Some p.line = next_of_page form c first limit old k at sink written p.line lt (found_there p.line p.found) in
+      let shares : Shares c rise first limit k p.held = shares_by c rise first limit k before at p.held written.same written.index first_line later p.are_held in
+      let count : n ≡ plays_in form (length (judged_nodes p.line) - p.held) = p.count_is ∙ counts_are (length (judged_nodes p.line) - p.held) in
+      adds c rise first limit form k p.held p.line here shares ∙ ap (λ m. plays_of form (take k page) + m) (sym count)
 
   -- the next line was played whole
   pub one_played : (new : ℕ) → PlaysLine {E = MemoryFault} counts before at now new (Ok true) → new ≡ plays_of form (take (k + 1) (page_from c first limit))

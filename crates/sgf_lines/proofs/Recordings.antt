@@ -1,14 +1,18 @@
 -- A record in sgf form goes on by sequences, and back.
-use Rattle.std.proofs.Common.{◌≡◌, ℕ, suc, ◌+◌, List, [], ◌∷◌, ◌++◌, length, take, map, slice_get, Some, refl, sym, ap, ◌∙◌, add-one, arith}
+use Rattle.std.proofs.Common.{◌≡◌, ℕ, suc, ◌+◌, ◌-◌, ◌<◌, List, [], ◌∷◌, ◌++◌, length, take, map, slice_get, Some, refl, sym, ap, ◌∙◌, add-one, arith}
 use Rattle.std.specs.Prelude.{codes}
 use Rattle.std.specs.List.{concat, flat_map}
 use Rattle.std.proofs.lemmas.List.{take-map, map-append}
 use Rattle.sgf_tree.specs.Tree.{Node}
 use Rattle.sgf_lines.specs.Record.{node_text, sgf_record}
 use Rattle.sgf_lines.specs.inner.Pieces.{PiecesState, pushed, closed, cut}
-use Rattle.sgf_lines.specs.inner.Recording.{unclosed_record, whole_record}
-use Rattle.tree_lines.specs.Sequences.{RiseTo, sequences_of}
-use Rattle.tree_lines.proofs.Fronts.{parts_text}
+use Rattle.sgf_lines.specs.inner.Recording.{sequences_before, unclosed_record, whole_record}
+use Rattle.tree_lines.specs.declared.sequence_cursor.Front.{Front}
+use Rattle.tree_lines.specs.Following.{nodes_before}
+use Rattle.tree_lines.specs.Sequences.{RiseTo, SequencesState, sequences_of}
+use Rattle.judged_lines.specs.GoingOn.{IsHeldOf}
+use Rattle.judged_lines.proofs.Keeping.{by_old, has_front, same_nodes}
+use Rattle.tree_lines.proofs.Fronts.{alike, end_of, parts_text}
 use Rattle.tree_lines.proofs.Lists.{front_more}
 
 -- a record of these pieces after the parenthesis
@@ -27,6 +31,18 @@ pub record_back : (sequences : List (List Node)) (k : ℕ) → cut (k + 1) (whol
 record_back sequences k =
     let next : k + 1 ≡ suc k = add-one k in
     ap (λ n. cut n (whole_record sequences)) next ∙ ap of_pieces (take-map (flat_map node_text) k sequences)
+
+-- the record of a line is kept of the next one, as far as it begins alike
+pub record_kept : (holds : SequencesState → Type 0) (cursor : SequencesState) (front : Front) → IsHeldOf holds cursor front
+    → (game : PiecesState) → ((old : SequencesState) → holds old → game ≡ whole_record (sequences_before old)) → RiseTo 0 cursor.ends (length (nodes_before cursor.at))
+    → 0 < front.sequences → cut (front.sequences + 1) game ≡ unclosed_record (take front.sequences (sequences_before cursor))
+record_kept holds cursor front held game of rise some =
+    by_old holds cursor front held (cut (front.sequences + 1) game ≡ unclosed_record (take front.sequences (sequences_before cursor))) some (λ old h moved shares.
+    let nodes = same_nodes old.at cursor.at front.nodes moved shares.nodes in
+    let count : front.nodes ≡ end_of 0 cursor.ends front.sequences - 0 = omega (arith, (has_front old cursor front shares).count) in
+    let same : take front.sequences (sequences_before cursor) ≡ take front.sequences (sequences_before old) =
+    alike 0 cursor.ends old.ends (nodes_before cursor.at) (nodes_before old.at) (length (nodes_before cursor.at)) front.sequences rise (omega (arith, shares.more)) shares.ends (rw (← count) (sym nodes)) in
+    ap (cut (front.sequences + 1)) (of old h) ∙ record_back (sequences_before old) front.sequences ∙ ap (λ ps. unclosed_record ps) (sym same))
 
 -- its text
 pub joined : {X : Type 0} (f : X → List ℕ) (xs : List X) → concat (map f xs) ≡ flat_map f xs

@@ -24,11 +24,11 @@ use Rattle.go_board.specs.State.{State, set_up, turned}
 use Rattle.board_stones.specs.Rectangle.{with_rectangle}
 use Rattle.go_board.specs.Reason.{reason_of}
 use Rattle.tree_lines.specs.Lines.{Line}
-use Rattle.sgf_lines.specs.NodeContents.{Move, Stones, moves, stones, players, first_value}
-use Rattle.sgf_lines.specs.NodeValues.{move_value, operations, last_player}
-use Rattle.sgf_lines.specs.JudgedGames.{board, side_of, game_kind, root_properties}
-use Rattle.sgf_lines.specs.Step.{side_in, turn_step, move_step, setup_step, step_by, step}
-use Rattle.sgf_lines.specs.Walk.{LegalNode, IllegalNode, Walk, before_root, stepped, next_by, next, walk}
+use Rattle.judged_lines.specs.NodeContents.{Move, Stones, moves, stones, players, first_value}
+use Rattle.judged_lines.specs.NodeValues.{move_value, operations, last_player}
+use Rattle.judged_lines.specs.JudgedGames.{board, side_of, game_kind, root_properties}
+use Rattle.judged_lines.specs.Step.{side_in, turn_step, move_step, setup_step, step_by, step}
+use Rattle.judged_lines.specs.Walk.{LegalNode, IllegalNode, Walk, before_root, stepped, next_by, next, walk}
 use Rattle.sgf_lines.specs.ListRow.{list_row}
 use Rattle.sgf_lines.specs.Script.{comment_row, comment_text, play_command, setup_commands, move_commands, node_script, legal_script, leaves_unreaching_by, leaves_unreaching, has_no_commands, board_commands, commands_by, script}
 use Rattle.sgf_lines.specs.Replay.{Engine, no_board, sized, shows, refused, after_command, after_row, after_text, replayed}

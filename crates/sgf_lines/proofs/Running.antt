@@ -12,7 +12,7 @@ use Rattle.sgf_lines.specs.Answer.{IsCutShort, read_failures, IsWhole, IsGood, A
 use Rattle.sgf_lines.specs.inner.Running.{WritesLines, IsReading, HasReadAll, IsStart}
 use Rattle.sgf_lines.specs.declared.options.Form.{Form}
 use Rattle.sgf_lines.specs.declared.fault.RunFault.{RunFault}
-use Rattle.sgf_lines.proofs.Joins.{more_texts}
+use Rattle.judged_lines.proofs.Joins.{more_texts}
 use Rattle.std.specs.Prelude.{option_map, OnOk, ⊤}
 use Rattle.sgf_tree.specs.declared.fault.TheConstants.{MAX_LENGTH}
 use Rattle.sgf_tree.specs.Tree.{Games}

@@ -7,7 +7,7 @@ use Rattle.std.proofs.lemmas.List.Splits.{slice_split_at, slice_split_none}
 use Rattle.std.proofs.lemmas.List.Elements.{All-from_recursion}
 use Rattle.go_board.specs.Reason.{word_of}
 use Rattle.go_board.specs.declared.reason.Reason.{Reason}
-use Rattle.sgf_lines.specs.declared.verdict.Verdict.{Verdict}
+use Rattle.judged_lines.specs.declared.verdict.Verdict.{Verdict}
 use Rattle.tree_lines.specs.Lines.{Line}
 use Rattle.sgf_lines.specs.ListRow.{verdict_text, list_row}
 use Rattle.sgf_lines.specs.Script.{comment_row, text_rows, colour_letter, vertex_text}

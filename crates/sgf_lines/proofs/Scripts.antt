@@ -9,14 +9,14 @@ use Rattle.std.proofs.lemmas.List.Folds.{position_or_len_push}
 use Rattle.sgf_tree.specs.Tree.{Node}
 use Rattle.board_stones.specs.Grid.{Grid}
 use Rattle.go_board.specs.State.{State}
-use Rattle.sgf_lines.specs.declared.judging.step.Effect.{Effect}
-use Rattle.sgf_lines.specs.declared.judging.step.Effect.TheVariants.{Nothing, Stones as stones_set, Play as one_play}
-use Rattle.sgf_lines.specs.declared.judging.step.LegalStep.{LegalStep}
-use Rattle.sgf_lines.specs.JudgedGames.{GameKind, not_go, bad_size, board}
-use Rattle.sgf_lines.specs.NodeContents.{Move, Stones, moves, stones}
-use Rattle.sgf_lines.specs.Walk.{LegalNode, Walk, legal_on}
+use Rattle.judged_lines.specs.declared.judging.step.Effect.{Effect}
+use Rattle.judged_lines.specs.declared.judging.step.Effect.TheVariants.{Nothing, Stones as stones_set, Play as one_play}
+use Rattle.judged_lines.specs.declared.judging.step.LegalStep.{LegalStep}
+use Rattle.judged_lines.specs.JudgedGames.{GameKind, not_go, bad_size, board}
+use Rattle.judged_lines.specs.NodeContents.{Move, Stones, moves, stones}
+use Rattle.judged_lines.specs.Walk.{LegalNode, Walk, legal_on}
 use Rattle.sgf_lines.specs.Script.{comment_rows, setup_commands, move_commands, legal_script, text_rows, comment_text, leaves_unreaching, leaves_unreaching_by, commands_of, commands_by}
-use Rattle.sgf_lines.specs.inner.Judging.{IsEffectBy, IsStepOf, IsLegalStep}
+use Rattle.judged_lines.specs.Judgement.{IsEffectBy, IsStepOf, IsLegalStep}
 use Rattle.sgf_lines.specs.inner.Scripting.{effect_script, step_script, is_unreaching, no_script, said_on, script_back, script_text, script_along, script_of}
 use Rattle.sgf_lines.proofs.Recordings.{joined}
 

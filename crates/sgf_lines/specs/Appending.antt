@@ -1,10 +1,10 @@
 -- The rows of a text that follows another one, for the law of one text after another.
 use Rattle.std.specs.Prelude.{ℕ, ◌+◌, List, ◌++◌, length, codes}
-use Rattle.sgf_lines.specs.declared.verdict.Verdict.{Verdict}
-use Rattle.sgf_lines.specs.declared.verdict.Verdict.TheVariants.{Score, Illegal, NotGo, BadSize}
+use Rattle.judged_lines.specs.declared.verdict.Verdict.{Verdict}
+use Rattle.judged_lines.specs.declared.verdict.Verdict.TheVariants.{Score, Illegal, NotGo, BadSize}
 use Rattle.tree_lines.specs.Lines.{Line, place_of}
 use Rattle.sgf_lines.specs.ListRow.{row_text}
-use Rattle.sgf_lines.specs.Verdict.{verdict}
+use Rattle.judged_lines.specs.Verdict.{verdict}
 
 -- the verdict on a line that stands `by` bytes further on: the place of an illegal node is raised by `by`
 abbrev pub raised_verdict : ℕ → Verdict → Verdict

@@ -1,7 +1,7 @@
 -- A run that counts the nodes that it plays: what its result says of them, besides what it says of the bytes.
 use Rattle.std.specs.Prelude.{◌≡◌, ℕ, ◌+◌, ◌≤◌, ◌⊎◌, if◌then◌else◌, List, length, take, Option, Result, Ok, Err}
 use Rattle.tree_lines.specs.Lines.{Line}
-use Rattle.sgf_lines.specs.Plays.{all_judged_places}
+use Rattle.judged_lines.specs.Plays.{all_judged_places}
 use Rattle.byte_streams.specs.Streams.{SourceState, SinkState}
 use Rattle.sgf_lines.specs.Answer.{IsGood, IsRun}
 use Rattle.sgf_lines.specs.declared.options.Form.{Form}

@@ -18,10 +18,10 @@ use Rattle.board_stones.specs.Clearing.{has_unreaching}
 use Rattle.board_points.specs.Vertex.{vertex_of}
 use Rattle.go_board.specs.State.{State}
 use Rattle.tree_lines.specs.Lines.{Line}
-use Rattle.sgf_lines.specs.NodeContents.{Move, Stones, moves, stones, first_value}
-use Rattle.sgf_lines.specs.NodeValues.{move_value}
-use Rattle.sgf_lines.specs.JudgedGames.{GameKind, not_go, bad_size, board, game_kind, root_properties}
-use Rattle.sgf_lines.specs.Walk.{LegalNode, Walk, walk}
+use Rattle.judged_lines.specs.NodeContents.{Move, Stones, moves, stones, first_value}
+use Rattle.judged_lines.specs.NodeValues.{move_value}
+use Rattle.judged_lines.specs.JudgedGames.{GameKind, not_go, bad_size, board, game_kind, root_properties}
+use Rattle.judged_lines.specs.Walk.{LegalNode, Walk, walk}
 use Rattle.sgf_lines.specs.ListRow.{list_row}
 
 -- a row that is a comment

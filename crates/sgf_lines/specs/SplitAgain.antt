@@ -4,10 +4,10 @@ use Rattle.std.specs.Prelude.{◌≡◌, ℕ, Bool, List, Some, slice_get}
 use Rattle.std.specs.List.{AllZip}
 use Rattle.sgf_tree.specs.Tree.{Node}
 use Rattle.go_board.specs.declared.reason.Reason.{Reason}
-use Rattle.sgf_lines.specs.declared.verdict.Verdict.{Verdict}
-use Rattle.sgf_lines.specs.declared.verdict.Verdict.TheVariants.{Score, Illegal, NotGo, BadSize}
+use Rattle.judged_lines.specs.declared.verdict.Verdict.{Verdict}
+use Rattle.judged_lines.specs.declared.verdict.Verdict.TheVariants.{Score, Illegal, NotGo, BadSize}
 use Rattle.tree_lines.specs.Lines.{Line}
-use Rattle.sgf_lines.specs.Verdict.{verdict}
+use Rattle.judged_lines.specs.Verdict.{verdict}
 
 -- two nodes have the same properties
 abbrev pub HaveSame : Node → Node → Type 0

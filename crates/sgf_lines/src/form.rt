@@ -16,8 +16,8 @@ ghost use Rattle.tree_lines.specs.Following.{line_before};
 ghost use Rattle.byte_streams.specs.Streams.{PutsAll};
 
 use crate::form::text_row::TextRow;
-use crate::over_lines::LineKeeper;
 use byte_streams::{Sink, SinkFault};
+use judged_lines::LineKeeper;
 use std::alloc::Global;
 use tree_lines::SequenceCursor;
 

@@ -1,28 +1,24 @@
 //! Laws of the definitions. A function here does nothing: its contract is a law, and is proved.
 
-ghost use Rattle.std.specs.Prelude.{◌≡◌, ◌≢◌, ◌≤◌, ◌∷◌, ◌++◌, ◌+◌, ◌⊎◌, ℕ, Err, false, List, [], Some, length};
+ghost use Rattle.std.specs.Prelude.{◌≡◌, ◌≢◌, ◌≤◌, ◌∷◌, ◌++◌, ℕ, false, List, [], Some, length};
 ghost use Rattle.std.specs.List.{AllZip, flat_map};
 ghost use Rattle.sgf_tree.specs.Appending.{raised, BeginsWithByteOrderMark};
-ghost use Rattle.sgf_tree.specs.Tree.{Games, game_count, node_count, joined, Node};
+ghost use Rattle.sgf_tree.specs.Tree.{Games, game_count, node_count, joined};
 ghost use Rattle.sgf_tree.specs.Spelling.{Spells};
 ghost use Rattle.tree_lines.specs.Lines.{Line, lines, place_of};
 ghost use Rattle.sgf_lines.specs.Page.{page};
 ghost use Rattle.sgf_lines.specs.declared.options.Options.{Options};
-ghost use Rattle.sgf_lines.specs.Plays.{touched_places, all_judged_places, node_places};
+ghost use Rattle.judged_lines.specs.Plays.{touched_places, all_judged_places, node_places};
 ghost use Rattle.sgf_lines.specs.declared.options.Form.TheVariants.{List as list_form, Sgf as sgf_form};
 ghost use Rattle.sgf_lines.specs.Appending.{raised_record};
 ghost use Rattle.sgf_lines.specs.Record.{output, record_of};
 ghost use Rattle.sgf_lines.specs.SplitAgain.{IsKept};
-ghost use Rattle.sgf_lines.specs.JudgedGames.{game_kind, root_properties, board};
-ghost use Rattle.go_board.specs.declared.reason.Reason.{Reason};
-ghost use Rattle.go_board.specs.State.{State, starting};
-ghost use Rattle.sgf_lines.specs.declared.verdict.Verdict.TheVariants.{Illegal};
-ghost use Rattle.sgf_lines.specs.Step.{step};
-ghost use Rattle.sgf_lines.specs.Verdict.{score_in, verdict_by};
-ghost use Rattle.sgf_lines.specs.Walk.{walk, IsAfter, HasIllegal};
+ghost use Rattle.judged_lines.specs.JudgedGames.{game_kind, root_properties, board};
+ghost use Rattle.judged_lines.specs.Walk.{walk};
 ghost use Rattle.sgf_lines.specs.Script.{has_no_commands, script};
 ghost use Rattle.sgf_lines.specs.Replay.{shows, replayed};
 
+pub use judged_lines::laws::judged;
 pub use tree_lines::laws::{named, rise};
 
 /// The sgf output of a page with at least one line is a text of the grammar. The whole sgf output of that text is the same bytes.
@@ -100,17 +96,3 @@ pub fn replay()
     go_board::laws::clearing();
     go_board::laws::unreaching();
 }
-
-/// The verdict of a line on a board of a given side, from the state in which a game begins. If each node's step is
-/// taken, the verdict is the score of the state after all of them. Otherwise it names the first node whose step is
-/// refused in the state after the nodes before that node. The verdict then has that node's place, its reason, and the
-/// number of turns made before the node, plus 1. Every list of nodes is of exactly one of these two kinds.
-pub fn judged()
-    ensures scored { (side : ℕ) (nodes : List Node) (state : State) → IsAfter (starting side) nodes state
-        → verdict_by (board side) nodes ≡ score_in state }
-    ensures illegal { (side : ℕ) (before after : List Node) (node : Node) (state : State) (reason : Reason)
-        → IsAfter (starting side) before state → step state node ≡ Err reason
-        → verdict_by (board side) (before ++ node ∷ after) ≡ Illegal (state.turns + 1) node.place reason }
-    ensures one_of_two { (side : ℕ) (nodes : List Node)
-        → ((state : State) × IsAfter (starting side) nodes state) ⊎ HasIllegal (starting side) nodes }
-{}

@@ -5,12 +5,12 @@ use Rattle.board_points.specs.declared.vertices.TheConstants.{MAX_VERTEX_SIDE}
 use Rattle.board_stones.specs.Clearing.{has_unreaching}
 use Rattle.board_stones.specs.Grid.{Grid}
 use Rattle.go_board.specs.State.{IsPlayOn}
-use Rattle.sgf_lines.specs.JudgedGames.{GameKind, not_go, bad_size, board}
-use Rattle.sgf_lines.specs.Walk.{LegalNode}
+use Rattle.judged_lines.specs.JudgedGames.{GameKind, not_go, bad_size, board}
+use Rattle.judged_lines.specs.Walk.{LegalNode}
 use Rattle.sgf_lines.specs.Script.{text_rows, comment_text, colouring_commands, play_command, legal_script, leaves_unreaching, board_commands}
-use Rattle.sgf_lines.specs.declared.judging.step.Effect.{Effect}
-use Rattle.sgf_lines.specs.declared.judging.step.Effect.TheVariants.{Nothing, Stones as stones_set, Play as one_play}
-use Rattle.sgf_lines.specs.declared.judging.step.LegalStep.{LegalStep}
+use Rattle.judged_lines.specs.declared.judging.step.Effect.{Effect}
+use Rattle.judged_lines.specs.declared.judging.step.Effect.TheVariants.{Nothing, Stones as stones_set, Play as one_play}
+use Rattle.judged_lines.specs.declared.judging.step.LegalStep.{LegalStep}
 use Rattle.sgf_lines.specs.inner.Pieces.{PiecesState, no_pieces, pushed, closed, cut}
 
 -- the commands that an effect adds; `grid` is the board after it

@@ -2,7 +2,7 @@
 use Rattle.std.specs.Prelude.{ℕ, List, drop, length}
 use Rattle.tree_lines.specs.Lines.{Line, place_of}
 use Rattle.sgf_lines.specs.ListRow.{row_text}
-use Rattle.sgf_lines.specs.declared.verdict.Verdict.{Verdict}
+use Rattle.judged_lines.specs.declared.verdict.Verdict.{Verdict}
 use Rattle.sgf_lines.specs.declared.form.text_row.TextRow.{TextRow}
 
 abbrev pub built_text : TextRow → List ℕ

@@ -12,8 +12,8 @@ ghost use Rattle.sgf_lines.specs.Script.{text_rows, comment_row, comment_text, c
 ghost use Rattle.sgf_lines.specs.inner.Cutting.{commands_at, AreAppended, stone_command};
 ghost use Rattle.sgf_lines.specs.inner.Scripting.{IsPlayable, step_script};
 
-use crate::judging::step::{Effect, LegalStep};
 use go_board::{Board, Colour, MAX_VERTEX_SIDE, Play, Point, Size, Vertex, vertex};
+use judged_lines::{Effect, LegalStep};
 use memchr::memchr;
 use sgf_tree::{MemoryFault, push_text};
 

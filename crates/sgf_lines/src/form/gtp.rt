@@ -6,9 +6,8 @@ ghost use Rattle.sgf_lines.specs.declared.options.Form.TheVariants.{Gtp as gtp_f
 use crate::form::LineForm;
 use crate::form::script::Script;
 use crate::form::text_row::TextRow;
-use crate::judging::judged::Judged;
-use crate::over_lines::LineKeeper;
 use byte_streams::{Sink, SinkFault, put_all};
+use judged_lines::{Judged, LineKeeper};
 use sgf_tree::MemoryFault;
 use std::alloc::Global;
 use tree_lines::{Front, SequenceCursor};
@@ -22,7 +21,7 @@ pub(crate) struct GtpForm {
 impl LineKeeper for GtpForm {
     ghost holds = { λ kept cursor. ⟦<Judged<Script> as LineKeeper>⟧.holds kept.judged cursor };
 
-    ghost played = { λ kept. kept.judged.judge.plays };
+    ghost played = { λ kept. ⟦<Judged<Script> as LineKeeper>⟧.played kept.judged };
 
     ghost counts = { λ count. count };
 

@@ -5,8 +5,8 @@ ghost use Rattle.sgf_lines.specs.declared.options.Form.TheVariants.{List as list
 
 use crate::form::LineForm;
 use crate::form::text_row::TextRow;
-use crate::judging::judged::Judged;
 use byte_streams::{Sink, SinkFault, put_all};
+use judged_lines::Judged;
 use std::alloc::Global;
 use tree_lines::SequenceCursor;
 

@@ -4,12 +4,12 @@ ghost use Rattle.std.specs.Prelude.{◌≡◌, ◌<◌, ◌≤◌, ◌++◌, [],
 ghost use Rattle.std.specs.List.{concat, flat_map};
 ghost use Rattle.sgf_lines.specs.Record.{node_text};
 ghost use Rattle.sgf_lines.specs.inner.Scripting.{IsPlayable, step_script};
-ghost use Rattle.sgf_lines.specs.inner.Fronts.{sequences_before};
+ghost use Rattle.sgf_lines.specs.inner.Recording.{sequences_before};
 ghost use Rattle.sgf_lines.specs.inner.Pieces.{no_pieces, pushed, closed, cut};
 
 use crate::form::commands::push_step;
-use crate::judging::step::LegalStep;
 use go_board::{Board, MAX_VERTEX_SIDE};
+use judged_lines::LegalStep;
 use sgf_tree::MemoryFault;
 use std::alloc::Global;
 use std::marker::Model;

@@ -4,10 +4,9 @@ ghost use Rattle.std.specs.Prelude.{◌≡◌, ◌≤◌, OnOk};
 ghost use Rattle.sgf_lines.specs.inner.Scripting.{is_unreaching, no_script, script_begun, script_of, script_text};
 
 use crate::form::pieces::Pieces;
-use crate::judging::judged::StepKeeper;
-use crate::judging::step::{Effect, LegalStep};
 use go_board::{Board, MAX_VERTEX_SIDE, Size};
 use itoa::Buffer;
+use judged_lines::{Effect, LegalStep, StepKeeper};
 use sgf_tree::MemoryFault;
 use std::alloc::Global;
 use std::marker::Model;

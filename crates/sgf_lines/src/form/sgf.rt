@@ -3,16 +3,14 @@
 ghost use Rattle.std.specs.Prelude.{◌≡◌, ◌<◌, ◌+◌, ◌++◌, [], OnOk, refl};
 ghost use Rattle.std.specs.List.{concat};
 ghost use Rattle.sgf_lines.specs.declared.options.Form.TheVariants.{Sgf as sgf_form};
-ghost use Rattle.sgf_lines.specs.inner.Fronts.{sequences_before};
-ghost use Rattle.sgf_lines.specs.inner.Keeping.{IsRecord};
+ghost use Rattle.sgf_lines.specs.inner.Recording.{sequences_before, IsRecord, unclosed_record, whole_record};
 ghost use Rattle.sgf_lines.specs.inner.Pieces.{cut};
-ghost use Rattle.sgf_lines.specs.inner.Recording.{unclosed_record, whole_record};
 
 use crate::form::LineForm;
 use crate::form::pieces::Pieces;
 use crate::form::text_row::TextRow;
-use crate::over_lines::LineKeeper;
 use byte_streams::{Sink, SinkFault, put_all};
+use judged_lines::LineKeeper;
 use sgf_tree::MemoryFault;
 use std::alloc::Global;
 use tree_lines::{Front, SequenceCursor};

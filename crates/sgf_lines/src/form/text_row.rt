@@ -9,8 +9,8 @@ ghost use Rattle.sgf_lines.specs.Script.{comment_row};
 ghost use Rattle.tree_lines.specs.Following.{line_before};
 
 use crate::counting::Counts;
-use crate::verdict::Verdict;
 use itoa::write_digits;
+use judged_lines::Verdict;
 use tree_lines::SequenceCursor;
 
 /// The number of bytes that there is room for: five numbers of up to 20 digits, and the words of a verdict.

@@ -1,5 +1,5 @@
 -- The lines touch the nodes one after the other, and a page plays no more of them.
-use Rattle.sgf_lines.proofs.Touched.{touched_all, judged_touched, judged_few}
+use Rattle.judged_lines.proofs.Touched.{touched_all, judged_touched, judged_few}
 use Rattle.sgf_lines.proofs.Pages.{on_page}
 use Rattle.sgf_lines.proofs.laws.touched.Goals as goal
 

@@ -5,14 +5,14 @@ use Rattle.sgf_properties.specs.declared.fault.MemoryFault.{MemoryFault}
 use Rattle.tree_lines.specs.Cursor.{CursorState, advanced}
 use Rattle.tree_lines.specs.Lines.{lines}
 use Rattle.sgf_lines.specs.Record.{record_of}
-use Rattle.sgf_lines.specs.declared.over_lines.Before.TheVariants.{Held}
+use Rattle.judged_lines.specs.declared.over_lines.Before.TheVariants.{Held}
 use Rattle.byte_streams.specs.declared.sink.SinkFault.{SinkFault}
 use Rattle.tree_lines.specs.Following.{line_before, nodes_before}
-use Rattle.sgf_lines.specs.inner.GoingOn.{PlaysLine, StandsBy, next_by}
+use Rattle.judged_lines.specs.GoingOn.{PlaysLine, StandsBy, next_by}
 use Rattle.std.proofs.KnownBytes.{Appends-kept}
 use Rattle.byte_streams.specs.Streams.{PutsAll}
 use Rattle.sgf_lines.specs.inner.Running.{WritesLines, page_after}
-use Rattle.sgf_lines.proofs.Keeping.{line_next}
+use Rattle.judged_lines.proofs.Keeping.{line_next}
 use Rattle.sgf_lines.proofs.PlayCounts.{one_written, cut_short, none_left, limit_met, few, goes_forth, not_flushed, one_played, played_then_cut, played_in_part}
 use Rattle.sgf_lines.proofs.run.write_lines.Given.{Over}
 use Rattle.sgf_lines.proofs.run.write_lines.Goals as goal

@@ -3,7 +3,7 @@ use Rattle.board_points.specs.declared.points.Point.{Point}
 use Rattle.board_points.specs.Point.{points}
 use Rattle.board_points.proofs.PointLemmas.{slice_get-points}
 use Rattle.sgf_lines.specs.inner.Cutting.{commands_at, AreAppended}
-use Rattle.sgf_lines.proofs.Joins.{joins}
+use Rattle.judged_lines.proofs.Joins.{joins}
 use Rattle.sgf_lines.proofs.form.commands.push_row.Goals as goal
 
 pub columns-preserved : goal.columns-preserved

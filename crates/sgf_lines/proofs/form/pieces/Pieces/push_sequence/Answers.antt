@@ -5,7 +5,7 @@ use Rattle.std.specs.List.{flat_map}
 use Rattle.sgf_tree.specs.Tree.{Node}
 use Rattle.sgf_lines.specs.Record.{node_text}
 use Rattle.tree_lines.specs.Following.{nodes_before}
-use Rattle.sgf_lines.specs.inner.Fronts.{sequences_before}
+use Rattle.sgf_lines.specs.inner.Recording.{sequences_before}
 use Rattle.tree_lines.proofs.Fronts.{as_many_parts}
 use Rattle.tree_lines.proofs.Lists.{element}
 use Rattle.sgf_lines.proofs.PieceTexts.{seen, seen_pushed}

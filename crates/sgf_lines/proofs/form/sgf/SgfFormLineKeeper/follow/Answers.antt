@@ -6,14 +6,13 @@ use Rattle.std.proofs.lemmas.Bool.{cases_lt}
 use Rattle.std.proofs.lemmas.List.{take_all}
 use Rattle.sgf_lines.specs.Record.{node_text}
 use Rattle.tree_lines.specs.Following.{nodes_before}
-use Rattle.sgf_lines.specs.inner.Fronts.{sequences_before}
+use Rattle.sgf_lines.specs.inner.Recording.{sequences_before, unclosed_record}
 use Rattle.sgf_lines.specs.inner.Pieces.{pushed, closed}
-use Rattle.sgf_lines.specs.inner.Recording.{unclosed_record}
 use Rattle.tree_lines.proofs.Fronts.{as_many_parts}
-use Rattle.sgf_lines.proofs.Keeping.{record_kept}
+use Rattle.sgf_lines.proofs.Recordings.{record_kept, record_more}
 use Rattle.tree_lines.proofs.Lists.{element}
-use Rattle.sgf_lines.proofs.Recordings.{record_more}
-use Rattle.sgf_lines.proofs.RunRecords.{made_record, some_line}
+use Rattle.sgf_lines.proofs.RunRecords.{made_record}
+use Rattle.judged_lines.proofs.LineVerdicts.{some_line}
 use Rattle.tree_lines.proofs.SequenceCursors.{some_end}
 use Rattle.sgf_lines.proofs.form.sgf.SgfFormLineKeeper.follow.Goals as goal
 

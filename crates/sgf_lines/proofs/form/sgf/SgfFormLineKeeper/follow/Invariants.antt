@@ -1,7 +1,6 @@
 -- The sequences before the index are pieces.
 use Rattle.std.proofs.Common.{◌≡◌, take}
-use Rattle.sgf_lines.specs.inner.Fronts.{sequences_before}
-use Rattle.sgf_lines.specs.inner.Recording.{unclosed_record}
+use Rattle.sgf_lines.specs.inner.Recording.{sequences_before, unclosed_record}
 use Rattle.sgf_lines.proofs.form.sgf.SgfFormLineKeeper.follow.Given as goal
 
 abbrev pub invariant-loop-index : goal.invariant-loop-index

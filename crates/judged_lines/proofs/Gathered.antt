@@ -1,0 +1,247 @@
+-- What properties hold, gathered one after the other.
+use Rattle.std.proofs.Common.{◌≡◌, ◌<◌, ℕ, Bor, Bool, Option, Some, None, List, [], ◌∷◌, ◌++◌, map, length, All, refl, sym, ap, subst, ◌∙◌, append_assoc, inl, inr, arith, append-nil, length-append, rules}
+use Rattle.std.proofs.lemmas.Grind.{common_steps}
+use Rattle.std.specs.Prelude.{option_map, option_and_then, option_copied, find, codes, bytes_eq}
+use Rattle.std.specs.Option.{option_or}
+use Rattle.std.specs.List.{flat_map}
+use Rattle.std.proofs.lemmas.Grind.{flat_map-append}
+use Rattle.std.proofs.lemmas.List.{map-append}
+use Rattle.std.proofs.lemmas.List.Folds.{find-append}
+use Rattle.std.proofs.lemmas.Bool.{cases_Bool, false_from_ne_true}
+use Rattle.std.proofs.lemmas.Slice.Eq.{bytes_eq-Decides}
+use Rattle.std.proofs.lemmas.List.Elements.{All-nil, All-head, All-tail, All-weaker}
+use Rattle.sgf_tree.specs.Tree.{Property, Node, values, lone_property, told_property}
+use Rattle.sgf_tree.specs.declared.traversal.NextNode.{NextNode}
+use Rattle.sgf_tree.specs.declared.traversal.NextNode.TheVariants.{Led, Empty as EmptyNode, Unread}
+use Rattle.sgf_tree.specs.Lead.{IsOtherName, IsLedBy}
+use Rattle.sgf_tree.specs.Traversal.{IsTakenOff}
+use Rattle.board_stones.specs.declared.stones.Colour.{Colour}
+use Rattle.board_stones.specs.declared.stones.Cell.{Cell}
+use Rattle.board_points.specs.declared.points.Rect.{Rect}
+use Rattle.board_stones.specs.declared.setup_op.SetupOp.{SetupOp}
+use Rattle.board_points.specs.Point.{IsRectOn}
+use Rattle.board_points.specs.Values.{rect_value}
+use Rattle.judged_lines.specs.declared.judging.contents.Moves.{Moves}
+use Rattle.judged_lines.specs.declared.judging.contents.Moves.TheVariants.{Several}
+use Rattle.judged_lines.specs.declared.judging.contents.Setup.{Setup}
+use Rattle.judged_lines.specs.declared.judging.contents.Setup.TheVariants.{Faulty}
+use Rattle.judged_lines.specs.declared.judging.contents.Contents.{Contents}
+use Rattle.judged_lines.specs.declared.judging.contents.Kind.{Kind}
+use Rattle.judged_lines.specs.declared.judging.contents.Kind.TheVariants.{Move as move_kind, Stones as stones_kind, Player as player_kind, Comment as comment_kind}
+use Rattle.judged_lines.specs.NodeContents.{Move, Stones, moves_in, moves_by, stones_in, stones_of, players_in, is_named, first_value}
+use Rattle.judged_lines.specs.NodeValues.{player_value, operations, last_player}
+use Rattle.judged_lines.specs.inner.Gathered.{kind_of, AreMoves, IsSetup, setup_with_stones, setup_with_player, AddsRectangles, HoldsAlone, IsGathered, ComesAs}
+
+-- one operation before others, and all of two lists, where each is there
+abbrev before_all : Option SetupOp → Option (List SetupOp) → Option (List SetupOp)
+before_all o os = option_and_then (λ op. option_map (λ ops. op ∷ ops) os) o
+
+abbrev pub both : Option (List SetupOp) → Option (List SetupOp) → Option (List SetupOp)
+both a b = option_and_then (λ xs. option_map (λ ys. xs ++ ys) b) a
+
+none_before : (b : Option (List SetupOp)) → b ≡ both (Some []) b
+none_before b = first_of (search rules, grind (arith, common_steps))
+
+before_both : (o : Option SetupOp) (a b : Option (List SetupOp)) → before_all o (both a b) ≡ both (before_all o a) b
+before_both o a b = first_of (search rules, grind (arith, common_steps))
+
+pub operations-append : (side : ℕ) (ss ts : List Stones) → operations (ss ++ ts) side ≡ both (operations ss side) (operations ts side)
+operations-append side [] ts = none_before (operations ts side)
+operations-append side (s ∷ ss) ts = first_of (search rules, grind (arith, common_steps, before_both, operations-append side ss ts))
+
+both_none : (a : Option (List SetupOp)) → both a None ≡ None
+both_none a = first_of (search rules, grind (arith, common_steps))
+
+pub last_player-append : (before : Option Colour) (rs qs : List (List ℕ)) → last_player before (rs ++ qs) ≡ option_and_then (λ b. last_player b qs) (last_player before rs)
+last_player-append before [] qs = refl
+last_player-append before (r ∷ rs) qs = each (λ k. last_player-append (Some k) rs qs) (player_value r)
+  where
+    each : ((k : Colour) → last_player (Some k) (rs ++ qs) ≡ option_and_then (λ b. last_player b qs) (last_player (Some k) rs))
+        → (o : Option Colour) → option_and_then (λ k. last_player (Some k) (rs ++ qs)) o ≡ option_and_then (λ b. last_player b qs) (option_and_then (λ k. last_player (Some k) rs) o)
+    each h None = refl
+    each h (Some k) = h k
+
+-- values that are rectangles of the board, and one more or one that is none
+pub rectangles_more : (side : ℕ) (cell : Cell) (front : List (List ℕ)) (raw : List ℕ) (area : Rect) (ops : List SetupOp)
+    → operations (map (λ r. record { cell = cell; raw = r }) front) side ≡ Some ops → rect_value raw side ≡ Some area
+    → operations (map (λ r. record { cell = cell; raw = r }) (front ++ raw ∷ [])) side ≡ Some (ops ++ record { cell = cell; area = area } ∷ [])
+rectangles_more side cell front raw area ops are is = first_of (search rules, grind (arith, common_steps, map-append, operations-append))
+
+pub rectangles_stop : (side : ℕ) (cell : Cell) (front : List (List ℕ)) (raw : List ℕ) (left all : List (List ℕ)) → front ++ raw ∷ left ≡ all → rect_value raw side ≡ None
+    → operations (map (λ r. record { cell = cell; raw = r }) all) side ≡ None
+rectangles_stop side cell front raw left all whole is = first_of (search rules, grind (arith, common_steps, both_none, map-append, operations-append))
+
+-- one value of a player later
+pub later_player : (last : Colour) (raw : List ℕ) (left all : List (List ℕ)) (o : Option Colour) → all ≡ raw ∷ left → o ≡ player_value raw
+    → last_player (Some last) all ≡ option_and_then (λ k. last_player (Some k) left) o
+later_player last raw left all o e is = ap (last_player (Some last)) e ∙ ap (option_and_then (λ k. last_player (Some k) left)) (sym is)
+
+-- stones more
+module _ (side : ℕ) (ops new : List SetupOp) (stones more : List Stones) (players : List (List ℕ)) (some : 0 < length more) where
+  not_all : operations more side ≡ None → IsSetup side Faulty new (stones ++ more) players
+  not_all bad = inl (operations-append side stones more ∙ ap (both (operations stones side)) bad ∙ both_none (operations stones side))
+
+  pub more_stones : (setup : Setup) (good : Bool) → IsSetup side setup ops stones players → AddsRectangles side more ops new good → IsSetup side (setup_with_stones setup good) new (stones ++ more) players
+  more_stones setup good known known2 = first_of (search rules, grind (arith, common_steps, length-append, not_all, operations-append))
+
+-- players more
+module _ (side : ℕ) (ops : List SetupOp) (stones : List Stones) (players more : List (List ℕ)) (some : 0 < length more) where
+  no_player : ((before : Option Colour) → last_player before more ≡ None) → IsSetup side Faulty ops stones (players ++ more)
+  no_player known = first_of (search rules, grind (arith, common_steps, last_player-append))
+
+  pub more_players : (setup : Setup) (last : Option Colour) → IsSetup side setup ops stones players → ((before : Option Colour) → last_player before more ≡ option_map Some last)
+      → IsSetup side (setup_with_player setup last) ops stones (players ++ more)
+  more_players setup last known known2 = first_of (search rules, grind (arith, common_steps, last_player-append, length-append, no_player))
+
+-- what a property holds
+record Held : Type 0 where
+  moves : List Move
+  stones : List Stones
+  players : List (List ℕ)
+  comment : Option (List ℕ)
+
+abbrev nothing : Held
+nothing = record { moves = []; stones = []; players = []; comment = None }
+
+abbrev held : Property → Held
+held p = record { moves = moves_in p; stones = stones_in p; players = players_in p; comment = first_value (codes "C") (p ∷ []) }
+
+-- by its kind
+abbrev held_by : Option Kind → Property → Held
+held_by None p = nothing
+held_by (Some (move_kind k)) p = record nothing { moves = moves_by k p }
+held_by (Some (stones_kind cell)) p = record nothing { stones = stones_of cell p }
+held_by (Some player_kind) p = record nothing { players = values p }
+held_by (Some comment_kind) p = record nothing { comment = Some p.first }
+
+by_name : (name first : List ℕ) (more : List (List ℕ)) → let p : Property = record { name = name; first = first; more = more } in held p ≡ held_by (kind_of p) p
+by_name name first more =
+    elim (cases_Bool (bytes_eq name (codes "B"))) [
+      | inl e ↦ rw ((bytes_eq-Decides name (codes "B")).0 e) refl
+      | inr b ↦ elim (cases_Bool (bytes_eq name (codes "W"))) [
+        | inl e ↦ rw ((bytes_eq-Decides name (codes "W")).0 e) refl
+        | inr w ↦ elim (cases_Bool (bytes_eq name (codes "AB"))) [
+          | inl e ↦ rw ((bytes_eq-Decides name (codes "AB")).0 e) refl
+          | inr ab ↦ elim (cases_Bool (bytes_eq name (codes "AW"))) [
+            | inl e ↦ rw ((bytes_eq-Decides name (codes "AW")).0 e) refl
+            | inr aw ↦ elim (cases_Bool (bytes_eq name (codes "AE"))) [
+              | inl e ↦ rw ((bytes_eq-Decides name (codes "AE")).0 e) refl
+              | inr ae ↦ elim (cases_Bool (bytes_eq name (codes "PL"))) [
+                | inl e ↦ rw ((bytes_eq-Decides name (codes "PL")).0 e) refl
+                | inr pl ↦ elim (cases_Bool (bytes_eq name (codes "C"))) [
+                  | inl e ↦ rw ((bytes_eq-Decides name (codes "C")).0 e) refl
+                  | inr c ↦ rw (b, w, ab, aw, ae, pl, c) refl
+                ]
+              ]
+            ]
+          ]
+        ]
+      ]
+    ]
+
+one_more : {A : Type 0} (f : Property → List A) (ps : List Property) (p : Property) (xs : List A) → f p ≡ xs → flat_map f (ps ++ p ∷ []) ≡ flat_map f ps ++ xs
+one_more f ps p xs is = flat_map-append f ps (p ∷ []) ∙ ap (λ t. flat_map f ps ++ t) (append-nil (f p) ∙ is)
+
+map_or : (x y : Option Property) → option_map (λ (p : Property). p.first) (option_or x y) ≡ option_or (option_map (λ (p : Property). p.first) x) (option_map (λ (p : Property). p.first) y)
+map_or x y = first_of (search rules, grind (arith, common_steps))
+
+no_comment : (o : Option (List ℕ)) → o ≡ option_or o None
+no_comment o = first_of (search rules, grind (arith, common_steps))
+
+first_is : (o : Option (Bor (List ℕ))) (first : Bor (List ℕ)) → option_copied (option_or o (Some first)) ≡ option_or (option_copied o) (Some first.now)
+first_is o first = first_of (search rules, grind (arith, common_steps))
+
+-- what properties hold, and one more
+module _ (side : ℕ) (ps : List Property) (ops : List SetupOp) (old : Contents) (h : IsGathered side ps ops old) (p : Property) where
+  gathered_more : (k : Option Kind) (new_ops : List SetupOp) (new : Contents) → kind_of p ≡ k → AreMoves new.moves (flat_map moves_in ps ++ (held_by k p).moves)
+      → IsSetup side new.setup new_ops (flat_map stones_in ps ++ (held_by k p).stones) (flat_map players_in ps ++ (held_by k p).players)
+      → option_copied new.comment ≡ option_or (option_copied old.comment) (held_by k p).comment → All (λ (op : SetupOp). IsRectOn side op.area) new_ops
+      → IsGathered side (ps ++ p ∷ []) new_ops new
+  gathered_more k new_ops new is moves setup comment on_board =
+      let all : held p ≡ held_by k p = by_name p.name p.first p.more ∙ ap (λ o. held_by o p) is in
+      let found = find-append (is_named (codes "C")) ps (p ∷ []) in
+      record {
+        moves_are = rw (one_more moves_in ps p (held_by k p).moves (ap (λ (l : Held). l.moves) all)) moves;
+        setup_is =
+            rw (one_more stones_in ps p (held_by k p).stones (ap (λ (l : Held). l.stones) all), one_more players_in ps p (held_by k p).players (ap (λ (l : Held). l.players) all)) setup;
+        comment_is = comment ∙ ap (λ o. option_or o (held_by k p).comment) h.comment_is ∙ ap (option_or (first_value (codes "C") ps)) (sym (ap (λ (l : Held). l.comment) all))
+            ∙ sym (ap (option_map (λ (q : Property). q.first)) found ∙ map_or (find (is_named (codes "C")) ps) (find (is_named (codes "C")) (p ∷ [])));
+        on_board = on_board;
+      }
+
+  -- the moves and the setup as they were
+  moves_stay : AreMoves old.moves (flat_map moves_in ps ++ [])
+  moves_stay = rw (append-nil (flat_map moves_in ps)) h.moves_are
+
+  setup_stays : IsSetup side old.setup ops (flat_map stones_in ps ++ []) (flat_map players_in ps ++ [])
+  setup_stays = rw (append-nil (flat_map stones_in ps), append-nil (flat_map players_in ps)) h.setup_is
+
+  pub gathered_moves : (k : Colour) (moves : Moves) → kind_of p ≡ Some (move_kind k) → AreMoves moves (flat_map moves_in ps ++ moves_by k p) → IsGathered side (ps ++ p ∷ []) ops (record old { moves = moves })
+  gathered_moves k moves is are = gathered_more (Some (move_kind k)) ops (record old { moves = moves }) is are setup_stays (no_comment (option_copied old.comment)) h.on_board
+
+  pub gathered_stones : (cell : Cell) (new_ops : List SetupOp) (good : Bool) → kind_of p ≡ Some (stones_kind cell) → AddsRectangles side (stones_of cell p) ops new_ops good
+      → IsGathered side (ps ++ p ∷ []) new_ops (record old { setup = setup_with_stones old.setup good })
+  gathered_stones cell new_ops good is adds =
+      gathered_more (Some (stones_kind cell)) new_ops (record old { setup = setup_with_stones old.setup good }) is moves_stay
+      (rw (append-nil (flat_map players_in ps)) (more_stones side ops new_ops (flat_map stones_in ps) (stones_of cell p) (flat_map players_in ps) (omega arith) old.setup good h.setup_is adds))
+      (no_comment (option_copied old.comment)) (adds.on_board h.on_board)
+
+  pub gathered_players : (last : Option Colour) → kind_of p ≡ Some player_kind → ((before : Option Colour) → last_player before (values p) ≡ option_map Some last)
+      → IsGathered side (ps ++ p ∷ []) ops (record old { setup = setup_with_player old.setup last })
+  gathered_players last is told =
+      gathered_more (Some player_kind) ops (record old { setup = setup_with_player old.setup last }) is moves_stay
+      (rw (append-nil (flat_map stones_in ps)) (more_players side ops (flat_map stones_in ps) (flat_map players_in ps) (values p) (omega arith) old.setup last h.setup_is told))
+      (no_comment (option_copied old.comment)) h.on_board
+
+  pub gathered_comment : (first : Bor (List ℕ)) → kind_of p ≡ Some comment_kind → p.first ≡ first.now → IsGathered side (ps ++ p ∷ []) ops (record old { comment = option_or old.comment (Some first) })
+  gathered_comment first is value =
+      gathered_more (Some comment_kind) ops (record old { comment = option_or old.comment (Some first) }) is moves_stay setup_stays
+      (first_is old.comment first ∙ ap (λ v. option_or (option_copied old.comment) (Some v)) (sym value)) h.on_board
+
+  pub gathered_nothing : kind_of p ≡ None → IsGathered side (ps ++ p ∷ []) ops old
+  gathered_nothing is = gathered_more None ops old is moves_stay setup_stays (no_comment (option_copied old.comment)) h.on_board
+
+-- a move after others, or before others
+pub two_at_least : (ms : List Move) (m : Move) (rest : List Move) → (ms ≡ [] → (l : Move) × (more : List Move) × (rest ≡ l ∷ more)) → AreMoves Several (ms ++ m ∷ rest)
+two_at_least [] m rest h = let r = h refl in (m, r.0, r.1, ap (λ t. m ∷ t) r.2)
+two_at_least (a ∷ []) m rest h = (a, m, rest, refl)
+two_at_least (a ∷ b ∷ more) m rest h = (a, b, more ++ m ∷ rest, refl)
+
+pub values_two : (k : Colour) (ms : List Move) (p : Property) (raw : List ℕ) (left : List (List ℕ)) → p.more ≡ raw ∷ left → ms ≡ [] → AreMoves Several (ms ++ moves_by k p)
+values_two k ms p raw left is none =
+    let mk : List ℕ → Move = λ raw. record { player = k; raw = raw } in
+    two_at_least ms (mk p.first) (map mk p.more) (λ e. (mk raw, map mk left, ap (map mk) is))
+
+-- properties that hold nothing, after others
+pub gathered_others : (side : ℕ) (ps rest : List Property) (contents : Contents) → IsGathered side ps [] contents → All (λ (p : Property). kind_of p ≡ None) rest → IsGathered side (ps ++ rest) [] contents
+gathered_others side ps [] contents h none = subst (λ qs. IsGathered side qs [] contents) (sym (append-nil ps)) h
+gathered_others side ps (p ∷ rest) contents h none = first_of (search rules, grind (arith, common_steps, All-head, All-tail, append_assoc, gathered_others side (ps ++ p ∷ []) rest contents (gathered_nothing side ps [] contents h p (All-head (λ (p : Property). kind_of p ≡ None) p rest none)) (All-tail (λ (p : Property). kind_of p ≡ None) p rest none)))
+
+pub gathered_alone : (side : ℕ) (first : Property) (properties : List Property) (contents : Contents) → IsGathered side (first ∷ []) [] contents → HoldsAlone first properties → IsGathered side properties [] contents
+gathered_alone side first properties contents h alone =
+    subst (λ qs. IsGathered side qs [] contents) (sym alone.all) (gathered_others side (first ∷ []) alone.rest contents h alone.nothing)
+
+-- the names of setup properties
+abbrev pub setup_names : List (List ℕ)
+setup_names = codes "AB" ∷ codes "AW" ∷ codes "AE" ∷ codes "PL" ∷ []
+
+-- other names of two letters hold nothing
+other_kind : (p : Property) → IsOtherName setup_names p.name → kind_of p ≡ None
+other_kind p other = first_of (search rules, grind (arith, common_steps, bytes_eq-Decides, false_from_ne_true))
+
+led_alone : (first : Property) (properties : List Property) → IsLedBy setup_names first properties → HoldsAlone first properties
+led_alone first properties led = first_of (search rules, grind (arith, common_steps, All-weaker, other_kind))
+
+-- a node that was taken off
+pub comes : (node : Node) (left : List Property) (next : NextNode) → IsTakenOff setup_names node left next → ComesAs node left next
+comes node left (Led place letter value) is = (is.0, led_alone (lone_property letter value.now) node.properties is.1)
+comes node left (EmptyNode place) is = (is.0, is.1)
+comes node left (Unread place front) is = is
+
+-- there is a node that comes so
+pub coming : (left : List Property) (next : NextNode) → (node : Node) × ComesAs node left next
+coming left (Led place letter value) =
+    let lone : Property = lone_property letter value.now in
+    (record { place = place; properties = lone ∷ [] }, (refl, record { rest = []; all = refl; nothing = All-nil (λ (p : Property). kind_of p ≡ None) }))
+coming left (EmptyNode place) = (record { place = place; properties = [] }, (refl, refl))
+coming left (Unread place front) = (record { place = place; properties = told_property front ++ left }, (refl, refl))

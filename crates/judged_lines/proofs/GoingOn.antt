@@ -1,0 +1,59 @@
+-- The cursor went on to the next line, and so many nodes are played for that line.
+use Rattle.std.proofs.Common.{◌≡◌, ◌≢◌, ℕ, ◌-◌, ◌<◌, length, Result, Ok, Err, OnErr, inr, ap, refl, subst, arith, rules}
+use Rattle.std.proofs.lemmas.Grind.{common_steps}
+use Rattle.std.specs.Prelude.{Bool}
+use Rattle.std.specs.Result.{IsErr}
+use Rattle.tree_lines.specs.Cursor.{CursorState}
+use Rattle.tree_lines.specs.declared.sequence_cursor.Front.{Front}
+use Rattle.judged_lines.specs.declared.over_lines.Before.{Before}
+use Rattle.judged_lines.specs.declared.over_lines.Before.TheVariants.{Unheld, Held, Refused}
+use Rattle.tree_lines.specs.Following.{nodes_before, path_before, Continues}
+use Rattle.judged_lines.specs.GoingOn.{AreHeld, HasPlays, PlaysLine, StandsBy, index_by, next_by}
+use Rattle.judged_lines.specs.inner.GoingOn.{GoesOnBy}
+use Rattle.judged_lines.specs.Keeping.{PlaysUpTo, fresh_plays}
+use Rattle.tree_lines.specs.Sequences.{SequencesState}
+use Rattle.judged_lines.proofs.Keeping.{some_node}
+use Rattle.tree_lines.proofs.LineNodes.{line_is, some_before}
+use Rattle.judged_lines.proofs.LineVerdicts.{some_line}
+
+-- the next line stands before the cursor
+pub record IsNext (before : Before) (old new : SequencesState) (held : Front) : Type 0 where
+  pub some_node : 0 < length (nodes_before new.at)
+  pub are_held : AreHeld before old.at held.nodes
+  pub games : new.at.games ≡ old.at.games
+  pub index : new.at.index - 1 ≡ index_by before old.at.index
+
+pub goes_on : (Holds : Type 0) (before : Before) (old new : SequencesState) (held : Front) → StandsBy before (nodes_before old.at) Holds → GoesOnBy before old new held → IsNext before old new held
+goes_on Holds Unheld old new held stands go = record {
+  some_node = some_node old.at new.at go.2.0.nodes go.0 go.2.1.nodes;
+  are_held = ap (λ (f : Front). f.nodes) go.1;
+  games = ap (λ (p : CursorState). p.games) go.0;
+  index = omega (arith, ap (λ (p : CursorState). p.index) go.0);
+}
+goes_on Holds Held old new held stands go = record {
+  some_node = some_node old.at new.at held.nodes go.0 go.1.nodes;
+  are_held = subst (λ at. Continues (path_before old.at) held.nodes (path_before at)) go.0 go.1.nodes;
+  games = ap (λ (p : CursorState). p.games) go.0;
+  index = omega (arith, ap (λ (p : CursorState). p.index) go.0);
+}
+goes_on Holds Refused old new held stands go = record {
+  some_node = rw go.0 stands;
+  are_held = ap (λ (f : Front). f.nodes) go.1;
+  games = ap (λ (p : SequencesState). p.at.games) go.0;
+  index = ap (λ (p : SequencesState). p.at.index - 1) go.0;
+}
+
+pub has_plays : (before : Before) (old new : SequencesState) (held : Front) → IsNext before old new held → (counts : ℕ → ℕ) → HasPlays counts before old.at (counts (fresh_plays (nodes_before new.at) held.nodes))
+has_plays before old new held next counts = first_of (search rules, grind (arith, common_steps, line_is, some_before, some_line))
+
+-- a line for which memory was refused is next again
+pub next_again : {A E : Type 0} (r : Result A E) (before : Before) (old new : SequencesState) (held : Front) → IsNext before old new held
+    → OnErr r ((Refused ≢ Held) × (next_by Refused new.at ≡ next_by before old.at))
+next_again (Ok x) before old new held next = tt
+next_again (Err e) before old new held next = (search rules, rw (next.games, next.index) refl)
+
+-- what was counted for it
+pub plays_refused : {E F : Type 0} (A : Type 0) (counts : ℕ → ℕ) (b : Before) (at : CursorState) (old new count : ℕ) (e : E) (r : Result Bool F) → IsErr r → HasPlays counts b at count
+    → PlaysUpTo {A = A} old new count (Err e) → PlaysLine counts b at old new r
+plays_refused A counts b at old new count e (Ok x) bad h up = absurd cc
+plays_refused A counts b at old new count e (Err f) is h up = inr (count, h, up.not_fewer, up.not_more)

@@ -1,0 +1,169 @@
+-- A judge goes on by the nodes of a line, and how many of them are judged.
+use Rattle.std.proofs.Common.{◌≡◌, ℕ, ◌+◌, ◌≤◌, List, [], ◌∷◌, length, min, take, drop, ◌++◌, refl, slice_get, Some, None, Result, Ok, Err, OnOk, sym, ap, subst, ◌∙◌, arith, length-append, append-nil, append_assoc}
+use Rattle.std.proofs.Math.Seq.{take-append_seam}
+use Rattle.std.proofs.lemmas.List.{length-take, length-take-le, take-append-drop}
+use Rattle.std.specs.Result.{IsErr}
+use Rattle.sgf_tree.specs.Tree.{Node}
+use Rattle.board_stones.specs.Grid.{Grid}
+use Rattle.judged_lines.specs.declared.judging.step.LegalStep.{LegalStep}
+use Rattle.judged_lines.specs.JudgedGames.{GameKind, game_kind, root_properties}
+use Rattle.judged_lines.specs.Walk.{LegalNode, legal_on}
+use Rattle.judged_lines.specs.Verdict.{judged_on}
+use Rattle.judged_lines.specs.inner.Judging.{Judging, IsDecided, IsStepFrom, IsUndecided, state_after}
+use Rattle.judged_lines.specs.Judgement.{IsLegalStep, after, begun_game, board_in, judging}
+use Rattle.judged_lines.specs.Keeping.{HasJudged, PlaysUpTo, fresh_plays}
+use Rattle.judged_lines.specs.inner.Keeping.{WentOn, plays_for}
+use Rattle.judged_lines.proofs.Judgements.{judging_more, plays_one, decided_all, decided_by}
+use Rattle.judged_lines.proofs.Keeping.{judging_front}
+use Rattle.judged_lines.proofs.LegalNodes.{is_taken, taken_decided, told_last, untaken}
+use Rattle.judged_lines.proofs.Walking.{judged_of_front}
+
+-- the judgement before the root is that of its game
+pub begun_front : (nodes : List Node) (root : Node) (held : ℕ) → slice_get nodes 0 ≡ Some root → held ≡ 0 → begun_game (game_kind root.properties) ≡ judging_front nodes held
+begun_front [] root held e none = absurd cc
+begun_front (n ∷ ns) root held e none = let same : n ≡ root = cc in rw (none, same) refl
+
+module _ (kind : GameKind) where
+  abbrev judged_count : List Node → ℕ
+  judged_count nodes = length (judged_on kind nodes)
+
+  -- the first nodes of a line are judged as far as the line is
+  judged_first : (front rest : List Node) → judged_count front ≡ min (length front) (judged_count (front ++ rest))
+  judged_first front rest =
+      ap judged_count (sym (take-append_seam front rest)) ∙ ap length (sym (judged_of_front kind (front ++ rest) (length front))) ∙ length-take (length front) (judged_on kind (front ++ rest))
+
+  -- no more than there are
+  few : (before nodes : List Node) → plays_for kind before nodes ≤ length nodes
+  few before nodes = omega (arith, judged_first before nodes, judged_first (before ++ nodes) [], length-append before nodes)
+
+  plays_sum : (before nodes more : List Node) → plays_for kind before (nodes ++ more) ≡ plays_for kind before nodes + plays_for kind (before ++ nodes) more
+  plays_sum before nodes more =
+      omega (arith, judged_first before nodes, judged_first (before ++ nodes) more, ap judged_count (append_assoc before nodes more))
+
+-- as much was counted, whatever came of the rest
+on_any : {A E : Type 0} {P : Type 0} (r : Result A E) → P → OnOk r P
+on_any (Ok x) p = p
+on_any (Err e) p = tt
+
+on_none : {A E : Type 0} (P : Type 0) (r : Result A E) → IsErr r → OnOk r P
+on_none P (Ok x) is = absurd cc
+on_none P (Err e) is = tt
+
+-- a judge went on by the first of these nodes, and the rest of them is left
+pub record Going (holds : GameKind → List LegalNode → Type 0) (kind : GameKind) (before all rest : List Node) (old : ℕ) (judge : Judging) : Type 0 where
+  pub done : List Node
+  pub whole : done ++ rest ≡ all
+  pub on : WentOn holds kind before done old judge
+
+-- before the first of them
+pub starts : {holds : GameKind → List LegalNode → Type 0} {kind : GameKind} {before : List Node} (all rest : List Node) (old : ℕ) (judge : Judging) → HasJudged holds kind before judge.judgement → judge.plays ≡ old
+    → rest ≡ all → Going holds kind before all rest old judge
+starts {holds} {kind} {before} all rest old judge has plays is = record {
+  done = [];
+  whole = is;
+  on = record {
+    has_judged = subst (λ nodes. HasJudged holds kind nodes judge.judgement) (sym (append-nil before)) has;
+    plays = omega (arith, plays, few kind before []);
+  };
+}
+
+module _ {holds : GameKind → List LegalNode → Type 0} {kind : GameKind} {before all rest : List Node} {old : ℕ} {judge : Judging} (h : Going holds kind before all rest old judge) where
+  pub countable : judge.plays + length rest ≤ old + length all
+  countable = omega (arith, h.on.plays, few kind before h.done, ap length h.whole, length-append h.done rest)
+
+  -- none is left
+  pub ends : rest ≡ [] → WentOn holds kind before all old judge
+  ends none = subst (λ nodes. WentOn holds kind before nodes old judge) (sym (append-nil h.done) ∙ ap (λ nodes. h.done ++ nodes) (sym none) ∙ h.whole) h.on
+
+  -- or the rest changes nothing, since the verdict is known
+  pub decides : IsDecided judge.judgement → WentOn holds kind before all old judge
+  decides decided =
+      let nodes = before ++ h.done in
+      let known = subst IsDecided h.on.has_judged.judged decided in
+      let on = decided_all kind nodes rest known in
+      let same : before ++ all ≡ nodes ++ rest = ap (λ nodes. before ++ nodes) (sym h.whole) ∙ sym (append_assoc before h.done rest) in
+      record {
+        has_judged = record {
+          judged = h.on.has_judged.judged ∙ sym (ap (judging kind) same ∙ on.0);
+          taken = subst (holds kind) (sym (ap (legal_on kind) same ∙ taken_decided kind nodes rest known)) h.on.has_judged.taken;
+        };
+        plays = omega (arith, h.on.plays, ap (judged_count kind) same, on.1);
+      }
+
+  module _ (more others : List Node) (is : rest ≡ more ++ others) where
+    whole : (h.done ++ more) ++ others ≡ all
+    whole = append_assoc h.done more others ∙ ap (λ nodes. h.done ++ nodes) (sym is) ∙ h.whole
+
+    -- the judge goes on by more of them
+    pub goes_on : (tells : GameKind → List LegalNode → Type 0) (new : Judging) → WentOn tells kind (before ++ h.done) more judge.plays new → Going tells kind before all others old new
+    goes_on tells new on = record {
+      done = h.done ++ more;
+      whole = whole;
+      on = record {
+        has_judged = subst (λ nodes. HasJudged tells kind nodes new.judgement) (append_assoc before h.done more) on.has_judged;
+        plays = omega (arith, on.plays, h.on.plays, plays_sum kind before h.done more);
+      };
+    }
+
+    -- or by some of these, for want of memory
+    pub stops : (new : ℕ) → (judge.plays ≤ new) × (new ≤ judge.plays + plays_for kind (before ++ h.done) more) → (old ≤ new) × (new ≤ old + plays_for kind before all)
+    stops new up = (
+      omega (arith, h.on.plays, up.0),
+      omega (arith, h.on.plays, up.1, plays_sum kind before h.done more, plays_sum kind before (h.done ++ more) others, ap (plays_for kind before) whole),
+    )
+
+-- a judge took the first of these nodes, and the others are left
+pub record TookOne (judge : Judging) (rest : List Node) (node : Node) (others : List Node) (new : Judging) : Type 0 where
+  pub undecided : IsUndecided judge.judgement
+  pub first : rest ≡ node ∷ others
+  pub judged : new.judgement ≡ after judge.judgement node
+  pub plays : new.plays ≡ judge.plays + 1
+
+-- by one node
+module _ {holds : GameKind → List LegalNode → Type 0} {kind : GameKind} {before all rest : List Node} {old : ℕ} {judge : Judging} (h : Going holds kind before all rest old judge)
+    {node : Node} {others : List Node} {new : Judging} (one : TookOne judge rest node others new) where
+  by_node : (tells : GameKind → List LegalNode → Type 0) → tells kind (legal_on kind ((before ++ h.done) ++ node ∷ [])) → Going tells kind before all others old new
+  by_node tells told =
+      let nodes = before ++ h.done in
+      goes_on h (node ∷ []) others one.first tells new (record {
+        has_judged = record { judged = one.judged ∙ ap (λ j. after j node) h.on.has_judged.judged ∙ sym (judging_more kind nodes node); taken = told };
+        plays = omega (arith, one.plays, plays_one kind nodes node (subst IsUndecided h.on.has_judged.judged one.undecided));
+      })
+
+  -- which wasn't taken
+  pub refuses : state_after judge.judgement node ≡ None → WentOn holds kind before all old new
+  refuses none =
+      decides (by_node holds (subst (holds kind) (untaken kind (before ++ h.done) node judge.judgement h.on.has_judged.judged none) h.on.has_judged.taken)) (rw one.judged (decided_by judge.judgement node none))
+
+  -- or whose step wasn't told, for want of memory
+  pub unsaid : (old ≤ new.plays) × (new.plays ≤ old + plays_for kind before all)
+  unsaid = stops (by_node (λ _ _. Unit {0}) tt) [] others refl new.plays (omega arith, omega arith)
+
+  -- or whose step was told
+  module _ (step : LegalStep) (grid : Grid) (taken : IsStepFrom judge.judgement node (Some step)) (there : Some grid ≡ board_in new.judgement) where
+    abbrev pub taken_node : LegalNode
+    taken_node = record { node = node; after = taken.0 }
+
+    pub step_taken : IsLegalStep kind grid step taken_node
+    step_taken = is_taken kind (before ++ h.done) node judge.judgement h.on.has_judged.judged step grid taken (there ∙ ap board_in one.judged)
+
+    pub said : (tells : GameKind → List LegalNode → Type 0) → tells kind (legal_on kind (before ++ h.done) ++ taken_node ∷ []) → Going tells kind before all others old new
+    said tells told = by_node tells (subst (tells kind) (told_last kind (before ++ h.done) node judge.judgement h.on.has_judged.judged taken.0 taken.1) told)
+
+-- a line was judged, whose front was judged before
+module _ (nodes : List Node) (held : ℕ) (le : held ≤ length nodes) {A E : Type 0} (r : Result A E) where
+  abbrev kind_of : GameKind
+  kind_of = game_kind (root_properties nodes)
+
+  fresh : plays_for kind_of (take held nodes) (drop held nodes) ≡ fresh_plays nodes held
+  fresh = omega (arith, judged_first kind_of (take held nodes) (drop held nodes), ap (judged_count kind_of) (take-append-drop held nodes), length-take-le held nodes le)
+
+  pub finish : (tells : GameKind → List LegalNode → Type 0) (old : ℕ) (judge : Judging) → WentOn tells kind_of (take held nodes) (drop held nodes) old judge
+      → record { judged : OnOk r (HasJudged tells kind_of nodes judge.judgement); plays : PlaysUpTo old judge.plays (fresh_plays nodes held) r }
+  finish tells old judge on = record {
+    judged = on_any r (subst (λ ns. HasJudged tells kind_of ns judge.judgement) (take-append-drop held nodes) on.has_judged);
+    plays = record { not_fewer = omega (arith, on.plays); not_more = omega (arith, on.plays, fresh); each = on_any r (omega (arith, on.plays, fresh)) };
+  }
+
+  pub stopped : (old new : ℕ) → IsErr r → (old ≤ new) × (new ≤ old + plays_for kind_of (take held nodes) (drop held nodes)) → PlaysUpTo old new (fresh_plays nodes held) r
+  stopped old new is up = record { not_fewer = up.0; not_more = omega (arith, up.1, fresh); each = on_none _ r is }

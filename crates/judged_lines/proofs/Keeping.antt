@@ -1,0 +1,129 @@
+-- What is held of a line is kept of the next one, as far as it begins alike.
+use Rattle.std.proofs.Common.{◌≡◌, ℕ, suc, ◌+◌, ◌<◌, ◌≤◌, List, [], ◌∷◌, length, take, map, slice_get, Option, Some, refl, sym, ap, subst, inl, inr, ◌∙◌, arith, add-one, length-append, rules}
+use Rattle.std.proofs.lemmas.Grind.{common_steps}
+use Rattle.std.proofs.lemmas.List.{take-map, length-take-le}
+use Rattle.std.proofs.lemmas.List.FromFn.{length-range_with_len}
+use Rattle.sgf_tree.specs.Tree.{Node}
+use Rattle.sgf_tree.specs.FileOrder.{node_at}
+use Rattle.tree_lines.specs.Lines.{lines}
+use Rattle.tree_lines.specs.Cursor.{CursorState, advanced}
+use Rattle.judged_lines.specs.JudgedGames.{GameKind, game_kind, root_properties}
+use Rattle.judged_lines.specs.Walk.{LegalNode, legal_on}
+use Rattle.tree_lines.specs.declared.sequence_cursor.Front.{Front}
+use Rattle.judged_lines.specs.Judgement.{Judgement, judging}
+use Rattle.judged_lines.specs.inner.Judging.{back}
+use Rattle.tree_lines.specs.Following.{Continues, line_in, line_before, nodes_before, path_before}
+use Rattle.judged_lines.specs.Keeping.{HoldsLine}
+use Rattle.tree_lines.specs.Sequences.{SequencesState, SharesFront}
+use Rattle.judged_lines.specs.GoingOn.{HasFront, IsHeldOf}
+use Rattle.judged_lines.proofs.Along.{same_root}
+use Rattle.tree_lines.proofs.Fronts.{front_kept}
+use Rattle.judged_lines.proofs.Judgements.{judging_back, taken_cut}
+use Rattle.tree_lines.proofs.LineNodes.{named_in, as_long}
+
+-- the judgement on a line after its first nodes, and the legal ones of them
+abbrev pub judging_front : List Node → ℕ → Judgement
+judging_front nodes count = judging (game_kind (root_properties nodes)) (take count nodes)
+
+abbrev pub taken_front : List Node → ℕ → List LegalNode
+taken_front nodes count = legal_on (game_kind (root_properties nodes)) (take count nodes)
+
+-- a judgement can be cut back to the first `count` of a line's nodes; if `count` is 0, nothing is known
+abbrev pub KeepsJudgement : List Node → ℕ → Judgement → Type 0
+KeepsJudgement nodes count judgement = 0 < count → back count judgement ≡ judging_front nodes count
+
+-- legal nodes are kept that begin with those of a line's first `count` nodes; if `count` is 0, nothing is known
+abbrev pub KeepsTaken : (GameKind → List LegalNode → Type 0) → List Node → ℕ → Type 0
+KeepsTaken keeps nodes count =
+    0 < count → (taken : List LegalNode) × keeps (game_kind (root_properties nodes)) taken × (take count taken ≡ taken_front nodes count)
+
+some_inj : (xs ys : List Node) → map Some xs ≡ map Some ys → xs ≡ ys
+some_inj [] [] e = refl
+some_inj [] (y ∷ ys) e = absurd cc
+some_inj (x ∷ xs) [] e = absurd cc
+some_inj (x ∷ xs) (y ∷ ys) e = let head : x ≡ y = cc in let rest = some_inj xs ys cc in cc
+
+-- paths that share a front name the same nodes there
+pub same_front : (f : ℕ → Option Node) (old new : List ℕ) (was nodes : List Node) (kept : ℕ) → map Some was ≡ map f old → map Some nodes ≡ map f new → Continues old kept new
+    → take kept was ≡ take kept nodes
+same_front f old new was nodes kept e g h =
+    let front : take kept new ≡ take kept old = front_kept old kept new h in
+    some_inj (take kept was) (take kept nodes)
+    (sym (take-map Some kept was) ∙ ap (take kept) e ∙ take-map f kept old ∙ ap (map f) (sym front) ∙ sym (take-map f kept new) ∙ ap (take kept) (sym g) ∙ take-map Some kept nodes)
+
+-- what is held of a line is held of another one that begins alike
+module _ (old nodes : List Node) (count : ℕ) (some : 0 < count) (within : count ≤ length old) (same : take count old ≡ take count nodes) where
+  kinds : game_kind (root_properties old) ≡ game_kind (root_properties nodes)
+  kinds = ap game_kind (same_root count old nodes some within same)
+
+  judged_same : (judgement : Judgement) → judgement ≡ judging (game_kind (root_properties old)) old → back count judgement ≡ judging_front nodes count
+  judged_same judgement h = first_of (search rules, grind (arith, common_steps, judging_back, kinds))
+
+  taken_same : (keeps : GameKind → List LegalNode → Type 0) → keeps (game_kind (root_properties old)) (legal_on (game_kind (root_properties old)) old)
+      → (taken : List LegalNode) × keeps (game_kind (root_properties nodes)) taken × (take count taken ≡ taken_front nodes count)
+  taken_same keeps h =
+      let kind = game_kind (root_properties old) in
+      let taken = legal_on kind old in (
+        taken,
+        subst (λ k. keeps k taken) kinds h,
+        sym (taken_cut kind old count within) ∙ ap (legal_on kind) same ∙ ap (λ k. legal_on k (take count nodes)) kinds,
+      )
+
+-- the cursor went on by a line
+named : (at : CursorState) → map Some (nodes_before at) ≡ map (node_at at.games) (path_before at)
+named at = named_in at.games at.index
+
+pub line_next : (at : CursorState) → line_before (advanced at) ≡ slice_get (lines at.games) at.index
+line_next at = let next : at.index + 1 ≡ suc at.index = add-one at.index in ap (line_in at.games) next
+
+-- a line that shares so many nodes with the line before it
+module _ (old new : CursorState) (shared : ℕ) (moved : new ≡ advanced old) (continues : Continues (path_before old) shared (path_before new)) where
+  many_new : length (nodes_before new) ≡ shared + (continues.more + 1)
+  many_new = first_of (search rules, grind (arith, common_steps, as_long, length-append, length-range_with_len, length-take-le))
+
+  pub some_node : 0 < length (nodes_before new)
+  some_node = omega (arith, many_new)
+
+  within : shared ≤ length (nodes_before new)
+  within = omega (arith, many_new)
+
+  within_old : shared ≤ length (nodes_before old)
+  within_old = omega (arith, as_long old, continues.kept_within)
+
+  pub same_nodes : take shared (nodes_before old) ≡ take shared (nodes_before new)
+  same_nodes =
+      let named_new : map Some (nodes_before new) ≡ map (node_at old.games) (path_before new) = named new ∙ ap (λ (p : CursorState). map (node_at p.games) (path_before new)) moved in
+      same_front (node_at old.games) (path_before old) (path_before new) (nodes_before old) (nodes_before new) shared (named old) named_new continues
+
+-- the front that a line shares with the line before it
+pub has_front : (old new : SequencesState) (shared : Front) → SharesFront old new shared → HasFront new.ends shared
+has_front old new shared h = grind (arith, common_steps)
+
+-- a part of what is held of a line
+pub held_part : (holds part : SequencesState → Type 0) (cursor : SequencesState) (front : Front) → ((old : SequencesState) → holds old → part old) → IsHeldOf holds cursor front → IsHeldOf part cursor front
+held_part holds part cursor front of (inl none) = inl none
+held_part holds part cursor front of (inr h) = inr (h.0, of h.0 h.1, h.2, h.3)
+
+module _ (holds : SequencesState → Type 0) (cursor : SequencesState) (front : Front) (held : IsHeldOf holds cursor front) where
+  -- some nodes are held, of the line before
+  pub by_old : (P : Type 0) → 0 < front.sequences → ((old : SequencesState) → holds old → cursor.at ≡ advanced old.at → SharesFront old cursor front → P) → P
+  by_old P some of = by held
+    where
+      by : IsHeldOf holds cursor front → P
+      by known = first_of (search rules, grind (arith, common_steps))
+
+  some_front : 0 < front.nodes → 0 < front.sequences
+  some_front known = first_of (search rules, grind (arith, common_steps))
+
+  module _ (keeps : GameKind → List LegalNode → Type 0) (j : Judgement) (of : (old : SequencesState) → holds old → HoldsLine keeps j old) where
+    pub judgement_kept : KeepsJudgement (nodes_before cursor.at) front.nodes j
+    judgement_kept some =
+        by_old (back front.nodes j ≡ judging_front (nodes_before cursor.at) front.nodes) (some_front some) (λ old h moved shares.
+        judged_same (nodes_before old.at) (nodes_before cursor.at) front.nodes some (within_old old.at cursor.at front.nodes moved shares.nodes)
+        (same_nodes old.at cursor.at front.nodes moved shares.nodes) j (of old h).judged)
+
+    pub taken_kept : KeepsTaken keeps (nodes_before cursor.at) front.nodes
+    taken_kept some =
+        let nodes = nodes_before cursor.at in
+        by_old ((taken : List LegalNode) × keeps (game_kind (root_properties nodes)) taken × (take front.nodes taken ≡ taken_front nodes front.nodes)) (some_front some) (λ old h moved shares.
+        taken_same (nodes_before old.at) nodes front.nodes some (within_old old.at cursor.at front.nodes moved shares.nodes) (same_nodes old.at cursor.at front.nodes moved shares.nodes) keeps (of old h).taken)

@@ -1,0 +1,101 @@
+-- While no node changes the board, its score stays.
+use Rattle.std.proofs.Common.{◌≡◌, ◌⊎◌, ℕ, ◌+◌, ◌<◌, ◌≤◌, min, inl, inr, List, [], ◌∷◌, ◌++◌, length, refl, sym, ap, ◌∙◌, subst, Option, Some, None, Err, arith}
+use Rattle.std.proofs.lemmas.Bool.{cases_lt}
+use Rattle.std.specs.Prelude.{Result, Ok, IfSome}
+use Rattle.sgf_tree.specs.Tree.{Node}
+use Rattle.go_board.specs.declared.reason.Reason.{Reason}
+use Rattle.go_board.specs.declared.fault.TurnFault.{TurnFault}
+use Rattle.go_board.specs.declared.fault.TurnFault.TheVariants.{Illegal, Memory}
+use Rattle.board_stones.specs.declared.stones.Colour.TheVariants.{Black, White}
+use Rattle.board_stones.specs.Grid.{Grid}
+use Rattle.board_stones.specs.Score.{score_of}
+use Rattle.go_board.specs.State.{State, States, HadSameBoardSince}
+use Rattle.judged_lines.specs.Step.{step}
+use Rattle.judged_lines.specs.inner.Judging.{IsScoreAt, IsScoreOf, IsStepped, back_from, back_to}
+use Rattle.judged_lines.proofs.Judgements.{back_none, back_one, back_undone}
+
+-- the board on the way back, if it stayed since
+same_back : (g : Grid) (s : State) (es : List State) (depth d : ℕ) → depth ≤ d → s.colouring ≡ g → ((later older : List State) (before : State) → es ≡ later ++ before ∷ older → depth ≤ length older → before.colouring ≡ g) → (back_from s es d).present.colouring ≡ g
+same_back g s [] depth d le is since = is
+same_back g s (e ∷ es) depth d le is since =
+    elim (cases_lt d (length (e ∷ es))) [
+      | inl below ↦
+          ap (λ (states : States). states.present.colouring) (back_one s e es d below)
+          ∙ same_back g e es depth d le (since [] es e refl (omega (arith, le, below)))
+          (λ later older before at enough. since (e ∷ later) older before (ap (λ (l : List State). e ∷ l) at) enough)
+      | inr above ↦ ap (λ (states : States). states.present.colouring) (back_none (record { present = s; earlier = e ∷ es }) d above) ∙ is
+    ]
+
+length_back : (s : State) (es : List State) (d : ℕ) → d ≤ length es → length (back_from s es d).earlier ≡ d
+length_back s [] d le = omega (arith, le)
+length_back s (e ∷ es) d le =
+    elim (cases_lt d (length (e ∷ es))) [
+      | inl below ↦ ap (λ (states : States). length states.earlier) (back_one s e es d below) ∙ length_back e es d (omega (arith, below))
+      | inr above ↦ ap (λ (states : States). length states.earlier) (back_none (record { present = s; earlier = e ∷ es }) d above) ∙ omega (arith, le, above)
+    ]
+
+-- back in two steps
+back_back : (s : State) (es : List State) (count d : ℕ) → d ≤ count → back_to (back_from s es count) d ≡ back_from s es d
+back_back s [] count d le = refl
+back_back s (e ∷ es) count d le =
+    elim (cases_lt count (length (e ∷ es))) [
+      | inl below ↦
+          ap (λ (states : States). back_to states d) (back_one s e es count below)
+          ∙ back_back e es count d le
+          ∙ sym (back_one s e es d (omega (arith, le, below)))
+      | inr above ↦ ap (λ (states : States). back_to states d) (back_none (record { present = s; earlier = e ∷ es }) count above)
+    ]
+
+-- the score of another state with the same board
+on_same : (a b : State) (k : ℕ × ℕ) → a.colouring ≡ b.colouring → IsScoreOf a (Some k) → IsScoreOf b (Some k)
+on_same a b k same is = (is.0 ∙ ap (λ g. score_of g Black) same, is.1 ∙ ap (λ g. score_of g White) same)
+
+-- after a step
+pub scored_stepped : {A : Type 0} (r : Result State Reason) (old new : States) (result : Result A TurnFault) (scored : ℕ) (score : Option (ℕ × ℕ)) → IsStepped r old new result → IsScoreAt old scored score → IsScoreAt new scored score
+scored_stepped r old new result scored None stepped known = tt
+scored_stepped r old new (Ok value) scored (Some k) stepped known =
+    let more : length new.earlier ≡ length old.earlier + 1 = ap (λ (states : States). length states.earlier) stepped.1 ∙ omega arith in
+    let same : back_to new scored ≡ back_to old scored = back_undone new old scored new.present (omega (arith, more, known.0)) stepped.1 in
+    (omega (arith, more, known.0), subst (λ (states : States). IsScoreOf states.present (Some k)) (sym same) known.1)
+scored_stepped r old new (Err (Illegal reason)) scored (Some k) stepped known = subst (λ (states : States). IsScoreAt states scored (Some k)) (sym stepped.1) known
+scored_stepped r old new (Err Memory) scored (Some k) stepped known = subst (λ (states : States). IsScoreAt states scored (Some k)) (sym stepped) known
+
+-- on the present board
+pub scored_now : (states : States) (scored : ℕ) (score : Option (ℕ × ℕ)) (k : ℕ × ℕ) → score ≡ Some k → IsScoreAt states scored score → HadSameBoardSince states scored → IsScoreOf states.present (Some k)
+scored_now states scored score k is known since =
+    let here : IsScoreAt states scored (Some k) = subst (IsScoreAt states scored) is known in
+    on_same (back_to states scored).present states.present k
+    (same_back states.present.colouring states.present states.earlier scored scored (omega arith) refl since) here.1
+
+pub scored_here : (states : States) (depth : ℕ) (k : ℕ × ℕ) → depth ≡ length states.earlier → IsScoreOf states.present (Some k) → IsScoreAt states depth (Some k)
+scored_here states depth k is known =
+    (omega (arith, is), subst (λ (s : States). IsScoreOf s.present (Some k)) (sym (back_none states depth (omega (arith, is)))) known)
+
+-- after the first nodes
+at_depth : (states : States) (count scored m : ℕ) (k : ℕ × ℕ) → count < length states.earlier → min scored count ≡ m → IsScoreOf (back_to states m).present (Some k) → IsScoreAt (back_to states count) (min scored count) (Some k)
+at_depth states count scored m k fewer at there =
+    let left : length (back_to states count).earlier ≡ count = length_back states.present states.earlier count (omega (arith, fewer)) in
+    let twice : back_to (back_to states count) (min scored count) ≡ back_to states (min scored count) =
+    back_back states.present states.earlier count (min scored count) (omega arith) in
+    (omega (arith, left), subst (λ (s : States). IsScoreOf s.present (Some k)) (sym (twice ∙ ap (back_to states) at)) there)
+
+pub scored_back : (states : States) (count scored : ℕ) (score kept : Option (ℕ × ℕ)) → count < length states.earlier → IfSome kept (λ k. (score ≡ Some k) × ((scored ≤ count) ⊎ HadSameBoardSince states count)) → IsScoreAt states scored score → IsScoreAt (back_to states count) (min scored count) kept
+scored_back states count scored score None fewer is known = tt
+scored_back states count scored score (Some k) fewer is known =
+    let here : IsScoreAt states scored (Some k) = subst (IsScoreAt states scored) is.0 known in
+    elim (cases_lt count scored) [
+      | inl later ↦
+          elim is.1 [
+            | inl within ↦ absurd (omega (arith, later, within))
+            | inr since ↦
+                let first = same_back states.present.colouring states.present states.earlier count scored (omega (arith, later)) refl since in
+                let second = same_back states.present.colouring states.present states.earlier count count (omega arith) refl since in
+                at_depth states count scored count k fewer (omega (arith, later))
+                (on_same (back_to states scored).present (back_to states count).present k (first ∙ sym second) here.1)
+          ]
+      | inr within ↦ at_depth states count scored scored k fewer (omega (arith, within)) here.1
+    ]
+
+-- the step of a game is that of its referee
+pub stepped_as : {A : Type 0} (node : Node) (inside now new : States) (result : Result A TurnFault) → inside ≡ now → IsStepped (step inside.present node) inside new result → IsStepped (step now.present node) now new result
+stepped_as node inside now new result is stepped = subst (λ (s : States). IsStepped (step s.present node) s new result) is stepped

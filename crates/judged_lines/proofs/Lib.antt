@@ -1,0 +1,17 @@
+pub mod ExamplesOfVerdicts
+pub mod Walking
+pub mod Joins
+pub mod Lists
+pub mod Steps
+pub mod Gathered
+pub mod Judgements
+pub mod LegalNodes
+pub mod Along
+pub mod Keeping
+pub mod KeptScores
+pub mod LineVerdicts
+pub mod GoingOn
+pub mod Touched
+pub mod StreakPlays
+pub mod JudgedLines
+pub mod Followers

@@ -1,0 +1,59 @@
+-- The verdict of the line before a cursor, of the line that ends in a leaf, and of the line that has a place.
+use Rattle.std.proofs.Common.{◌≡◌, ℕ, ◌<◌, List, length, Option, Some, ap, ◌∙◌, arith, rules, suc, ◌+◌, add-one}
+use Rattle.std.proofs.lemmas.Grind.{common_steps}
+use Rattle.std.specs.Prelude.{option_map, Result, Ok, Err, IfOk}
+use Rattle.sgf_tree.specs.Tree.{Node, Games, node_count}
+use Rattle.tree_lines.specs.Lines.{Line}
+use Rattle.judged_lines.specs.Verdict.{verdict_of, verdict, IsVerdictAt, IsVerdictOf}
+use Rattle.tree_lines.specs.Cursor.{CursorState, IsAfterPlace}
+use Rattle.judged_lines.specs.JudgedGames.{game_kind, root_properties}
+use Rattle.judged_lines.specs.declared.verdict.Verdict.{Verdict}
+use Rattle.tree_lines.specs.Following.{nodes_of, line_before, nodes_before, line_in, lines_before}
+use Rattle.judged_lines.specs.Judgement.{Judgement, judging}
+use Rattle.judged_lines.specs.inner.Judging.{verdict_in}
+use Rattle.judged_lines.proofs.Judgements.{judging_verdict}
+use Rattle.sgf_tree.specs.FileOrder.{IsLeaf}
+use Rattle.sgf_properties.specs.declared.fault.MemoryFault.{MemoryFault}
+use Rattle.tree_lines.specs.Paths.{Path, leaf_of}
+use Rattle.tree_lines.proofs.CursorStates.{IsNextLine, next_line, before}
+use Rattle.tree_lines.proofs.Named.{line_at}
+
+pub verdict_is : (nodes : List Node) (j : Judgement) (v : Verdict) → v ≡ verdict_in j → j ≡ judging (game_kind (root_properties nodes)) nodes → v ≡ verdict_of nodes
+verdict_is nodes j v e h = e ∙ ap verdict_in h ∙ judging_verdict (game_kind (root_properties nodes)) nodes
+
+-- where it has a node there is a line
+pub some_line : (at : CursorState) → 0 < length (nodes_before at) → (l : Line) × (line_before at ≡ Some l)
+some_line at known = first_of (search rules, grind (arith, common_steps))
+
+-- the verdict of a line's nodes is the line's
+pub told_of : (line : Option Line) (v : Verdict) → 0 < length (nodes_of line) → v ≡ verdict_of (nodes_of line) → option_map verdict line ≡ Some v
+told_of line v known known2 = first_of (search rules, grind (arith, common_steps))
+
+module _ (c : Games) (leaf : ℕ) (lt : leaf < node_count c) (is_leaf : IsLeaf c leaf) where
+  own : (path : Path) × IsNextLine c leaf leaf path
+  own = next_line c leaf leaf (omega arith) lt is_leaf (λ j le below l. omega arith)
+
+  pub some_before : (at : CursorState) → at ≡ before c (leaf + 1) → 0 < at.index
+  some_before at is = omega (arith, own.1.one_more, ap (λ (s : CursorState). s.index) is)
+
+  pub judged_at : (at : CursorState) → at ≡ before c (leaf + 1) → (told : Result Verdict MemoryFault) → IfOk told (λ v. option_map verdict (line_before at) ≡ Some v)
+      → IfOk told (IsVerdictAt c leaf)
+  judged_at at is (Err fault) told = told
+  judged_at at is (Ok v) told =
+      let index = lines_before c leaf in
+      let line = line_at c index own.0 own.1.found in
+      let count : lines_before c (leaf + 1) ≡ suc index = own.1.one_more ∙ add-one index in
+      let there : line_before at ≡ Some line.0 = ap line_before is ∙ ap (line_in c) count ∙ line.1.found in
+      let same : Some (verdict line.0) ≡ Some v = rw there at told in
+      record {
+        index = index;
+        line = line.0;
+        found = line.1.found;
+        ends = ap (λ o. option_map leaf_of o) own.1.found ∙ ap Some own.1.ends;
+        placed = rw own.1.ends at line.1.place;
+        verdict_is = cc;
+      }
+
+-- the line before a cursor that was moved to just after a place has that place
+pub verdict_before : (old at : CursorState) (place : ℕ) (told : Verdict) → IsAfterPlace place old at → option_map verdict (line_before at) ≡ Some told → IsVerdictOf old.games place told
+verdict_before old at place told after told_is = first_of (search rules, grind (arith, common_steps))

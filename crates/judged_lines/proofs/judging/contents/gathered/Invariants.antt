@@ -1,0 +1,14 @@
+-- What is told is what the properties hold that were taken off.
+use Rattle.std.proofs.Common.{◌≡◌, ◌++◌, List, length}
+use Rattle.sgf_tree.specs.Tree.{Property, told_property}
+use Rattle.judged_lines.specs.inner.Gathered.{IsGathered}
+use Rattle.judged_lines.proofs.judging.contents.gathered.Given as goal
+
+abbrev pub invariant-loop-property : goal.invariant-loop-property
+invariant-loop-property l = record {
+  gathered : (front : List Property) × IsGathered l.size front l.operations.items l.contents × (front ++ l.nodes.properties ≡ told_property l.fn.front ++ l.initial.nodes.properties);
+  left : l.nodes.nodes ≡ l.initial.nodes.nodes;
+}
+
+abbrev pub decreases-loop-property : goal.decreases-loop-property
+decreases-loop-property l = length l.nodes.properties

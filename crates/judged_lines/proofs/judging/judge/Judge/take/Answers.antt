@@ -1,0 +1,43 @@
+-- The step leads to the state that it added, or the refusal decides the verdict.
+use Rattle.std.proofs.Common.{◌≡◌, Err, subst}
+use Rattle.judged_lines.specs.Step.{step}
+use Rattle.judged_lines.specs.Judgement.{IsStepOf}
+use Rattle.judged_lines.proofs.Gathered.{coming}
+use Rattle.judged_lines.proofs.Judgements.{side_stood, leads_to, leads_on, refused, leads_nowhere, untaken}
+use Rattle.judged_lines.proofs.judging.judge.Judge.take.Goals as goal
+
+pub returns-in-Ok-clause-judged : goal.returns-in-Ok-clause-judged
+returns-in-Ok-clause-judged c node is =
+    let s = c.self.inside in
+    let on = c.in-Ok.ensures.stepped node is in
+    leads_on s.ended s.game c.in-Some.game s.plays c.args.self.now c.self.view_is c.in-Some.is c.requires.undecided node c.take.new.self on.0 on.1
+
+pub returns-in-Ok-clause-step : goal.returns-in-Ok-clause-step
+returns-in-Ok-clause-step c node is =
+    let s = c.self.inside in
+    let r = c.in-Some.game in
+    let new = c.take.new.self.present in (
+      new,
+      leads_to s.ended s.game r s.plays c.args.self.now c.self.view_is c.in-Some.is c.requires.undecided node new (c.in-Ok.ensures.stepped node is).0,
+      subst (λ side. IsStepOf side node c.in-Ok.step) (side_stood s.ended s.game r s.plays c.args.self.now c.self.view_is c.in-Some.is) (c.in-Ok.ensures.told node is),
+    )
+
+pub returns-in-Err-Illegal-clause-judged : goal.returns-in-Err-Illegal-clause-judged
+returns-in-Err-Illegal-clause-judged c node is =
+    let s = c.self.inside in
+    let refusal : (step c.in-Some.game.present node ≡ Err c.in-Err-Illegal.reason) × (c.take.new.self ≡ c.in-Some.game) = rw c.in-Err-Illegal.field-0-is at (c.in-Err-Illegal.ensures.stepped node is) in
+    refused s.ended s.game c.in-Some.game s.plays c.args.self.now c.self.view_is c.in-Some.is c.requires.undecided node c.in-Err-Illegal.reason c.turns-turn.result c.place_of-place.result c.take.new.self
+    refusal.0 refusal.1 c.turns-turn.ensures.value (c.place_of-place.ensures node c.args.nodes.now.properties is)
+
+pub returns-in-Err-Illegal-clause-step : goal.returns-in-Err-Illegal-clause-step
+returns-in-Err-Illegal-clause-step c node is =
+    let s = c.self.inside in
+    let refusal : (step c.in-Some.game.present node ≡ Err c.in-Err-Illegal.reason) × (c.take.new.self ≡ c.in-Some.game) = rw c.in-Err-Illegal.field-0-is at (c.in-Err-Illegal.ensures.stepped node is) in
+    leads_nowhere s.ended s.game c.in-Some.game s.plays c.args.self.now c.self.view_is c.in-Some.is c.requires.undecided node c.in-Err-Illegal.reason refusal.0
+
+pub returns-in-Err-Memory-clause-unchanged : goal.returns-in-Err-Memory-clause-unchanged
+returns-in-Err-Memory-clause-unchanged c =
+    let s = c.self.inside in
+    let some = coming c.args.nodes.now.properties c.args.next in
+    let same : c.take.new.self ≡ c.in-Some.game = rw c.in-Err-Memory.field-0-is at (c.in-Err-Memory.ensures.stepped some.0 some.1) in
+    untaken s.ended s.game c.in-Some.game s.plays c.args.self.now c.self.view_is c.in-Some.is c.take.new.self same

@@ -1,0 +1,101 @@
+-- One sequence more is judged, until all are, or the verdict is known.
+use Rattle.std.proofs.Common.{◌≡◌, ◌+◌, ◌++◌, ◌≤◌, List, length, take, drop, refl, sym, ap, ◌∙◌, length-append, arith, rules}
+use Rattle.std.proofs.lemmas.List.{length-drop}
+use Rattle.sgf_tree.specs.Tree.{Node}
+use Rattle.tree_lines.specs.Following.{nodes_before}
+use Rattle.tree_lines.specs.Sequences.{nodes_in}
+use Rattle.judged_lines.specs.JudgedGames.{game_kind, root_properties}
+use Rattle.tree_lines.proofs.Fronts.{next_part, none_after, rises_through}
+use Rattle.judged_lines.proofs.JudgedLines.{Going, begun_front, countable, ends, finish, goes_on, decides, starts, stopped, stops}
+use Rattle.judged_lines.proofs.Keeping.{judgement_kept, judging_front, taken_kept}
+use Rattle.judged_lines.proofs.LegalNodes.{told_front}
+use Rattle.judged_lines.proofs.judging.judged.judge_line.Given.{Over}
+use Rattle.judged_lines.proofs.judging.judged.judge_line.Goals as goal
+use Rattle.judged_lines.proofs.judging.judged.judge_line.Goals.{After-sequences-end, After-nodes, In_ok-keep, then-held-eq0+in_ok-begin, else-held-eq0}
+
+-- the front is no longer than the line
+within : (g : Over) (c : After-sequences-end g) → c.args.held.nodes ≤ length (nodes_before c.args.cursor.now.at)
+within g c =
+    let cursor = c.args.cursor.now in
+    let through = rises_through 0 cursor.ends (length (nodes_before cursor.at)) c.args.held.sequences c.sequences-end.ensures.divided (omega (arith, c.requires.front.more)) in
+    omega (arith, through.1, c.requires.front.count)
+
+pub keep-requires : goal.keep-requires
+keep-requires g c = omega (arith, within g (goal.at.keep-requires g c).After-sequences-end, c.len-nodes.ensures.nodes, c.len-nodes.ensures.small)
+
+-- the front is judged
+started : (g : Over) (c : In_ok-keep g) → (let line = nodes_before c.args.cursor.now.at in
+    Going (g.K.StepKeeper.tells c.keep.new.self) (game_kind (root_properties line)) (take c.args.held.nodes line) (drop c.args.held.nodes line) (drop (nodes_in c.args.cursor.now.ends c.args.held.sequences) line) c.args.judge.now.plays c.if-held-eq0.judge)
+started g c =
+    let line = nodes_before c.args.cursor.now.at in
+    let held = c.args.held.nodes in
+    let judge = c.if-held-eq0.judge in
+    let keeps = g.K.StepKeeper.tells c.args.keeper.now in
+    let tells = g.K.StepKeeper.tells c.keep.new.self in
+    let judged : (judge.judgement ≡ judging_front line held) × (judge.plays ≡ c.args.judge.now.plays) =
+    elim c.if-held-eq0.branch [
+      | then-held-eq0+in_ok-begin w ↦ rw w.judge-is (w.in_ok-begin.ensures.begun ∙ begun_front line w.root.result held w.root.ensures (omega (arith, w.if-held-eq0.true)), w.in_ok-begin.ensures.plays)
+      | else-held-eq0 w ↦ rw w.judge-is (w.cut_back.ensures.judged ∙ judgement_kept _ c.args.cursor.now c.args.held c.requires.held keeps c.args.judge.now.judgement (λ old h. h) (omega (arith, w.if-held-eq0.false)), w.cut_back.ensures.plays)
+    ] in
+    let told = told_front keeps tells line held judge.judgement judged.0 (rw c.board.ensures at c.in_ok-keep.ensures.begun) c.in_ok-keep.ensures.kept
+    (taken_kept _ c.args.cursor.now c.args.held c.requires.held keeps c.args.judge.now.judgement (λ old h. h)) in
+    starts (drop held line) _ _ judge (record { judged = judged.0; taken = told }) judged.1 (ap (λ k. drop k line) (sym c.requires.front.count))
+
+pub returns-then-is_decided : goal.returns-then-is_decided
+returns-then-is_decided g c =
+    finish _ c.args.held.nodes (within g (goal.at.returns-then-is_decided g c).After-sequences-end) _ _ _ c.if-held-eq0.judge
+    (decides (started g (goal.at.returns-then-is_decided g c).In_ok-keep) (c.is_decided.ensures.decided c.if-is_decided.true))
+
+pub loop-index-init : goal.loop-index-init
+loop-index-init g c = record { going = started g (goal.at.loop-index-init g c).In_ok-keep; undecided = c.is_decided.ensures.undecided c.if-is_decided.false }
+
+-- the next sequence, and the nodes after it
+module _ (g : Over) (c : After-nodes g) where
+  abbrev rest : List Node
+  rest = drop (nodes_in c.args.cursor.now.ends (c.loop-index.index + 1)) (nodes_before c.args.cursor.now.at)
+
+  first : drop (nodes_in c.args.cursor.now.ends c.loop-index.index) (nodes_before c.args.cursor.now.at) ≡ c.nodes.result.nodes ++ rest
+  first =
+      let line = nodes_before c.args.cursor.now.at in
+      next_part c.args.cursor.now.ends line (length line) c.loop-index.index c.nodes.result.nodes c.sequences-end.ensures.divided c.nodes.ensures
+
+pub judge_sequence-requires-clause-known : goal.judge_sequence-requires-clause-known
+judge_sequence-requires-clause-known g c = (_, _, c.loop-index.invariant.going.on.has_judged)
+
+pub judge_sequence-requires-clause-countable : goal.judge_sequence-requires-clause-countable
+judge_sequence-requires-clause-countable g c =
+    let at = (goal.at.judge_sequence-requires-clause-countable g c).After-nodes in
+    let many = length-append c.nodes.result.nodes (rest g at) in
+    omega (arith, countable c.loop-index.invariant.going, ap length (first g at), many, length-drop c.args.held.nodes (nodes_before c.args.cursor.now.at), c.requires.countable)
+
+pub loop-index-preserved : goal.loop-index-preserved
+loop-index-preserved g c =
+    let at = (goal.at.loop-index-preserved g c).After-nodes in
+    record {
+      going = goes_on c.loop-index.invariant.going c.nodes.result.nodes (rest g at) (first g at) (g.K.StepKeeper.tells c.judge_sequence.new.keeper) c.judge_sequence.new.judge
+          (c.in_ok-all.ensures.judged _ _ c.loop-index.invariant.going.on.has_judged);
+      undecided = c.in_ok-all.ensures.undecided (search rules);
+    }
+
+pub returns-in_err-all-clause-plays : goal.returns-in_err-all-clause-plays
+returns-in_err-all-clause-plays g c =
+    let at = (goal.at.returns-in_err-all-clause-plays g c).After-nodes in
+    let new = c.judge_sequence.new.judge.plays in
+    stopped _ c.args.held.nodes (within g (goal.at.returns-in_err-all-clause-plays g c).After-sequences-end) _ _ new c.from_residual-in_err-all.ensures.0
+    (stops c.loop-index.invariant.going c.nodes.result.nodes (rest g at) (first g at) new (c.in_err-all.ensures.refused _ _ c.loop-index.invariant.going.on.has_judged))
+
+pub returns : goal.returns
+returns g c =
+    let line = nodes_before c.args.cursor.now.at in
+    let last : c.loop-index.index ≡ length c.args.cursor.now.ends = omega (arith, c.loop-index-test.false, c.loop-index.auto.index-end, c.requires.front.more, c.sequences-end.ensures.count) in
+    finish line c.args.held.nodes (within g (goal.at.returns g c).After-sequences-end) _ _ _ c.loop-index.judge
+    (ends c.loop-index.invariant.going (none_after c.args.cursor.now.ends line (length line) c.loop-index.index c.sequences-end.ensures.divided refl last))
+
+pub returns-then-not-all : goal.returns-then-not-all
+returns-then-not-all g c =
+    let at = (goal.at.returns-then-not-all g c).After-nodes in
+    finish _ c.args.held.nodes (within g (goal.at.returns-then-not-all g c).After-sequences-end) _ _ _ c.judge_sequence.new.judge
+    (decides
+    (goes_on c.loop-index.invariant.going c.nodes.result.nodes (rest g at) (first g at) (g.K.StepKeeper.tells c.judge_sequence.new.keeper) c.judge_sequence.new.judge
+    (c.in_ok-all.ensures.judged _ _ c.loop-index.invariant.going.on.has_judged))
+    (c.in_ok-all.ensures.decided (search rules)))

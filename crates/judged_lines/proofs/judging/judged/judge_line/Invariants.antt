@@ -1,0 +1,17 @@
+-- The judge goes on by the sequences after the front, and the verdict isn't known yet.
+use Rattle.std.proofs.Common.{drop, take}
+use Rattle.tree_lines.specs.Following.{nodes_before}
+use Rattle.tree_lines.specs.Sequences.{nodes_in}
+use Rattle.judged_lines.specs.JudgedGames.{game_kind, root_properties}
+use Rattle.judged_lines.specs.inner.Judging.{IsUndecided}
+use Rattle.judged_lines.proofs.JudgedLines.{Going}
+use Rattle.judged_lines.proofs.judging.judged.judge_line.Given as goal
+
+abbrev pub invariant-loop-index : goal.invariant-loop-index
+invariant-loop-index g l =
+    let line = nodes_before l.cursor.at in
+    let held = l.fn.held.nodes in
+    record {
+      going : Going (g.K.StepKeeper.tells l.keeper) (game_kind (root_properties line)) (take held line) (drop held line) (drop (nodes_in l.cursor.ends l.index) line) l.fn.judge.plays l.judge;
+      undecided : IsUndecided l.judge.judgement;
+    }

@@ -1,0 +1,18 @@
+-- The judge goes on by the nodes of the sequence, and the verdict isn't known yet.
+use Rattle.std.proofs.Common.{List, length}
+use Rattle.sgf_tree.specs.Tree.{Node}
+use Rattle.judged_lines.specs.JudgedGames.{GameKind}
+use Rattle.judged_lines.specs.inner.Judging.{IsUndecided}
+use Rattle.judged_lines.specs.Keeping.{HasJudged}
+use Rattle.judged_lines.proofs.JudgedLines.{Going}
+use Rattle.judged_lines.proofs.judging.judged.judge_sequence.Given as goal
+
+abbrev pub invariant-steps : goal.invariant-steps
+invariant-steps g l = record {
+  going : (kind : GameKind) (before : List Node) → HasJudged (g.K.StepKeeper.tells l.fn.keeper) kind before l.fn.judge.judgement
+      → Going (g.K.StepKeeper.tells l.keeper) kind before l.fn.nodes.nodes l.nodes.nodes l.fn.judge.plays l.judge;
+  undecided : IsUndecided l.judge.judgement;
+}
+
+abbrev pub decreases-steps : goal.decreases-steps
+decreases-steps g l = length l.nodes.nodes

@@ -1,0 +1,234 @@
+//! What a node holds for the referee and for a script: moves, stones and players (SGF FF[4], move and setup properties), and a
+//! comment. It is gathered in one pass over the node's properties.
+
+ghost use Rattle.std.specs.Prelude.{◌≡◌, ◌∷◌, ◌++◌, [], ℕ, List, Option, IfOk, OnOk, option_map, Some};
+ghost use Rattle.sgf_tree.specs.Tree.{Property, lone_property, told_property, values};
+ghost use Rattle.board_stones.specs.declared.stones.Colour.{Colour};
+ghost use Rattle.judged_lines.specs.NodeContents.{Move, moves_by, stones_of};
+ghost use Rattle.judged_lines.specs.NodeValues.{last_player as last_player_rule};
+ghost use Rattle.judged_lines.specs.inner.Gathered.{AreMoves, AddsRectangles, IsGathered, kind_of as kind_of_rule, setup_with_stones, setup_with_player};
+
+use crate::node_values::player_value;
+use go_board::{Cell, Colour, SetupOp, Size, rect};
+use sgf_tree::{MemoryFault, PropRef, SequenceNodes};
+
+/// The names of two letters that `kind_of` knows. A node that is recognized at a glance has none of them (`SequenceNodes::next`).
+pub(crate) const NEEDED_NAMES: [[u8; 2]; 4] = [*b"AB", *b"AW", *b"AE", *b"PL"];
+
+/// The moves of a node, as far as a step needs them.
+#[derive(Clone, Copy)]
+pub(crate) enum Moves<'a> {
+    Nothing,
+    /// One move: the player, and the raw value that names the point or the pass.
+    One(Colour, &'a [u8]),
+    /// Two moves or more.
+    Several,
+}
+
+/// What the stones and the players of a node set up.
+#[derive(Clone, Copy)]
+pub(crate) enum Setup {
+    /// There are neither stones nor players.
+    Nothing,
+    /// Each value names a rectangle of the board or a player. The field is the last player, if there is one.
+    Meant(Option<Colour>),
+    /// Some value of AB, AW or AE names no rectangle of the board, or some value of PL names no player.
+    Faulty,
+}
+
+/// What a node holds for the referee and for a script.
+#[derive(Clone, Copy)]
+pub(crate) struct Contents<'a> {
+    pub(crate) moves: Moves<'a>,
+    pub(crate) setup: Setup,
+    /// The first value of the node's first C.
+    pub(crate) comment: Option<&'a [u8]>,
+}
+
+/// What the values of a property are.
+#[derive(Clone, Copy)]
+pub(crate) enum Kind {
+    Move(Colour),
+    Stones(Cell),
+    Player,
+    Comment,
+}
+
+/// What a node holds, on a board of that size. `front` is its first property, if it was recognized: its letter and its only raw value. Its
+/// other properties are still left in `nodes`, and are taken off. Unless the setup is faulty, `operations` becomes the operations that the
+/// node's values of AB, AW and AE name, in order.
+pub(crate) fn gathered<'a>(
+    front: Option<(u8, &'a [u8])>,
+    nodes: &mut SequenceNodes<'_, 'a>,
+    size: Size,
+    operations: &mut Vec<SetupOp>,
+) -> Result<Contents<'a>, MemoryFault>
+    ensures gathered { IfOk result (IsGathered size (told_property front.entry ++ nodes.old.properties) operations.new.items) }
+    ensures left { nodes.new.nodes ≡ nodes.old.nodes }
+{
+    operations.clear();
+    let mut contents = Contents::of_front(front);
+    while let Some(property) = nodes.next_property() {
+        contents.take(&property, size, operations)?;
+    }
+    Ok(contents)
+}
+
+impl<'a> Contents<'a> {
+    /// The contents of a node without properties.
+    pub(crate) fn nothing() -> Contents<'a>
+        ensures { (side : ℕ) → IsGathered side [] [] result }
+    {
+        Contents {
+            moves: Moves::Nothing,
+            setup: Setup::Nothing,
+            comment: None,
+        }
+    }
+
+    /// What a property holds if its name is this one letter and its only value is `raw`.
+    pub(crate) fn of_lone(letter: u8, raw: &'a [u8]) -> Contents<'a>
+        ensures { (side : ℕ) → IsGathered side (lone_property letter raw.now ∷ []) [] result }
+    {
+        match letter {
+            b'B' => Contents {
+                moves: Moves::One(Colour::Black, raw),
+                setup: Setup::Nothing,
+                comment: None,
+            },
+            b'W' => Contents {
+                moves: Moves::One(Colour::White, raw),
+                setup: Setup::Nothing,
+                comment: None,
+            },
+            b'C' => Contents {
+                moves: Moves::Nothing,
+                setup: Setup::Nothing,
+                comment: Some(raw),
+            },
+            _ => Contents {
+                moves: Moves::Nothing,
+                setup: Setup::Nothing,
+                comment: None,
+            },
+        }
+    }
+
+    /// What the first property of a node holds, if it was recognized; of other nodes, what no property holds.
+    fn of_front(front: Option<(u8, &'a [u8])>) -> Contents<'a>
+        ensures { (side : ℕ) → IsGathered side (told_property front.entry) [] result }
+    {
+        match front {
+            Some((letter, raw)) => Contents::of_lone(letter, raw),
+            None => Contents::nothing(),
+        }
+    }
+
+    /// Adds what a property holds.
+    fn take(
+        &mut self,
+        property: &PropRef<'a>,
+        size: Size,
+        operations: &mut Vec<SetupOp>,
+    ) -> Result<(), MemoryFault>
+        ensures { (front : List Property) → IsGathered size front operations.old.items self.old
+            → OnOk result (IsGathered size (front ++ property.now ∷ []) operations.new.items self.new) }
+    {
+        match kind_of(property) {
+            Some(Kind::Move(colour)) => self.moves = with_moves(self.moves, colour, property),
+            Some(Kind::Stones(cell)) => {
+                let good = push_rectangles(cell, property, size, operations)?;
+                self.setup = with_stones(self.setup, good);
+            }
+            Some(Kind::Player) => self.setup = with_player(self.setup, last_player(property)),
+            Some(Kind::Comment) => self.comment = self.comment.or(Some(property.value(0))),
+            None => {}
+        }
+        Ok(())
+    }
+}
+
+/// These moves, and then those of a property.
+#[tactic(auto, using(crate::proofs::Gathered::two_at_least))]
+fn with_moves<'a>(moves: Moves<'a>, colour: Colour, property: &PropRef<'a>) -> Moves<'a>
+    ensures { (ms : List Move) → AreMoves moves.entry ms → AreMoves result (ms ++ moves_by colour property.now) }
+{
+    let mut values = property.iter();
+    let raw = values.next().unwrap();
+    match moves {
+        Moves::Nothing => match values.next() {
+            None => Moves::One(colour, raw),
+            Some(_) => Moves::Several,
+        },
+        Moves::One(..) | Moves::Several => Moves::Several,
+    }
+}
+
+/// Appends the operations of a property's stones. Returns whether each of its values names a rectangle of the board.
+fn push_rectangles(
+    cell: Cell,
+    property: &PropRef<'_>,
+    size: Size,
+    operations: &mut Vec<SetupOp>,
+) -> Result<bool, MemoryFault>
+    ensures { IfOk result (AddsRectangles size (stones_of cell property.now) operations.old.items operations.new.items) }
+{
+    let mut values = property.iter();
+    while let Some(raw) = values.next() {
+        let Some(area) = rect(raw, size) else {
+            return Ok(false);
+        };
+        operations.push(SetupOp { cell, area })?;
+    }
+    Ok(true)
+}
+
+/// A setup with more stones. `good` says whether each of them names a rectangle of the board.
+fn with_stones(setup: Setup, good: bool) -> Setup
+    ensures { result ≡ setup_with_stones setup good }
+{
+    match (setup, good) {
+        (Setup::Faulty, _) | (_, false) => Setup::Faulty,
+        (Setup::Nothing, true) => Setup::Meant(None),
+        (Setup::Meant(player), true) => Setup::Meant(player),
+    }
+}
+
+/// A setup with more players (a further PL, which replaces those before it). `last` is the last of them; None means that one of the values
+/// names no player.
+fn with_player(setup: Setup, last: Option<Colour>) -> Setup
+    ensures { result ≡ setup_with_player setup last }
+{
+    match (setup, last) {
+        (Setup::Faulty, _) | (_, None) => Setup::Faulty,
+        (_, Some(player)) => Setup::Meant(Some(player)),
+    }
+}
+
+/// The player that the last value of a PL names; None if one of its values names no player.
+fn last_player(property: &PropRef<'_>) -> Option<Colour>
+    ensures { (before : Option Colour) → last_player_rule before (values property.now) ≡ option_map Some result }
+{
+    let mut values = property.iter();
+    let mut last = player_value(values.next().unwrap())?;
+    while let Some(raw) = values.next() {
+        last = player_value(raw)?;
+    }
+    Some(last)
+}
+
+/// What the values of a property are; None if neither the referee nor a script needs them. So KM, HA, KO, MA, RE and all others have no effect.
+fn kind_of(property: &PropRef<'_>) -> Option<Kind>
+    ensures { result ≡ kind_of_rule property.now }
+{
+    match property.initial() {
+        b'B' if property.is(b"B") => Some(Kind::Move(Colour::Black)),
+        b'W' if property.is(b"W") => Some(Kind::Move(Colour::White)),
+        b'C' if property.is(b"C") => Some(Kind::Comment),
+        b'P' if property.is(b"PL") => Some(Kind::Player),
+        b'A' if property.is(b"AB") => Some(Kind::Stones(Cell::Black)),
+        b'A' if property.is(b"AW") => Some(Kind::Stones(Cell::White)),
+        b'A' if property.is(b"AE") => Some(Kind::Stones(Cell::Empty)),
+        _ => None,
+    }
+}

@@ -1,0 +1,200 @@
+//! A judge goes along the nodes of a line, and back to the last node that the next line shares.
+
+ghost use Rattle.std.specs.Prelude.{◌≡◌, ◌+◌, ◌<◌, IsFalse, IsTrue, OnOk, OnErr, IfOk, Some, option_copied};
+ghost use Rattle.sgf_tree.specs.Tree.{Node};
+ghost use Rattle.judged_lines.specs.inner.Gathered.{ComesAs};
+ghost use Rattle.go_board.specs.State.{begun};
+ghost use Rattle.judged_lines.specs.JudgedGames.{game_kind, board};
+
+use crate::judging::game::Game;
+use crate::judging::root::board_size;
+use crate::judging::step::{LegalStep, place_of};
+use crate::verdict::Verdict;
+use go_board::{Board, SetupOp, Size, TurnFault};
+use sgf_tree::{MemoryFault, NextNode, NodeRef, SequenceNodes};
+use std::alloc::Global;
+use std::marker::Model;
+
+/// Judges a line node after node, with one game. It is seen as the
+/// judgement on the line, and the number of nodes that were played.
+#[derive(Drop)]
+pub(crate) struct Judge {
+    /// None if the game isn't judged. Each node that is legal adds one state.
+    game: Option<Game>,
+
+    /// A buffer for what a node sets up.
+    operations: Vec<SetupOp>,
+
+    /// The verdict, if it is known already: the game isn't judged, or a node is illegal.
+    ended: Option<Verdict>,
+
+    plays: u64,
+}
+
+impl Model for Judge {
+    ghost use Rattle.judged_lines.specs.inner.Judging.{Judging, judgement_of};
+
+    ghost Value = { Judging };
+
+    ghost view = { λ j. record { judgement = judgement_of j.ended j.game; plays = j.plays } };
+}
+
+impl Judge {
+    ghost use Rattle.judged_lines.specs.declared.verdict.Verdict.TheVariants.{NotGo};
+    ghost use Rattle.judged_lines.specs.Judgement.{unjudged, begun_game, after, board_in};
+    ghost use Rattle.judged_lines.specs.inner.Judging.{IsDecided, IsUndecided, IsStepFrom, back, verdict_in};
+
+    /// A judge before the first game.
+    pub(crate) fn new(alloc: Global) -> Judge
+        ensures { result ≡ record { judgement = unjudged NotGo; plays = 0 } }
+    {
+        Judge {
+            game: None,
+            operations: Vec::new(alloc),
+            ended: None,
+            plays: 0,
+        }
+    }
+
+    /// Begins the game of a root. The root isn't taken yet. After a refusal of memory nothing is changed.
+    pub(crate) fn begin(&mut self, root: &NodeRef<'_, '_>) -> Result<(), MemoryFault>
+        ensures begun { OnOk result (self.new.judgement ≡ begun_game (game_kind root.now.properties)) }
+        ensures plays { self.new.plays ≡ self.old.plays }
+        ensures unchanged { OnErr result (self.new ≡ self.old) }
+    {
+        match board_size(root) {
+            Ok(size) => self.begin_on(size),
+            Err(verdict) => {
+                self.game = None;
+                self.ended = Some(verdict);
+                Ok(())
+            }
+        }
+    }
+
+    /// Begins a game on a board of that size. If there is a game already, it begins anew in place.
+    fn begin_on(&mut self, size: Size) -> Result<(), MemoryFault>
+        ensures begun { OnOk result (self.new.judgement ≡ begun_game (board size)) }
+        ensures plays { self.new.plays ≡ self.old.plays }
+        ensures unchanged { OnErr result (self.new ≡ self.old) }
+    {
+        match &mut self.game {
+            Some(game) => game.begin(size)?,
+            None => put_game(*self.operations.allocator(), size, &mut self.game)?,
+        }
+        self.ended = None;
+        Ok(())
+    }
+
+    /// Takes one more node, and returns its step. `next` and `nodes` are as for `Game::take`. None if the node is illegal: the verdict is
+    /// known then. After a refusal of memory nothing is changed.
+    #[inline(always)]
+    pub(crate) fn take<'a>(
+        &mut self,
+        next: NextNode<'a>,
+        nodes: &mut SequenceNodes<'_, 'a>,
+    ) -> Result<Option<LegalStep<'a>>, MemoryFault>
+        requires undecided { IsUndecided self.old.judgement }
+        requires countable { self.old.plays < u64.MAX }
+        ensures judged { (node : Node) → ComesAs node nodes.old.properties next.entry
+            → OnOk result (self.new.judgement ≡ after self.old.judgement node) }
+        ensures plays { OnOk result (self.new.plays ≡ self.old.plays + 1) }
+        ensures step { (node : Node) → ComesAs node nodes.old.properties next.entry
+            → IfOk result (IsStepFrom self.old.judgement node) }
+        ensures unchanged { OnErr result (self.new ≡ self.old) }
+        ensures left { nodes.new.nodes ≡ nodes.old.nodes }
+    {
+        let Some(game) = &mut self.game else {
+            unreachable!()
+        };
+        match game.take(next, nodes, &mut self.operations) {
+            Ok(step) => {
+                self.plays += 1;
+                Ok(Some(step))
+            }
+            Err(TurnFault::Illegal(reason)) => {
+                self.plays += 1;
+                let turn = game.turns() + 1;
+                let place = place_of(&next) as u64;
+                self.ended = Some(Verdict::Illegal {
+                    turn,
+                    place,
+                    reason,
+                });
+                Ok(None)
+            }
+            Err(TurnFault::Memory) => Err(MemoryFault),
+        }
+    }
+
+    /// Whether the verdict is known already, whatever nodes come.
+    #[inline(always)]
+    pub(crate) fn is_decided(&self) -> bool
+        ensures decided { IsTrue result → IsDecided self.now.judgement }
+        ensures undecided { IsFalse result → IsUndecided self.now.judgement }
+    {
+        self.game.is_none() || self.ended.is_some()
+    }
+
+    /// Goes back to the first `count` nodes.
+    #[inline(always)]
+    pub(crate) fn cut_back(&mut self, count: usize)
+        ensures judged { self.new.judgement ≡ back count self.old.judgement }
+        ensures plays { self.new.plays ≡ self.old.plays }
+    {
+        if let Some(game) = &mut self.game {
+            if count <= game.depth() {
+                self.ended = None;
+                game.go_back(count);
+            }
+        }
+    }
+
+    /// The verdict of the line. `NotGo` before the first game.
+    pub(crate) fn verdict(&mut self) -> Verdict
+        ensures told { result ≡ verdict_in self.old.judgement }
+        ensures unchanged { self.new ≡ self.old }
+    {
+        match (self.ended, &mut self.game) {
+            (Some(verdict), _) => verdict,
+            (None, Some(game)) => game.verdict(),
+            (None, None) => Verdict::NotGo,
+        }
+    }
+
+    /// The present board; None if the game isn't judged.
+    pub(crate) fn board(&self) -> Option<&Board>
+        ensures { option_copied result ≡ board_in self.now.judgement }
+    {
+        match &self.game {
+            Some(game) => Some(game.board()),
+            None => None,
+        }
+    }
+
+    /// Sets the number of nodes that were played to 0.
+    pub(crate) fn count_anew(&mut self)
+        ensures judged { self.new.judgement ≡ self.old.judgement }
+        ensures plays { self.new.plays ≡ 0 }
+    {
+        self.plays = 0;
+    }
+
+    /// The number of nodes that were played.
+    pub(crate) fn plays(&self) -> u64
+        ensures { result ≡ self.now.plays }
+    {
+        self.plays
+    }
+}
+
+/// Puts a game on a board of that size into `slot`. After a refusal of memory `slot` is unchanged.
+// Not inlined: whole boards stand on its stack, and each call of `begin_on` would set room for them to zeros.
+#[inline(never)]
+fn put_game(alloc: Global, size: Size, slot: &mut Option<Game>) -> Result<(), MemoryFault>
+    ensures ok { OnOk result (slot.new ≡ Some (begun size)) }
+    ensures err { OnErr result (slot.new ≡ slot.old) }
+{
+    *slot = Some(Game::new(alloc, size)?);
+    Ok(())
+}

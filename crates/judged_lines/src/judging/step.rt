@@ -1,0 +1,190 @@
+//! A node's step on a referee.
+
+ghost use Rattle.std.specs.Prelude.{◌≡◌, ◌<◌, ◌⊎◌, ◌∷◌, ◌++◌, [], List, length, All, IfOk, IsSome, Ok};
+ghost use Rattle.sgf_tree.specs.Tree.{Node, Property, told_property};
+ghost use Rattle.board_points.specs.Point.{IsRectOn};
+ghost use Rattle.go_board.specs.State.{set_up as set_up_rule};
+ghost use Rattle.judged_lines.specs.NodeValues.{move_value as move_value_rule};
+ghost use Rattle.judged_lines.specs.Step.{step, move_step};
+ghost use Rattle.judged_lines.specs.inner.Gathered.{IsGathered, ComesAs};
+ghost use Rattle.judged_lines.specs.inner.Judging.{IsStepped, setup_effect};
+ghost use Rattle.judged_lines.specs.Judgement.{IsStepOf, IsEffect, IsEffectBy};
+
+use crate::judging::contents::{Contents, Moves, Setup, gathered};
+use crate::node_values::move_value;
+use go_board::{Colour, Past, Play, Reason, Referee, SetupOp, TurnFault};
+use sgf_tree::{NextNode, SequenceNodes};
+
+/// What a node did to the board.
+#[derive(Clone, Copy)]
+pub enum Effect {
+    /// It has no moves and no stones.
+    Nothing,
+    /// It set up stones.
+    Stones,
+    /// It has one move: this player's play.
+    Play(Colour, Play),
+}
+
+/// A node's step that was taken, and the node's comment.
+#[derive(Clone, Copy)]
+pub struct LegalStep<'a> {
+    /// What the node did to the board.
+    pub effect: Effect,
+    /// The first value of the node's first C.
+    pub comment: Option<&'a [u8]>,
+}
+
+/// The place of a node that `SequenceNodes::next` took.
+pub(crate) fn place_of(next: &NextNode<'_>) -> usize
+    ensures { (node : Node) (left : List Property) → ComesAs node left next.now → node.place ≡ result }
+{
+    match next {
+        NextNode::Led { place, .. } => *place,
+        NextNode::Empty { place } => *place,
+        NextNode::Unread { place, .. } => *place,
+    }
+}
+
+/// Takes the step of a node, which adds one state: the node's move is played, its stones and its player are set up, or nothing changes.
+/// `next` is the node, as `SequenceNodes::next` took it; the properties that are left of it are taken off. `operations` is a buffer.
+///
+/// If the node is illegal, the first reason is returned. After a refusal the referee is unchanged.
+// Each case has a call of its own, so that what its contents don't hold drops out: `deep` else takes 16 percent more instructions.
+#[inline(always)]
+pub(crate) fn take_step<'a, P: Past>(
+    referee: &mut Referee<P>,
+    next: NextNode<'a>,
+    nodes: &mut SequenceNodes<'_, 'a>,
+    operations: &mut Vec<SetupOp>,
+) -> Result<LegalStep<'a>, TurnFault>
+    ensures stepped { (node : Node) → ComesAs node nodes.old.properties next.entry
+        → IsStepped (step referee.old.present node) referee.old referee.new result }
+    ensures told { (node : Node) → ComesAs node nodes.old.properties next.entry
+        → IfOk result (IsStepOf referee.old.present.colouring.side node) }
+    ensures left { nodes.new.nodes ≡ nodes.old.nodes }
+{
+    match next {
+        NextNode::Led { letter, value, .. } => {
+            take_contents(referee, Contents::of_lone(letter, value), &[])
+        }
+        NextNode::Empty { .. } => take_contents(referee, Contents::nothing(), &[]),
+        NextNode::Unread { front, .. } => take_any_step(referee, front, nodes, operations),
+    }
+}
+
+/// Takes the step of a node of which all is gathered. `front` is its first property, if that was recognized. The other properties are those
+/// left of the nodes.
+#[inline(never)]
+fn take_any_step<'a, P: Past>(
+    referee: &mut Referee<P>,
+    front: Option<(u8, &'a [u8])>,
+    nodes: &mut SequenceNodes<'_, 'a>,
+    operations: &mut Vec<SetupOp>,
+) -> Result<LegalStep<'a>, TurnFault>
+    ensures stepped { (node : Node) → node.properties ≡ told_property front.entry ++ nodes.old.properties
+        → IsStepped (step referee.old.present node) referee.old referee.new result }
+    ensures told { (node : Node) → node.properties ≡ told_property front.entry ++ nodes.old.properties
+        → IfOk result (IsStepOf referee.old.present.colouring.side node) }
+    ensures left { nodes.new.nodes ≡ nodes.old.nodes }
+{
+    let size = referee.board().size();
+    let Ok(contents) = gathered(front, nodes, size, operations) else {
+        return Err(TurnFault::Memory);
+    };
+    take_contents(referee, contents, operations)
+}
+
+/// Takes the step of a node with these contents. `operations` has the operations of the node's stones.
+#[inline(always)]
+fn take_contents<'a, P: Past>(
+    referee: &mut Referee<P>,
+    contents: Contents<'a>,
+    operations: &[SetupOp],
+) -> Result<LegalStep<'a>, TurnFault>
+    requires { (node : Node) × IsGathered referee.old.present.colouring.side node.properties operations.now contents }
+    ensures stepped { (node : Node) → IsGathered referee.old.present.colouring.side node.properties operations.now contents.entry
+        → IsStepped (step referee.old.present node) referee.old referee.new result }
+    ensures told { (node : Node) → IsGathered referee.old.present.colouring.side node.properties operations.now contents.entry
+        → IfOk result (IsStepOf referee.old.present.colouring.side node) }
+{
+    let effect = effect_of(referee, &contents, operations)?;
+    Ok(LegalStep {
+        effect,
+        comment: contents.comment,
+    })
+}
+
+/// Takes the step of a node as `take_contents` does, and returns what the node did to the board. The first reason that holds is given, in
+/// this order: `mixed` (a move and a setup, even a faulty one), `two-moves`, `bad-setup`, and then those of `take_move`. A `bad-setup` was
+/// found by `gathered`. The arms need no such order: those of `two-moves` and `bad-setup` are for nodes that aren't mixed.
+#[inline(always)]
+fn effect_of<P: Past>(
+    referee: &mut Referee<P>,
+    contents: &Contents<'_>,
+    operations: &[SetupOp],
+) -> Result<Effect, TurnFault>
+    requires { (node : Node) × IsGathered referee.old.present.colouring.side node.properties operations.now contents.now }
+    ensures stepped { (node : Node) → IsGathered referee.old.present.colouring.side node.properties operations.now contents.now
+        → IsStepped (step referee.old.present node) referee.old referee.new result }
+    ensures effect { (node : Node) → IsGathered referee.old.present.colouring.side node.properties operations.now contents.now
+        → IfOk result (IsEffect referee.old.present.colouring.side node) }
+{
+    match (contents.moves, contents.setup) {
+        (Moves::Nothing, Setup::Nothing) => stay(referee),
+        (Moves::Nothing, Setup::Meant(player)) => set_up(referee, operations, player),
+        (Moves::Nothing, Setup::Faulty) => Err(TurnFault::Illegal(Reason::BadSetup)),
+        (Moves::One(colour, raw), Setup::Nothing) => take_move(referee, colour, raw),
+        (Moves::Several, Setup::Nothing) => Err(TurnFault::Illegal(Reason::TwoMoves)),
+        (_, _) => Err(TurnFault::Illegal(Reason::Mixed)),
+    }
+}
+
+/// Adds the present state once more.
+fn stay<P: Past>(referee: &mut Referee<P>) -> Result<Effect, TurnFault>
+    ensures stepped { IsStepped (Ok referee.old.present) referee.old referee.new result }
+    ensures effect { IfOk result (λ effect. effect ≡ Effect.Nothing) }
+{
+    referee.stay()?;
+    Ok(Effect::Nothing)
+}
+
+/// Sets up stones, or only the player if there are no stones.
+fn set_up<P: Past>(
+    referee: &mut Referee<P>,
+    operations: &[SetupOp],
+    player: Option<Colour>,
+) -> Result<Effect, TurnFault>
+    requires areas { All (λ op. IsRectOn referee.old.present.colouring.side op.area) operations.now }
+    requires something { (0 < length operations.now) ⊎ IsSome player }
+    ensures stepped { IsStepped (Ok (set_up_rule referee.old.present operations.now player)) referee.old referee.new result }
+    ensures effect { IfOk result (λ effect. effect ≡ setup_effect operations.now) }
+{
+    referee.setup(operations, player)?;
+    if operations.is_empty() {
+        Ok(Effect::Nothing)
+    } else {
+        Ok(Effect::Stones)
+    }
+}
+
+/// Takes the turn of a move.
+#[inline(always)]
+fn take_move<P: Past>(
+    referee: &mut Referee<P>,
+    colour: Colour,
+    raw: &[u8],
+) -> Result<Effect, TurnFault>
+    ensures stepped { IsStepped (move_step referee.old.present colour (move_value_rule raw.now referee.old.present.colouring.side))
+        referee.old referee.new result }
+    ensures effect { IfOk result (IsEffectBy referee.old.present.colouring.side (record { player = colour; raw = raw.now } ∷ []) []) }
+{
+    let size = referee.board().size();
+    let Some(play) = move_value(raw, size) else {
+        return Err(TurnFault::Illegal(Reason::BadPoint));
+    };
+    match referee.turn(colour, play) {
+        Ok(()) => Ok(Effect::Play(colour, play)),
+        Err(fault) => Err(fault),
+    }
+}

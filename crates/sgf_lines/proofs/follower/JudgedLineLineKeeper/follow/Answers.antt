@@ -1,6 +1,0 @@
--- The judgement on the line before is kept as far as this line begins alike.
-use Rattle.sgf_lines.proofs.Keeping.{held_part}
-use Rattle.sgf_lines.proofs.follower.JudgedLineLineKeeper.follow.Goals as goal
-
-pub follow-requires-clause-held : goal.follow-requires-clause-held
-follow-requires-clause-held c = held_part _ _ c.args.cursor.now c.args.held (λ old h. h.0) c.requires.held

@@ -1,6 +1,0 @@
--- The answer is only there for speed.
-use Rattle.std.proofs.Common.{rules}
-use Rattle.sgf_lines.proofs.judging.root.board_size.Goals as goal
-
-pub returns-in-None : goal.returns-in-None
-returns-in-None c = search rules

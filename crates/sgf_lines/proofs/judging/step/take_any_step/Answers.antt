@@ -1,8 +1,0 @@
--- There is a node with what was gathered.
-use Rattle.std.proofs.Common.{◌++◌, rules, arith}
-use Rattle.std.proofs.lemmas.Grind.{common_steps}
-use Rattle.sgf_tree.specs.Tree.{told_property}
-use Rattle.sgf_lines.proofs.judging.step.take_any_step.Goals as goal
-
-pub take_contents-requires : goal.take_contents-requires
-take_contents-requires g c = (record { place = 0; properties = told_property c.args.front ++ c.args.nodes.now.properties }, first_of (search rules, grind (arith, common_steps)))
