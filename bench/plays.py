@@ -19,7 +19,8 @@ from hostile import long_line, point
 
 HERE = os.path.dirname(os.path.abspath(__file__))
 TOP = os.path.dirname(HERE)
-LIBRARIES = ("sgf_properties", "sgf_tree", "tree_lines", "board_points", "key_trie", "board_stones", "board_past", "go_board", "judged_lines", "byte_streams", "sgf_lines")
+LIBRARIES = ("sgf_properties", "sgf_outline", "sgf_tree", "tree_lines", "board_points", "key_trie", "board_stones", "board_past", "go_board",
+             "judged_lines", "byte_streams", "sgf_lines")
 
 
 def build():

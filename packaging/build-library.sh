@@ -6,7 +6,7 @@ cd "$(dirname "$0")/.."
 top=$PWD
 crate=crates/sgf_lines_c
 archive=$crate/out/libsgf_lines_c.a
-below=(sgf_properties sgf_tree tree_lines board_points key_trie board_stones board_past go_board judged_lines byte_streams sgf_lines)
+below=(sgf_properties sgf_outline sgf_tree tree_lines board_points key_trie board_stones board_past go_board judged_lines byte_streams sgf_lines)
 kit=$(dirname "$(dirname "$(readlink -f "$(command -v rt)")")")
 log=out/sgf_lines_c.log
 mkdir -p out "$crate/out"

@@ -191,7 +191,7 @@ def check_limit(table):
         ("recipes/sgfsplit.py", r"LIMIT = (\d+)"),
         ("recipes/parts.py", r"without --most it is (\d+)"),
         ("bench/hostile.py", r"LIMIT = ([\d_]+)"),
-        ("crates/sgf_tree/src/**/*.rt", r"pub const MAX_LENGTH: usize = ([\d_]+);"),
+        ("crates/sgf_outline/src/**/*.rt", r"pub const MAX_LENGTH: usize = ([\d_]+);"),
     ]:
         made(path, "the limit", pattern, number(limit))
     if limit % (1 << 20):
@@ -199,8 +199,8 @@ def check_limit(table):
     for path, before in [(COMMAND, r"at most\s"), (HELP, r"at most\s"), (HEADER, "length of a text in bytes: "), (MANUAL, r"bytes \("),
                          ("docs/GRAMMAR.md", "(?:which is|limit of) "), ("README.md", "(?:at most|more than) "), ("docs/PROVED.md", "at most "),
                          ("docs/RECIPES.md", r"(?:reads at most|(?:collection|game) of more than)\s"),
-                         ("recipes/parts.py", "(?:takes|more than|once) "), ("crates/sgf_tree/src/fault.rt", "may have: "),
-                         ("crates/sgf_tree/src/lib.rt", "at most ")]:
+                         ("recipes/parts.py", "(?:takes|more than|once) "), ("crates/sgf_outline/src/limit.rt", "may have: "),
+                         ("crates/sgf_outline/src/lib.rt", "at most "), ("crates/sgf_tree/src/lib.rt", "at most ")]:
         made(path, "the limit in MiB", before + r"(\d+)\s+MiB", number(limit >> 20))
     for path in sorted(glob.glob(f"{TOP}/tests/*.*")):
         if re.search(r"input is longer than \d", read(path)):

@@ -12,8 +12,9 @@ import re
 import sys
 
 TOP = os.path.dirname(os.path.dirname(os.path.realpath(__file__)))
-CRATES = ["sgf_properties", "sgf_tree", "tree_lines", "board_points", "key_trie", "board_stones", "board_past", "go_board", "judged_lines", "byte_streams", "sgf_lines", "sgf_lines_c",
-          "sgfsplit_job", "sgfsplit", "sgfsplit_job_tests", "lines_in_memory"]  # the other crates of tests have no promises
+CRATES = ["sgf_properties", "sgf_outline", "sgf_tree", "tree_lines", "board_points", "key_trie", "board_stones", "board_past", "go_board",
+          "judged_lines", "byte_streams", "sgf_lines", "sgf_lines_c", "sgfsplit_job", "sgfsplit", "sgfsplit_job_tests", "lines_in_memory"]  # the
+# other crates of tests have no promises
 PROGRAM = "sgfsplit::status"  # a program has no public function; this one has its contract
 TABLE = "tests/clauses.txt"
 NOTE = "# Made from the code by tests/clauses.py --write, which says what the rows mean.\n"

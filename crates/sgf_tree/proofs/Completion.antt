@@ -1,15 +1,10 @@
 -- A text completes a state to a collection: what the state has read and what the text spells make the collection.
 use Rattle.std.proofs.Common.{◌≡◌, ℕ, ◌+◌, true, List, [], ◌∷◌, ◌++◌, length, Some, refl, ap, append_assoc, append-nil, rules}
-use Rattle.sgf_tree.specs.Tree.{Property, Node, Games, no_games, game}
+use Rattle.sgf_outline.specs.Tree.{Property, Node, Games, no_games, game}
 use Rattle.sgf_properties.specs.RawValue.{IsValue}
-use Rattle.sgf_tree.specs.Spelling.{WhiteSpace, Letters, ArePropValues, AreProperties, AreNodes, AreGames, ByteOrderMark}
-use Rattle.sgf_tree.specs.inner.Machine.{UnclosedGame, Stack, Started, MachineState, start, first_of_mark, second_of_mark, opened, in_node, in_name, after_name, in_value, after_escape, after_value, after_game, joined, property_of, with_property, add_node, ended, whole_game, close_in, whole_games}
-
--- games at the end of the innermost unclosed game, or of all
-abbrev pub add_games : Games → List UnclosedGame → Games → Stack
-add_games closed [] others = record { closed = joined closed others; unclosed = [] }
-add_games closed (g ∷ gs) others =
-    record { closed = closed; unclosed = record { first = g.first; more = g.more; below = joined g.below others } ∷ gs }
+use Rattle.sgf_outline.specs.Spelling.{WhiteSpace, Letters, ArePropValues, AreProperties, AreNodes, AreGames, ByteOrderMark}
+use Rattle.sgf_outline.proofs.GameEnds.{add_games}
+use Rattle.sgf_outline.specs.Machine.{UnclosedGame, Stack, Started, MachineState, start, first_of_mark, second_of_mark, opened, in_node, in_name, after_name, in_value, after_escape, after_value, after_game, joined, property_of, with_property, add_node, ended, whole_games}
 
 -- nodes at the end of the innermost unclosed game
 abbrev pub add_nodes : List UnclosedGame → List Node → List UnclosedGame
@@ -23,10 +18,6 @@ followed-none (game f m b h) = ap (game f m b) (followed-none h)
 pub followed_assoc : (a b c : Games) → joined (joined a b) c ≡ joined a (joined b c)
 followed_assoc no_games b c = refl
 followed_assoc (game f m i h) b c = ap (game f m i) (followed_assoc h b c)
-
-pub closed-in : (closed : Games) (g : UnclosedGame) (gs : List UnclosedGame)
-    → close_in closed (g ∷ gs) ≡ Some (after_game (add_games closed gs (whole_game g)))
-closed-in closed g gs = search rules
 
 pub nodes-none : (gs : List UnclosedGame) → add_nodes gs [] ≡ gs
 nodes-none gs = search (rules, append-nil)

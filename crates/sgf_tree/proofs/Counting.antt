@@ -2,13 +2,12 @@
 use Rattle.std.proofs.lemmas.Grind.{common_steps}
 use Rattle.std.proofs.Common.{◌≡◌, ℕ, ◌+◌, ◌≤◌, false, cond, List, [], ◌∷◌, length, Some, refl, arith, rules}
 use Rattle.std.proofs.Math.Dec.{eqb}
-use Rattle.sgf_tree.specs.Tree.{Games, no_games, game, joined, node_count, leaf_count}
-use Rattle.sgf_tree.specs.inner.Machine.{UnclosedGame, Stack, after_game, whole_game, close}
-use Rattle.sgf_tree.specs.inner.GamesRead.{unclosed_count}
+use Rattle.sgf_outline.specs.Tree.{Games, no_games, game, joined, node_count, leaf_count}
+use Rattle.sgf_outline.specs.Machine.{UnclosedGame, Stack, after_game, whole_game, close}
+use Rattle.sgf_outline.specs.Unclosed.{unclosed_count}
 use Rattle.sgf_tree.specs.inner.Counting.{unclosed_leaves, are_none, is_bare, IsTallyOf}
 use Rattle.sgf_tree.specs.declared.reader.counting.Tally.{Tally}
-use Rattle.sgf_tree.proofs.Completion.{add_games}
-use Rattle.sgf_tree.proofs.GameEnds.{game-ends, unclosed_count-closed, game_count-closed}
+use Rattle.sgf_outline.proofs.GameEnds.{add_games, game-ends, unclosed_count-closed, game_count-closed}
 
 leaf_count-followed : (a b : Games) → leaf_count (joined a b) ≡ leaf_count a + leaf_count b
 leaf_count-followed no_games b = omega arith

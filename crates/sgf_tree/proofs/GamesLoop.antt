@@ -1,18 +1,18 @@
 -- How the machine goes from game to game.
 use Rattle.std.proofs.lemmas.Grind.{common_steps}
 use Rattle.std.proofs.Common.{◌≡◌, ◌≢◌, ℕ, ◌+◌, ◌<◌, ◌≤◌, false, List, [], ◌∷◌, length, get_or, Some, None, refl, ap, subst, ◌∙◌, arith, ne_eqb}
-use Rattle.sgf_tree.specs.Tree.{Games, no_games, game, game_count}
-use Rattle.sgf_tree.specs.Spelling.{is_white_space}
-use Rattle.sgf_tree.specs.inner.Machine.{UnclosedGame, Stack, opened, after_game, between_games, close_in, whole_game, next_state, accepted}
+use Rattle.sgf_outline.specs.Tree.{Games, no_games, game, game_count}
+use Rattle.sgf_outline.specs.Spelling.{is_white_space}
+use Rattle.sgf_outline.specs.Machine.{UnclosedGame, Stack, opened, after_game, between_games, close_in, whole_game, next_state, accepted}
 use Rattle.sgf_tree.specs.Refusal.{IsFaultyAt}
 use Rattle.sgf_tree.specs.inner.Progress.{ComesTo}
 use Rattle.sgf_properties.specs.Offsets.{IsSpan}
-use Rattle.sgf_tree.specs.inner.GamesRead.{unclosed_count, StandsBetween}
-use Rattle.sgf_tree.proofs.Completion.{add_games, closed-in}
+use Rattle.sgf_outline.specs.Unclosed.{unclosed_count}
+use Rattle.sgf_tree.specs.inner.GamesRead.{StandsBetween}
+use Rattle.sgf_outline.proofs.GameEnds.{add_games, closed-in, node_count-followed}
 use Rattle.sgf_tree.proofs.Run.{run-take-step}
 use Rattle.sgf_tree.proofs.Skipping.{stays-after_game}
 use Rattle.sgf_tree.proofs.Spans.{run-white}
-use Rattle.sgf_tree.proofs.Stacks.{node_count-followed}
 use Rattle.sgf_tree.proofs.ValueEnds.{ends-faulty, refused-faulty}
 
 pub game-next : (at : ℕ) (k : Stack) (b : ℕ) → next_state at (after_game k) b ≡ between_games k b

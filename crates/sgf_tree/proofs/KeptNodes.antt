@@ -2,18 +2,18 @@
 use Rattle.std.proofs.lemmas.Grind.{common_steps}
 use Rattle.std.proofs.Common.{◌≡◌, ℕ, ◌+◌, ◌-◌, List, [], ◌∷◌, ◌++◌, length, set, Some, refl, sym, ap, ◌∙◌, arith, append-nil}
 use Rattle.std.proofs.lemmas.List.{length-map, map-append, set_at}
-use Rattle.sgf_tree.specs.Tree.{Node, Games, no_games, node_count}
-use Rattle.sgf_tree.specs.FileOrder.{further_nodes}
-use Rattle.sgf_tree.specs.inner.Machine.{UnclosedGame, Stack, after_game, whole_game, close}
-use Rattle.sgf_tree.specs.inner.GamesRead.{unclosed_count, unclosed_nodes, lasts, unclosed_lasts}
-use Rattle.sgf_tree.specs.inner.OwnNodes.{Coming, nothing, own_of, places_of, coming_of, with_game}
-use Rattle.sgf_tree.specs.inner.Outlining.{HoldsSequences}
+use Rattle.sgf_outline.specs.Tree.{Node, Games, no_games, node_count}
+use Rattle.sgf_outline.specs.FileOrder.{further_nodes}
+use Rattle.sgf_outline.specs.Machine.{UnclosedGame, Stack, after_game, whole_game, close}
+use Rattle.sgf_outline.specs.Unclosed.{unclosed_count}
+use Rattle.sgf_tree.specs.inner.GamesRead.{unclosed_nodes, lasts, unclosed_lasts}
+use Rattle.sgf_outline.specs.OwnNodes.{Coming, nothing, own_of, places_of, coming_of, with_game}
+use Rattle.sgf_outline.specs.Outlining.{HoldsSequences}
 use Rattle.sgf_tree.specs.inner.Placing.{ordered_places, HoldsNodes}
 use Rattle.sgf_tree.specs.declared.numbered.Numbered.{Numbered}
-use Rattle.sgf_tree.proofs.Completion.{add_games}
-use Rattle.sgf_tree.proofs.GameEnds.{game-ends}
-use Rattle.sgf_tree.proofs.Listed.{before, unclosed_lasts-listed}
-use Rattle.sgf_tree.proofs.Stacks.{length-unclosed_nodes, unclosed_nodes-closed, unclosed_lasts-closed}
+use Rattle.sgf_outline.proofs.GameEnds.{add_games, game-ends}
+use Rattle.sgf_outline.proofs.Listed.{before}
+use Rattle.sgf_tree.proofs.Stacks.{unclosed_lasts-listed, length-unclosed_nodes, unclosed_nodes-closed, unclosed_lasts-closed}
 
 further-places : (last : ℕ) (ns : List Node) → ordered_places (further_nodes last ns) ≡ places_of ns
 further-places last [] = refl

@@ -1,20 +1,16 @@
 -- The last node below each node, in file order.
-use Rattle.std.proofs.lemmas.Grind.{common_steps}
 use Rattle.std.proofs.Common.{◌≡◌, ℕ, zero, suc, ◌+◌, ◌-◌, ◌<◌, ◌≤◌, ◌⊎◌, inl, inr, true, false, All, List, [], ◌∷◌, ◌++◌, length, get_or, slice_get, Option, Some, None, refl, sym, ap, subst, ◌∙◌, arith, length-append}
 use Rattle.std.proofs.lemmas.Bool.{cases_lt}
 use Rattle.std.proofs.lemmas.List.{get_or_append_left, get_or-append_right}
 use Rattle.std.proofs.lemmas.List.Elements.{All-nil, All-cons, All-append}
 use Rattle.std.proofs.lemmas.Option.{slice_get-get_or}
-use Rattle.sgf_tree.specs.Tree.{Node, Games, no_games, game, node_count}
-use Rattle.sgf_tree.specs.FileOrder.{OrderedNode, further_nodes, nodes_from, ordered_nodes, IsAtOrBelow, itself, below, IsLastBelow}
+use Rattle.sgf_outline.specs.Tree.{Node, Games, no_games, game, node_count}
+use Rattle.sgf_outline.specs.FileOrder.{OrderedNode, further_nodes, nodes_from, ordered_nodes, IsAtOrBelow, itself, below, IsLastBelow}
 use Rattle.sgf_tree.specs.inner.GamesRead.{lasts}
-use Rattle.sgf_tree.proofs.Lists.{slice_get-left, slice_get-right}
-use Rattle.sgf_tree.proofs.OrderedNodes.{parent_in, parent_in-within, parent_in-left, parent_in-right, parent_in-further, length-further_nodes, length-nodes_from, parent-within, parent_at-lt}
-use Rattle.sgf_tree.proofs.Starts.{starts_from, length-lasts, first-start}
-
--- an element of a list; another one may follow it
-pub get_or-joined : (xs ys : List ℕ) (i d e : ℕ) → i ≤ length xs → get_or ys 0 d ≡ e → get_or (xs ++ ys) i d ≡ get_or xs i e
-get_or-joined xs ys i d e le first = grind (arith, common_steps)
+use Rattle.sgf_outline.proofs.Lists.{slice_get-left, slice_get-right, get_or-joined}
+use Rattle.sgf_outline.proofs.OrderedNodes.{parent_in, parent_in-within, parent_in-left, parent_in-right, parent_in-further, length-further_nodes, length-nodes_from, parent-within, parent_at-lt}
+use Rattle.sgf_outline.proofs.Starts.{starts_from, first-start}
+use Rattle.sgf_tree.proofs.Stacks.{length-lasts}
 
 -- each node of games below p has a parent
 abbrev HasParent : OrderedNode → Type 0

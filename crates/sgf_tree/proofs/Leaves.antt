@@ -1,8 +1,8 @@
 -- A leaf is the last node below itself.
 use Rattle.std.proofs.Common.{◌≡◌, ℕ, refl, arith, rules}
-use Rattle.sgf_tree.specs.Tree.{Games}
-use Rattle.sgf_tree.specs.FileOrder.{IsLeaf, IsAtOrBelow, itself, below, IsLastBelow}
-use Rattle.sgf_tree.proofs.OrderedNodes.{parent_at-lt}
+use Rattle.sgf_outline.specs.Tree.{Games}
+use Rattle.sgf_outline.specs.FileOrder.{IsLeaf, IsAtOrBelow, itself, below, IsLastBelow}
+use Rattle.sgf_outline.proofs.OrderedNodes.{parent_at-lt}
 
 -- nothing is below a leaf
 under-leaf : (g : Games) (i k : ℕ) → IsLeaf g i → IsAtOrBelow g i k → k ≡ i

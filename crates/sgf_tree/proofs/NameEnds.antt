@@ -3,8 +3,8 @@ use Rattle.std.proofs.lemmas.Grind.{common_steps}
 use Rattle.std.proofs.Common.{◌≡◌, ◌≢◌, ℕ, zero, suc, ◌+◌, ◌-◌, ◌<◌, ◌≤◌, false, inl, inr, IsTrue, List, [], ◌∷◌, ◌++◌, length, get_or, slice_range, Some, None, refl, sym, ap, subst, ◌∙◌, arith, if◌then◌else◌, ne_eqb}
 use Rattle.std.proofs.lemmas.Bool.{cases_lt, or_cases, or_parts}
 use Rattle.std.proofs.lemmas.List.Elements.{filter-append}
-use Rattle.sgf_tree.specs.Spelling.{is_white_space, is_upper, is_lower}
-use Rattle.sgf_tree.specs.inner.Machine.{Started, MachineState, in_name, after_name, in_value, next_state, accepted}
+use Rattle.sgf_outline.specs.Spelling.{is_white_space, is_upper, is_lower}
+use Rattle.sgf_outline.specs.Machine.{Started, MachineState, in_name, after_name, in_value, next_state, accepted}
 use Rattle.sgf_tree.specs.Refusal.{IsFaultyAt}
 use Rattle.sgf_properties.specs.Front.{is_letter, name_in}
 use Rattle.sgf_tree.specs.inner.Progress.{ComesTo}

@@ -1,15 +1,13 @@
 -- How the properties of a node are read, one after another.
 use Rattle.std.proofs.lemmas.Grind.{common_steps}
 use Rattle.std.proofs.Common.{rules, ◌≡◌, ◌≢◌, ℕ, ◌+◌, ◌<◌, false, IsTrue, List, [], ◌∷◌, length, get_or, Option, Some, None, arith, ne_eqb}
-use Rattle.sgf_tree.specs.Tree.{Property}
-use Rattle.sgf_tree.specs.Spelling.{is_white_space, is_upper}
-use Rattle.sgf_tree.specs.inner.Machine.{Started, MachineState, in_node, in_name, after_value, after_node, with_property, ended, next_state, accepted}
+use Rattle.sgf_outline.specs.Tree.{Property}
+use Rattle.sgf_outline.specs.Spelling.{is_white_space, is_upper}
+use Rattle.sgf_outline.specs.Machine.{Started, MachineState, in_node, in_name, after_value, after_node, with_property, ended, next_state, accepted}
 use Rattle.sgf_tree.specs.inner.Progress.{ComesTo}
-use Rattle.sgf_properties.specs.Offsets.{IsSpan}
 use Rattle.sgf_tree.specs.inner.PropertiesRead.{StandsAfterNode}
-use Rattle.sgf_properties.proofs.Classes.{between-not_white_space, upper-not_white_space, upper-not_bracket}
+use Rattle.sgf_properties.proofs.Classes.{upper-not_white_space, upper-not_bracket}
 use Rattle.sgf_tree.proofs.Run.{run-take-step}
-use Rattle.sgf_properties.proofs.Spans.{empty-span}
 
 -- the state in a node without properties, or after its last one
 abbrev pub state_of : Started → Option Property → MachineState
@@ -54,7 +52,3 @@ module _ (t : List ℕ) where
 
   pub node-name : (at : ℕ) (whole : Started) → StandsInNode at whole → at < length t → IsTrue (is_upper (get_or t at 0)) → ComesTo t (at + 1) (in_name whole (get_or t at 0 ∷ []))
   node-name at whole stands lt capital = search (rules, run-take-step, name-begins)
-
-  -- nothing is skipped before a byte above the space
-  pub nothing-skipped : (at : ℕ) → at < length t → 32 < get_or t at 0 → IsSpan is_white_space t at at
-  nothing-skipped at lt above = empty-span t at (omega arith) (λ lt'. between-not_white_space (get_or t at 0) above)

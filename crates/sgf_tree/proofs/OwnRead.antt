@@ -4,19 +4,21 @@ use Rattle.std.proofs.Common.{◌≡◌, ◌≢◌, ℕ, ◌+◌, ◌-◌, ◌<�
 use Rattle.std.proofs.Math.Seq.{get_or-append_seam}
 use Rattle.std.proofs.lemmas.List.{map-append}
 use Rattle.std.specs.List.{flat_map}
-use Rattle.sgf_tree.specs.Tree.{Property, Node, no_games, node_count}
-use Rattle.sgf_tree.specs.Spelling.{is_white_space}
+use Rattle.sgf_outline.specs.Tree.{Property, Node, no_games, node_count}
+use Rattle.sgf_outline.specs.Spelling.{is_white_space}
 use Rattle.sgf_tree.specs.Refusal.{IsFaultyAt}
-use Rattle.sgf_tree.specs.Written.{property_text, node_text}
-use Rattle.sgf_tree.specs.inner.Machine.{UnclosedGame, Stack, Started, opened, in_node}
-use Rattle.sgf_tree.specs.inner.Progress.{ComesTo, IsMoveNode, EndsNode}
+use Rattle.sgf_outline.specs.Written.{property_text, node_text}
+use Rattle.sgf_outline.specs.Machine.{UnclosedGame, Stack, Started, opened, in_node}
+use Rattle.sgf_tree.specs.inner.Progress.{ComesTo}
+use Rattle.sgf_outline.specs.Move.{IsMoveNode, EndsNode}
 use Rattle.sgf_properties.specs.Offsets.{IsSpan}
 use Rattle.sgf_tree.specs.inner.PropertiesRead.{StandsIn, ArePropertiesRead}
-use Rattle.sgf_tree.specs.inner.GamesRead.{unclosed_count, IsGameRead}
+use Rattle.sgf_outline.specs.Unclosed.{unclosed_count}
+use Rattle.sgf_tree.specs.inner.GamesRead.{IsGameRead}
 use Rattle.sgf_tree.specs.inner.NodesRead.{NodesSoFar, AreReadTo, AreOwnRead, AreNodesRead}
-use Rattle.sgf_tree.specs.inner.OwnNodes.{Coming, nothing, coming_of, places_of, own_of, with_game, IsCopied, Copies, CopiesNode, AreOwnNodes}
-use Rattle.sgf_tree.specs.declared.layout.OwnNodes.{OwnNodes}
-use Rattle.sgf_tree.specs.declared.layout.Segment.{Segment}
+use Rattle.sgf_outline.specs.OwnNodes.{Coming, nothing, coming_of, places_of, own_of, with_game, IsCopied, Copies, CopiesNode, AreOwnNodes}
+use Rattle.sgf_outline.specs.declared.layout.OwnNodes.{OwnNodes}
+use Rattle.sgf_outline.specs.declared.layout.Segment.{Segment}
 use Rattle.sgf_tree.specs.declared.reader.own_nodes.NodesRead.{NodesRead}
 use Rattle.sgf_properties.proofs.NameEnds.{span-one}
 use Rattle.sgf_tree.proofs.ShortProperties.{lone-read}

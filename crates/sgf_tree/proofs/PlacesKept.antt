@@ -3,10 +3,10 @@ use Rattle.std.proofs.lemmas.Grind.{common_steps}
 use Rattle.std.proofs.Common.{◌≡◌, ℕ, ◌<◌, List, length, get_or, Some, ap, ◌∙◌, arith}
 use Rattle.std.proofs.lemmas.List.{length-map}
 use Rattle.std.proofs.lemmas.Option.{slice_get_read, slice_get-map}
-use Rattle.sgf_tree.specs.Tree.{Games, node_count}
-use Rattle.sgf_tree.specs.FileOrder.{OrderedNode, ordered_nodes, place_at}
+use Rattle.sgf_outline.specs.Tree.{Games, node_count}
+use Rattle.sgf_outline.specs.FileOrder.{OrderedNode, ordered_nodes, place_at}
 use Rattle.sgf_tree.specs.inner.Placing.{ordered_places}
-use Rattle.sgf_tree.proofs.OrderedNodes.{length-ordered_nodes}
+use Rattle.sgf_outline.proofs.OrderedNodes.{length-ordered_nodes}
 
 module _ (g : Games) (places : List ℕ) (kept : places ≡ ordered_places (ordered_nodes g)) where
   pub places_count : length places ≡ node_count g

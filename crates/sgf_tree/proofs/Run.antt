@@ -4,7 +4,7 @@ use Rattle.std.proofs.Common.{◌≡◌, ℕ, ◌+◌, ◌-◌, ◌<◌, ◌≤�
 use Rattle.std.proofs.Math.Seq.{take-add}
 use Rattle.std.proofs.lemmas.List.{take_more, length-take-le, take-append-drop}
 use Rattle.std.proofs.lemmas.Option.{option_and_then_some}
-use Rattle.sgf_tree.specs.inner.Machine.{MachineState, start, next_state, run, accepted, collection_of}
+use Rattle.sgf_outline.specs.Machine.{MachineState, start, next_state, run, accepted, collection_of}
 
 -- a byte is taken, and then the text after it
 then_run : (at : ℕ) (x : ℕ) (a b : List ℕ)

@@ -2,10 +2,10 @@
 use Rattle.std.proofs.lemmas.Grind.{common_steps}
 use Rattle.std.proofs.Common.{◌≡◌, ◌≢◌, ℕ, ◌+◌, ◌<◌, true, false, List, [], ◌∷◌, ◌++◌, length, get_or, None, refl, ap, arith, ne_eqb}
 use Rattle.std.specs.List.{flat_map}
-use Rattle.sgf_tree.specs.Tree.{Property, Node, Games, no_games, game}
-use Rattle.sgf_tree.specs.Spelling.{is_white_space}
-use Rattle.sgf_tree.specs.Written.{property_text}
-use Rattle.sgf_tree.specs.inner.Machine.{UnclosedGame, Stack, Started, opened, in_node, add_node, after_game, after_node, between_games, ended, new_game, new_node, next_state, accepted}
+use Rattle.sgf_outline.specs.Tree.{Property, Node, Games, no_games, game}
+use Rattle.sgf_outline.specs.Spelling.{is_white_space}
+use Rattle.sgf_outline.specs.Written.{property_text}
+use Rattle.sgf_outline.specs.Machine.{UnclosedGame, Stack, Started, opened, in_node, add_node, after_game, after_node, between_games, ended, new_game, new_node, next_state, accepted}
 use Rattle.sgf_tree.specs.Refusal.{IsFaultyAt}
 use Rattle.sgf_tree.specs.inner.Progress.{ComesTo}
 use Rattle.sgf_properties.specs.Offsets.{IsSpan}

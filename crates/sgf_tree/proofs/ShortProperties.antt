@@ -1,20 +1,23 @@
 -- A property with one value, as the code tells it.
 use Rattle.std.proofs.lemmas.Grind.{common_steps, flat_map-append}
 use Rattle.std.proofs.Common.{◌≡◌, ◌≢◌, ℕ, ◌+◌, ◌<◌, ◌≤◌, Bool, false, IsTrue, List, [], ◌∷◌, ◌++◌, length, get_or, slice_range, Some, None, refl, sym, ap, subst, ◌∙◌, arith, append-nil}
-use Rattle.std.proofs.lemmas.Bool.{cases_lt, or_left}
+use Rattle.std.proofs.lemmas.Bool.{or_left}
 use Rattle.std.specs.List.{flat_map}
-use Rattle.sgf_tree.specs.Tree.{Property, values}
-use Rattle.sgf_tree.specs.Spelling.{is_white_space, is_upper, is_lower}
-use Rattle.sgf_tree.specs.Written.{value_text, property_text}
-use Rattle.sgf_tree.specs.inner.Machine.{Started, in_node}
+use Rattle.sgf_outline.specs.Tree.{Property, values}
+use Rattle.sgf_outline.specs.Spelling.{is_white_space, is_upper, is_lower}
+use Rattle.sgf_outline.specs.Written.{value_text, property_text}
+use Rattle.sgf_outline.specs.Machine.{Started, in_node}
 use Rattle.sgf_properties.specs.Front.{is_letter}
-use Rattle.sgf_tree.specs.inner.Progress.{ComesTo, IsMove, EndsNode}
+use Rattle.sgf_tree.specs.inner.Progress.{ComesTo}
+use Rattle.sgf_outline.specs.Move.{IsMove, EndsNode, IsShortProperty}
 use Rattle.sgf_properties.specs.Offsets.{IsSpan, IsBracket, IsValueEnd}
-use Rattle.sgf_tree.specs.inner.PropertiesRead.{AreValuesEnded, StandsIn, IsNameRead, IsPropertyRead, IsShortProperty, ArePropertiesRead, with_properties}
+use Rattle.sgf_tree.specs.inner.PropertiesRead.{AreValuesEnded, StandsIn, IsNameRead, IsPropertyRead, ArePropertiesRead, with_properties}
 use Rattle.sgf_properties.proofs.Classes.{upper-range, between-not_upper}
 use Rattle.sgf_tree.proofs.NameEnds.{name-read, capitals-are}
 use Rattle.sgf_properties.proofs.NameEnds.{bracket-here}
-use Rattle.sgf_tree.proofs.NodeEnds.{StandsInNode, node-done, node-name, nothing-skipped}
+use Rattle.sgf_tree.proofs.NodeEnds.{StandsInNode, node-done, node-name}
+use Rattle.sgf_outline.proofs.LoneNodes.{nothing-skipped}
+use Rattle.sgf_outline.proofs.ShortBytes.{two-name, two-letters, two-value}
 use Rattle.sgf_tree.proofs.Skipping.{stays-in_node}
 use Rattle.sgf_tree.proofs.Spans.{run-white}
 use Rattle.sgf_properties.proofs.Spans.{span-none}
@@ -54,22 +57,11 @@ short-property t start bracket close next lt capital letters capitals stands val
 
 -- a property of two capitals and one value of ordinary bytes
 module _ (t : List ℕ) (at close : ℕ) (is : IsShortProperty t at close) where
-  two-name : (test : ℕ → Bool) → IsTrue (test (get_or t at 0)) → IsTrue (test (get_or t (at + 1) 0)) → test 91 ≡ false → IsSpan test t at (at + 2)
-  two-name test first second other = grind (arith, common_steps, cases_lt)
-
-  pub two-letters : IsSpan is_letter t at (at + 2)
-  two-letters = grind (arith, common_steps, two-name, or_left)
-
-  pub two-value : IsValueEnd t (at + 2 + 1) close
-  two-value =
-      let three : at + 2 + 1 ≡ at + 3 = omega arith in
-      rw three (units-ended t (at + 3) close (ordinary-units t (at + 3) (at + 3) close (no-units t (at + 3)) is.ordinary) is.within is.end)
-
   two-whole : (next : ℕ) → AreValuesEnded t (close + 1) next → IsPropertyRead (StandsIn t at (close + 1)) t at (close + 1) next
   two-whole next ended =
       let rises : at + 3 ≤ close = is.ordinary.rises in
-      short-property t at (at + 2) close next (omega (arith, is.within)) is.first two-letters
-      (two-name is_upper is.first is.second refl) (record { within = omega (arith, is.within); bracket = is.bracket }) two-value ended
+      short-property t at (at + 2) close next (omega (arith, is.within)) is.first (two-letters t at close is)
+      (two-name t at close is is_upper is.first is.second refl) (record { within = omega (arith, is.within); bracket = is.bracket }) (two-value t at close is) ended
 
 -- a byte above the space that is no `[` ends a property's values at once
 ended-at : (t : List ℕ) (end : ℕ) → end < length t → 32 < get_or t end 0 → get_or t end 0 ≢ 91 → AreValuesEnded t end end

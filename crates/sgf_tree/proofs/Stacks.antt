@@ -1,20 +1,16 @@
--- The ordered nodes of whole and unclosed games: games side by side, and a game that ends.
+-- The ordered nodes of whole and unclosed games, and the last nodes below: games side by side, and a game that ends.
 use Rattle.std.proofs.lemmas.Grind.{common_steps}
-use Rattle.std.proofs.Common.{◌≡◌, ℕ, ◌+◌, List, [], ◌∷◌, ◌++◌, length, Option, None, arith, append_assoc, append-nil, length-append, rules}
-use Rattle.sgf_tree.specs.Tree.{Games, no_games, game, joined, game_count, node_count}
-use Rattle.sgf_tree.specs.FileOrder.{nodes_from}
-use Rattle.sgf_tree.specs.inner.Machine.{UnclosedGame, whole_game}
-use Rattle.sgf_tree.specs.inner.GamesRead.{unclosed_count, tip, own_nodes, unclosed_nodes, lasts, unclosed_lasts}
-use Rattle.sgf_tree.proofs.Completion.{add_games}
-use Rattle.sgf_tree.proofs.OrderedNodes.{length-further_nodes, length-nodes_from}
-
-pub node_count-followed : (a b : Games) → node_count (joined a b) ≡ node_count a + node_count b
-node_count-followed no_games b = omega arith
-node_count-followed (game first more below after) b = omega (arith, node_count-followed after b)
-
-pub game_count-followed : (a b : Games) → game_count (joined a b) ≡ game_count a + game_count b
-game_count-followed no_games b = omega arith
-game_count-followed (game first more below after) b = omega (arith, game_count-followed after b)
+use Rattle.std.proofs.Common.{◌≡◌, ℕ, ◌+◌, List, [], ◌∷◌, ◌++◌, length, Option, None, refl, arith, append_assoc, append-nil, length-append, rules}
+use Rattle.sgf_outline.specs.Tree.{Games, no_games, game, joined, node_count}
+use Rattle.sgf_outline.specs.FileOrder.{nodes_from}
+use Rattle.sgf_outline.specs.Machine.{UnclosedGame, whole_game}
+use Rattle.sgf_outline.specs.Unclosed.{unclosed_count}
+use Rattle.sgf_tree.specs.inner.GamesRead.{tip, own_nodes, unclosed_nodes, lasts, unclosed_lasts}
+use Rattle.sgf_outline.proofs.GameEnds.{add_games}
+use Rattle.sgf_outline.specs.Listing.{listed, unclosed_list}
+use Rattle.sgf_outline.proofs.ListedNodes.{length-listed}
+use Rattle.sgf_outline.proofs.Starts.{starts_from}
+use Rattle.sgf_outline.proofs.OrderedNodes.{length-further_nodes, length-nodes_from}
 
 -- games after others have their nodes after theirs
 pub ordered-followed : (at : ℕ) (parent : Option ℕ) (a b : Games) → nodes_from at parent (joined a b) ≡ nodes_from at parent a ++ nodes_from (at + node_count a) parent b
@@ -54,3 +50,20 @@ pub unclosed_lasts-closed : (closed : Games) (g : UnclosedGame) (gs : List Unclo
     → unclosed_lasts (add_games closed gs (whole_game g)).closed (add_games closed gs (whole_game g)).unclosed
     ≡ unclosed_lasts closed gs ++ (unclosed_count closed gs + length g.more + node_count g.below) ∷ lasts (unclosed_count closed gs + 1 + length g.more) g.below
 unclosed_lasts-closed closed g gs = search (rules, lasts-followed, lasts-whole, append_assoc)
+
+-- there is a last node for each
+pub length-lasts : (n at : ℕ) (g : Games) → length (lasts n g) ≡ length (starts_from at g)
+length-lasts n at no_games = refl
+length-lasts n at (game first more below after) =
+    let next : ℕ = n + 1 + length more in
+    let last : ℕ = at + length more in
+    omega (arith, length-append (lasts next below) (lasts (next + node_count below) after), length-append (starts_from (last + 1) below) (starts_from (last + 1 + node_count below) after), length-lasts next (last + 1) below, length-lasts (next + node_count below) (last + 1 + node_count below) after)
+
+-- for each of them the last node below it is kept
+lasts-listed : (at index number : ℕ) (outer : Option ℕ) (ordinal : ℕ) (a : Games) → length (lasts at a) ≡ length (listed index number outer ordinal a)
+lasts-listed at index number outer ordinal a = omega (arith, length-lasts at number a, length-listed index number outer ordinal a)
+
+module _ (closed : Games) where
+  pub unclosed_lasts-listed : (gs : List UnclosedGame) → length (unclosed_lasts closed gs) ≡ length (unclosed_list closed gs).sequences
+  unclosed_lasts-listed [] = lasts-listed 0 0 0 None 1 closed
+  unclosed_lasts-listed (g ∷ gs) = search (rules, length-append, lasts-listed, (unclosed_lasts-listed gs))

@@ -2,10 +2,10 @@
 use Rattle.std.proofs.Common.{◌≡◌, ℕ, ◌+◌, ◌<◌, ◌≤◌, List, [], ◌∷◌, ◌++◌, length, get_or, slice_range, refl, sym, ap, subst, ◌∙◌, arith, append_assoc, append-nil}
 use Rattle.std.proofs.lemmas.Grind.{flat_map-append}
 use Rattle.std.specs.List.{flat_map}
-use Rattle.sgf_tree.specs.Tree.{Property, values}
-use Rattle.sgf_tree.specs.Spelling.{is_white_space}
-use Rattle.sgf_tree.specs.Written.{value_text}
-use Rattle.sgf_tree.specs.inner.Machine.{Started, in_value, after_value, property_of, next_state}
+use Rattle.sgf_outline.specs.Tree.{Property, values}
+use Rattle.sgf_outline.specs.Spelling.{is_white_space}
+use Rattle.sgf_outline.specs.Written.{value_text}
+use Rattle.sgf_outline.specs.Machine.{Started, in_value, after_value, property_of, next_state}
 use Rattle.sgf_tree.specs.inner.Progress.{ComesTo}
 use Rattle.sgf_properties.specs.Offsets.{IsSpan, IsBracket, IsValueEnd}
 use Rattle.sgf_properties.proofs.NameEnds.{span-one}

@@ -1,7 +1,7 @@
 -- A collection that stands further on in a text, for the law of one text after another.
 use Rattle.std.specs.Prelude.{◌≡◌, ℕ, ◌+◌, List, [], ◌∷◌, map, take}
 use Rattle.sgf_properties.specs.Bytes.{byte_ef, byte_bb, byte_bf}
-use Rattle.sgf_tree.specs.Tree.{Node, Games, no_games, game}
+use Rattle.sgf_outline.specs.Tree.{Node, Games, no_games, game}
 
 -- the node, `by` bytes further on
 abbrev pub raised_node : ℕ → Node → Node

@@ -1,7 +1,7 @@
 -- How much a text holds.
 use Rattle.std.specs.Prelude.{◌≡◌, ℕ, List}
-use Rattle.sgf_tree.specs.Tree.{Games, game_count, node_count, leaf_count}
-use Rattle.sgf_tree.specs.Spelling.{Spells}
+use Rattle.sgf_outline.specs.Tree.{Games, game_count, node_count, leaf_count}
+use Rattle.sgf_outline.specs.Spelling.{Spells}
 use Rattle.sgf_tree.specs.declared.extent.Extent.{Extent}
 
 -- the text spells a collection that has so many games, nodes and leaves

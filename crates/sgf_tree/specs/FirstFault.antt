@@ -1,7 +1,7 @@
 -- How far a text is the beginning of some text of the grammar (this project's choice).
 use Rattle.std.specs.Prelude.{ℕ, ◌<◌, ◌≤◌, List, ◌++◌, length, take, All}
-use Rattle.sgf_tree.specs.Tree.{Games}
-use Rattle.sgf_tree.specs.Spelling.{Spells}
+use Rattle.sgf_outline.specs.Tree.{Games}
+use Rattle.sgf_outline.specs.Spelling.{Spells}
 
 -- the text `front` and some bytes after it spell a collection
 abbrev pub BeginsCollection : List ℕ → Type 0

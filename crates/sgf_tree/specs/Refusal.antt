@@ -1,7 +1,7 @@
 -- What a failure to read says of the text.
 use Rattle.std.specs.Prelude.{ℕ, List}
-use Rattle.sgf_tree.specs.Tree.{Games}
-use Rattle.sgf_tree.specs.Spelling.{Spells}
+use Rattle.sgf_outline.specs.Tree.{Games}
+use Rattle.sgf_outline.specs.Spelling.{Spells}
 use Rattle.sgf_tree.specs.FirstFault.{IsFirstFault}
 use Rattle.sgf_tree.specs.declared.fault.ReadFault.{ReadFault}
 use Rattle.sgf_tree.specs.declared.fault.ReadFault.TheVariants.{TooLong, NotSgf, Memory}

@@ -1,20 +1,20 @@
 //! A collection that was read: its nodes in file order, numbered from 0.
 
 ghost use Rattle.std.specs.Prelude.{◌≡◌, ◌-◌, ◌<◌, ◌↔◌, ℕ, Some, IsTrue, length, ◌≤◌};
-ghost use Rattle.sgf_tree.specs.declared.fault.TheConstants.{MAX_LENGTH};
-ghost use Rattle.sgf_tree.specs.Tree.{game_count, node_count, Games};
-ghost use Rattle.sgf_tree.specs.FileOrder.{node_at, place_at, parent_at, IsLeaf, game_of, IsLastBelow, PlacesRise, ordered_nodes};
-ghost use Rattle.sgf_tree.specs.inner.TreeCode.{games_code};
-ghost use Rattle.sgf_tree.specs.inner.GamesRead.{lasts, whole};
+ghost use Rattle.sgf_outline.specs.declared.limit.TheConstants.{MAX_LENGTH};
+ghost use Rattle.sgf_outline.specs.Tree.{game_count, node_count, Games};
+ghost use Rattle.sgf_outline.specs.FileOrder.{node_at, place_at, parent_at, IsLeaf, game_of, IsLastBelow, PlacesRise, ordered_nodes};
+ghost use Rattle.sgf_outline.specs.inner.TreeCode.{games_code};
+ghost use Rattle.sgf_tree.specs.inner.GamesRead.{lasts};
+ghost use Rattle.sgf_outline.specs.Unclosed.{whole};
 ghost use Rattle.sgf_tree.specs.inner.Placing.{ordered_places, HoldsNodes};
-ghost use Rattle.sgf_tree.specs.Spelling.{Spells};
-ghost use Rattle.sgf_tree.specs.inner.Machine.{games_in};
-ghost use Rattle.sgf_tree.specs.inner.OwnNodes.{nothing};
+ghost use Rattle.sgf_outline.specs.Spelling.{Spells};
+ghost use Rattle.sgf_outline.specs.Machine.{games_in};
+ghost use Rattle.sgf_outline.specs.OwnNodes.{nothing};
 ghost use Rattle.sgf_properties.specs.KeptLengths.{AreKeptLengths};
 
-use crate::node::NodeRef;
 use crate::numbered::Numbered;
-use crate::outline::Outline;
+use sgf_outline::{NodeRef, Outline};
 use sgf_properties::LongValue;
 use std::marker::Model;
 

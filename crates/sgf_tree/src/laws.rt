@@ -1,10 +1,10 @@
 //! Laws of the definitions. A function here does nothing: its contract is a law, and is proved.
 
 ghost use Rattle.std.specs.Prelude.{◌≡◌, ℕ, List, ◌++◌, length};
-ghost use Rattle.sgf_tree.specs.FileOrder.{PlacesRise};
+ghost use Rattle.sgf_outline.specs.FileOrder.{PlacesRise};
 ghost use Rattle.sgf_tree.specs.Appending.{raised, BeginsWithByteOrderMark};
-ghost use Rattle.sgf_tree.specs.Spelling.{Spells};
-ghost use Rattle.sgf_tree.specs.Tree.{Games, joined};
+ghost use Rattle.sgf_outline.specs.Spelling.{Spells};
+ghost use Rattle.sgf_outline.specs.Tree.{Games, joined};
 
 pub use sgf_properties::laws::decoded;
 

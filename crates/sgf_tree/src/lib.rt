@@ -4,13 +4,14 @@
 //! spells, or the first byte that no text of the grammar can have there.
 //! [`read_extent`] only counts the games, nodes and leaves, which is faster and takes less memory.
 //!
-//! An [`Outline`] ([`read_outline`]) keeps the sequences of a collection. A sequence is the nodes between a `(` and the next parenthesis. For
-//! each it keeps, in 20 bytes, where the sequence stands in the text, the number of its first node, and the sequence that it goes on from. If
-//! white space stands between parts of its nodes, or a name has small letters, it keeps in 8 bytes where each segment without any is: the
-//! sgf form copies these. The nodes are found on the text, one after another.
+//! An [`Outline`] ([`read_outline`]) keeps the sequences of a collection. A sequence is the nodes between a `(` and the next parenthesis.
+//! The nodes are found on the text, one after another.
 //! A [`Collection`] numbers its nodes from 0 in file order. Besides its outline it keeps, in 4 bytes, the place of each node, and for each
 //! sequence the last node below it. The properties of a node and their raw values are read from the text again when they are asked for, one
-//! after another. Reading them takes no memory. The crate `sgf_properties` goes over them, and decodes values; this crate passes on its types.
+//! after another. Reading them takes no memory.
+//!
+//! Two crates stand below this one, and it passes on what its callers need of them. `sgf_outline` keeps the sequences and goes over their
+//! nodes. `sgf_properties` goes over the properties of a node, and decodes values.
 //!
 //! ```text
 //! let collection = read(alloc, text)?;
@@ -26,19 +27,14 @@
 //! | Module | What it has |
 //! |---|---|
 //! | `reader` | reading a text, and the first fault |
-//! | `reader/visitor`, `reader/games` | what a reader tells the one who keeps a part of it; reading games |
+//! | `reader/games` | reading games |
 //! | `reader/own_nodes`, `reader/properties` | adding nodes one by one to the own nodes of a game; reading the properties of a node |
-//! | `reader/segment` | which bytes the sgf form copies |
 //! | `reader/counting` | counting games, nodes and leaves |
 //! | `reader/value` | reading a raw value, and keeping the lengths of long ones |
 //! | `reader/byte_order_mark` | the byte order mark |
 //! | `reader/fault` | why reading a text stopped, and how the place of the first fault is found |
 //! | `extent` | how much a text holds |
-//! | `sequences`, `outline`, `traversal` | keeping the sequences of a collection; looking into them; going over the nodes of one |
-//! | `numbered`, `collection` | keeping the place of each node too; looking into a collection by numbers of nodes |
-//! | `node` | looking into a node |
-//! | `written` | writing a node as the sgf form does |
-//! | `layout` | the types of own nodes and segments |
+//! | `numbered`, `collection` | keeping the place of each node besides the sequences; looking into a collection by numbers of nodes |
 //! | `quick` | shortcuts for what nearly all texts have |
 //! | `fault` | how reading a text may fail |
 //! | `laws` | what holds of all texts |
@@ -52,15 +48,15 @@
 //! | the byte order mark: its bytes; once, before white space | `byte_order_mark_end` (`reader/byte_order_mark`); `read_whole` (`reader`) |
 //! | the first fault | where these return `NotSgf`: `read_games`, `read_sequence` (`reader/games`), `read_far_name` (`reader/properties`), `read_far_value` (`reader/value`), `byte_order_mark_end` (`reader/byte_order_mark`); `reader/fault` says why that is the first |
 //! | at most 64 MiB | `read`, `read_outline`, `read_extent` (`reader`) |
-//! | a node in sgf form | `push_node` (`written`). A run copies segments of the text instead: `read_node` (`reader/games`) and `read_properties` find them, and `copy_capitals` (`reader/properties`) leaves small letters of names out |
+//! | a node in sgf form | `push_node` of `sgf_outline` (`written`). A run copies segments of the text instead: `read_node` (`reader/games`) and `read_properties` find them, and `copy_capitals` (`reader/properties`) leaves small letters of names out |
 //!
 //! The same table in `sgf_properties` has the rules of names, raw values, decoded text, numbers, and the bytes of white space.
 //!
 //! The plain code is complete without the shortcuts in `quick`, which may be skipped: a first reader may take each call of one to find nothing,
 //! as if it returned None, false, or the offset that it got. A shortcut ensures no more than the plain function that it stands in for. From
-//! `sgf_properties` come the shortcuts `short_name_end`, `short_value_end` and `past_points`.
-//! Outside `quick` two things are there only for speed: the lengths of long values (`long`), and what a glance shows of a node (`NextNode::Led`,
-//! `NextNode::Empty`, `NodeRef::front`). A first reader may take `long` to be empty.
+//! `sgf_properties` come the shortcuts `short_name_end`, `short_value_end` and `past_points`, from `sgf_outline` come `moves_in_place` and
+//! `near_property_close`.
+//! Outside `quick` the lengths of long values (`long`) are there only for speed. A first reader may take `long` to be empty.
 //!
 //! Worked examples are in the crate `sgf_tree_tests`, and those that the program shows are in `tests/`.
 #![tactic(auto)]
@@ -69,21 +65,13 @@ mod collection;
 mod extent;
 mod fault;
 pub mod laws;
-mod layout;
-mod node;
 mod numbered;
-mod outline;
 mod quick;
 mod reader;
-mod sequences;
-mod traversal;
-mod written;
 
 pub use collection::Collection;
 pub use extent::Extent;
-pub use fault::{MAX_LENGTH, ReadFault};
-pub use node::NodeRef;
-pub use outline::Outline;
+pub use fault::ReadFault;
 pub use reader::{read, read_extent, read_outline};
+pub use sgf_outline::{MAX_LENGTH, NextNode, NodeRef, Outline, SequenceNodes};
 pub use sgf_properties::{MemoryFault, PropRef, Properties, Values, number, push_text};
-pub use traversal::{NextNode, SequenceNodes};

@@ -2,14 +2,12 @@
 //! node below it.
 
 ghost use Rattle.std.specs.Prelude.{◌≡◌, ◌+◌, ◌/◌, min, ℕ, List, IfOk};
-ghost use Rattle.sgf_tree.specs.inner.OwnNodes.{nothing};
-ghost use Rattle.sgf_tree.specs.Tree.{no_games};
-ghost use Rattle.sgf_tree.specs.inner.GamesRead.{whole};
+ghost use Rattle.sgf_outline.specs.OwnNodes.{nothing};
+ghost use Rattle.sgf_outline.specs.Tree.{no_games};
+ghost use Rattle.sgf_outline.specs.Unclosed.{whole};
 ghost use Rattle.sgf_tree.specs.inner.Placing.{HoldsNodes};
 
-use crate::layout::{OwnNodes, Segment};
-use crate::reader::visitor::Visitor;
-use crate::sequences::Sequences;
+use sgf_outline::{OwnNodes, Segment, Sequences, Visitor};
 use sgf_properties::MemoryFault;
 use std::alloc::Global;
 

@@ -8,14 +8,15 @@
 //! `read_far_name` (`properties`) and `read_far_value` (`value`).
 
 ghost use Rattle.std.specs.Prelude.{◌≡◌, ◌<◌, ◌≤◌, ◌↔◌, [], length, Err, IfOk, IfErr, OnOk};
-ghost use Rattle.sgf_tree.specs.Tree.{no_games};
-ghost use Rattle.sgf_tree.specs.Spelling.{Spells};
+ghost use Rattle.sgf_outline.specs.Tree.{no_games};
+ghost use Rattle.sgf_outline.specs.Spelling.{Spells};
 ghost use Rattle.sgf_tree.specs.Refusal.{IsFaultyWhereNotSgf};
 ghost use Rattle.sgf_tree.specs.Extent.{HasExtent};
 ghost use Rattle.sgf_tree.specs.inner.Progress.{IsTrueFault};
 ghost use Rattle.sgf_properties.specs.KeptLengths.{AreKeptLengths};
-ghost use Rattle.sgf_tree.specs.inner.OwnNodes.{nothing};
-ghost use Rattle.sgf_tree.specs.inner.GamesRead.{whole, ReadsWhole};
+ghost use Rattle.sgf_outline.specs.OwnNodes.{nothing};
+ghost use Rattle.sgf_outline.specs.Unclosed.{whole};
+ghost use Rattle.sgf_tree.specs.inner.GamesRead.{ReadsWhole};
 
 mod byte_order_mark;
 mod counting;
@@ -23,21 +24,17 @@ mod fault;
 mod games;
 pub(crate) mod own_nodes;
 pub(crate) mod properties;
-mod segment;
 mod value;
-pub(crate) mod visitor;
 
 use crate::collection::Collection;
 use crate::extent::Extent;
-use crate::fault::{MAX_LENGTH, ReadFault};
+use crate::fault::ReadFault;
 use crate::numbered::Numbered;
-use crate::outline::Outline;
 use crate::reader::byte_order_mark::byte_order_mark_end;
 use crate::reader::counting::Tally;
 use crate::reader::fault::PartFault;
 use crate::reader::games::read_games;
-use crate::reader::visitor::Visitor;
-use crate::sequences::Sequences;
+use sgf_outline::{MAX_LENGTH, Outline, Sequences, Visitor};
 use sgf_properties::{LongValue, skip_white_space};
 use std::alloc::Global;
 

@@ -1,8 +1,8 @@
 -- How the games, nodes and leaves of a text were counted: words of the contracts in `reader::counting`.
 use Rattle.std.specs.Prelude.{◌≡◌, ℕ, ◌+◌, Bool, true, false, List, [], ◌∷◌}
-use Rattle.sgf_tree.specs.Tree.{Games, no_games, game, game_count, leaf_count}
-use Rattle.sgf_tree.specs.inner.Machine.{UnclosedGame, Stack}
-use Rattle.sgf_tree.specs.inner.GamesRead.{unclosed_count}
+use Rattle.sgf_outline.specs.Tree.{Games, no_games, game, game_count, leaf_count}
+use Rattle.sgf_outline.specs.Machine.{UnclosedGame, Stack}
+use Rattle.sgf_outline.specs.Unclosed.{unclosed_count}
 use Rattle.sgf_tree.specs.declared.reader.counting.Tally.{Tally}
 
 -- how many leaves the closed games have, and the games below the unclosed ones

@@ -1,21 +1,13 @@
 -- How the nodes and games of a text were read: words of the contracts in `reader::games` and of what a visitor keeps.
 use Rattle.std.specs.Prelude.{◌≡◌, ℕ, ◌+◌, ◌<◌, ◌≤◌, true, false, List, [], ◌∷◌, ◌++◌, length, slice_index, Option, Some, None}
-use Rattle.sgf_tree.specs.Tree.{Games, no_games, game, node_count}
-use Rattle.sgf_tree.specs.Spelling.{Spells, is_white_space}
-use Rattle.sgf_tree.specs.FileOrder.{OrderedNode, further_nodes, nodes_from}
-use Rattle.sgf_tree.specs.inner.Machine.{UnclosedGame, Stack, MachineState, opened, after_game, between_games, next_state, accepted, games_in}
-use Rattle.sgf_tree.specs.inner.OwnNodes.{Coming, nothing, with_game}
+use Rattle.sgf_outline.specs.Tree.{Games, no_games, game, node_count}
+use Rattle.sgf_outline.specs.Spelling.{Spells, is_white_space}
+use Rattle.sgf_outline.specs.FileOrder.{OrderedNode, further_nodes, nodes_from}
+use Rattle.sgf_outline.specs.Machine.{UnclosedGame, Stack, MachineState, opened, after_game, between_games, next_state, accepted, games_in}
+use Rattle.sgf_outline.specs.Unclosed.{whole, unclosed_count}
+use Rattle.sgf_outline.specs.OwnNodes.{Coming, nothing, with_game}
 use Rattle.sgf_tree.specs.inner.Progress.{ComesTo, IsTrueFault}
 use Rattle.sgf_tree.specs.declared.reader.fault.PartFault.{PartFault}
-
--- whole games, and no unclosed one
-abbrev pub whole : Games → Stack
-whole games = record { closed = games; unclosed = [] }
-
--- how many nodes the closed and the unclosed games have
-abbrev pub unclosed_count : Games → List UnclosedGame → ℕ
-unclosed_count closed [] = node_count closed
-unclosed_count closed (inmost ∷ outer) = unclosed_count closed outer + 1 + length inmost.more + node_count inmost.below
 
 -- the number of the last own node of the innermost unclosed game
 abbrev pub tip : Games → List UnclosedGame → Option ℕ

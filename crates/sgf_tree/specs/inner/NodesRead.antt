@@ -3,15 +3,15 @@ use Rattle.std.specs.Prelude.{◌≡◌, ℕ, ◌+◌, ◌<◌, ◌≤◌, false
 use Rattle.std.specs.List.{flat_map}
 use Rattle.sgf_properties.specs.Bytes.{semicolon}
 use Rattle.sgf_properties.specs.Offsets.{IsSpan}
-use Rattle.sgf_tree.specs.Tree.{Node, no_games}
-use Rattle.sgf_tree.specs.Written.{node_text}
-use Rattle.sgf_tree.specs.Spelling.{is_white_space}
-use Rattle.sgf_tree.specs.inner.Machine.{UnclosedGame, Stack, Started, opened, ended}
+use Rattle.sgf_outline.specs.Tree.{Node, no_games}
+use Rattle.sgf_outline.specs.Written.{node_text}
+use Rattle.sgf_outline.specs.Spelling.{is_white_space}
+use Rattle.sgf_outline.specs.Machine.{UnclosedGame, Stack, Started, opened, ended}
 use Rattle.sgf_tree.specs.inner.Progress.{ComesTo, IsTrueFault}
 use Rattle.sgf_tree.specs.inner.PropertiesRead.{StandsAfterNode}
-use Rattle.sgf_tree.specs.inner.GamesRead.{unclosed_count}
-use Rattle.sgf_tree.specs.inner.OwnNodes.{Coming, coming_of, AreOwnNodes, IsCopied}
-use Rattle.sgf_tree.specs.declared.fault.TheConstants.{MAX_LENGTH}
+use Rattle.sgf_outline.specs.Unclosed.{unclosed_count}
+use Rattle.sgf_outline.specs.OwnNodes.{Coming, coming_of, AreOwnNodes, IsCopied}
+use Rattle.sgf_outline.specs.declared.limit.TheConstants.{MAX_LENGTH}
 use Rattle.sgf_tree.specs.declared.reader.fault.PartFault.{PartFault}
 use Rattle.sgf_tree.specs.declared.reader.own_nodes.NodesRead.{NodesRead}
 

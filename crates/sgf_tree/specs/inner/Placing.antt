@@ -1,10 +1,10 @@
 -- How the places of all nodes are kept, and for each sequence the last node below it.
 use Rattle.std.specs.Prelude.{◌≡◌, ℕ, ◌<◌, List, ◌++◌, length, map, All}
-use Rattle.sgf_tree.specs.FileOrder.{OrderedNode}
-use Rattle.sgf_tree.specs.inner.Machine.{Stack}
+use Rattle.sgf_outline.specs.FileOrder.{OrderedNode}
+use Rattle.sgf_outline.specs.Machine.{Stack}
 use Rattle.sgf_tree.specs.inner.GamesRead.{unclosed_nodes, unclosed_lasts}
-use Rattle.sgf_tree.specs.inner.OwnNodes.{Coming}
-use Rattle.sgf_tree.specs.inner.Outlining.{HoldsSequences}
+use Rattle.sgf_outline.specs.OwnNodes.{Coming}
+use Rattle.sgf_outline.specs.Outlining.{HoldsSequences}
 use Rattle.sgf_tree.specs.declared.numbered.Numbered.{Numbered}
 
 -- the places of ordered nodes

@@ -1,17 +1,17 @@
 -- How the properties of a node were read: words of the contracts in `reader::properties`.
 use Rattle.std.specs.Prelude.{◌≡◌, ◌≢◌, ℕ, ◌+◌, ◌<◌, ◌≤◌, false, IsTrue, List, [], ◌∷◌, length, slice_index, slice_range, None}
 use Rattle.std.specs.List.{flat_map}
-use Rattle.sgf_properties.specs.Bytes.{open_bracket, close_bracket}
-use Rattle.sgf_tree.specs.Tree.{Property}
-use Rattle.sgf_tree.specs.Written.{property_text}
-use Rattle.sgf_tree.specs.Spelling.{is_white_space, is_upper}
-use Rattle.sgf_tree.specs.inner.Machine.{Stack, Started, MachineState, in_node, in_name, in_value, after_value, after_node, ended, next_state, accepted}
+use Rattle.sgf_properties.specs.Bytes.{open_bracket}
+use Rattle.sgf_outline.specs.Tree.{Property}
+use Rattle.sgf_outline.specs.Written.{property_text}
+use Rattle.sgf_outline.specs.Spelling.{is_white_space, is_upper}
+use Rattle.sgf_outline.specs.Machine.{Stack, Started, MachineState, in_node, in_name, in_value, after_value, after_node, ended, next_state, accepted}
 use Rattle.sgf_tree.specs.inner.Progress.{ComesTo, IsTrueFault}
-use Rattle.sgf_tree.specs.inner.OwnNodes.{Coming, Copies}
-use Rattle.sgf_properties.specs.Offsets.{IsSpan, IsBracket, IsValueEnd, AreOrdinary, ArePoints}
+use Rattle.sgf_outline.specs.OwnNodes.{Coming, Copies}
+use Rattle.sgf_properties.specs.Offsets.{IsSpan, IsBracket, IsValueEnd, ArePoints}
 use Rattle.sgf_properties.specs.KeptLengths.{AreKeptLengths}
 use Rattle.sgf_properties.specs.declared.value.LongValue.{LongValue}
-use Rattle.sgf_tree.specs.declared.fault.TheConstants.{MAX_LENGTH}
+use Rattle.sgf_outline.specs.declared.limit.TheConstants.{MAX_LENGTH}
 use Rattle.sgf_tree.specs.declared.reader.fault.PartFault.{PartFault}
 use Rattle.sgf_tree.specs.declared.reader.properties.PartRead.{PartRead}
 
@@ -19,16 +19,6 @@ use Rattle.sgf_tree.specs.declared.reader.properties.PartRead.{PartRead}
 pub record AreValuesEnded (text : List ℕ) (end next : ℕ) : Type 0 where
   pub white_space : IsSpan is_white_space text end next
   pub other : slice_index text next ≢ open_bracket
-
--- a property of two capitals begins at `at`, as in `BL[921.325]`, and its first value has ordinary bytes; the `]` of this value is at
--- `close`
-pub record IsShortProperty (text : List ℕ) (at close : ℕ) : Type 0 where
-  pub first : IsTrue (is_upper (slice_index text at))
-  pub second : IsTrue (is_upper (slice_index text (at + 1)))
-  pub bracket : slice_index text (at + 2) ≡ open_bracket
-  pub ordinary : AreOrdinary text (at + 3) close
-  pub within : close < length text
-  pub end : slice_index text close ≡ close_bracket
 
 -- A raw value may be read at `at`. The text isn't too long, and the lengths that were kept are right.
 pub record MayReadValue (text : List ℕ) (at : ℕ) (long : List LongValue) : Type 0 where

@@ -4,10 +4,9 @@ ghost use Rattle.std.specs.Prelude.{◌≡◌, ◌+◌, IfOk, MatchOption};
 ghost use Rattle.sgf_tree.specs.inner.NodesRead.{BeginsNode, AreNodesRead};
 ghost use Rattle.sgf_tree.specs.inner.PropertiesRead.{StandsIn, ArePropertiesRead};
 
-use crate::quick::moves::{TWO_MOVES, moves_in_place};
 use crate::quick::properties::{ShortRead, short_properties};
 use crate::reader::own_nodes::{NodesRead, take_node};
-use crate::reader::visitor::Visitor;
+use sgf_outline::{TWO_MOVES, Visitor, moves_in_place};
 use sgf_properties::MemoryFault;
 
 /// Reads the node whose `;` stands where `before` ends, if a glance shows all of it, and with it the node after it, if both are written like

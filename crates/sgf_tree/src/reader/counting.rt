@@ -1,13 +1,12 @@
 //! Counting games, nodes and leaves.
 
 ghost use Rattle.std.specs.Prelude.{◌≡◌, ◌+◌};
-ghost use Rattle.sgf_tree.specs.Tree.{no_games};
-ghost use Rattle.sgf_tree.specs.inner.GamesRead.{whole};
+ghost use Rattle.sgf_outline.specs.Tree.{no_games};
+ghost use Rattle.sgf_outline.specs.Unclosed.{whole};
 ghost use Rattle.sgf_tree.specs.inner.Counting.{IsTallyOf};
 
 use crate::extent::Extent;
-use crate::layout::{OwnNodes, Segment};
-use crate::reader::visitor::Visitor;
+use sgf_outline::{OwnNodes, Segment, Visitor};
 use sgf_properties::MemoryFault;
 
 /// What was counted so far.

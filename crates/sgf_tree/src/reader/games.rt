@@ -1,21 +1,20 @@
 //! Reading games (SGF FF[4], EBNF: Collection, GameTree, Sequence). What is kept of them is up to a visitor.
 
 ghost use Rattle.std.specs.Prelude.{◌≡◌, ◌<◌, ◌≤◌, [], length, IfOk, IfErr, OnOk};
-ghost use Rattle.sgf_tree.specs.Tree.{no_games};
-ghost use Rattle.sgf_tree.specs.inner.Machine.{Stack, opened};
+ghost use Rattle.sgf_outline.specs.Tree.{no_games};
+ghost use Rattle.sgf_outline.specs.Machine.{Stack, opened};
 ghost use Rattle.sgf_tree.specs.inner.Progress.{ComesTo, IsTrueFault};
 ghost use Rattle.sgf_properties.specs.KeptLengths.{AreKeptLengths};
-ghost use Rattle.sgf_tree.specs.inner.OwnNodes.{nothing};
-ghost use Rattle.sgf_tree.specs.inner.GamesRead.{unclosed_count, StandsBetween, IsFaultInOpened, ReadsOwnNodes, ReadsWhole};
+ghost use Rattle.sgf_outline.specs.OwnNodes.{nothing};
+ghost use Rattle.sgf_outline.specs.Unclosed.{unclosed_count};
+ghost use Rattle.sgf_tree.specs.inner.GamesRead.{StandsBetween, IsFaultInOpened, ReadsOwnNodes, ReadsWhole};
 ghost use Rattle.sgf_tree.specs.inner.NodesRead.{BeginsNode, AreNodesRead, IsFaultInNodes};
 
-use crate::fault::MAX_LENGTH;
-use crate::layout::OwnNodes;
 use crate::quick::nodes::near_nodes;
 use crate::reader::fault::PartFault;
 use crate::reader::own_nodes::{NodesRead, take_node};
 use crate::reader::properties::read_properties;
-use crate::reader::visitor::Visitor;
+use sgf_outline::{MAX_LENGTH, OwnNodes, Visitor};
 use sgf_properties::{LongValue, skip_white_space, stands_at};
 
 /// Reads all games, and tells `visitor` what comes: Collection = GameTree { GameTree }, and GameTree = `(` Sequence { GameTree } `)`. The

@@ -1,12 +1,11 @@
 //! Putting together what is known of the own nodes of a game, one by one.
 
 ghost use Rattle.std.specs.Prelude.{◌≡◌, ◌<◌, ◌≤◌, ◌+◌, ℕ, List, length, slice_range, IfOk};
-ghost use Rattle.sgf_tree.specs.inner.Machine.{Stack};
-ghost use Rattle.sgf_tree.specs.inner.GamesRead.{unclosed_count};
-ghost use Rattle.sgf_tree.specs.inner.OwnNodes.{Coming, CopiesNode, MayGoOn, is_written};
+ghost use Rattle.sgf_outline.specs.Machine.{Stack};
+ghost use Rattle.sgf_outline.specs.Unclosed.{unclosed_count};
+ghost use Rattle.sgf_outline.specs.OwnNodes.{Coming, CopiesNode, MayGoOn};
 
-use crate::layout::{OwnNodes, Segment};
-use crate::reader::visitor::Visitor;
+use sgf_outline::{OwnNodes, Segment, Visitor};
 use sgf_properties::MemoryFault;
 
 /// The own nodes of a game, as far as they were read.
@@ -32,15 +31,6 @@ impl NodesRead {
             },
         };
         NodesRead { own, end: first }
-    }
-}
-
-impl OwnNodes {
-    /// Whether the nodes are one segment: the sgf form writes them as they stand in the text.
-    pub(crate) fn is_written(&self) -> bool
-        ensures { result ≡ is_written self.now }
-    {
-        self.segment.start == self.first
     }
 }
 

@@ -1,18 +1,16 @@
 //! Reading the properties of a node (SGF FF[4], EBNF: Node, Property, PropIdent), and telling a visitor what the sgf form copies of them.
 
 ghost use Rattle.std.specs.Prelude.{◌<◌, ◌≤◌, ◌+◌, length, slice_index, slice_range, IsTrue, IfOk, IfErr, OnOk};
-ghost use Rattle.sgf_tree.specs.Spelling.{is_upper};
+ghost use Rattle.sgf_outline.specs.Spelling.{is_upper};
 ghost use Rattle.sgf_properties.specs.Front.{name_in};
-ghost use Rattle.sgf_tree.specs.inner.OwnNodes.{Copies, MayGoOn};
+ghost use Rattle.sgf_outline.specs.OwnNodes.{Copies, MayGoOn};
 ghost use Rattle.sgf_tree.specs.inner.PropertiesRead.{BeginsProperty, IsNameCopied, IsPropertyRead, ArePropertiesRead, IsFaultInProperty, IsFaultInNode};
 ghost use Rattle.sgf_properties.specs.KeptLengths.{AreKeptLengths};
 
-use crate::fault::MAX_LENGTH;
-use crate::layout::Segment;
 use crate::quick::properties::read_short_property;
 use crate::reader::fault::PartFault;
 use crate::reader::value::read_value;
-use crate::reader::visitor::Visitor;
+use sgf_outline::{MAX_LENGTH, Segment, Visitor};
 use sgf_properties::{
     LongValue, MemoryFault, capital_at, letters_end, short_name_end, skip_white_space, stands_at,
 };

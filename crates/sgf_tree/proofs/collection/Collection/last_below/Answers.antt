@@ -2,11 +2,12 @@ use Rattle.std.proofs.lemmas.Grind.{common_steps}
 use Rattle.std.proofs.Common.{◌≡◌, ◌≤◌, ◌<◌, ◌+◌, get_or, length, refl, ap, subst, arith}
 use Rattle.std.proofs.lemmas.Option.{slice_get_read}
 use Rattle.std.specs.Prelude.{slice_get, Some}
-use Rattle.sgf_tree.specs.Tree.{node_count}
-use Rattle.sgf_tree.specs.FileOrder.{IsLastBelow}
+use Rattle.sgf_outline.specs.Tree.{node_count}
+use Rattle.sgf_outline.specs.FileOrder.{IsLastBelow}
 use Rattle.sgf_tree.specs.inner.GamesRead.{lasts}
 use Rattle.sgf_tree.proofs.LastBelow.{lasts-below}
-use Rattle.sgf_tree.proofs.Starts.{starts-are, length-lasts}
+use Rattle.sgf_outline.proofs.Starts.{starts-are}
+use Rattle.sgf_tree.proofs.Stacks.{length-lasts}
 use Rattle.sgf_tree.proofs.collection.Collection.last_below.Goals as goal
 
 pub index-requires : goal.index-requires

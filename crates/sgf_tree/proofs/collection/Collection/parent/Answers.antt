@@ -1,6 +1,6 @@
 use Rattle.std.proofs.lemmas.Grind.{common_steps}
 use Rattle.std.proofs.Common.{arith}
-use Rattle.sgf_tree.proofs.Outlined.{sequence-further}
+use Rattle.sgf_outline.proofs.Outlined.{sequence-further}
 use Rattle.sgf_tree.proofs.collection.Collection.parent.Goals as goal
 
 pub returns-then-sequence_start-i : goal.returns-then-sequence_start-i

@@ -1,10 +1,10 @@
 use Rattle.std.proofs.Common.{◌≡◌, ℕ, ◌-◌, length, set, Some, sym, ap, subst, arith}
-use Rattle.sgf_tree.specs.inner.OwnNodes.{nothing}
-use Rattle.sgf_tree.specs.inner.Outlining.{HoldsSequences}
+use Rattle.sgf_outline.specs.OwnNodes.{nothing}
+use Rattle.sgf_outline.specs.Outlining.{HoldsSequences}
 use Rattle.sgf_tree.specs.declared.numbered.Numbered.{Numbered}
-use Rattle.sgf_tree.proofs.GameEnds.{fewer-games}
+use Rattle.sgf_outline.proofs.GameEnds.{fewer-games}
 use Rattle.sgf_tree.proofs.KeptNodes.{length-places, length-lasts, nodes-ended}
-use Rattle.sgf_tree.proofs.KeptSequences.{innermost-within}
+use Rattle.sgf_outline.proofs.KeptSequences.{innermost-within}
 use Rattle.sgf_tree.proofs.numbered.NumberedVisitor.game_ends.Goals.{in-Some, in_default}
 use Rattle.sgf_tree.proofs.numbered.NumberedVisitor.game_ends.Goals as goal
 

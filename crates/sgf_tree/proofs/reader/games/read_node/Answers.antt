@@ -1,11 +1,11 @@
 use Rattle.std.proofs.Common.{◌≡◌, ◌+◌, refl, sym, ap, subst, arith, rules}
 use Rattle.std.proofs.lemmas.Result.{err_from_is_err_and}
-use Rattle.sgf_tree.specs.inner.OwnNodes.{Copies}
+use Rattle.sgf_outline.specs.OwnNodes.{Copies}
 use Rattle.sgf_tree.specs.inner.NodesRead.{AreNodesRead}
-use Rattle.sgf_tree.specs.inner.Machine.{in_node}
+use Rattle.sgf_outline.specs.Machine.{in_node}
 use Rattle.sgf_tree.specs.inner.Progress.{ComesTo}
 use Rattle.sgf_tree.specs.inner.PropertiesRead.{ArePropertiesRead}
-use Rattle.sgf_tree.specs.declared.layout.OwnNodes.{OwnNodes}
+use Rattle.sgf_outline.specs.declared.layout.OwnNodes.{OwnNodes}
 use Rattle.sgf_tree.specs.declared.reader.own_nodes.NodesRead.{NodesRead}
 use Rattle.sgf_tree.proofs.OwnRead.{parts-copied, read-node, own-more}
 use Rattle.sgf_tree.proofs.reader.games.read_node.Goals as goal

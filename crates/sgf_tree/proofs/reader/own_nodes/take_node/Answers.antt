@@ -1,5 +1,5 @@
 use Rattle.std.proofs.Common.{◌++◌, ◌∷◌, [], arith}
-use Rattle.sgf_tree.proofs.Copying.{copied-as}
+use Rattle.sgf_outline.proofs.Copying.{copied-as}
 use Rattle.sgf_tree.proofs.reader.own_nodes.take_node.Goals as goal
 
 pub returns-clause-copied : goal.returns-clause-copied

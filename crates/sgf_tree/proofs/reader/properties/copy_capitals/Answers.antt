@@ -1,7 +1,7 @@
 use Rattle.std.proofs.Common.{◌≡◌, ◌+◌, slice_range, sym, ap, subst, arith}
 use Rattle.sgf_properties.specs.Front.{name_in}
-use Rattle.sgf_tree.specs.inner.OwnNodes.{Copies}
-use Rattle.sgf_tree.proofs.Copying.{copies-none, copies-then}
+use Rattle.sgf_outline.specs.OwnNodes.{Copies}
+use Rattle.sgf_outline.proofs.Copying.{copies-none, copies-then}
 use Rattle.sgf_tree.proofs.NameEnds.{name-join}
 use Rattle.sgf_properties.proofs.Spans.{span-none}
 use Rattle.sgf_tree.proofs.reader.properties.copy_capitals.Goals as goal

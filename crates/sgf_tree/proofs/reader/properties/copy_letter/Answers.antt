@@ -1,6 +1,6 @@
 use Rattle.std.proofs.Common.{subst, arith}
-use Rattle.sgf_tree.specs.inner.OwnNodes.{Copies}
-use Rattle.sgf_tree.proofs.Copying.{copies-none}
+use Rattle.sgf_outline.specs.OwnNodes.{Copies}
+use Rattle.sgf_outline.proofs.Copying.{copies-none}
 use Rattle.sgf_tree.proofs.NameEnds.{name-capital, name-small}
 use Rattle.sgf_tree.proofs.reader.properties.copy_letter.Goals as goal
 

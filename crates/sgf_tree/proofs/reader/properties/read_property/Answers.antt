@@ -1,7 +1,7 @@
 use Rattle.std.proofs.Common.{rules, ◌+◌, sym, subst, arith}
-use Rattle.sgf_tree.specs.inner.OwnNodes.{Copies}
+use Rattle.sgf_outline.specs.OwnNodes.{Copies}
 use Rattle.sgf_tree.specs.inner.PropertiesRead.{IsPropertyRead}
-use Rattle.sgf_tree.proofs.Copying.{copies-none, copies-then}
+use Rattle.sgf_outline.proofs.Copying.{copies-none, copies-then}
 use Rattle.sgf_tree.proofs.Points.{points-read, values-run}
 use Rattle.sgf_tree.proofs.ShortProperties.{property-read}
 use Rattle.sgf_tree.proofs.ValuesRead.{After, after-none, values-as, values-begin, values-more}

@@ -1,7 +1,7 @@
 use Rattle.std.proofs.Common.{◌≡◌, cond, arith}
 use Rattle.std.proofs.Math.Dec.{eqb}
 use Rattle.sgf_tree.proofs.Counting.{fewer-leaves, tally-closed}
-use Rattle.sgf_tree.proofs.GameEnds.{cast-to, at_most_1, fewer-games}
+use Rattle.sgf_outline.proofs.GameEnds.{cast-to, at_most_1, fewer-games}
 use Rattle.sgf_tree.proofs.reader.counting.TallyVisitor.game_ends.Goals as goal
 
 pub overflow_add-self : goal.overflow_add-self

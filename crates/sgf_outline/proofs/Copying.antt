@@ -1,0 +1,52 @@
+-- What the sgf form copies of a text, as a reader tells it.
+use Rattle.std.proofs.Common.{◌≡◌, ℕ, ◌<◌, ◌≤◌, List, [], ◌++◌, length, slice_range, sym, ap, ◌∙◌, arith, append_assoc, append-nil}
+use Rattle.sgf_outline.specs.Machine.{Stack}
+use Rattle.sgf_outline.specs.OwnNodes.{Coming, IsCopied, Copies}
+use Rattle.sgf_outline.specs.declared.layout.Segment.{Segment}
+use Rattle.sgf_properties.proofs.ValueEnds.{span-join}
+
+-- a visitor that keeps the same in other words
+pub copied-as : (kept keeps : List ℕ → Type 0) (t : List ℕ) (first : ℕ) (present : Segment) (written : List ℕ) → ((told : List ℕ) → kept told → keeps told) → IsCopied kept t first present written
+    → IsCopied keeps t first present written
+copied-as kept keeps t first present written other is =
+    record { told = is.told; kept = other is.told is.kept; are = is.are; alone = is.alone; low = is.low; rises = is.rises; within = is.within }
+
+-- nothing more
+pub copies-none : (keeps : Stack → Coming → Type 0) (t : List ℕ) (present : Segment) → Copies keeps keeps t present present []
+copies-none keeps t present k places first written is = rw append-nil is
+
+module _ (t : List ℕ) (first : ℕ) (before : Segment) (written : List ℕ) (from to : ℕ) (le : from ≤ to) (within : to ≤ length t) where
+  -- a part that goes on with the present segment
+  pub goes-on : (keeps : List ℕ → Type 0) → IsCopied keeps t first before written → before.end ≡ from
+      → IsCopied keeps t first (record { start = before.start; end = to }) (written ++ slice_range t from to)
+  goes-on keeps is same = record {
+    told = is.told;
+    kept = is.kept;
+    are =
+        ap (λ s. is.told ++ s) (sym (span-join t before.start from to (omega (arith, is.rises)) le))
+        ∙ sym (append_assoc is.told (slice_range t before.start from) (slice_range t from to))
+        ∙ ap (λ i. (is.told ++ slice_range t before.start i) ++ slice_range t from to) (sym same) ∙ ap (λ s. s ++ slice_range t from to) is.are;
+    alone = is.alone;
+    low = is.low;
+    rises = omega (arith, is.rises);
+    within = within;
+  }
+
+  -- a part that begins another one
+  pub begins : (kept keeps : List ℕ → Type 0) → IsCopied kept t first before written → ((told : List ℕ) → kept told → keeps (told ++ slice_range t before.start before.end))
+      → before.end < from → IsCopied keeps t first (record { start = from; end = to }) (written ++ slice_range t from to)
+  begins kept keeps is told lt = record {
+    told = is.told ++ slice_range t before.start before.end;
+    kept = told is.told is.kept;
+    are = ap (λ s. s ++ slice_range t from to) is.are;
+    alone = λ same. absurd (omega (arith, is.low, is.rises));
+    low = omega (arith, is.low, is.rises);
+    rises = le;
+    within = within;
+  }
+
+-- two parts, one after another
+pub copies-then : (kept keeps told : Stack → Coming → Type 0) (t : List ℕ) (before between after : Segment) (part next : List ℕ)
+    → Copies kept keeps t before between part → Copies keeps told t between after next → Copies kept told t before after (part ++ next)
+copies-then kept keeps told t before between after part next one other k places first written is =
+    rw (← append_assoc) (other k places first (written ++ part) (one k places first written is))

@@ -1,0 +1,19 @@
+-- With the segments that are left, up to the last one of the sequence, all is appended.
+use Rattle.std.proofs.Common.{◌≡◌, ℕ, ◌-◌, List, ◌++◌, length, drop}
+use Rattle.std.specs.List.{flat_map}
+use Rattle.sgf_outline.specs.FileOrder.{nodes_at, sequence_numbers}
+use Rattle.sgf_outline.specs.Written.{node_text}
+use Rattle.sgf_properties.specs.Written.{GoesOn}
+use Rattle.sgf_outline.specs.Outlining.{AreWhole}
+use Rattle.sgf_outline.proofs.outline.Outline.push_segments.Given as goal
+
+abbrev pub invariant-segments : goal.invariant-segments
+invariant-segments l = record {
+  left : List ℕ;
+  whole : AreWhole l.self-inside.text.now (drop l.at l.self-inside.sequences.segments.items) left;
+  appended : l.out.items ++ left ≡ l.fn.out.items ++ flat_map node_text (nodes_at l.self (sequence_numbers l.self l.i));
+  goes_on : GoesOn l.fn.out.items l.out.items;
+}
+
+abbrev pub decreases-segments : goal.decreases-segments
+decreases-segments l = length l.self-inside.sequences.segments.items - l.at

@@ -1,0 +1,27 @@
+use Rattle.std.proofs.Common.{◌<◌, [], arith, ap, length, sym, subst, ◌∙◌}
+use Rattle.sgf_outline.specs.FileOrder.{sequence_starts, sequence_start, sequence_end}
+use Rattle.sgf_outline.specs.Machine.{games_in}
+use Rattle.sgf_outline.specs.inner.Traversing.{IsTraversal, nodes_between}
+use Rattle.sgf_outline.proofs.Outlined.{table-length}
+use Rattle.sgf_outline.proofs.Traversing.{sequence-traversal}
+use Rattle.sgf_outline.proofs.outline.Outline.sequence_nodes.Goals as goal
+
+pub index-requires : goal.index-requires
+index-requires c = omega (arith, c.requires, table-length c.self.inside.text.now c.self.inside.sequences c.self.invariant.0 _ c.self.view_is)
+
+pub invariant_of-result : goal.invariant_of-result
+invariant_of-result c =
+    let s = c.self.inside in
+    let traversal = sequence-traversal s.text.now s.sequences c.self.invariant.0 c.args.i c.index.result.now (subst (λ g. c.args.i < length (sequence_starts g)) (sym c.self.view_is) c.requires) c.index.ensures in (
+      rw (c.sequence_start.ensures, c.sequence_end.ensures.end)
+          (subst (λ g. IsTraversal s.text.now c.index.result.now.first (sequence_start g c.args.i) (sequence_end g c.args.i)) c.self.view_is traversal.0),
+      c.self.invariant.1,
+    )
+
+pub returns : goal.returns
+returns c =
+    let s = c.self.inside in
+    let traversal = sequence-traversal s.text.now s.sequences c.self.invariant.0 c.args.i c.index.result.now (subst (λ g. c.args.i < length (sequence_starts g)) (sym c.self.view_is) c.requires) c.index.ensures in
+    rw (c.sequence_start.ensures, c.sequence_end.ensures.end)
+    (ap (λ ps. record { properties = ps; nodes = nodes_between (games_in s.text.now) (sequence_start c.args.self.now c.args.i) (sequence_end c.args.self.now c.args.i) }) traversal.1
+    ∙ ap (λ g. record { properties = []; nodes = nodes_between g (sequence_start c.args.self.now c.args.i) (sequence_end c.args.self.now c.args.i) }) c.self.view_is)

@@ -1,6 +1,0 @@
-use Rattle.std.proofs.Common.{◌≡◌, find}
-use Rattle.std.specs.Str.{bytes_eq}
-use Rattle.sgf_tree.proofs.node.NodeRef.first.Given as goal
-
-abbrev pub invariant-loop-property : goal.invariant-loop-property
-invariant-loop-property l = find (λ p. bytes_eq p.name l.name) l.self.properties ≡ find (λ p. bytes_eq p.name l.name) l.property-iterator

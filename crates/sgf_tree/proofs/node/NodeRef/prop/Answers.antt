@@ -1,8 +1,0 @@
-use Rattle.std.proofs.Common.{ap, slice_get, ◌∙◌, sym}
-use Rattle.sgf_tree.specs.Tree.{Property}
-use Rattle.sgf_properties.proofs.Taking.{taken-at}
-use Rattle.sgf_tree.proofs.node.NodeRef.prop.Goals as goal
-
-pub returns : goal.returns
-returns c =
-    ap (λ ps. slice_get ps c.args.i) (sym c.iter.ensures) ∙ taken-at (λ (p : Property). p) c.iter.result c.args.i c.nth.result c.nth.new.self c.unwrap.result c.nth.ensures.ran c.unwrap.ensures
