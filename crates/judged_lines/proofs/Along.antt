@@ -1,7 +1,7 @@
 -- The root of nodes that begin alike.
 use Rattle.std.proofs.lemmas.Grind.{common_steps}
 use Rattle.std.proofs.Common.{◌≡◌, ℕ, ◌<◌, ◌≤◌, List, length, take, arith}
-use Rattle.sgf_tree.specs.Tree.{Node}
+use Rattle.sgf_outline.specs.Tree.{Node}
 use Rattle.judged_lines.specs.JudgedGames.{root_properties}
 
 -- nodes that begin alike have the same root

@@ -1,7 +1,7 @@
 -- The verdicts of small lines, and their judged nodes, computed.
 use Rattle.std.proofs.Common.{◌≡◌, ℕ, List, [], ◌∷◌, map, refl, true, false}
 use Rattle.std.specs.Prelude.{codes}
-use Rattle.sgf_tree.specs.Tree.{Property, Node}
+use Rattle.sgf_outline.specs.Tree.{Property, Node}
 use Rattle.go_board.specs.declared.reason.Reason.TheVariants.{Mixed, TwoMoves, BadSetup, BadPoint, Over, Turn, Occupied, Repeat}
 use Rattle.board_points.specs.Point.{points}
 use Rattle.board_stones.specs.Reaching.{reaches, reaching_within, spread}

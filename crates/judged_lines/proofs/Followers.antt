@@ -4,8 +4,8 @@ use Rattle.std.proofs.lemmas.Grind.{common_steps}
 use Rattle.std.specs.Prelude.{option_map}
 use Rattle.std.proofs.lemmas.List.{take-take}
 use Rattle.std.proofs.lemmas.Option.{slice_get_within}
-use Rattle.sgf_tree.specs.Tree.{node_count}
-use Rattle.sgf_tree.specs.FileOrder.{PlacesRise}
+use Rattle.sgf_outline.specs.Tree.{node_count}
+use Rattle.sgf_outline.specs.FileOrder.{PlacesRise}
 use Rattle.tree_lines.specs.Lines.{lines}
 use Rattle.judged_lines.specs.Verdict.{verdict, verdict_of, judged_nodes}
 use Rattle.judged_lines.specs.Plays.{all_judged_places}

@@ -10,11 +10,11 @@ use Rattle.std.proofs.lemmas.List.Folds.{find-append}
 use Rattle.std.proofs.lemmas.Bool.{cases_Bool, false_from_ne_true}
 use Rattle.std.proofs.lemmas.Slice.Eq.{bytes_eq-Decides}
 use Rattle.std.proofs.lemmas.List.Elements.{All-nil, All-head, All-tail, All-weaker}
-use Rattle.sgf_tree.specs.Tree.{Property, Node, values, lone_property, told_property}
-use Rattle.sgf_tree.specs.declared.traversal.NextNode.{NextNode}
-use Rattle.sgf_tree.specs.declared.traversal.NextNode.TheVariants.{Led, Empty as EmptyNode, Unread}
-use Rattle.sgf_tree.specs.Lead.{IsOtherName, IsLedBy}
-use Rattle.sgf_tree.specs.Traversal.{IsTakenOff}
+use Rattle.sgf_outline.specs.Tree.{Property, Node, values, lone_property, told_property}
+use Rattle.sgf_outline.specs.declared.traversal.NextNode.{NextNode}
+use Rattle.sgf_outline.specs.declared.traversal.NextNode.TheVariants.{Led, Empty as EmptyNode, Unread}
+use Rattle.sgf_outline.specs.Lead.{IsOtherName, IsLedBy}
+use Rattle.sgf_outline.specs.Traversal.{IsTakenOff}
 use Rattle.board_stones.specs.declared.stones.Colour.{Colour}
 use Rattle.board_stones.specs.declared.stones.Cell.{Cell}
 use Rattle.board_points.specs.declared.points.Rect.{Rect}

@@ -3,7 +3,7 @@ use Rattle.std.proofs.Common.{◌≡◌, ℕ, ◌+◌, ◌≤◌, List, [], ◌�
 use Rattle.std.proofs.Math.Seq.{take-append_seam}
 use Rattle.std.proofs.lemmas.List.{length-take, length-take-le, take-append-drop}
 use Rattle.std.specs.Result.{IsErr}
-use Rattle.sgf_tree.specs.Tree.{Node}
+use Rattle.sgf_outline.specs.Tree.{Node}
 use Rattle.board_stones.specs.Grid.{Grid}
 use Rattle.judged_lines.specs.declared.judging.step.LegalStep.{LegalStep}
 use Rattle.judged_lines.specs.JudgedGames.{GameKind, game_kind, root_properties}

@@ -8,7 +8,7 @@ use Rattle.judged_lines.specs.Judgement.{Judgement, unjudged, judged, begun_game
 use Rattle.std.specs.Prelude.{fold}
 use Rattle.std.proofs.lemmas.List.{take_all, take-append-le, take-append-drop, length-take-le}
 use Rattle.std.proofs.lemmas.List.Sums.{fold-append}
-use Rattle.sgf_tree.specs.Tree.{Node}
+use Rattle.sgf_outline.specs.Tree.{Node}
 use Rattle.go_board.specs.declared.reason.Reason.{Reason}
 use Rattle.judged_lines.specs.declared.verdict.Verdict.{Verdict}
 use Rattle.judged_lines.specs.declared.verdict.Verdict.TheVariants.{Illegal, NotGo, BadSize}

@@ -3,8 +3,8 @@ use Rattle.std.proofs.Common.{◌≡◌, ℕ, suc, ◌+◌, ◌<◌, ◌≤◌, 
 use Rattle.std.proofs.lemmas.Grind.{common_steps}
 use Rattle.std.proofs.lemmas.List.{take-map, length-take-le}
 use Rattle.std.proofs.lemmas.List.FromFn.{length-range_with_len}
-use Rattle.sgf_tree.specs.Tree.{Node}
-use Rattle.sgf_tree.specs.FileOrder.{node_at}
+use Rattle.sgf_outline.specs.Tree.{Node}
+use Rattle.sgf_outline.specs.FileOrder.{node_at}
 use Rattle.tree_lines.specs.Lines.{lines}
 use Rattle.tree_lines.specs.Cursor.{CursorState, advanced}
 use Rattle.judged_lines.specs.JudgedGames.{GameKind, game_kind, root_properties}

@@ -2,7 +2,7 @@
 use Rattle.std.proofs.Common.{◌≡◌, ◌⊎◌, ℕ, ◌+◌, ◌<◌, ◌≤◌, min, inl, inr, List, [], ◌∷◌, ◌++◌, length, refl, sym, ap, ◌∙◌, subst, Option, Some, None, Err, arith}
 use Rattle.std.proofs.lemmas.Bool.{cases_lt}
 use Rattle.std.specs.Prelude.{Result, Ok, IfSome}
-use Rattle.sgf_tree.specs.Tree.{Node}
+use Rattle.sgf_outline.specs.Tree.{Node}
 use Rattle.go_board.specs.declared.reason.Reason.{Reason}
 use Rattle.go_board.specs.declared.fault.TurnFault.{TurnFault}
 use Rattle.go_board.specs.declared.fault.TurnFault.TheVariants.{Illegal, Memory}

@@ -2,7 +2,7 @@
 use Rattle.std.proofs.Common.{◌≡◌, ℕ, ◌<◌, List, length, Option, Some, ap, ◌∙◌, arith, rules, suc, ◌+◌, add-one}
 use Rattle.std.proofs.lemmas.Grind.{common_steps}
 use Rattle.std.specs.Prelude.{option_map, Result, Ok, Err, IfOk}
-use Rattle.sgf_tree.specs.Tree.{Node, Games, node_count}
+use Rattle.sgf_outline.specs.Tree.{Node, Games, node_count}
 use Rattle.tree_lines.specs.Lines.{Line}
 use Rattle.judged_lines.specs.Verdict.{verdict_of, verdict, IsVerdictAt, IsVerdictOf}
 use Rattle.tree_lines.specs.Cursor.{CursorState, IsAfterPlace}
@@ -12,7 +12,7 @@ use Rattle.tree_lines.specs.Following.{nodes_of, line_before, nodes_before, line
 use Rattle.judged_lines.specs.Judgement.{Judgement, judging}
 use Rattle.judged_lines.specs.inner.Judging.{verdict_in}
 use Rattle.judged_lines.proofs.Judgements.{judging_verdict}
-use Rattle.sgf_tree.specs.FileOrder.{IsLeaf}
+use Rattle.sgf_outline.specs.FileOrder.{IsLeaf}
 use Rattle.sgf_properties.specs.declared.fault.MemoryFault.{MemoryFault}
 use Rattle.tree_lines.specs.Paths.{Path, leaf_of}
 use Rattle.tree_lines.proofs.CursorStates.{IsNextLine, next_line, before}

@@ -18,7 +18,7 @@ use Rattle.judged_lines.specs.declared.judging.contents.Setup.TheVariants.{Meant
 use Rattle.judged_lines.specs.inner.Gathered.{AreMoves, IsSetup}
 use Rattle.judged_lines.specs.inner.Judging.{IsStepped, setup_effect}
 use Rattle.judged_lines.specs.Judgement.{IsEffectBy}
-use Rattle.sgf_tree.specs.Tree.{Node}
+use Rattle.sgf_outline.specs.Tree.{Node}
 use Rattle.go_board.proofs.TurnLemmas.{side-set_up, side-turned}
 
 -- stones are as many as their operations

@@ -1,8 +1,8 @@
 -- How many nodes are judged on lines that follow each other: a line adds those of its judged nodes that it doesn't share with the line before.
 use Rattle.std.proofs.lemmas.Grind.{common_steps}
 use Rattle.std.proofs.Common.{◌≡◌, ℕ, zero, suc, ◌+◌, ◌<◌, ◌≤◌, List, length, take, refl, arith, ◌-◌, drop, slice_get, Some, length-append, add-one, append_assoc}
-use Rattle.sgf_tree.specs.Tree.{Games, node_count}
-use Rattle.sgf_tree.specs.FileOrder.{PlacesRise}
+use Rattle.sgf_outline.specs.Tree.{Games, node_count}
+use Rattle.sgf_outline.specs.FileOrder.{PlacesRise}
 use Rattle.tree_lines.specs.Lines.{Line, lines}
 use Rattle.judged_lines.proofs.Touched.{SharesAfter, adds_fresh, judged_first, judged_shared, judged_few}
 use Rattle.std.proofs.lemmas.List.{take-append-drop, length-map, length-drop, length-take}

@@ -16,11 +16,11 @@ use Rattle.std.proofs.lemmas.Grind.{flat_map-append, common_steps}
 use Rattle.std.proofs.lemmas.List.{map-append, take-map, length-map, take-append-drop, length-take-le, take_all}
 use Rattle.std.proofs.lemmas.Option.{slice_get_within}
 use Rattle.std.proofs.Math.Seq.{drop-append_seam}
-use Rattle.sgf_tree.specs.Tree.{Node, Games, node_count}
-use Rattle.sgf_tree.specs.FileOrder.{OrderedNode, ordered_nodes, node_at, place_at, PlacesRise}
-use Rattle.sgf_tree.proofs.Lists.{slice_get-right}
-use Rattle.sgf_tree.proofs.OrderedNodes.{length-nodes_from, length-ordered_nodes}
-use Rattle.sgf_tree.proofs.Rises.{Rises, rises-ends}
+use Rattle.sgf_outline.specs.Tree.{Node, Games, node_count}
+use Rattle.sgf_outline.specs.FileOrder.{OrderedNode, ordered_nodes, node_at, place_at, PlacesRise}
+use Rattle.sgf_outline.proofs.Lists.{slice_get-right}
+use Rattle.sgf_outline.proofs.OrderedNodes.{length-nodes_from, length-ordered_nodes}
+use Rattle.sgf_outline.proofs.Rises.{Rises, rises-ends}
 use Rattle.tree_lines.specs.Lines.{Line, lines, last_number}
 use Rattle.tree_lines.specs.Paths.{paths}
 use Rattle.judged_lines.specs.Plays.{differ, different, places_of, node_places, touched_places, judged_places, all_judged_places}

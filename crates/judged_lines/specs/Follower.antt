@@ -1,6 +1,6 @@
 -- Where a follower stands among the lines of a collection, what its calls return, and how they leave it.
 use Rattle.std.specs.Prelude.{◌≡◌, ℕ, ◌+◌, ◌-◌, List, take, drop, Option, Some, None, option_map, slice_get, Result, Ok, Err}
-use Rattle.sgf_tree.specs.Tree.{Games}
+use Rattle.sgf_outline.specs.Tree.{Games}
 use Rattle.sgf_properties.specs.declared.fault.MemoryFault.{MemoryFault}
 use Rattle.tree_lines.specs.Lines.{Line, lines}
 use Rattle.judged_lines.specs.Verdict.{verdict}

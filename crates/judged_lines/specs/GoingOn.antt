@@ -1,6 +1,6 @@
 -- How a cursor goes on to the next line, how much of that line is held already, and how many nodes are played for it.
 use Rattle.std.specs.Prelude.{◌≡◌, ◌⊎◌, ℕ, ◌+◌, ◌-◌, ◌<◌, ◌≤◌, Bool, true, false, List, length, Some, slice_get, Result, Ok, Err}
-use Rattle.sgf_tree.specs.Tree.{Node}
+use Rattle.sgf_outline.specs.Tree.{Node}
 use Rattle.tree_lines.specs.Lines.{Line, lines}
 use Rattle.tree_lines.specs.Cursor.{CursorState, advanced}
 use Rattle.tree_lines.specs.declared.sequence_cursor.Front.{Front}

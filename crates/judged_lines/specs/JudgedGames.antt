@@ -1,6 +1,6 @@
 -- Which games are judged: games of Go, on a square board of a size that boards can have (SGF FF[4], GM and SZ).
 use Rattle.std.specs.Prelude.{ℕ, Bool, true, false, ◌==◌, ◌&&◌, nat_le, if◌then◌else◌, Option, Some, None, List, [], ◌∷◌, codes, ℤ, pos, negsuc}
-use Rattle.sgf_tree.specs.Tree.{Property, Node}
+use Rattle.sgf_outline.specs.Tree.{Property, Node}
 use Rattle.sgf_properties.specs.Number.{number_of}
 use Rattle.board_points.specs.declared.size.TheConstants.{MAX_SIDE}
 use Rattle.judged_lines.specs.NodeContents.{first_value}

@@ -1,6 +1,6 @@
 -- The judgement on a line after its first nodes, and the step of each legal one of them.
 use Rattle.std.specs.Prelude.{◌≡◌, ◌<◌, ◌+◌, ℕ, Option, Some, None, List, [], ◌∷◌, fold, length, codes, option_copied, Result, Ok, Err}
-use Rattle.sgf_tree.specs.Tree.{Node}
+use Rattle.sgf_outline.specs.Tree.{Node}
 use Rattle.go_board.specs.declared.reason.Reason.{Reason}
 use Rattle.board_stones.specs.Grid.{Grid}
 use Rattle.go_board.specs.State.{State, States, begun, followed_by, IsPlayOn}

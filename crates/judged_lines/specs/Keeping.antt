@@ -1,6 +1,6 @@
 -- What is kept of the line before a cursor: its judgement, and its legal nodes. How many nodes are played for it.
 use Rattle.std.specs.Prelude.{◌≡◌, ℕ, ◌+◌, ◌-◌, ◌<◌, ◌≤◌, List, length, Result, OnOk}
-use Rattle.sgf_tree.specs.Tree.{Node}
+use Rattle.sgf_outline.specs.Tree.{Node}
 use Rattle.judged_lines.specs.JudgedGames.{GameKind, game_kind, root_properties}
 use Rattle.judged_lines.specs.Verdict.{judged_on, verdict_of}
 use Rattle.judged_lines.specs.Walk.{LegalNode, legal_on}

@@ -1,7 +1,7 @@
 -- What a node holds for the referee (SGF FF[4], move and setup properties): moves, stones and players, each list in file order.
 use Rattle.std.specs.Prelude.{ℕ, Bool, if◌then◌else◌, Option, option_map, List, [], map, find, codes, bytes_eq}
 use Rattle.std.specs.List.{flat_map}
-use Rattle.sgf_tree.specs.Tree.{Property, Node, values}
+use Rattle.sgf_outline.specs.Tree.{Property, Node, values}
 use Rattle.board_stones.specs.declared.stones.Colour.{Colour}
 use Rattle.board_stones.specs.declared.stones.Colour.TheVariants.{Black, White}
 use Rattle.board_stones.specs.declared.stones.Cell.{Cell}

@@ -1,8 +1,8 @@
 -- Which nodes a run plays: each node that is judged on some line of its page, once, however many lines share the node.
 use Rattle.std.specs.Prelude.{ℕ, Bool, true, false, ◌==◌, if◌then◌else◌, List, [], ◌∷◌, map, filter}
 use Rattle.std.specs.List.{flat_map}
-use Rattle.sgf_tree.specs.Tree.{Node, Games}
-use Rattle.sgf_tree.specs.FileOrder.{ordered_nodes}
+use Rattle.sgf_outline.specs.Tree.{Node, Games}
+use Rattle.sgf_outline.specs.FileOrder.{ordered_nodes}
 use Rattle.tree_lines.specs.Lines.{Line}
 use Rattle.judged_lines.specs.Verdict.{judged_nodes}
 

@@ -1,7 +1,7 @@
 -- A node's step: the state of the game after the node, or the first reason why the node is illegal. Setup is by SGF FF[4],
 -- turns by Tromp-Taylor. The order of the reasons is this project's choice.
 use Rattle.std.specs.Prelude.{Option, Some, None, List, [], ◌∷◌, ℕ, Result, Ok, Err}
-use Rattle.sgf_tree.specs.Tree.{Node}
+use Rattle.sgf_outline.specs.Tree.{Node}
 use Rattle.board_stones.specs.declared.stones.Colour.{Colour}
 use Rattle.go_board.specs.declared.referee.plays.Play.{Play}
 use Rattle.board_stones.specs.declared.setup_op.SetupOp.{SetupOp}

@@ -1,8 +1,8 @@
 -- The verdict of a line: the area score at its end, or the first node that
 -- is illegal (Tromp-Taylor), or that the line isn't judged.
 use Rattle.std.specs.Prelude.{◌≡◌, ℕ, ◌+◌, Option, Some, None, option_map, List, [], slice_get}
-use Rattle.sgf_tree.specs.Tree.{Node, Games}
-use Rattle.sgf_tree.specs.FileOrder.{place_at}
+use Rattle.sgf_outline.specs.Tree.{Node, Games}
+use Rattle.sgf_outline.specs.FileOrder.{place_at}
 use Rattle.board_stones.specs.declared.stones.Colour.TheVariants.{Black, White}
 use Rattle.board_stones.specs.Score.{score_of}
 use Rattle.go_board.specs.State.{State, is_over}

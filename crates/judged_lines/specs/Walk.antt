@@ -1,6 +1,6 @@
 -- How far a line is played: node after node, up to the first one whose step is refused.
 use Rattle.std.specs.Prelude.{◌≡◌, ℕ, Option, Some, None, option_to_list, List, [], ◌∷◌, ◌++◌, map, fold, Result, Ok, Err}
-use Rattle.sgf_tree.specs.Tree.{Node}
+use Rattle.sgf_outline.specs.Tree.{Node}
 use Rattle.go_board.specs.declared.reason.Reason.{Reason}
 use Rattle.go_board.specs.State.{State, starting}
 use Rattle.judged_lines.specs.JudgedGames.{GameKind, not_go, bad_size, board}

@@ -1,7 +1,7 @@
 //! Laws of the definitions. A function here does nothing: its contract is a law, and is proved.
 
 ghost use Rattle.std.specs.Prelude.{◌≡◌, ◌∷◌, ◌++◌, ◌+◌, ◌⊎◌, ℕ, Err, List};
-ghost use Rattle.sgf_tree.specs.Tree.{Node};
+ghost use Rattle.sgf_outline.specs.Tree.{Node};
 ghost use Rattle.judged_lines.specs.JudgedGames.{board};
 ghost use Rattle.go_board.specs.declared.reason.Reason.{Reason};
 ghost use Rattle.go_board.specs.State.{State, starting};

@@ -2,7 +2,7 @@
 //! of the line before the cursor is `StandsBy`: `next` keeps it, after a refusal, too.
 
 ghost use Rattle.std.specs.Prelude.{◌≡◌, ◌≢◌, ◌+◌, ◌<◌, ℕ, None, length, slice_get, IfNone, IfOk, IfSome, OnErr, OnOk, MatchBool};
-ghost use Rattle.sgf_tree.specs.Tree.{node_count};
+ghost use Rattle.sgf_outline.specs.Tree.{node_count};
 ghost use Rattle.tree_lines.specs.Lines.{lines};
 ghost use Rattle.tree_lines.specs.Cursor.{advanced};
 ghost use Rattle.judged_lines.specs.declared.over_lines.Before.TheVariants.{Unheld, Held};

@@ -2,7 +2,7 @@
 use Rattle.std.proofs.lemmas.Grind.{common_steps}
 use Rattle.std.proofs.Common.{◌≡◌, ℕ, suc, ◌+◌, List, [], ◌∷◌, ◌++◌, fold, slice_get, Some, None, Result, Ok, Err, refl, sym, ap, ◌∙◌, subst, ◌≢◌, length, map, arith, append_assoc, length-append}
 use Rattle.std.specs.List.{flat_map, AllZip}
-use Rattle.sgf_tree.specs.Tree.{Property, Node, Games, no_games, game}
+use Rattle.sgf_outline.specs.Tree.{Property, Node, Games, no_games, game}
 use Rattle.go_board.specs.declared.reason.Reason.{Reason}
 use Rattle.go_board.specs.State.{State, starting}
 use Rattle.judged_lines.specs.declared.verdict.Verdict.TheVariants.{Illegal}
@@ -14,7 +14,7 @@ use Rattle.judged_lines.specs.Verdict.{score_in, verdict_with, verdict_at, verdi
 use Rattle.judged_lines.proofs.Walking.{after_illegal}
 use Rattle.sgf_lines.specs.SplitAgain.{HaveSame, SaysSame, scored, illegal_at, another_game, another_size, IsKept}
 use Rattle.sgf_properties.specs.RawValue.{IsValue, no_unit, ordinary, escaped}
-use Rattle.sgf_tree.specs.Spelling.{WhiteSpace, no_white_space, white_space, Letters, no_letter, upper, lower, IsPropValue, prop_value, ArePropValues, no_value, value, IsProperty, property, AreProperties, no_property, properties, IsNode, node, AreNodes, no_node, nodes, AreGames, no_game, games, no_byte_order_mark, Spells, spells}
+use Rattle.sgf_outline.specs.Spelling.{WhiteSpace, no_white_space, white_space, Letters, no_letter, upper, lower, IsPropValue, prop_value, ArePropValues, no_value, value, IsProperty, property, AreProperties, no_property, properties, IsNode, node, AreNodes, no_node, nodes, AreGames, no_game, games, no_byte_order_mark, Spells, spells}
 use Rattle.tree_lines.specs.Lines.{Line, through, node_lines, lines_of_game, lines_from, lines}
 use Rattle.sgf_lines.specs.Record.{value_text, property_text, node_text, sgf_record, output}
 use Rattle.sgf_lines.specs.Page.{page}

@@ -4,7 +4,7 @@ use Rattle.std.proofs.Common.{◌≡◌, ◌≢◌, ℕ, ◌+◌, List, [], ◌�
 use Rattle.std.specs.List.{flat_map, AllZip}
 use Rattle.std.proofs.lemmas.Option.{slice_get-map}
 use Rattle.std.proofs.lemmas.List.{map-append, length-map}
-use Rattle.sgf_tree.specs.Tree.{Node, Games, no_games, game, game_count, joined}
+use Rattle.sgf_outline.specs.Tree.{Node, Games, no_games, game, game_count, joined}
 use Rattle.sgf_tree.specs.Appending.{raised_node, raised}
 use Rattle.sgf_lines.specs.declared.options.Form.TheVariants.{List as list_form}
 use Rattle.judged_lines.specs.declared.verdict.Verdict.{Verdict}

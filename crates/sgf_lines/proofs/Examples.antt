@@ -1,7 +1,7 @@
 -- The output of small collections, in sgf form.
 use Rattle.std.proofs.Common.{◌≡◌, [], ◌∷◌, refl}
 use Rattle.std.specs.Prelude.{codes}
-use Rattle.sgf_tree.specs.Tree.{no_games, game}
+use Rattle.sgf_outline.specs.Tree.{no_games, game}
 use Rattle.tree_lines.proofs.Examples.{node_with, variations, two_games}
 use Rattle.sgf_lines.specs.declared.options.Form.TheVariants.{Sgf as sgf_form}
 use Rattle.tree_lines.specs.Lines.{lines}

@@ -1,7 +1,7 @@
 -- Which places small collections touch, and which are judged, computed.
 use Rattle.std.proofs.Common.{◌≡◌, ℕ, List, [], ◌∷◌, map, Option, Some, None, refl}
 use Rattle.std.specs.Prelude.{codes, option_map}
-use Rattle.sgf_tree.specs.Tree.{Node, Games, no_games, game}
+use Rattle.sgf_outline.specs.Tree.{Node, Games, no_games, game}
 use Rattle.board_points.specs.Point.{points}
 use Rattle.board_stones.specs.Reaching.{reaches, reaching_within, spread}
 use Rattle.board_stones.specs.Clearing.{clear, play, cleared_cell}

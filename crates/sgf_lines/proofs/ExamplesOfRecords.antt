@@ -2,7 +2,7 @@
 use Rattle.std.proofs.Common.{◌≡◌, ℕ, List, [], ◌∷◌, map, refl}
 use Rattle.std.specs.Prelude.{codes}
 use Rattle.std.specs.Fmt.{digits}
-use Rattle.sgf_tree.specs.Tree.{Node}
+use Rattle.sgf_outline.specs.Tree.{Node}
 use Rattle.board_points.specs.Point.{points}
 use Rattle.board_stones.specs.Reaching.{reaches, reaching_within, spread}
 use Rattle.board_stones.specs.Clearing.{clear, play, cleared_cell, has_unreaching}

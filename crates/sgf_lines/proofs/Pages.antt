@@ -5,8 +5,8 @@ use Rattle.std.specs.List.Sorted.{IsStrictlyIncreasing}
 use Rattle.std.proofs.lemmas.List.{take_all, take-append-drop}
 use Rattle.std.proofs.lemmas.Option.{slice_get-map, slice_get_within, get_or_from_slice_get}
 use Rattle.std.proofs.lemmas.List.Kept.{AllPairs-from_increasing}
-use Rattle.sgf_tree.specs.Tree.{Games}
-use Rattle.sgf_tree.specs.FileOrder.{PlacesRise}
+use Rattle.sgf_outline.specs.Tree.{Games}
+use Rattle.sgf_outline.specs.FileOrder.{PlacesRise}
 use Rattle.tree_lines.specs.Lines.{Line, lines, place_of}
 use Rattle.tree_lines.proofs.LinePlaces.{lines_rise}
 use Rattle.std.specs.Prelude.{unwrap_or, ◌==◌}
@@ -15,7 +15,7 @@ use Rattle.tree_lines.specs.Cursor.{CursorState, IsAfterPlace}
 use Rattle.sgf_lines.specs.Page.{lines_after, lines_asked, limited, page}
 use Rattle.std.proofs.Math.Seq.{drop-append-add}
 use Rattle.sgf_lines.specs.declared.options.Options.{Options}
-use Rattle.sgf_tree.proofs.Lists.{slice_get-right}
+use Rattle.sgf_outline.proofs.Lists.{slice_get-right}
 
 -- the first line with a place is the one that it is looked for at, where no line before has it
 pub found_at : (ls : List Line) (k place : ℕ) → option_map place_of (slice_get ls k) ≡ Some place

@@ -6,7 +6,7 @@ use Rattle.std.specs.List.{concat}
 use Rattle.std.proofs.Math.Seq.{take-append_seam, drop-append_seam}
 use Rattle.std.proofs.lemmas.List.{take-append-drop, length-append}
 use Rattle.std.proofs.lemmas.List.Folds.{concat-append}
-use Rattle.sgf_tree.specs.Written.{ends_from}
+use Rattle.sgf_outline.specs.Written.{ends_from}
 use Rattle.sgf_lines.specs.inner.Pieces.{PiecesState, pushed, closed, cut, pieces_from, rest_from, AreEnds}
 
 -- ---- the ends of pieces

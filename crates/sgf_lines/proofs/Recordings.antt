@@ -3,7 +3,7 @@ use Rattle.std.proofs.Common.{◌≡◌, ℕ, suc, ◌+◌, ◌-◌, ◌<◌, Li
 use Rattle.std.specs.Prelude.{codes}
 use Rattle.std.specs.List.{concat, flat_map}
 use Rattle.std.proofs.lemmas.List.{take-map, map-append}
-use Rattle.sgf_tree.specs.Tree.{Node}
+use Rattle.sgf_outline.specs.Tree.{Node}
 use Rattle.sgf_lines.specs.Record.{node_text, sgf_record}
 use Rattle.sgf_lines.specs.inner.Pieces.{PiecesState, pushed, closed, cut}
 use Rattle.sgf_lines.specs.inner.Recording.{sequences_before, unclosed_record, whole_record}

@@ -6,7 +6,7 @@ use Rattle.std.specs.List.{flat_map, list_any}
 use Rattle.std.proofs.lemmas.List.{length-map, length-replicate}
 use Rattle.std.proofs.lemmas.Bool.{not-false, or_parts}
 use Rattle.std.proofs.lemmas.Bool.Decides.{nat_tests}
-use Rattle.sgf_tree.specs.Tree.{Property, Node}
+use Rattle.sgf_outline.specs.Tree.{Property, Node}
 use Rattle.board_stones.specs.declared.stones.Cell.{Cell}
 use Rattle.board_stones.specs.declared.stones.Cell.TheVariants.{Empty}
 use Rattle.board_stones.specs.declared.stones.Colour.{Colour}

@@ -2,7 +2,7 @@
 use Rattle.std.proofs.Common.{◌≡◌, ℕ, List, ◌++◌, length, Some, sym, ap, ◌∙◌, append_assoc}
 use Rattle.std.specs.Prelude.{option_map, codes}
 use Rattle.std.specs.List.{concat}
-use Rattle.sgf_tree.specs.Tree.{Node}
+use Rattle.sgf_outline.specs.Tree.{Node}
 use Rattle.tree_lines.specs.Lines.{Line}
 use Rattle.sgf_lines.specs.Record.{record_of, sgf_record}
 use Rattle.sgf_lines.specs.ListRow.{list_row}

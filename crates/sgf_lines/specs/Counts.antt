@@ -1,10 +1,10 @@
 -- The counts of a collection, and how they are written.
 use Rattle.std.specs.Prelude.{◌≡◌, ℕ, ◌+◌, ◌<◌, ◌≤◌, List, ◌++◌, length, Option, Result, Ok, Err, codes, decimal}
 use Rattle.std.specs.Io.KnownBytes.{Appends, Consumes}
-use Rattle.sgf_tree.specs.Tree.{Games, game_count, node_count}
-use Rattle.sgf_tree.specs.Spelling.{Spells}
+use Rattle.sgf_outline.specs.Tree.{Games, game_count, node_count}
+use Rattle.sgf_outline.specs.Spelling.{Spells}
 use Rattle.sgf_tree.specs.Refusal.{IsFaultyAt}
-use Rattle.sgf_tree.specs.declared.fault.TheConstants.{MAX_LENGTH}
+use Rattle.sgf_outline.specs.declared.limit.TheConstants.{MAX_LENGTH}
 use Rattle.tree_lines.specs.Lines.{lines}
 use Rattle.byte_streams.specs.Streams.{SourceState, SinkState, HasDelivered}
 use Rattle.sgf_lines.specs.Answer.{IsWhole, read_failures, write_failures}

@@ -1,6 +1,6 @@
 -- The lines that a run is asked for.
 use Rattle.std.specs.Prelude.{ℕ, ◌==◌, if◌then◌else◌, List, [], ◌∷◌, take, Option, Some, None, option_map}
-use Rattle.sgf_tree.specs.Tree.{Games}
+use Rattle.sgf_outline.specs.Tree.{Games}
 use Rattle.tree_lines.specs.Lines.{Line, lines, place_of}
 use Rattle.sgf_lines.specs.declared.options.Options.{Options}
 

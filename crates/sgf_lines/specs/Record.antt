@@ -1,7 +1,7 @@
 -- The record of a line: what is written for it. The output of a run: the records of its lines, one after the other.
 use Rattle.std.specs.Prelude.{ℕ, List}
 use Rattle.std.specs.List.{flat_map}
-pub use Rattle.sgf_tree.specs.Written.{value_text, property_text, node_text}
+pub use Rattle.sgf_outline.specs.Written.{value_text, property_text, node_text}
 use Rattle.sgf_lines.specs.declared.options.Form.{Form}
 use Rattle.sgf_lines.specs.Form.{entry_of}
 use Rattle.tree_lines.specs.Lines.{Line}

@@ -1,7 +1,7 @@
 -- The script of a line: commands of the Go Text Protocol (GTP 2) that put the line on a board.
 use Rattle.std.specs.Prelude.{ℕ, Bool, false, ◌==◌, ◌||◌, nat_lt, if◌then◌else◌, Option, Some, None, List, [], ◌∷◌, ◌++◌, filter, codes, decimal}
 use Rattle.std.specs.List.{flat_map, list_any, slice_split}
-use Rattle.sgf_tree.specs.Tree.{Node}
+use Rattle.sgf_outline.specs.Tree.{Node}
 use Rattle.sgf_properties.specs.Bytes.{line_feed}
 use Rattle.sgf_properties.specs.Text.{text_of}
 use Rattle.board_stones.specs.declared.stones.Colour.{Colour}

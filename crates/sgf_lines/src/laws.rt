@@ -3,8 +3,8 @@
 ghost use Rattle.std.specs.Prelude.{◌≡◌, ◌≢◌, ◌≤◌, ◌∷◌, ◌++◌, ℕ, false, List, [], Some, length};
 ghost use Rattle.std.specs.List.{AllZip, flat_map};
 ghost use Rattle.sgf_tree.specs.Appending.{raised, BeginsWithByteOrderMark};
-ghost use Rattle.sgf_tree.specs.Tree.{Games, game_count, node_count, joined};
-ghost use Rattle.sgf_tree.specs.Spelling.{Spells};
+ghost use Rattle.sgf_outline.specs.Tree.{Games, game_count, node_count, joined};
+ghost use Rattle.sgf_outline.specs.Spelling.{Spells};
 ghost use Rattle.tree_lines.specs.Lines.{Line, lines, place_of};
 ghost use Rattle.sgf_lines.specs.Page.{page};
 ghost use Rattle.sgf_lines.specs.declared.options.Options.{Options};

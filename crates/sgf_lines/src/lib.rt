@@ -50,7 +50,7 @@
 //! | what a node is; which games are judged; the reasons of a node; the verdict of a line; that a script stops before an illegal node | the table of `judged_lines` |
 //! | which lines have no commands: not judged, or over side 25; a setup leaves a stone without a liberty | `Script::keep`; `leaves_unreaching`, `Script::text` (`form/script`) |
 //! | a script; a node's commands | `Script::begin`, `Script::say`, `Script::text` (`form/script`); `push_step` (`form/commands`) |
-//! | a game without variations | `SgfForm::follow` (`form/sgf`); its nodes: `Outline::push_sequence` of `sgf_tree` (`outline`); what it leaves out: `Segment::then` of `sgf_tree` (`reader/segment`), `copy_capitals` of `sgf_tree` (`reader/properties`) |
+//! | a game without variations | `SgfForm::follow` (`form/sgf`); its nodes: `Outline::push_sequence` of `sgf_outline` (`outline`); what it leaves out: `Segment::then` of `sgf_outline` (`segment`), `copy_capitals` of `sgf_tree` (`reader/properties`) |
 //!
 //! A run reads from a [`Source`] and writes to a [`Sink`], both of the crate `byte_streams`.
 //!

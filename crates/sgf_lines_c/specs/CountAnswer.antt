@@ -1,7 +1,7 @@
 -- What `sgf_lines_count` reports, and what that says of the text.
 use Rattle.std.specs.Prelude.{◌≡◌, ℕ, ◌<◌, ◌≤◌, List, length}
-use Rattle.sgf_tree.specs.Tree.{Games, game_count, node_count}
-use Rattle.sgf_tree.specs.Spelling.{Spells}
+use Rattle.sgf_outline.specs.Tree.{Games, game_count, node_count}
+use Rattle.sgf_outline.specs.Spelling.{Spells}
 use Rattle.sgf_tree.specs.Refusal.{IsFaultyAt}
 use Rattle.tree_lines.specs.Lines.{lines}
 use Rattle.sgf_lines.specs.Answer.{MAX_LENGTH}

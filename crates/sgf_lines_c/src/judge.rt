@@ -1,7 +1,7 @@
 //! Judging a line of a text in memory.
 
 ghost use Rattle.std.specs.Prelude.{◌≤◌, List, ℕ, length};
-ghost use Rattle.sgf_tree.specs.Spelling.{Spells};
+ghost use Rattle.sgf_outline.specs.Spelling.{Spells};
 ghost use Rattle.sgf_lines_c.specs.JudgeAnswer.{IsJudged, MAX_LENGTH, Says};
 
 use crate::answer::JudgeAnswer;

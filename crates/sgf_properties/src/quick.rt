@@ -13,8 +13,8 @@
 //! | `literals`: sixteen bytes of a value are looked at together | the loop byte by byte in `text` |
 //!
 //! `#[inline(always)]` is on what runs for each node or property, and `#[inline(never)]`, in this crate alone, on the plain function behind it,
-//! so that the loop around it stays small. Without these attributes, here, in the rest of the crate and in `sgf_tree`, a count of a library
-//! takes 40 percent more instructions.
+//! so that the loop around it stays small. Without these attributes, here, in the rest of the crate, in `sgf_outline` and in `sgf_tree`, a
+//! count of a library takes 40 percent more instructions.
 
 pub(crate) mod kept;
 pub(crate) mod literals;

@@ -1,4 +1,5 @@
-//! Worked examples of `sgf_tree`, and of `sgf_properties` through it. They call it as any other crate does: extents, nodes, names, values and numbers.
+//! Worked examples of `sgf_tree`, and of `sgf_outline` and `sgf_properties` through it. They call it as any other crate does: extents, nodes,
+//! names, values and numbers.
 //!
 //! They are in a crate of their own, because a crate that has tests is proved a second time together
 //! with them. Tests of the program cover first faults, places, values and decoded text

@@ -1,7 +1,7 @@
 -- What a job has written if it ends with status 0.
 use Rattle.std.specs.Prelude.{◌≡◌, ℕ, List}
-use Rattle.sgf_tree.specs.Tree.{Games}
-use Rattle.sgf_tree.specs.Spelling.{Spells}
+use Rattle.sgf_outline.specs.Tree.{Games}
+use Rattle.sgf_outline.specs.Spelling.{Spells}
 use Rattle.tree_lines.specs.Lines.{Line}
 use Rattle.sgf_lines.specs.Record.{output}
 use Rattle.sgf_lines.specs.Answer.{HasPage}

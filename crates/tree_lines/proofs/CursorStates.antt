@@ -5,13 +5,13 @@ use Rattle.std.specs.Prelude.{nat_lt}
 use Rattle.std.proofs.lemmas.Bool.{lt-ltb, le-ltb, cases_lt}
 use Rattle.std.proofs.lemmas.List.Sums.{prefix_len_is}
 use Rattle.std.proofs.lemmas.Option.{slice_get-map, slice_get_within, get_or_from_slice_get, slice_get_past}
-use Rattle.sgf_tree.specs.Tree.{Games, node_count}
-use Rattle.sgf_tree.specs.FileOrder.{IsLeaf, place_at, game_of}
+use Rattle.sgf_outline.specs.Tree.{Games, node_count}
+use Rattle.sgf_outline.specs.FileOrder.{IsLeaf, place_at, game_of}
 use Rattle.tree_lines.specs.Paths.{Path, paths, leaf_of}
 use Rattle.tree_lines.specs.inner.PathTo.{IsPathTo, HasNoLeaf, IsNextLeaf}
 use Rattle.tree_lines.specs.Following.{lines_before, path_before, line_before}
 use Rattle.tree_lines.specs.inner.Standing.{IsAfterLeaf}
-use Rattle.sgf_tree.proofs.Rises.{rises-pair}
+use Rattle.sgf_outline.proofs.Rises.{rises-pair}
 use Rattle.tree_lines.proofs.Lists.{element, each_get}
 use Rattle.tree_lines.proofs.Visits.{one_way, way_within, last-way, some_node, leads, leaves_in_order, covered}
 use Rattle.tree_lines.specs.Lines.{Line, lines, place_of}

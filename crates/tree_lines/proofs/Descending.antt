@@ -5,10 +5,10 @@ use Rattle.std.proofs.lemmas.Bool.{cases_lt}
 use Rattle.std.proofs.Math.Seq.{take-append_seam}
 use Rattle.std.proofs.lemmas.Option.{slice_get_within}
 use Rattle.std.specs.List.{range_with_len}
-use Rattle.sgf_tree.specs.Tree.{Games}
-use Rattle.sgf_tree.specs.FileOrder.{parent_at}
-use Rattle.sgf_tree.proofs.Lists.{slice_get-right}
-use Rattle.sgf_tree.proofs.Rises.{Rises, rises-pair}
+use Rattle.sgf_outline.specs.Tree.{Games}
+use Rattle.sgf_outline.specs.FileOrder.{parent_at}
+use Rattle.sgf_outline.proofs.Lists.{slice_get-right}
+use Rattle.sgf_outline.proofs.Rises.{Rises, rises-pair}
 use Rattle.tree_lines.specs.Paths.{paths}
 use Rattle.tree_lines.specs.Cursor.{CursorState}
 use Rattle.tree_lines.specs.inner.PathTo.{IsPathTo, step, IsNextLeaf, IsCutBack}

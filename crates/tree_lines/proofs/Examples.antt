@@ -1,7 +1,7 @@
 -- The definitions on small collections.
 use Rattle.std.proofs.Common.{◌≡◌, ℕ, List, [], ◌∷◌, map, refl}
 use Rattle.std.specs.Prelude.{codes}
-use Rattle.sgf_tree.specs.Tree.{Property, Node, Games, no_games, game}
+use Rattle.sgf_outline.specs.Tree.{Property, Node, Games, no_games, game}
 use Rattle.tree_lines.specs.Lines.{lines, place_of}
 use Rattle.tree_lines.specs.Paths.{paths}
 

@@ -6,8 +6,8 @@ use Rattle.std.proofs.lemmas.Option.{slice_get_past}
 use Rattle.std.proofs.lemmas.Bool.{cases_lt}
 use Rattle.std.specs.Prelude.{option_to_list}
 use Rattle.std.specs.List.{flat_map, drop-map}
-use Rattle.sgf_tree.specs.Tree.{Node, Games}
-use Rattle.sgf_tree.specs.FileOrder.{node_at, nodes_at}
+use Rattle.sgf_outline.specs.Tree.{Node, Games}
+use Rattle.sgf_outline.specs.FileOrder.{node_at, nodes_at}
 use Rattle.tree_lines.specs.Lines.{lines}
 use Rattle.tree_lines.specs.Paths.{paths}
 use Rattle.tree_lines.specs.Cursor.{CursorState}

@@ -3,8 +3,8 @@ use Rattle.std.proofs.Common.{◌≡◌, ℕ, suc, length, map, slice_get, Some,
 use Rattle.std.specs.List.Sorted.{IsStrictlyIncreasing}
 use Rattle.std.proofs.lemmas.List.{length-map}
 use Rattle.std.proofs.lemmas.Option.{slice_get-map, get_or_from_slice_get}
-use Rattle.sgf_tree.specs.Tree.{Games}
-use Rattle.sgf_tree.specs.FileOrder.{PlacesRise}
+use Rattle.sgf_outline.specs.Tree.{Games}
+use Rattle.sgf_outline.specs.FileOrder.{PlacesRise}
 use Rattle.tree_lines.specs.Lines.{Line, lines, place_of}
 use Rattle.tree_lines.specs.Paths.{paths, leaf_of}
 use Rattle.tree_lines.proofs.Lists.{element}

@@ -5,8 +5,8 @@ use Rattle.std.specs.List.{AllZip}
 use Rattle.std.proofs.lemmas.List.{map-append}
 use mathlib.Core.List.{map-map}
 use Rattle.std.proofs.lemmas.Slice.Zip.{AllZip-long}
-use Rattle.sgf_tree.specs.Tree.{Node, Games, no_games, game, node_count}
-use Rattle.sgf_tree.specs.FileOrder.{OrderedNode, further_nodes, ordered_nodes, node_at, place_at, game_of}
+use Rattle.sgf_outline.specs.Tree.{Node, Games, no_games, game, node_count}
+use Rattle.sgf_outline.specs.FileOrder.{OrderedNode, further_nodes, ordered_nodes, node_at, place_at, game_of}
 use Rattle.tree_lines.specs.Lines.{Line, through, node_lines, lines_of_game, lines_from, lines, last_number, place_of}
 use Rattle.tree_lines.specs.Paths.{Path, numbered_nodes, numbered, path_of, paths, leaf_of, IsPathOf}
 use Rattle.tree_lines.proofs.Visits.{StandsAt, Stands, stands_whole, stands_get, stands_right, stands_own, stands_below, stands_after, first_ordered, some_node, leads}

@@ -1,10 +1,10 @@
 -- The place of the leaf that a line ends in, and the position after that line.
 use Rattle.std.proofs.lemmas.Grind.{common_steps}
 use Rattle.std.proofs.Common.{◌≡◌, ℕ, ◌+◌, ◌<◌, List, Some, ap, ◌∙◌, arith, ◌≢◌, get_or}
-use Rattle.sgf_tree.specs.Tree.{Games, node_count}
-use Rattle.sgf_tree.specs.FileOrder.{IsLeaf, place_at}
+use Rattle.sgf_outline.specs.Tree.{Games, node_count}
+use Rattle.sgf_outline.specs.FileOrder.{IsLeaf, place_at}
 use Rattle.tree_lines.specs.inner.PathTo.{IsPathTo}
-use Rattle.sgf_tree.proofs.OrderedNodes.{length-nodes_from}
+use Rattle.sgf_outline.proofs.OrderedNodes.{length-nodes_from}
 use Rattle.tree_lines.proofs.Visits.{leads}
 use Rattle.tree_lines.proofs.CursorStates.{next_line, before}
 use Rattle.std.proofs.lemmas.Option.{slice_get_within, get_or_from_slice_get}

@@ -2,8 +2,8 @@
 use Rattle.std.proofs.lemmas.Grind.{common_steps, drop-set_at}
 use Rattle.std.proofs.Common.{◌≡◌, ℕ, ◌+◌, ◌-◌, ◌<◌, ◌≤◌, List, [], ◌∷◌, ◌++◌, length, set, drop, Option, Some, None, refl, ap, subst, ◌∙◌, arith, append-nil, append_assoc, length-append, length-set}
 use Rattle.std.proofs.Math.Seq.{drop-length}
-use Rattle.sgf_tree.specs.Tree.{Games, node_count}
-use Rattle.sgf_tree.specs.FileOrder.{sequence_starts, sequence_numbers}
+use Rattle.sgf_outline.specs.Tree.{Games, node_count}
+use Rattle.sgf_outline.specs.FileOrder.{sequence_starts, sequence_numbers}
 use Rattle.tree_lines.specs.inner.Parts.{Part, first_of, sequence_length, parts_of, part_numbers, IsAbove, ArePartsTo, top, step, IsWayTo, MeasuresTo}
 use Rattle.tree_lines.specs.declared.sequence_cursor.Front.{Front}
 use Rattle.tree_lines.proofs.SequenceStarts.{first_no_less, length_is, first_within}

@@ -8,8 +8,8 @@ use Rattle.std.proofs.lemmas.Option.{slice_get-get_or}
 use Rattle.std.proofs.lemmas.List.FromFn.{get_or-range_with_len, length-range_with_len}
 use Rattle.std.proofs.Math.ListN.{get_or-append}
 use Rattle.std.proofs.Math.Seq.{take-append_seam}
-use Rattle.sgf_tree.specs.Tree.{Node, Games, node_count}
-use Rattle.sgf_tree.specs.FileOrder.{parent_at, place_at, node_at, nodes_at, game_of, IsLeaf, sequence_starts, sequence_start, sequence_end, sequence_numbers}
+use Rattle.sgf_outline.specs.Tree.{Node, Games, node_count}
+use Rattle.sgf_outline.specs.FileOrder.{parent_at, place_at, node_at, nodes_at, game_of, IsLeaf, sequence_starts, sequence_start, sequence_end, sequence_numbers}
 use Rattle.tree_lines.specs.Lines.{lines, place_of, Line, HasNoLineAt}
 use Rattle.tree_lines.specs.Cursor.{CursorState, advanced, IsAfterPlace}
 use Rattle.tree_lines.specs.inner.PathTo.{HasNoLeaf, IsNextLeaf, IsCutBack}

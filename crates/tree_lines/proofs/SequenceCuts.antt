@@ -5,9 +5,9 @@ use Rattle.std.specs.List.{range_with_len}
 use Rattle.std.proofs.lemmas.List.{take-append-drop, take-append-le, length-take-le}
 use Rattle.std.proofs.lemmas.List.FromFn.{get_or-range_with_len, length-range_with_len}
 use Rattle.std.proofs.lemmas.Option.{slice_get-get_or}
-use Rattle.sgf_tree.specs.Tree.{Games}
-use Rattle.sgf_tree.specs.FileOrder.{sequence_starts, sequence_start, sequence_end, sequence_numbers}
-use Rattle.sgf_tree.proofs.Lists.{slice_get-left, slice_get-right}
+use Rattle.sgf_outline.specs.Tree.{Games}
+use Rattle.sgf_outline.specs.FileOrder.{sequence_starts, sequence_start, sequence_end, sequence_numbers}
+use Rattle.sgf_outline.proofs.Lists.{slice_get-left, slice_get-right}
 use Rattle.tree_lines.specs.inner.PathTo.{IsCutBack}
 use Rattle.tree_lines.specs.inner.Parts.{Part, first_of, sequence_length, parts_of, part_numbers, part_ends, AreParts, IsUpTo, IsFrontUpTo, GoesDown}
 use Rattle.tree_lines.specs.Sequences.{nodes_in}

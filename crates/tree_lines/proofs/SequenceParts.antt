@@ -4,15 +4,15 @@ use Rattle.std.proofs.Common.{◌≡◌, ℕ, zero, suc, ◌+◌, ◌-◌, ◌<�
 use Rattle.std.specs.List.{flat_map, range_with_len}
 use Rattle.std.proofs.lemmas.List.FromFn.{length-range_with_len}
 use Rattle.std.proofs.Math.Seq.{take-append_seam, drop-append_seam}
-use Rattle.sgf_tree.specs.Tree.{Node, Games, node_count}
-use Rattle.sgf_tree.specs.FileOrder.{OrderedNode, parent_at, node_at, nodes_at, sequence_starts, sequence_start, sequence_end, sequence_numbers}
+use Rattle.sgf_outline.specs.Tree.{Node, Games, node_count}
+use Rattle.sgf_outline.specs.FileOrder.{OrderedNode, parent_at, node_at, nodes_at, sequence_starts, sequence_start, sequence_end, sequence_numbers}
 use Rattle.tree_lines.specs.inner.PathTo.{IsPathTo}
 use Rattle.tree_lines.specs.inner.Parts.{Part, sequence_length, parts_of, part_numbers, part_ends, AreParts, IsAbove}
 use Rattle.tree_lines.specs.Sequences.{RiseTo, parts_from}
 use Rattle.tree_lines.proofs.Lists.{front_more}
 use Rattle.tree_lines.proofs.Visits.{way_along}
 use Rattle.tree_lines.proofs.SequenceStarts.{ordered_there, never_empty, length_is, start_is, first_within}
-use Rattle.sgf_tree.proofs.Outlined.{sequence-further}
+use Rattle.sgf_outline.proofs.Outlined.{sequence-further}
 
 module _ (c : Games) where
   -- ---- Where parts end.

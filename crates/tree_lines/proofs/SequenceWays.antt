@@ -1,8 +1,8 @@
 -- The way to a sequence by the sequences above it.
 use Rattle.std.proofs.lemmas.Grind.{common_steps}
 use Rattle.std.proofs.Common.{◌≡◌, ℕ, ◌+◌, ◌-◌, ◌<◌, List, [], ◌∷◌, ◌++◌, length, Option, Some, None, refl, sym, ap, subst, ◌∙◌, arith}
-use Rattle.sgf_tree.specs.Tree.{Games}
-use Rattle.sgf_tree.specs.FileOrder.{sequence_starts, sequence_end}
+use Rattle.sgf_outline.specs.Tree.{Games}
+use Rattle.sgf_outline.specs.FileOrder.{sequence_starts, sequence_end}
 use Rattle.tree_lines.specs.inner.PathTo.{IsPathTo}
 use Rattle.tree_lines.specs.inner.Parts.{Part, sequence_length, part_numbers, AreParts, IsAbove, ArePartsTo, top, step, MeasuresTo}
 use Rattle.tree_lines.specs.declared.sequence_cursor.Front.{Front}

@@ -1,14 +1,14 @@
 -- The nodes of a collection are visited in file order. Each path leads to a leaf, and keeps a front of the path before it.
 use Rattle.std.proofs.lemmas.Grind.{common_steps}
 use Rattle.std.proofs.Common.{◌≡◌, ℕ, ◌+◌, ◌<◌, ◌≤◌, List, [], ◌∷◌, ◌++◌, length, Option, Some, None, refl, sym, ap, ◌∙◌, subst, arith, length-append, suc, slice_get, option_map, true, add-zero, append_assoc, append-nil, ◌≢◌, zero, ◌-◌, map, inl, inr, All, add-one}
-use Rattle.sgf_tree.specs.Tree.{Games, node_count, Node, game, no_games}
-use Rattle.sgf_tree.specs.FileOrder.{parent_at, OrderedNode, further_nodes, nodes_from, ordered_nodes, IsLeaf}
-use Rattle.sgf_tree.proofs.OrderedNodes.{parent_at-lt, parent_at-within, length-ordered_nodes, length-further_nodes, length-nodes_from, parent_in-further, next-child}
-use Rattle.sgf_tree.proofs.Rises.{Rises, rises-append}
+use Rattle.sgf_outline.specs.Tree.{Games, node_count, Node, game, no_games}
+use Rattle.sgf_outline.specs.FileOrder.{parent_at, OrderedNode, further_nodes, nodes_from, ordered_nodes, IsLeaf}
+use Rattle.sgf_outline.proofs.OrderedNodes.{parent_at-lt, parent_at-within, length-ordered_nodes, length-further_nodes, length-nodes_from, parent_in-further, next-child}
+use Rattle.sgf_outline.proofs.Rises.{Rises, rises-append}
 use Rattle.tree_lines.specs.Lines.{last_number, through, node_lines, lines_from}
 use Rattle.tree_lines.specs.inner.PathTo.{IsPathTo, top, step, HasNoLeaf}
 use Rattle.tree_lines.proofs.Lists.{Each, range_append, map-through, each_weaker, each_get, element}
-use Rattle.sgf_tree.proofs.Lists.{slice_get-left, slice_get-right}
+use Rattle.sgf_outline.proofs.Lists.{slice_get-left, slice_get-right}
 use Rattle.std.proofs.lemmas.List.{map-append, length-map}
 use Rattle.std.specs.List.{range_with_len}
 use Rattle.tree_lines.specs.Paths.{numbered_nodes, numbered, path_of, paths, Path, leaf_of, EndsInLeaf}

@@ -1,7 +1,7 @@
 -- The line before a cursor's next one, how the next line's path follows from it, and how many lines end before a node.
 use Rattle.std.specs.Prelude.{◌≡◌, ℕ, suc, zero, ◌+◌, ◌≤◌, List, [], ◌∷◌, ◌++◌, length, take, slice_get, nat_lt, Option, Some, None}
 use Rattle.std.specs.List.{prefix_len, range_with_len}
-use Rattle.sgf_tree.specs.Tree.{Node, Games}
+use Rattle.sgf_outline.specs.Tree.{Node, Games}
 use Rattle.tree_lines.specs.Lines.{Line, lines, last_number}
 use Rattle.tree_lines.specs.Paths.{Path, paths, leaf_of}
 use Rattle.tree_lines.specs.Cursor.{CursorState}

@@ -1,7 +1,7 @@
 -- The lines of play of a collection (SGF FF[4]). A line goes from the root of a game to a leaf, a node that no node follows. If
 -- games stand below a node, the tree branches there. Each of them begins a variation, and lines go on through each in turn.
 use Rattle.std.specs.Prelude.{◌≢◌, ℕ, ◌+◌, List, [], ◌∷◌, ◌++◌, map, All}
-use Rattle.sgf_tree.specs.Tree.{Node, Games, no_games, game}
+use Rattle.sgf_outline.specs.Tree.{Node, Games, no_games, game}
 
 -- `own` followed by each of the lists in turn; `own` alone if there are no lists. These are the lines through a branch, or to
 -- a leaf.

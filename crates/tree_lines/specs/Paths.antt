@@ -1,7 +1,7 @@
 -- The lines of play again, by the numbers of their nodes in file order.
 use Rattle.std.specs.Prelude.{◌≡◌, ℕ, ◌+◌, ◌<◌, List, [], ◌∷◌, length, map, Some}
-use Rattle.sgf_tree.specs.Tree.{Node, Games, no_games, game, node_count}
-use Rattle.sgf_tree.specs.FileOrder.{node_at, IsLeaf}
+use Rattle.sgf_outline.specs.Tree.{Node, Games, no_games, game, node_count}
+use Rattle.sgf_outline.specs.FileOrder.{node_at, IsLeaf}
 use Rattle.tree_lines.specs.Lines.{Line, lines, last_number}
 
 -- the nodes, each with its number as its place; the first has this number

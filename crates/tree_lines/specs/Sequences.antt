@@ -1,6 +1,6 @@
 -- The sequences of the line before a cursor, by the indices where they end, and what the next line shares with it.
 use Rattle.std.specs.Prelude.{◌≡◌, ℕ, ◌-◌, ◌<◌, ◌≤◌, List, [], ◌∷◌, length, get_or, take, drop}
-use Rattle.sgf_tree.specs.Tree.{Node}
+use Rattle.sgf_outline.specs.Tree.{Node}
 use Rattle.tree_lines.specs.Cursor.{CursorState}
 use Rattle.tree_lines.specs.Following.{Continues, path_before}
 use Rattle.tree_lines.specs.declared.sequence_cursor.Front.{Front}

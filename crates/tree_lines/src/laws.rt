@@ -3,8 +3,8 @@
 ghost use Rattle.std.specs.Prelude.{ℕ, All, List, map};
 ghost use Rattle.std.specs.List.{AllZip};
 ghost use Rattle.std.specs.List.Sorted.{IsStrictlyIncreasing};
-ghost use Rattle.sgf_tree.specs.Spelling.{Spells};
-ghost use Rattle.sgf_tree.specs.Tree.{Games};
+ghost use Rattle.sgf_outline.specs.Spelling.{Spells};
+ghost use Rattle.sgf_outline.specs.Tree.{Games};
 ghost use Rattle.tree_lines.specs.Lines.{lines, place_of};
 ghost use Rattle.tree_lines.specs.Paths.{paths, EndsInLeaf, IsPathOf};
 

@@ -5,10 +5,10 @@
 
 ghost use Rattle.std.specs.Prelude.{◌≡◌, ◌+◌, ◌-◌, ◌<◌, ◌≤◌, ◌++◌, None, Some, [], length, take, slice_get, vec_len, option_map, IfOk, IfErr, IfSome, IfNone, OnOk, OnErr, MatchOption};
 ghost use Rattle.std.specs.List.{flat_map, range_with_len};
-ghost use Rattle.sgf_tree.specs.Tree.{node_count};
-ghost use Rattle.sgf_tree.specs.declared.fault.TheConstants.{MAX_LENGTH};
-ghost use Rattle.sgf_tree.specs.FileOrder.{nodes_at, IsLeaf, PlacesRise, sequence_starts, sequence_start, sequence_end, sequence_numbers};
-ghost use Rattle.sgf_tree.specs.Written.{node_text};
+ghost use Rattle.sgf_outline.specs.Tree.{node_count};
+ghost use Rattle.sgf_outline.specs.declared.limit.TheConstants.{MAX_LENGTH};
+ghost use Rattle.sgf_outline.specs.FileOrder.{nodes_at, IsLeaf, PlacesRise, sequence_starts, sequence_start, sequence_end, sequence_numbers};
+ghost use Rattle.sgf_outline.specs.Written.{node_text};
 ghost use Rattle.tree_lines.specs.Lines.{lines, place_of};
 ghost use Rattle.tree_lines.specs.Cursor.{advanced, IsAfterPlace, IsSeekFault};
 ghost use Rattle.tree_lines.specs.Following.{line_before, nodes_before, path_before, lines_before};

@@ -1,8 +1,8 @@
 -- A follower's state, from its cursor and from what is known of the line before the cursor.
 use Rattle.std.specs.Prelude.{◌≡◌, ◌<◌, ◌≤◌, ℕ, length, refl}
 use Rattle.std.specs.Coded.{Coded, code_by, coded×, coded_ℕ}
-use Rattle.sgf_tree.specs.Tree.{Games}
-use Rattle.sgf_tree.specs.inner.TreeCode.{games_code}
+use Rattle.sgf_outline.specs.Tree.{Games}
+use Rattle.sgf_outline.specs.inner.TreeCode.{games_code}
 use Rattle.tree_lines.specs.Cursor.{CursorState}
 use Rattle.judged_lines.specs.Follower.{FollowerState, lines_judged}
 use Rattle.judged_lines.specs.Plays.{all_judged_places}

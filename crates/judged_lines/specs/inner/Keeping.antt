@@ -1,6 +1,6 @@
 -- How a judge goes on by some nodes of a line.
 use Rattle.std.specs.Prelude.{◌≡◌, ℕ, ◌+◌, ◌-◌, List, ◌++◌, length}
-use Rattle.sgf_tree.specs.Tree.{Node}
+use Rattle.sgf_outline.specs.Tree.{Node}
 use Rattle.judged_lines.specs.JudgedGames.{GameKind}
 use Rattle.judged_lines.specs.Verdict.{judged_on}
 use Rattle.judged_lines.specs.Walk.{LegalNode}

@@ -2,7 +2,7 @@
 //! comment. It is gathered in one pass over the node's properties.
 
 ghost use Rattle.std.specs.Prelude.{◌≡◌, ◌∷◌, ◌++◌, [], ℕ, List, Option, IfOk, OnOk, option_map, Some};
-ghost use Rattle.sgf_tree.specs.Tree.{Property, lone_property, told_property, values};
+ghost use Rattle.sgf_outline.specs.Tree.{Property, lone_property, told_property, values};
 ghost use Rattle.board_stones.specs.declared.stones.Colour.{Colour};
 ghost use Rattle.judged_lines.specs.NodeContents.{Move, moves_by, stones_of};
 ghost use Rattle.judged_lines.specs.NodeValues.{last_player as last_player_rule};

@@ -2,7 +2,7 @@
 //! lines that differ only in a pass or in an empty node do. Its score isn't worked out again.
 
 ghost use Rattle.std.specs.Prelude.{◌≡◌, ◌<◌, ◌≤◌, ◌⊎◌, Some, length, IfOk, IfSome, OnOk, OnErr};
-ghost use Rattle.sgf_tree.specs.Tree.{Node};
+ghost use Rattle.sgf_outline.specs.Tree.{Node};
 ghost use Rattle.board_stones.specs.declared.stones.Colour.TheVariants.{Black, White};
 ghost use Rattle.board_stones.specs.Score.{score_of};
 ghost use Rattle.go_board.specs.State.{States, HadSameBoardSince, begun};

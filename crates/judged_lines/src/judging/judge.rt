@@ -1,7 +1,7 @@
 //! A judge goes along the nodes of a line, and back to the last node that the next line shares.
 
 ghost use Rattle.std.specs.Prelude.{◌≡◌, ◌+◌, ◌<◌, IsFalse, IsTrue, OnOk, OnErr, IfOk, Some, option_copied};
-ghost use Rattle.sgf_tree.specs.Tree.{Node};
+ghost use Rattle.sgf_outline.specs.Tree.{Node};
 ghost use Rattle.judged_lines.specs.inner.Gathered.{ComesAs};
 ghost use Rattle.go_board.specs.State.{begun};
 ghost use Rattle.judged_lines.specs.JudgedGames.{game_kind, board};

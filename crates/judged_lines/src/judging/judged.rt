@@ -1,7 +1,7 @@
 //! Judging line after line, each from the first node that it doesn't share with the line before it.
 
 ghost use Rattle.std.specs.Prelude.{◌≡◌, ◌+◌, ◌<◌, ◌≤◌, ◌++◌, ◌∷◌, [], List, length, take, option_copied, IfOk, IsFalse, IsTrue, OnErr, OnOk};
-ghost use Rattle.sgf_tree.specs.Tree.{Node};
+ghost use Rattle.sgf_outline.specs.Tree.{Node};
 ghost use Rattle.tree_lines.specs.Following.{nodes_before};
 ghost use Rattle.judged_lines.specs.JudgedGames.{GameKind};
 ghost use Rattle.judged_lines.specs.Walk.{LegalNode};

@@ -1,8 +1,8 @@
 //! Judging one line.
 
 ghost use Rattle.std.specs.Prelude.{◌≡◌, ◌<◌, Some, option_map, IfErr, IfOk};
-ghost use Rattle.sgf_tree.specs.Tree.{node_count};
-ghost use Rattle.sgf_tree.specs.FileOrder.{IsLeaf};
+ghost use Rattle.sgf_outline.specs.Tree.{node_count};
+ghost use Rattle.sgf_outline.specs.FileOrder.{IsLeaf};
 ghost use Rattle.judged_lines.specs.Verdict.{IsVerdictAt, IsVerdictOf, verdict};
 ghost use Rattle.tree_lines.specs.Following.{line_before};
 ghost use Rattle.tree_lines.specs.Cursor.{IsSeekFault};

@@ -1,7 +1,7 @@
 //! A node's step on a referee.
 
 ghost use Rattle.std.specs.Prelude.{◌≡◌, ◌<◌, ◌⊎◌, ◌∷◌, ◌++◌, [], List, length, All, IfOk, IsSome, Ok};
-ghost use Rattle.sgf_tree.specs.Tree.{Node, Property, told_property};
+ghost use Rattle.sgf_outline.specs.Tree.{Node, Property, told_property};
 ghost use Rattle.board_points.specs.Point.{IsRectOn};
 ghost use Rattle.go_board.specs.State.{set_up as set_up_rule};
 ghost use Rattle.judged_lines.specs.NodeValues.{move_value as move_value_rule};

@@ -1,6 +1,6 @@
 -- A text that is divided into pieces by the offsets where they end.
 use Rattle.std.specs.Prelude.{◌≡◌, ℕ, ◌-◌, List, [], ◌∷◌, ◌++◌, take, drop}
-use Rattle.sgf_tree.specs.Written.{ends_from}
+use Rattle.sgf_outline.specs.Written.{ends_from}
 
 -- pieces of text, one after the other, and an unfinished piece after them
 pub record PiecesState : Type 0 where

@@ -1,7 +1,7 @@
 -- The record of the line before a cursor; in sgf form, in pieces.
 use Rattle.std.specs.Prelude.{◌≡◌, ℕ, List, [], ◌∷◌, Some, map, option_map, codes}
 use Rattle.std.specs.List.{flat_map}
-use Rattle.sgf_tree.specs.Tree.{Node}
+use Rattle.sgf_outline.specs.Tree.{Node}
 use Rattle.tree_lines.specs.Following.{line_before, nodes_before}
 use Rattle.tree_lines.specs.Sequences.{SequencesState, sequences_of}
 use Rattle.sgf_lines.specs.Record.{node_text, record_of}

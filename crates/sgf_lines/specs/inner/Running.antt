@@ -1,9 +1,9 @@
 -- What the parts of a run do.
 use Rattle.std.specs.Prelude.{◌≡◌, ℕ, ◌<◌, ◌≤◌, ◌+◌, ◌-◌, ◌^◌, List, length, drop, take, Option, Some, Result, Ok, Err, ⊤}
 use Rattle.std.specs.Io.KnownBytes.{Appends, Consumes}
-use Rattle.sgf_tree.specs.FileOrder.{PlacesRise}
-use Rattle.sgf_tree.specs.Tree.{Games, node_count}
-use Rattle.sgf_tree.specs.declared.fault.TheConstants.{MAX_LENGTH}
+use Rattle.sgf_outline.specs.FileOrder.{PlacesRise}
+use Rattle.sgf_outline.specs.Tree.{Games, node_count}
+use Rattle.sgf_outline.specs.declared.limit.TheConstants.{MAX_LENGTH}
 use Rattle.tree_lines.specs.Lines.{Line, lines, HasNoLineAt}
 use Rattle.sgf_lines.specs.Page.{lines_asked}
 use Rattle.sgf_lines.specs.Record.{output}

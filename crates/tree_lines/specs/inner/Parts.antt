@@ -2,9 +2,9 @@
 use Rattle.std.specs.Prelude.{◌≡◌, ◌≢◌, ℕ, ◌+◌, ◌-◌, ◌<◌, ◌≤◌, List, [], ◌∷◌, ◌++◌, length, get_or, slice_get, map, take, Option, Some, None, MatchOption, refl}
 use Rattle.std.specs.List.{flat_map, range_with_len}
 use Rattle.std.specs.Coded.{Coded, code_by, coded×, coded_ℕ, coded_list}
-use Rattle.sgf_tree.specs.Tree.{Games, node_count}
-use Rattle.sgf_tree.specs.FileOrder.{place_at, parent_at, IsLeaf, sequence_starts, sequence_start, sequence_end, sequence_numbers}
-use Rattle.sgf_tree.specs.inner.TreeCode.{games_code}
+use Rattle.sgf_outline.specs.Tree.{Games, node_count}
+use Rattle.sgf_outline.specs.FileOrder.{place_at, parent_at, IsLeaf, sequence_starts, sequence_start, sequence_end, sequence_numbers}
+use Rattle.sgf_outline.specs.inner.TreeCode.{games_code}
 use Rattle.tree_lines.specs.Sequences.{SequencesState, nodes_in}
 use Rattle.tree_lines.specs.inner.PathTo.{HasNoLeaf}
 use Rattle.tree_lines.specs.inner.Standing.{IsAfterLeaf}

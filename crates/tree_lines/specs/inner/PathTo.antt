@@ -1,7 +1,7 @@
 -- The path from the root of a game down to a node, and the leaves that a cursor seeks.
 use Rattle.std.specs.Prelude.{◌≡◌, ◌≢◌, ℕ, ◌-◌, ◌<◌, ◌≤◌, List, [], ◌∷◌, ◌++◌, length, slice_get, Option, Some, None}
-use Rattle.sgf_tree.specs.Tree.{Games, node_count}
-use Rattle.sgf_tree.specs.FileOrder.{parent_at, IsLeaf}
+use Rattle.sgf_outline.specs.Tree.{Games, node_count}
+use Rattle.sgf_outline.specs.FileOrder.{parent_at, IsLeaf}
 
 -- the numbers of the nodes from the root to a node, each the parent of the next; above a root there are none
 pub data IsPathTo (games : Games) : Option ℕ → List ℕ → Type 0 where

@@ -1,9 +1,9 @@
 -- How a cursor's state follows from the node that it goes on from.
 use Rattle.std.specs.Prelude.{◌≡◌, ℕ, ◌+◌, ◌≤◌, List, [], Some, refl}
 use Rattle.std.specs.Coded.{Coded, code_by, coded×, coded_ℕ}
-use Rattle.sgf_tree.specs.Tree.{Games, node_count}
-use Rattle.sgf_tree.specs.inner.TreeCode.{games_code}
-use Rattle.sgf_tree.specs.FileOrder.{IsLeaf}
+use Rattle.sgf_outline.specs.Tree.{Games, node_count}
+use Rattle.sgf_outline.specs.inner.TreeCode.{games_code}
+use Rattle.sgf_outline.specs.FileOrder.{IsLeaf}
 use Rattle.tree_lines.specs.Cursor.{CursorState}
 use Rattle.tree_lines.specs.inner.PathTo.{IsPathTo}
 

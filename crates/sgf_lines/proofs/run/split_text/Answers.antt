@@ -2,8 +2,8 @@
 use Rattle.std.proofs.Common.{◌≡◌, take, drop, Err, ap, ◌∙◌, arith}
 use Rattle.std.specs.Prelude.{unwrap_or}
 use Rattle.std.proofs.lemmas.Result.{err_from_is_err_and}
-use Rattle.sgf_tree.specs.Tree.{node_count}
-use Rattle.sgf_tree.specs.Spelling.{Spells}
+use Rattle.sgf_outline.specs.Tree.{node_count}
+use Rattle.sgf_outline.specs.Spelling.{Spells}
 use Rattle.tree_lines.specs.Lines.{lines}
 use Rattle.sgf_lines.specs.inner.Running.{WritesLines}
 use Rattle.sgf_lines.proofs.PlayCounts.{for_options}

@@ -2,7 +2,7 @@
 use Rattle.std.proofs.lemmas.Grind.{common_steps}
 use Rattle.std.proofs.Common.{◌≤◌, length, arith, subst}
 use Rattle.std.proofs.lemmas.Bool.{both_ways}
-use Rattle.sgf_tree.specs.FileOrder.{sequence_starts}
+use Rattle.sgf_outline.specs.FileOrder.{sequence_starts}
 use Rattle.tree_lines.specs.inner.PathTo.{HasNoLeaf}
 use Rattle.tree_lines.specs.inner.Parts.{first_of}
 use Rattle.tree_lines.proofs.SequenceStarts.{no_leaf_inside, no_leaf_more, past_all}

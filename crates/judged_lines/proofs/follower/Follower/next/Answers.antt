@@ -1,9 +1,9 @@
 -- The next line was judged from where it leaves the line before it.
 use Rattle.std.proofs.Common.{◌≡◌, ◌≤◌, true, Ok, ap, arith}
 use Rattle.std.proofs.lemmas.Grind.{common_steps}
-use Rattle.sgf_tree.specs.Tree.{node_count}
-use Rattle.sgf_tree.specs.FileOrder.{PlacesRise}
-use Rattle.sgf_tree.specs.declared.fault.TheConstants.{MAX_LENGTH}
+use Rattle.sgf_outline.specs.Tree.{node_count}
+use Rattle.sgf_outline.specs.FileOrder.{PlacesRise}
+use Rattle.sgf_outline.specs.declared.limit.TheConstants.{MAX_LENGTH}
 use Rattle.sgf_properties.specs.declared.fault.MemoryFault.{MemoryFault}
 use Rattle.tree_lines.specs.Cursor.{advanced}
 use Rattle.judged_lines.specs.declared.over_lines.Before.TheVariants.{Held}

@@ -1,6 +1,6 @@
 -- The buffer is empty at first.
 use Rattle.std.proofs.Common.{[], ◌∷◌, ◌++◌, sym, ap, subst, refl, ◌∙◌, append_assoc}
-use Rattle.sgf_tree.specs.Tree.{told_property}
+use Rattle.sgf_outline.specs.Tree.{told_property}
 use Rattle.judged_lines.specs.inner.Gathered.{IsGathered}
 use Rattle.judged_lines.proofs.judging.contents.gathered.Goals as goal
 

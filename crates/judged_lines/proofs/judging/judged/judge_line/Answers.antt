@@ -1,7 +1,7 @@
 -- One sequence more is judged, until all are, or the verdict is known.
 use Rattle.std.proofs.Common.{◌≡◌, ◌+◌, ◌++◌, ◌≤◌, List, length, take, drop, refl, sym, ap, ◌∙◌, length-append, arith, rules}
 use Rattle.std.proofs.lemmas.List.{length-drop}
-use Rattle.sgf_tree.specs.Tree.{Node}
+use Rattle.sgf_outline.specs.Tree.{Node}
 use Rattle.tree_lines.specs.Following.{nodes_before}
 use Rattle.tree_lines.specs.Sequences.{nodes_in}
 use Rattle.judged_lines.specs.JudgedGames.{game_kind, root_properties}

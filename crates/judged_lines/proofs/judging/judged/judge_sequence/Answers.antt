@@ -3,11 +3,11 @@ use Rattle.std.proofs.Common.{◌≡◌, ◌<◌, Bor, Option, Some, None, [], �
 use Rattle.std.specs.Prelude.{IsSome, option_copied}
 use Rattle.std.proofs.lemmas.Bool.{eqb-true}
 use Rattle.std.proofs.lemmas.List.{nil_from_length}
-use Rattle.sgf_tree.specs.NodesLeft.{NodesLeft}
-use Rattle.sgf_tree.specs.Traversal.{IsTakenOff}
-use Rattle.sgf_tree.specs.declared.traversal.NextNode.{NextNode}
+use Rattle.sgf_outline.specs.NodesLeft.{NodesLeft}
+use Rattle.sgf_outline.specs.Traversal.{IsTakenOff}
+use Rattle.sgf_outline.specs.declared.traversal.NextNode.{NextNode}
 use Rattle.judged_lines.specs.inner.Gathered.{ComesAs}
-use Rattle.sgf_tree.specs.Tree.{Node}
+use Rattle.sgf_outline.specs.Tree.{Node}
 use Rattle.board_stones.specs.Grid.{Grid}
 use Rattle.go_board.specs.State.{State}
 use Rattle.judged_lines.specs.declared.judging.step.LegalStep.{LegalStep}

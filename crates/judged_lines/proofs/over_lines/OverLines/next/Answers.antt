@@ -3,7 +3,7 @@ use Rattle.std.proofs.Common.{◌≡◌, ◌≢◌, ℕ, ◌<◌, List, [], ◌�
 use Rattle.std.specs.Prelude.{Bool}
 use Rattle.std.specs.Result.{IsErr}
 use Rattle.tree_lines.specs.Cursor.{CursorState}
-use Rattle.sgf_tree.specs.Tree.{node_count}
+use Rattle.sgf_outline.specs.Tree.{node_count}
 use Rattle.tree_lines.specs.declared.sequence_cursor.Front.{Front}
 use Rattle.tree_lines.specs.Sequences.{SequencesState, RiseTo}
 use Rattle.judged_lines.specs.declared.over_lines.Before.{Before}

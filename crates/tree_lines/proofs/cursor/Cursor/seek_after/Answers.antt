@@ -1,7 +1,7 @@
 -- The cursor by sequences was made of the same collection.
 use Rattle.std.proofs.lemmas.Grind.{common_steps}
 use Rattle.std.proofs.Common.{◌≡◌, ◌∙◌, ap, subst, arith}
-use Rattle.sgf_tree.specs.Tree.{Games}
+use Rattle.sgf_outline.specs.Tree.{Games}
 use Rattle.tree_lines.specs.Cursor.{CursorState, IsAfterPlace, IsSeekFault}
 use Rattle.tree_lines.specs.Sequences.{SequencesState}
 use Rattle.tree_lines.proofs.cursor.Cursor.seek_after.Goals as goal
