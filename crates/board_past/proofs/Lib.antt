@@ -10,7 +10,6 @@ pub mod PrintPastLemmas
 pub mod EmptiedLemmas
 pub mod ChangesLemmas
 pub mod ColouringsLemmas
-pub mod FilterLemmas
 pub mod NumberLemmas
 pub mod TableLemmas
 pub mod KeyLemmas

@@ -22,7 +22,6 @@ use Rattle.board_past.specs.inner.Table.{HasRoomForNext, IsAsleepTable, IsAwakeT
 use Rattle.key_trie.specs.declared.trie.Trie.{Trie}
 use Rattle.key_trie.specs.Key.{Agree}
 use Rattle.key_trie.specs.Trie.{nodes_of, item_count, capacity_of, IsTrie, IsNearest, IsOpening, IsParting}
-use Rattle.board_past.proofs.FilterLemmas.{filter_any, filter_more}
 use Rattle.board_past.proofs.NumberLemmas.{since-newest, since-older, at-newest, at-older, cases-number, start-since, start-before}
 pub use Rattle.board_past.proofs.NumberLemmas.{number_there, side-number, has_number, has_colouring}
 use Rattle.board_past.proofs.KeyLemmas.{print_bit, front_same, front_agrees, head_agrees, whole_same}
@@ -128,16 +127,15 @@ module _ (held : List Held) (table : Table) (is : IsAwakeTable held table) where
       (λ e. other_bits print other position differ (sym (key_print position low) ∙ e ∙ near_print position low))
 
 -- the same prints, and a trie of as many colourings or of more
-pub tabled_with : (held : List Held) (table after : Table) → IsAwakeTable held table → after.prints.items ≡ table.prints.items → after.filter ≡ table.filter → after.hashes ≡ table.hashes → after.room_asleep ≡ table.room_asleep
+pub tabled_with : (held : List Held) (table after : Table) → IsAwakeTable held table → after.prints.items ≡ table.prints.items → after.hashes ≡ table.hashes → after.room_asleep ≡ table.room_asleep
     → length table.prints.items ≤ capacity_of after.trie → capacity_of after.trie < 2 ^ 32 → item_count after.trie ≤ length table.prints.items → IsTrie WIDTH (keys_of after.hashed held) after.trie → IsAwakeTable held after
-tabled_with held table after is prints filter hashes awake room most few trie = record {
+tabled_with held table after is prints hashes awake room most few trie = record {
   awake = awake ∙ is.awake;
   printed = rw prints is.printed;
   few = rw prints few;
   linked = trie;
   room = rw prints room;
   most = most;
-  filtered = rw (prints, filter) is.filtered;
   kept = rw hashes is.kept;
 }
 
@@ -172,7 +170,7 @@ links_with held old now trie is same more room next linked =
     let count : item_count trie ≡ item_count old.trie + 1 = next ∙ ap (λ (x : Trie). item_count x + 1) same.trie in
     let prints : length now.prints.items ≡ length old.prints.items = ap (λ (xs : List ℕ). length xs) same.prints in
     record {
-      table = tabled_with held now (record now { trie = trie }) is refl refl refl refl (omega (arith, is.room, room)) (omega (arith, is.most, room)) (omega (arith, count, more, prints))
+      table = tabled_with held now (record now { trie = trie }) is refl refl refl (omega (arith, is.room, room)) (omega (arith, is.most, room)) (omega (arith, count, more, prints))
           (subst (λ (h : Bool). IsTrie WIDTH (keys_of h held) trie) (sym same.hashed) linked);
       fewer = one_linked old (record now { trie = trie }) same.prints same.hashed count more;
       prints = same.prints;
@@ -187,7 +185,6 @@ with_hashes held table hashes is kept = record {
   linked = is.linked;
   room = is.room;
   most = is.most;
-  filtered = is.filtered;
   kept = kept;
 }
 
@@ -200,9 +197,9 @@ pub in_key : (hashed : Bool) (grid : Grid) → hashed ≡ true → hash_of grid 
 in_key hashed grid on = ap (λ (t : Bool). if t then hash_of grid else 0) (sym on)
 
 -- one colouring more
-pub tabled_more : (held : List Held) (table after : Table) (next : Held) (print : ℕ) → IsAwakeTable held table → print ≡ print_of next.colouring → after.prints.items ≡ table.prints.items ++ print ∷ [] → after.filter ≡ table.filter → after.room_asleep ≡ table.room_asleep
+pub tabled_more : (held : List Held) (table after : Table) (next : Held) (print : ℕ) → IsAwakeTable held table → print ≡ print_of next.colouring → after.prints.items ≡ table.prints.items ++ print ∷ [] → after.room_asleep ≡ table.room_asleep
     → length table.prints.items < capacity_of after.trie → capacity_of after.trie < 2 ^ 32 → item_count after.trie ≤ length table.prints.items + 1 → IsTrie WIDTH (keys_of after.hashed (next ∷ held)) after.trie → HasHashes (next ∷ held) after.hashes → IsAwakeTable (next ∷ held) after
-tabled_more held table after next print is printed pushed filter awake room most few trie kept =
+tabled_more held table after next print is printed pushed awake room most few trie kept =
     let count : length after.prints.items ≡ length table.prints.items + 1 = ap (λ (xs : List ℕ). length xs) pushed ∙ length-append table.prints.items (print ∷ []) in
     record {
       awake = awake ∙ is.awake;
@@ -212,7 +209,6 @@ tabled_more held table after next print is printed pushed filter awake room most
       linked = trie;
       room = omega (arith, count, room);
       most = most;
-      filtered = rw (pushed, filter) (filter_more table.prints.items print table.filter is.filtered);
       kept = kept;
     }
 
@@ -226,7 +222,6 @@ asleep_more held table next is room = record {
   room = is.room;
   prints_room = is.prints_room;
   most = is.most;
-  filtered = is.filtered;
   kept = is.kept;
 }
 
@@ -239,7 +234,6 @@ asleep_less table newest older is = record {
   room = is.room;
   prints_room = is.prints_room;
   most = is.most;
-  filtered = is.filtered;
   kept = is.kept;
 }
 
@@ -297,8 +291,8 @@ sleeps held table (inl is) none some = is
 sleeps held table (inr is) none some = absurd (omega (arith, none, some, tabled held table is))
 
 -- a table that got its prints
-pub awoken : (held : List Held) (old new : Table) → IsAsleepTable held old → reverse new.prints.items ≡ prints_of held → new.trie ≡ old.trie → new.filter ≡ old.filter → new.hashes ≡ old.hashes → new.room_asleep ≡ 0 → IsAwakeTable held new
-awoken held old new is printed trie filter hashes awake =
+pub awoken : (held : List Held) (old new : Table) → IsAsleepTable held old → reverse new.prints.items ≡ prints_of held → new.trie ≡ old.trie → new.hashes ≡ old.hashes → new.room_asleep ≡ 0 → IsAwakeTable held new
+awoken held old new is printed trie hashes awake =
     let none : item_count new.trie ≡ 0 = ap item_count trie ∙ ap length is.no_items in
     record {
       awake = awake;
@@ -307,7 +301,6 @@ awoken held old new is printed trie filter hashes awake =
       linked = rw trie (rw is.no_items refl);
       room = omega (arith, ap capacity_of trie, is.fits, is.room, same_length held new.prints.items printed);
       most = omega (arith, ap capacity_of trie, is.most);
-      filtered = rw filter (filter_any new.prints.items old.filter is.filtered);
       kept = rw hashes (is.kept held);
     }
 

@@ -3,6 +3,5 @@ pub mod Print
 pub mod Changes
 pub mod Hash
 pub mod Key
-pub mod Filter
 pub mod Table
 pub mod Emptied

@@ -5,7 +5,6 @@ use Rattle.board_past.specs.declared.past.print_past.table.Gap.{Gap}
 use Rattle.board_past.specs.declared.past.print_past.key.TheConstants.{WIDTH}
 use Rattle.board_past.specs.declared.past.print_past.table.Table.{Table}
 use Rattle.board_past.specs.Past.{Held}
-use Rattle.board_past.specs.inner.Filter.{IsFilter}
 use Rattle.board_past.specs.inner.Hash.{hash_of, HasHashes}
 use Rattle.board_past.specs.inner.Key.{keys_of}
 use Rattle.board_past.specs.inner.Print.{print_of, prints_of}
@@ -21,7 +20,6 @@ pub record IsAwakeTable (held : List Held) (table : Table) : Type 0 where
   pub linked : IsTrie WIDTH (keys_of table.hashed held) table.trie
   pub room : length table.prints.items ≤ capacity_of table.trie
   pub most : capacity_of table.trie < 2 ^ 32
-  pub filtered : IsFilter table.prints.items table.filter
   pub kept : HasHashes held table.hashes
 
 -- the table of these colourings, if it sleeps: it has no prints and no items, but room for all
@@ -33,7 +31,6 @@ pub record IsAsleepTable (held : List Held) (table : Table) : Type 0 where
   pub room : table.room_asleep ≤ capacity_of table.trie
   pub prints_room : table.room_asleep ≤ vec_capacity table.prints
   pub most : capacity_of table.trie < 2 ^ 32
-  pub filtered : IsFilter [] table.filter
   pub kept : (any : List Held) → HasHashes any table.hashes
 
 -- the table of these colourings
@@ -53,7 +50,6 @@ pub record GrowsTable (old new : Table) : Type 0 where
   pub most : capacity_of new.trie < 2 ^ 32
   pub prints : new.prints.items ≡ old.prints.items
   pub prints_room : vec_capacity old.prints ≤ vec_capacity new.prints
-  pub filter : new.filter ≡ old.filter
   pub hashed : new.hashed ≡ old.hashed
   pub hashes : new.hashes ≡ old.hashes
   pub asleep : new.room_asleep ≡ old.room_asleep

@@ -12,14 +12,12 @@
 //! | `emptied` | the points that were emptied, where a colouring can come back |
 //! | `print`, `powers`, `bytes` | the print of a colouring, a number in base 31; the numbers that it is made from |
 //! | `table` | how a past colouring is looked up if the newest ones don't tell, and what that costs |
-//! | `filter` | a filter of prints, which answers most look-ups by print |
 //! | `key`, `hash`, `hashes` | a colouring as a key, which is a string of bits; a hash that is part of it; those that are kept. The crate `key_trie` has the trie of keys |
 
 mod bytes;
 mod changes;
 mod colourings;
 mod emptied;
-mod filter;
 mod hash;
 mod hashes;
 mod key;
@@ -356,23 +354,16 @@ impl PrintPast {
         newest.has_all_cells();
         let known = Known::new(newest.is_settled(), false);
         let print = print_after_clearing(self.table.newest(), newest, colour, point, cleared);
-        let mut gap = None;
-        if self.table.may_have(print) {
-            if self.has_near(colour, point, cleared, print) {
-                return Ok(false);
-            }
-            gap = gap_of_stone(
-                &self.colourings,
-                &mut self.table,
-                colour,
-                point,
-                cleared,
-                print,
-            );
-            if gap.is_none() {
-                return Ok(false);
-            }
-        }
+        let Some(gap) = gap_of_stone(
+            &self.colourings,
+            &mut self.table,
+            colour,
+            point,
+            cleared,
+            print,
+        ) else {
+            return Ok(false);
+        };
         add_stone(
             &mut self.colourings,
             &mut self.table,
@@ -382,24 +373,9 @@ impl PrintPast {
             cleared,
             known,
             Some(print),
-            gap,
+            Some(gap),
         )?;
         Ok(true)
-    }
-
-    /// Whether the colouring that a stone makes is one of the newest two, and in the present stretch: the newest, after suicide of one stone,
-    /// or the one before it, in a simple ko. False says nothing. `print` is its print, and `cleared` is what the stone clears.
-    fn has_near(&self, colour: Colour, point: Point, cleared: &[u64], print: u64) -> bool
-        requires stone { IsMove (newest_grid self.now) colour point cleared.now }
-        ensures { IsTrue result → Contains (present_stretch self.now) (play (newest_grid self.now) colour point) }
-    {
-        let start = self.colourings.stretch_start();
-        let Some(number) = self.table.near(start, print) else {
-            return false;
-        };
-        let mut made = self.newest().copy();
-        made.place_and_clear(colour, point, cleared);
-        self.colourings.is_at(number, &made)
     }
 
     /// The same as `play`, the plain way (`Board::place`) on a copy of the newest board. It is for boards that aren't settled.

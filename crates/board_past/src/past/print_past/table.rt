@@ -18,8 +18,7 @@
 //! With hashes, a look-up that goes on by the rows works out two hashes more at most: that of its own colouring, and that of the past one, if
 //! it isn't kept (`hashes`). For this hash the past colouring is worked out once more. To put a colouring in costs as much for each of the two.
 //!
-//! This is so once `link` has put all colourings into the trie. `gap` calls it first: the past asks `gap` for a stone that `may_have`
-//! doesn't answer (see `filter`). `has` asks no trie: it compares one by one.
+//! This is so once `link` has put all colourings into the trie. `gap` calls it first. `has` asks no trie: it compares one by one.
 //!
 //! In most games the newest colourings answer all that is asked (`Colourings::look_back`). So the table sleeps at first: it has no prints,
 //! and a stone costs no more here than the test that there is room. `wake` works the prints out, once a game, one for each colouring; from
@@ -39,7 +38,6 @@ ghost use Rattle.std.specs.Vec.{vec_capacity};
 use board_stones::Board;
 use crate::fault::MemoryFault;
 use crate::past::print_past::colourings::Colourings;
-use crate::past::print_past::filter::Filter;
 use crate::past::print_past::hash::hash_of;
 use crate::past::print_past::hashes::Hashes;
 use crate::past::print_past::key::{ColouringKey, FRONT, HEAD, WIDTH, WORD};
@@ -49,10 +47,6 @@ use std::alloc::Global;
 
 /// The number of colourings that a new table has room for.
 const FIRST_ROOM: usize = 256;
-
-/// How many of the newest colourings are looked at before the trie is asked: the newest, and the one that a simple ko brings back. To work
-/// that one out takes one step. Without this look and the filter, short fights take 5 to 11 % more instructions.
-const NEAR: usize = 2;
 
 /// The most nodes that a descent passes before keys get hashes: 64 in the print, 26 in the start of the stretch, and some on the board. No
 /// game that wasn't made for it comes near.
@@ -67,8 +61,6 @@ pub(crate) struct Table {
     prints: Vec<u64>,
     /// The trie of the oldest colourings. The newest ones may not be in it yet.
     trie: Trie,
-    /// A filter of the prints.
-    filter: Filter,
     /// Whether keys have hashes.
     hashed: bool,
     /// The hashes that were worked out.
@@ -100,7 +92,6 @@ impl Table {
             room_asleep: room_of_both(&prints, &trie),
             prints,
             trie,
-            filter: Filter::new(),
             hashed: false,
             hashes: Hashes::new(alloc),
         })
@@ -218,7 +209,6 @@ impl Table {
             self.trie.take_back();
         }
         let _ = self.prints.pop();
-        self.filter.go_back(self.prints.len());
         self.hashes.go_back(self.prints.len());
     }
 
@@ -229,33 +219,9 @@ impl Table {
     {
         self.trie.clear();
         self.prints.clear();
-        self.filter.go_back(0);
         self.hashed = false;
         self.hashes.clear();
         self.room_asleep = room_of_both(&self.prints, &self.trie);
-    }
-
-    /// The newest colouring with this print, if it is one of the last `NEAR` and not before `start`.
-    pub(crate) fn near(&self, start: usize, print: u64) -> Option<usize>
-        ensures { IfSome result (λ number. (start ≤ number) × (number < length self.now.prints.items)) }
-    {
-        let len = self.prints.len();
-        'each: for number in (start.max(len.saturating_sub(NEAR))..len).rev() {
-            if self.prints[number] == print {
-                return Some(number);
-            }
-        }
-        None
-    }
-
-    /// Whether a colouring may have this print. This doesn't ask the trie.
-    pub(crate) fn may_have(&mut self, print: u64) -> bool
-        requires { (held : List Held) × IsAwakeTable held self.old }
-        ensures table { (held : List Held) → IsAwakeTable held self.old → IsAwakeTable held self.new }
-        ensures lacks { (held : List Held) (grid : Grid) → IsAwakeTable held self.old → IsFalse result → print ≡ print_of grid
-            → ¬ Contains (stretch_of held) grid }
-    {
-        self.filter.may_have(&self.prints, print)
     }
 
     /// Where a colouring with this print comes in, if none has this print; None otherwise. Puts all colourings into the trie first.

@@ -1,5 +1,4 @@
 use Rattle.std.proofs.Common.{◌<◌, ap, arith}
-use Rattle.key_trie.specs.declared.trie.Trie.{Trie}
 use Rattle.key_trie.specs.Trie.{capacity_of}
 use Rattle.board_past.specs.declared.past.print_past.table.Table.{Table}
 use Rattle.board_past.proofs.past.print_past.table.Table.grow.Goals as goal

@@ -20,7 +20,7 @@ returns-in-Some c =
     let near = way_nearest WIDTH keys t.trie is.linked c.descend-from.result descent (omega arith) in
     let parts = parts_as near (keys (item_count t.trie)) _ c.in-Some.position apart.0 own.front (subst (λ n. Agree (bits_of c.key_of-other.result) (keys n) FRONT) c.child-near.ensures c.key_of-other.ensures.front) apart.1 apart.2 in
     record {
-      table = tabled_with held t (record t { trie = c.insert_parted.new.self }) is refl refl refl refl (omega (arith, is.room, c.insert_parted.ensures.room)) (omega (arith, is.most, c.insert_parted.ensures.room)) (omega (arith, c.insert_parted.ensures.more, c.requires.unlinked.more))
+      table = tabled_with held t (record t { trie = c.insert_parted.new.self }) is refl refl refl (omega (arith, is.room, c.insert_parted.ensures.room)) (omega (arith, is.most, c.insert_parted.ensures.room)) (omega (arith, c.insert_parted.ensures.more, c.requires.unlinked.more))
           (c.insert_parted.ensures.trie WIDTH keys FRONT is.linked (omega (arith, apart.0)) descent apart.0 parts.0 parts.1);
       fewer = one_linked t (record t { trie = c.insert_parted.new.self }) refl refl c.insert_parted.ensures.more c.requires.unlinked.more;
       prints = refl {A = List ℕ};

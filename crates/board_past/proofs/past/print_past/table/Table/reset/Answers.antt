@@ -1,7 +1,6 @@
-use Rattle.std.proofs.Common.{◌<◌, ◌≤◌, ◌^◌, [], inl, inr, length, refl, rules, arith}
+use Rattle.std.proofs.Common.{◌<◌, ◌≤◌, ◌^◌, inl, inr, length, rules, arith}
 use Rattle.std.specs.Vec.{vec_capacity}
 use Rattle.std.proofs.lemmas.List.{nil_from_length}
-use Rattle.board_past.specs.inner.Filter.{IsFilter}
 use Rattle.key_trie.specs.Trie.{capacity_of}
 use Rattle.board_past.proofs.TableLemmas.{tabled}
 use Rattle.board_past.proofs.past.print_past.table.Table.reset.Goals as goal
@@ -9,10 +8,6 @@ use Rattle.board_past.proofs.past.print_past.table.Table.reset.Goals as goal
 pub returns : goal.returns
 returns c = λ first.
     let t = c.args.self.now in
-    let filtered : IsFilter t.prints.items t.filter = elim c.requires.1 [
-      | inl asleep ↦ rw asleep.no_prints asleep.filtered
-      | inr awake ↦ awake.filtered
-    ] in
     let most : capacity_of t.trie < 2 ^ 32 = elim c.requires.1 [ inl asleep ↦ asleep.most | inr awake ↦ awake.most ] in
     let room : 1 ≤ capacity_of t.trie = elim c.requires.1 [
       | inl asleep ↦ omega (arith, asleep.fits, asleep.room, c.requires.2)
@@ -32,6 +27,5 @@ returns c = λ first.
       room = c.room_of_both-self.ensures.trie;
       prints_room = c.room_of_both-self.ensures.prints;
       most = omega (arith, most, c.clear.ensures.room);
-      filtered = c.go_back.ensures [] t.prints.items refl filtered;
       kept = c.clear-3.ensures;
     })

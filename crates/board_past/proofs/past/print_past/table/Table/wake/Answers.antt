@@ -22,5 +22,5 @@ returns c =
     take_at c.write_prints.new.prints (drop (length c.write_prints.new.prints) c.each.self.prints.items) c.each.self.prints.len
     (omega (arith, same_length (all_of c.args.colourings.now) c.write_prints.new.prints c.write_prints.ensures, c.each.invariant.count, c.each.auto.counter-end, c.each-test.false, c.len-end.ensures, c.each.self.prints.ok.0)) in
     awoken (all_of c.args.colourings.now) t
-    (record { prints = with_items c.each.self.prints c.write_prints.new.prints; trie = c.each.self.trie; filter = c.each.self.filter; hashed = c.each.self.hashed; hashes = c.each.self.hashes; room_asleep = 0 })
-    asleep (ap (λ (xs : List ℕ). reverse xs) same ∙ c.write_prints.ensures) c.each.invariant.trie c.each.invariant.filter c.each.invariant.hashes refl
+    (record { prints = with_items c.each.self.prints c.write_prints.new.prints; trie = c.each.self.trie; hashed = c.each.self.hashed; hashes = c.each.self.hashes; room_asleep = 0 })
+    asleep (ap (λ (xs : List ℕ). reverse xs) same ∙ c.write_prints.ensures) c.each.invariant.trie c.each.invariant.hashes refl
