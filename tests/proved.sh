@@ -56,7 +56,7 @@ for row in re.findall(r"^\|.*", promises, re.MULTILINE)[2:]:
         continue
     stand = [clause.name for clause in calls[call].clauses if clause.kind == "ensures"]
     faults.extend(f"docs/PROVED.md: {call} has no clause {name}" for name in clauses if name not in stand)
-    specs = glob.glob(f"{top}/crates/{call.split('::')[0]}/specs/**/*.antt", recursive=True)
+    specs = glob.glob(f"{top}/crates/*/specs/**/*.antt", recursive=True)
     for word in re.findall(r"\(`([\w:]+)`\)", promise):
         if not (any(other.endswith(f"::{word}") for other in calls) if "::" in word else is_defined(word, specs)):
             faults.append(f"docs/PROVED.md: there is no {word}")

@@ -42,7 +42,7 @@ pub enum RunFault {
     Memory { lines: u64 },
 }
 
-/// What is wrong at the first fault of a text of `len` bytes.
+/// What is wrong at the first fault of a text of `len` bytes, for `Display`. The program's own row is `Fault::row` of `sgfsplit_job`.
 fn wrong_there(at: usize, len: usize) -> &'static str {
     if at == len {
         "input ends too early"
