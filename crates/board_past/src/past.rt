@@ -16,11 +16,9 @@ ghost use Rattle.board_stones.specs.Clearing.{play};
 ghost use Rattle.board_stones.specs.Rectangle.{with_rectangle};
 ghost use Rattle.board_past.specs.Past.{PastColourings, newest_grid, only, with_next, present_stretch, HaveSide, IsPlayed};
 
-use board_stones::Board;
 use crate::fault::MemoryFault;
-use board_stones::SetupOp;
-use board_stones::Colour;
 use board_points::Point;
+use board_stones::{Board, Colour, SetupOp};
 pub use list_past::ListPast;
 pub use print_past::PrintPast;
 use std::alloc::Global;

@@ -1,5 +1,5 @@
 -- The property values of SGF FF[4] that name points. A move's value may also be a pass, such
--- as `tt`: NodeValues.antt of sgf_lines defines which values are passes.
+-- as `tt`: NodeValues.antt of judged_lines defines which values are passes.
 use Rattle.std.specs.Prelude.{ℕ, ◌-◌, ◌+◌, ◌&&◌, ◌==◌, nat_lt, nat_le, if◌then◌else◌, Option, Some, None, option_and_then, List, [], ◌∷◌}
 use Rattle.board_points.specs.declared.points.Point.{Point}
 use Rattle.board_points.specs.declared.points.Rect.{Rect}

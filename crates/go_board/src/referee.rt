@@ -12,11 +12,9 @@ mod plays;
 mod setup;
 mod turn;
 
-use board_stones::Board;
-use board_past::MemoryFault;
-use board_past::Past;
-use board_stones::Colour;
+use board_past::{MemoryFault, Past};
 use board_points::Size;
+use board_stones::{Board, Colour};
 pub use plays::Play;
 use std::alloc::Global;
 use std::marker::Model;

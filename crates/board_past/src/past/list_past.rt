@@ -3,9 +3,9 @@
 ghost use Rattle.std.specs.Prelude.{◌↔◌, IsTrue, Contains, reverse, ◌≡◌, OnOk, OnErr};
 ghost use Rattle.board_past.specs.Past.{stretch_of, Held, PastColourings, with_next};
 
-use board_stones::Board;
 use crate::fault::MemoryFault;
 use crate::past::Past;
+use board_stones::Board;
 use std::alloc::Global;
 use std::marker::Model;
 

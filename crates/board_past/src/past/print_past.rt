@@ -40,7 +40,6 @@ ghost use Rattle.board_past.specs.inner.Print.{print_of, IsPrintedMove};
 ghost use Rattle.board_points.specs.Rows.{is_set};
 ghost use Rattle.board_past.specs.inner.Table.{IsAwakeTable, IsGap, IsPrintOfNext, IsTable};
 
-use board_stones::Board;
 use crate::fault::MemoryFault;
 use crate::past::Past;
 use crate::past::print_past::changes::Known;
@@ -48,10 +47,9 @@ use crate::past::print_past::colourings::Colourings;
 use crate::past::print_past::emptied::Emptied;
 use crate::past::print_past::print::{has_point, print_after_clearing, print_of};
 use crate::past::print_past::table::{Gap, Table};
-use board_stones::SetupOp;
-use board_stones::Colour;
 use board_points::rows::{add_points, no_rows};
 use board_points::{MAX_ROWS, Point};
+use board_stones::{Board, Colour, SetupOp};
 use std::alloc::Global;
 use std::marker::Model;
 

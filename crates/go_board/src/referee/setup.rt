@@ -6,11 +6,9 @@ ghost use Rattle.go_board.specs.State.{followed_by, set_up};
 ghost use Rattle.board_stones.specs.Rectangle.{with_rectangle};
 ghost use Rattle.go_board.specs.inner.Earlier.{with_setup};
 
-use board_past::MemoryFault;
-use board_past::Past;
 use crate::referee::{Call, Mover, Referee};
-use board_stones::SetupOp;
-use board_stones::Colour;
+use board_past::{MemoryFault, Past};
+use board_stones::{Colour, SetupOp};
 
 impl<P: Past> Referee<P> {
     /// Sets up stones (AB, AW, AE) or the player (PL; SGF FF[4]).

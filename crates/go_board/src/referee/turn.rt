@@ -10,13 +10,12 @@ ghost use Rattle.go_board.specs.State.{IsPlayOn, followed_by, turned};
 ghost use Rattle.go_board.specs.Reason.{reason_of};
 ghost use Rattle.go_board.specs.inner.Earlier.{MayOnlyRepeat};
 
-use board_past::MemoryFault;
 use crate::fault::TurnFault;
-use board_past::Past;
 use crate::reason::Reason;
 use crate::referee::{Call, Mover, Play, Referee};
-use board_stones::{Cell, Colour};
+use board_past::{MemoryFault, Past};
 use board_points::Point;
+use board_stones::{Cell, Colour};
 
 impl<P: Past> Referee<P> {
     /// Takes a player's turn (Tromp-Taylor). A stone's point must be on the board. After a refusal nothing is changed.

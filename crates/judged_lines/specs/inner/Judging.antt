@@ -17,7 +17,7 @@ use Rattle.judged_lines.specs.declared.verdict.Verdict.TheVariants.{NotGo, BadSi
 use Rattle.judged_lines.specs.declared.judging.step.Effect.{Effect}
 use Rattle.judged_lines.specs.declared.judging.step.Effect.TheVariants.{Nothing, Stones as stones_set}
 use Rattle.judged_lines.specs.declared.judging.step.LegalStep.{LegalStep}
-use Rattle.judged_lines.specs.Judgement.{Judgement, unjudged, judged, after, IsStepOf}
+use Rattle.judged_lines.specs.Judgement.{Judgement, unjudged, judged, IsStepOf}
 
 -- a referee's states after undoing until at most `depth` states are left before the present one
 abbrev pub back_from : State → List State → ℕ → States

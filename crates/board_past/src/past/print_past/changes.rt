@@ -9,11 +9,10 @@ ghost use Rattle.board_past.specs.inner.Changes.{after_changes, step_back, AddsR
 ghost use Rattle.board_stones.specs.Move.{IsMove};
 ghost use Rattle.board_past.specs.inner.Print.{print_of};
 
-use board_stones::Board;
 use crate::past::print_past::print::{columns_in, print_of, print_without};
-use board_stones::{Cell, Colour};
 use board_points::columns::{all_columns, has_column, without_column};
 use board_points::{MAX_ROWS, Point};
+use board_stones::{Board, Cell, Colour};
 
 /// One step in this many keeps all rows of the colouring before it. So an older colouring
 /// can be worked out from the next such step, or else from the newest colouring.

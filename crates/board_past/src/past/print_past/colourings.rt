@@ -10,16 +10,15 @@ ghost use Rattle.board_past.specs.inner.Print.{prints_of};
 ghost use Rattle.board_stones.specs.Move.{IsEmptyOnSettled, IsMove};
 ghost use Rattle.board_past.specs.inner.Key.{start_of, since};
 
-use board_stones::Board;
 use crate::fault::MemoryFault;
 use crate::past::print_past::changes::{
     Change, FULL, Known, MOST, Older, is_full, keep_played, keep_rows, step_back,
     step_back_with_print, take_back,
 };
 use crate::past::print_past::print::{has_point, print_of};
-use board_stones::{Cell, Colour};
 use board_points::rows::rows_in_use;
 use board_points::{MAX_ROWS, Point};
+use board_stones::{Board, Cell, Colour};
 use std::alloc::Global;
 use std::marker::Model;
 

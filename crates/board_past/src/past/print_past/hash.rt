@@ -9,9 +9,8 @@ ghost use Rattle.std.specs.Int.{w64, from_be_bytes};
 ghost use Rattle.sha2.specs.Hashers.{Holds512};
 ghost use Rattle.board_past.specs.inner.Hash.{columns_bytes, hash_of};
 
-use board_stones::Board;
-use board_stones::Colour;
 use board_points::MAX_SIDE;
+use board_stones::{Board, Colour};
 use sha2::{Digest, Sha512};
 
 /// The hash of a board.

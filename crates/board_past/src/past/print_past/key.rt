@@ -5,10 +5,9 @@
 ghost use Rattle.std.specs.Prelude.{◌≡◌};
 ghost use Rattle.board_past.specs.inner.Key.{key_bits, bits_of};
 
-use board_stones::Board;
-use board_stones::Colour;
 use board_points::MAX_ROWS;
 use board_points::columns::has_column;
+use board_stones::{Board, Colour};
 use key_trie::Key;
 
 /// The bits of a word.

@@ -17,12 +17,11 @@ ghost use Rattle.board_stones.specs.Move.{IsMove};
 ghost use Rattle.board_past.specs.inner.Print.{number_within, print_of, word_number};
 ghost use Rattle.board_points.specs.Rows.{has_bit, is_set};
 
-use board_stones::Board;
 use crate::past::print_past::bytes::byte_number;
 use crate::past::print_past::powers::{power, small_power};
-use board_stones::{Cell, Colour};
 use board_points::columns::{has_column, without_column};
 use board_points::{MAX_SIDE, Point};
+use board_stones::{Board, Cell, Colour};
 
 /// The print of a board.
 pub(crate) fn print_of(board: &Board) -> u64

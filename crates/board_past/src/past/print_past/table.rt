@@ -35,13 +35,13 @@ ghost use Rattle.key_trie.specs.Key.{Agree};
 ghost use Rattle.key_trie.specs.Trie.{item_count, nodes_of, capacity_of};
 ghost use Rattle.std.specs.Vec.{vec_capacity};
 
-use board_stones::Board;
 use crate::fault::MemoryFault;
 use crate::past::print_past::colourings::Colourings;
 use crate::past::print_past::hash::hash_of;
 use crate::past::print_past::hashes::Hashes;
 use crate::past::print_past::key::{ColouringKey, FRONT, HEAD, WIDTH, WORD};
 use board_points::columns::has_column;
+use board_stones::Board;
 use key_trie::{Key, Slot, Trie, first_difference};
 use std::alloc::Global;
 
