@@ -20,7 +20,7 @@
 //! [`StepKeeper`] the step of each legal node. The forms of `sgf_lines` do so.
 //!
 //! What only saves work stands in two functions: `Contents::of_lone` and `Contents::of_front` (`judging/contents`) return what
-//! `SequenceNodes::next` of `sgf_tree` recognized at a glance.
+//! `SequenceNodes::next` of `sgf_outline` recognized at a glance.
 //!
 //! | Module | What it has |
 //! |---|---|

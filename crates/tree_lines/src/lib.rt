@@ -10,7 +10,7 @@
 //! shows the line by its sequences and their nodes. The sequence after the last one of a line is the first that only the next line has, and
 //! the sequence that it goes on from is the last that both have.
 //!
-//! It needs only an outline (`Outline` of `sgf_tree`). So does a [`Cursor`], which shows each line as a [`LineRef`], with its path.
+//! It needs only an outline (`Outline` of `sgf_outline`). So does a [`Cursor`], which shows each line as a [`LineRef`], with its path.
 //!
 //! ```text
 //! let mut cursor = SequenceCursor::new(alloc, &outline);
