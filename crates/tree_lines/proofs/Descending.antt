@@ -1,6 +1,6 @@
 -- From a leaf's path to that of the next leaf: back to the parent of the node after it, and down from there.
 use Rattle.std.proofs.lemmas.Grind.{common_steps}
-use Rattle.std.proofs.Common.{◌≡◌, ℕ, zero, suc, ◌+◌, ◌-◌, ◌<◌, ◌≤◌, List, [], ◌∷◌, ◌++◌, length, take, slice_get, Option, Some, None, inl, inr, refl, sym, ap, ◌∙◌, arith, length-append}
+use Rattle.std.proofs.Common.{◌≡◌, ℕ, zero, suc, ◌+◌, ◌-◌, ◌<◌, ◌≤◌, List, [], ◌∷◌, ◌++◌, length, take, slice_get, Option, Some, None, inl, inr, refl, sym, ap, ◌∙◌, arith, length-append, rules}
 use Rattle.std.proofs.lemmas.Bool.{cases_lt}
 use Rattle.std.proofs.Math.Seq.{take-append_seam}
 use Rattle.std.proofs.lemmas.Option.{slice_get_within}
@@ -15,7 +15,7 @@ use Rattle.tree_lines.specs.inner.PathTo.{IsPathTo, step, IsNextLeaf, IsCutBack}
 use Rattle.tree_lines.specs.Following.{lines_before, first_after, Continues, numbers_before, path_before}
 use Rattle.tree_lines.specs.inner.Standing.{IsAfterLeaf}
 use Rattle.tree_lines.proofs.Lists.{get_left}
-use Rattle.tree_lines.proofs.Visits.{none_above, last-way, way_rises, rises_parts, GoesOn, goes_on_there, ends_at, after_way}
+use Rattle.tree_lines.proofs.Visits.{none_above, way_rises, rises_parts, GoesOn, goes_on_there, after_way}
 use Rattle.tree_lines.proofs.CursorStates.{before_none, next_line, given_line, before}
 use Rattle.tree_lines.proofs.Seeking.{stands_after}
 
@@ -80,17 +80,13 @@ module _ (c : Games) (next : ℕ) (path : List ℕ) (stands : IsAfterLeaf c next
     way_made =
         let n = next_way in
         let g = n.2 in
-        let count : leaf + 1 - next ≡ suc g.more = omega (arith, ends_at g, last-way n.1) in
         grind (arith, common_steps, same_cut, take-append_seam)
 
     pub stands_next : (new : List ℕ) → new ≡ take r path ++ range_with_len next (leaf + 1 - next) → IsAfterLeaf c (leaf + 1) new
     stands_next new e = stands_after c leaf new h.within h.is_leaf (rw e way_made)
 
     pub continues_made : (new : List ℕ) → new ≡ take r path ++ range_with_len next (leaf + 1 - next) → Continues path r new
-    continues_made new e =
-        let from : next ≤ leaf = h.from_there in
-        let count : leaf + 1 - next ≡ leaf - next + 1 = omega arith in
-        record { kept_within = kept_within; more = leaf - next; new_is = rw (is_last.first_is, ← count) e }
+    continues_made new e = search (rules, kept_within, is_last)
 
 -- the next line shares a front with the line before the position
 pub shares : (c : Games) (next : ℕ) (path : List ℕ) (stands : IsAfterLeaf c next path) (at : CursorState) (leaf r : ℕ) (new : List ℕ) → before c next ≡ at → Continues path r new

@@ -1,6 +1,6 @@
 -- The paths of a collection name the nodes of its lines, and begin in their games.
 use Rattle.std.proofs.lemmas.Grind.{common_steps}
-use Rattle.std.proofs.Common.{◌≡◌, ℕ, suc, ◌+◌, ◌<◌, List, [], ◌∷◌, ◌++◌, length, map, slice_get, Option, Some, None, refl, sym, ap, ◌∙◌, arith, zero, false, add-zero, ◌-◌, ◌≤◌, get_or}
+use Rattle.std.proofs.Common.{◌≡◌, ℕ, suc, ◌+◌, ◌<◌, List, [], ◌∷◌, ◌++◌, length, map, slice_get, Option, Some, None, refl, sym, ap, ◌∙◌, arith, zero, false, add-zero, ◌-◌, ◌≤◌, get_or, rules}
 use Rattle.std.specs.List.{AllZip}
 use Rattle.std.proofs.lemmas.List.{map-append}
 use mathlib.Core.List.{map-map}
@@ -144,10 +144,7 @@ begin_in from at (game first more below after) =
     let others = lines_from (from + 1) (numbered (next + node_count below) after) in
     let less : at - at ≡ 0 = omega arith in
     let here : IsOfGame from at g from at = (omega arith, rw (less, lt-ltb 0 (1 + length more + node_count below) (omega arith)) refl) in
-    rw (map-append path_of (lines_of_game from (through (own ∷ numbered_nodes (at + 1) more) ks)) others)
-    (each_append (BeginsIn from at g) (map path_of (lines_of_game from (through (own ∷ numbered_nodes (at + 1) more) ks))) (map path_of others)
-    (begins_game from at g own (numbered_nodes (at + 1) more) ks here)
-    grind (arith, common_steps, each_weaker, in_later, (begin_in (from + 1) (next + node_count below) after)))
+    search (rules, map-append, each_append, begins_game, each_weaker, in_later, (begin_in (from + 1) (next + node_count below) after))
 
 pub game_of_root : (c : Games) → Each (λ path. (d : ℕ) → game_of c (get_or path.numbers 0 d) ≡ path.game_number) (paths c)
 game_of_root c = grind (arith, common_steps, each_weaker, begin_in)

@@ -1,6 +1,6 @@
 -- The loops that climb from a sequence to the root of its game.
 use Rattle.std.proofs.lemmas.Grind.{common_steps, drop-set_at}
-use Rattle.std.proofs.Common.{◌≡◌, ℕ, ◌+◌, ◌-◌, ◌<◌, ◌≤◌, List, [], ◌∷◌, ◌++◌, length, set, drop, Option, Some, None, refl, ap, subst, ◌∙◌, arith, append-nil, append_assoc, length-append, length-set}
+use Rattle.std.proofs.Common.{◌≡◌, ℕ, ◌+◌, ◌-◌, ◌<◌, ◌≤◌, List, [], ◌∷◌, ◌++◌, length, set, drop, Option, Some, None, refl, ap, ◌∙◌, arith, append-nil, append_assoc, length-append, length-set, rules}
 use Rattle.std.proofs.Math.Seq.{drop-length}
 use Rattle.sgf_outline.specs.Tree.{Games, node_count}
 use Rattle.sgf_outline.specs.FileOrder.{sequence_starts, sequence_numbers}
@@ -89,47 +89,16 @@ module _ (c : Games) where
   some_above (step {above = above} lt is up e) = (above, is)
 
   pub room_for : (last k room : ℕ) (path : List ℕ) (current : Option ℕ) → IsFilled last current room path → current ≡ Some k → IsRoomFor room k
-  room_for last k room path current h e =
-      let way = rw e at h.way in
-      let f = front_of c way (some_above way).1 in
-      record { there = h.there k e; some_room = omega (arith, h.room_is, ap length f.2, length-append f.0 (part_after c f.0 k ∷ [])) }
+  room_for last k room path current h e = search (rules, front_of, some_above, length-append)
 
   pub fill_begins : (last : ℕ) (line : Front) (path : List ℕ) → last < length (sequence_starts c) → MeasuresTo c last line → line.sequences ≡ length path
       → IsFilled last (Some last) line.sequences path
-  fill_begins last line path lt m room =
-      let none : drop line.sequences path ≡ [] = ap (λ n. drop n path) room ∙ drop-length path in
-      record {
-        there = λ k e. let same : last ≡ k = cc in rw same at lt;
-        front = m.0;
-        way = m.1;
-        room_is = m.2;
-        within = omega (arith, room);
-        filled = rw (none, append-nil m.0) m.1;
-      }
+  fill_begins last line path lt m room = search (rules, drop-length, append-nil)
 
   pub fills : (last k room : ℕ) (path : List ℕ) (current above : Option ℕ) → IsFilled last current room path → current ≡ Some k → IsAbove c k above
       → IsFilled last above (room - 1) (set path (room - 1) k)
   fills last k room path current above h e is =
-      let lt = h.there k e in
-      let f = front_of c (rw e at h.way) is in
-      let front = f.0 in
-      let one : room ≡ length front + 1 = omega (arith, h.room_is, ap length f.2, length-append front (part_after c front k ∷ [])) in
-      let back : room - 1 ≡ length front = omega (arith, one) in
-      let rest = drop room path in
-      let written : drop (room - 1) (set path (room - 1) k) ≡ k ∷ rest = grind (arith, common_steps, drop-set_at) in
-      let nodes : length (part_numbers c h.front) ≡ length (part_numbers c front) + sequence_length c k = ap (λ ps. length (part_numbers c ps)) f.2 ∙ nodes_more front k in
-      let same : h.front ++ parts_of c (length (part_numbers c h.front)) rest ≡ front ++ parts_of c (length (part_numbers c front)) (k ∷ rest) =
-      ap (λ n. h.front ++ parts_of c n rest) nodes
-      ∙ ap (λ ps. ps ++ parts_of c (length (part_numbers c front) + sequence_length c k) rest) f.2
-      ∙ append_assoc front (part_after c front k ∷ []) (parts_of c (length (part_numbers c front) + sequence_length c k) rest) in
-      record {
-        there = above_there k above lt is;
-        front = front;
-        way = f.1;
-        room_is = back;
-        within = omega (arith, h.within, length-set path (room - 1) k);
-        filled = rw written (subst (ArePartsTo c (Some last)) same h.filled);
-      }
+      search (rules, front_of, length-append, drop-set_at, nodes_more, append_assoc, above_there, length-set)
 
   pub filled : (last : ℕ) (line : Front) (room : ℕ) (path : List ℕ) (current : Option ℕ) → MeasuresTo c last line → IsFilled last current room path → current ≡ None → IsWayTo c last path line.nodes
   filled last line room path current m h e =

@@ -1,6 +1,6 @@
 -- What a cursor by sequences shows of the line before it, and where it stands after the next leaf.
 use Rattle.std.proofs.lemmas.Grind.{common_steps}
-use Rattle.std.proofs.Common.{◌≡◌, ◌≢◌, ℕ, suc, ◌+◌, ◌-◌, ◌<◌, ◌≤◌, inl, inr, List, [], ◌∷◌, ◌++◌, length, get_or, take, slice_get, Option, Some, None, option_map, refl, sym, ap, ◌∙◌, arith, add-one, length-append}
+use Rattle.std.proofs.Common.{◌≡◌, ◌≢◌, ℕ, suc, ◌+◌, ◌-◌, ◌<◌, ◌≤◌, inl, inr, List, [], ◌∷◌, ◌++◌, length, get_or, take, slice_get, Option, Some, None, option_map, refl, sym, ap, ◌∙◌, arith, add-one, length-append, rules}
 use Rattle.std.specs.List.{range_with_len}
 use Rattle.std.proofs.lemmas.Bool.{cases_lt}
 use Rattle.std.proofs.lemmas.List.{length-map, take-map, length-take-le}
@@ -89,9 +89,7 @@ module _ (c : Games) (next : ℕ) (path : List ℕ) (h : IsAfterSequences c next
 
   -- a line has a part
   pub some_part : 0 < state.at.index → 0 < length state.ends
-  some_part lt =
-      let shown = shows_line c (first_of c next) state.at at_is (part_numbers c parts) h.stands lt in
-      some_ends state.ends (length (nodes_before state.at)) divided (omega (arith, nodes_long, shown.some_node))
+  some_part lt = search (rules, shows_line, some_ends, divided, nodes_long)
 
   pub part_there : (i k : ℕ) → i < length state.ends → k ≡ get_or path i k → slice_get path i ≡ Some k
   part_there i k lt e = slice_get-get_or path i k (omega (arith, as_many_parts)) ∙ ap Some (sym e)
@@ -151,9 +149,7 @@ module _ (c : Games) (next : ℕ) (path : List ℕ) (h : IsAfterSequences c next
     last_there = omega (arith, one_before, h.within)
 
     pub place_is : (place : ℕ) → place_at c (sequence_end c (next - 1) - 1) ≡ Some place → option_map place_of (line_before state.at) ≡ Some place
-    place_is place e =
-        let back : next - 1 + 1 ≡ next = omega (arith, one_before) in
-        ap (λ o. option_map place_of o) line_found ∙ shown.place_is place (rw back at e)
+    place_is place e = search (rules, one_before, line_found, shown)
 
   -- ---- The next line.
 
@@ -261,10 +257,7 @@ module _ (c : Games) (next : ℕ) (path : List ℕ) (h : IsAfterSequences c next
           rw made_is (rw end at (goes_down c path front.sequences next (leaf + 1 - next) h.are front_kept (omega (arith, end, n.within))))
 
       pub kept_further : (first end : ℕ) → first ≡ sequence_start c next → end ≡ sequence_end c leaf → IsCursorKept c (leaf + 1) made (front.nodes + (end - first))
-      kept_further first end first_is end_is = record {
-        after = stands_further (parts_of c 0 made) goes_on;
-        count = nodes_made (parts_of c 0 made) goes_on first end first_is end_is;
-      }
+      kept_further first end first_is end_is = search (rules, stands_further, goes_on, nodes_made)
 
   -- ---- The line that ends in a leaf.
 
@@ -289,9 +282,7 @@ module _ (c : Games) (next : ℕ) (path : List ℕ) (h : IsAfterSequences c next
     lt = rw (← games_are) at there
 
     stands_sought : IsAfterSequences c (sequence + 1) new
-    stands_sought =
-        let some = never_empty c sequence lt in
-        grind (arith, common_steps, lt, stands_after c (sequence_end c sequence - 1) (part_numbers c new) (omega (arith, first_within c (sequence + 1))) (rw (← games_are) at is_leaf) (parts_path c way), first_within c (sequence + 1), games_are, parts_path c way, parts_are c way)
+    stands_sought = search (rules, never_empty, lt, stands_after, first_within, games_are, parts_path, parts_are)
 
   pub kept_sought : (sequence nodes : ℕ) (new : List ℕ) → sequence < length (sequence_starts state.at.games) → IsLeaf state.at.games (sequence_end state.at.games sequence - 1)
       → IsWayTo c sequence new nodes → IsCursorKept c (sequence + 1) new nodes

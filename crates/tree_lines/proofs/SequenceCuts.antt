@@ -115,7 +115,6 @@ module _ (c : Games) where
       let e = first_of c end in
       let up = first_no_less c first end from (omega arith) in
       let there = start_is c end lt in
-      let some = never_empty c end lt in
       let own : sequence_numbers c end ≡ range_with_len e (sequence_length c end) = ap (λ n. range_with_len n (sequence_length c end)) there in
       let reach : f + (e - f) ≡ e = omega arith in
       let sum : (e - f) + sequence_length c end ≡ first_of c (end + 1) - f = omega (arith, length_is c end lt) in

@@ -1,6 +1,6 @@
 -- Parts of a line: the numbers of their nodes, where they end, and the way to a sequence by the sequences above it.
 use Rattle.std.proofs.lemmas.Grind.{common_steps, flat_map-append}
-use Rattle.std.proofs.Common.{◌≡◌, ℕ, zero, suc, ◌+◌, ◌-◌, ◌<◌, ◌≤◌, List, [], ◌∷◌, ◌++◌, length, get_or, take, slice_get, Option, Some, None, option_map, refl, ap, ◌∙◌, arith, append-nil, length-append}
+use Rattle.std.proofs.Common.{◌≡◌, ℕ, zero, suc, ◌+◌, ◌-◌, ◌<◌, ◌≤◌, List, [], ◌∷◌, ◌++◌, length, get_or, take, slice_get, Option, Some, None, option_map, refl, ap, ◌∙◌, arith, append-nil, length-append, rules}
 use Rattle.std.specs.List.{flat_map, range_with_len}
 use Rattle.std.proofs.lemmas.List.FromFn.{length-range_with_len}
 use Rattle.std.proofs.Math.Seq.{take-append_seam, drop-append_seam}
@@ -71,12 +71,7 @@ module _ (c : Games) where
   pub parts_of-append : (start : ℕ) (xs ys : List ℕ)
       → parts_of c start (xs ++ ys) ≡ parts_of c start xs ++ parts_of c (start + length (part_numbers c (parts_of c start xs))) ys
   parts_of-append start [] ys = let same : start + 0 ≡ start = omega arith in rw same refl
-  parts_of-append start (k ∷ ks) ys =
-      let rest = parts_of c (start + sequence_length c k) ks in
-      let reach : start + sequence_length c k + length (part_numbers c rest) ≡ start + length (sequence_numbers c k ++ part_numbers c rest) =
-      omega (arith, length-append (sequence_numbers c k) (part_numbers c rest), sequence_long k) in
-      ap (λ ps. record { sequence = k; end = start + sequence_length c k } ∷ ps)
-      (parts_of-append (start + sequence_length c k) ks ys ∙ ap (λ n. rest ++ parts_of c n ys) reach)
+  parts_of-append start (k ∷ ks) ys = search (rules, length-append, sequence_long, (parts_of-append (start + sequence_length c k) ks ys))
 
   -- ---- The nodes of parts.
 
@@ -110,10 +105,7 @@ module _ (c : Games) where
 
   pub part_nodes : (start : ℕ) (parts : List Part) (i : ℕ) (part : Part) → AreParts c start parts → slice_get parts i ≡ Some part
       → slice_get (parts_from start (part_ends parts) (nodes_at c (part_numbers c parts))) i ≡ Some (nodes_at c (sequence_numbers c part.sequence))
-  part_nodes start parts i part are e =
-      ap (λ ns. slice_get (parts_from start (part_ends parts) ns) i) (all_nodes parts)
-      ∙ part_elements (λ (p : Part). nodes_at c (sequence_numbers c p.sequence)) start parts i part
-      (λ p lt. nodes_long (sequence_start c p.sequence) (sequence_length c p.sequence) (omega (arith, start_is c p.sequence lt, length_is c p.sequence lt, first_within c (p.sequence + 1)))) are e
+  part_nodes start parts i part are e = search (rules, all_nodes, part_elements, nodes_long, start_is, length_is, first_within)
 
   -- ---- The way through a sequence.
 
@@ -121,7 +113,6 @@ module _ (c : Games) where
       → IsPathTo c (Some (sequence_end c k - 1)) (above ++ sequence_numbers c k)
   way_down k parent above lt e way =
       let some = never_empty c k lt in
-      let last : sequence_start c k + (sequence_length c k - 1) ≡ sequence_end c k - 1 = omega arith in
       let count : suc (sequence_length c k - 1) ≡ sequence_length c k = omega arith in
       let way_is = way_along c (sequence_length c k - 1) (sequence_start c k) parent above e way (λ n from to. sequence-further c k lt n from (omega arith)) in
       grind (arith, common_steps)
@@ -151,7 +142,5 @@ module _ (c : Games) where
   pub one_back : (path : List ℕ) (i k : ℕ) → AreParts c 0 (parts_of c 0 path) → slice_get path i ≡ Some k → (k < length (sequence_starts c))
       × (length (part_numbers c (take (i + 1) (parts_of c 0 path))) ≡ length (part_numbers c (take i (parts_of c 0 path))) + sequence_length c k)
   one_back path i k are e =
-      let p = part_at 0 path i k e in (
-        rw p.2 at (part_within 0 (parts_of c 0 path) i p.0 are p.1),
-        rw p.2 at (longer_front (parts_of c 0 path) i p.0 p.1),
-      )
+      let p = part_at 0 path i k e in
+      search (rules, part_at, part_within, longer_front)

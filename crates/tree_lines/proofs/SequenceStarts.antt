@@ -1,6 +1,6 @@
 -- Where the sequences of a collection begin and end among its nodes, and which nodes are leaves.
 use Rattle.std.proofs.lemmas.Grind.{common_steps}
-use Rattle.std.proofs.Common.{◌≡◌, ℕ, zero, suc, ◌+◌, ◌-◌, ◌<◌, ◌≤◌, inl, inr, List, length, get_or, slice_get, Some, ap, ◌∙◌, arith}
+use Rattle.std.proofs.Common.{◌≡◌, ℕ, zero, suc, ◌+◌, ◌-◌, ◌<◌, ◌≤◌, inl, inr, List, length, get_or, slice_get, Some, ap, ◌∙◌, arith, rules}
 use Rattle.std.proofs.lemmas.Bool.{cases_lt, cases_eq}
 use Rattle.std.proofs.lemmas.List.{get_or_past}
 use Rattle.std.proofs.lemmas.Option.{slice_get-get_or, get_or_from_slice_get}
@@ -54,10 +54,7 @@ module _ (c : Games) where
   ]
 
   pub first_no_less : (j k : ℕ) → j ≤ k → j < length starts → first_of c j ≤ first_of c k
-  first_no_less j k le there = elim (cases_eq j k) [
-    | inl same ↦ rw same (omega arith)
-    | inr other ↦ omega (arith, first_rises j k (omega arith) there)
-  ]
+  first_no_less j k le there = search (rules, cases_eq, first_rises)
 
   pub first_is_zero : first_of c 0 ≡ 0
   first_is_zero = ap (λ ns. get_or ns 0 (node_count c)) (starts-are c) ∙ first-start 0 (node_count c) c (omega arith)

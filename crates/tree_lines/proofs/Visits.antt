@@ -1,6 +1,6 @@
 -- The nodes of a collection are visited in file order. Each path leads to a leaf, and keeps a front of the path before it.
 use Rattle.std.proofs.lemmas.Grind.{common_steps}
-use Rattle.std.proofs.Common.{◌≡◌, ℕ, ◌+◌, ◌<◌, ◌≤◌, List, [], ◌∷◌, ◌++◌, length, Option, Some, None, refl, sym, ap, ◌∙◌, subst, arith, length-append, suc, slice_get, option_map, true, add-zero, append_assoc, append-nil, ◌≢◌, zero, ◌-◌, map, inl, inr, All, add-one}
+use Rattle.std.proofs.Common.{◌≡◌, ℕ, ◌+◌, ◌<◌, ◌≤◌, List, [], ◌∷◌, ◌++◌, length, Option, Some, None, refl, sym, ap, ◌∙◌, arith, length-append, suc, slice_get, option_map, true, add-zero, append_assoc, append-nil, ◌≢◌, zero, ◌-◌, map, inl, inr, All, add-one, rules}
 use Rattle.sgf_outline.specs.Tree.{Games, node_count, Node, game, no_games}
 use Rattle.sgf_outline.specs.FileOrder.{parent_at, OrderedNode, further_nodes, nodes_from, ordered_nodes, IsLeaf}
 use Rattle.sgf_outline.proofs.OrderedNodes.{parent_at-lt, parent_at-within, length-ordered_nodes, length-further_nodes, length-nodes_from, parent_in-further, next-child}
@@ -63,9 +63,7 @@ rises_parts low (n ∷ ns) high h = let r = rises_parts (n + 1) ns high h.1 in (
 -- the nodes of a way rise
 pub way_rises : {c : Games} {i : ℕ} {way : List ℕ} → IsPathTo c (Some i) way → Rises 0 way (i + 1)
 way_rises {c = c} {i = i} (step {parent = None} {above = above} e up is) = grind (arith, common_steps, none_above)
-way_rises {c = c} {i = i} (step {parent = Some n} {above = above} e up is) =
-    let front = rises_high 0 above (n + 1) i (omega (arith, parent_at-lt c i n e)) (way_rises up) in
-    subst (λ l. Rises 0 l (i + 1)) (sym is) (rises-append 0 i (i + 1) above (i ∷ []) front (omega arith, omega arith))
+way_rises {c = c} {i = i} (step {parent = Some n} {above = above} e up is) = search (rules, rises_high, parent_at-lt, rises-append, (way_rises up))
 
 -- xs stand in `all` from the index `at` on
 pub record StandsAt (all : List OrderedNode) (at : ℕ) (xs : List OrderedNode) : Type 0 where
@@ -154,8 +152,7 @@ way_along c zero start parent above e up chain = rw add-zero (step e up refl)
 way_along c (suc m) start parent above e up chain =
     let sum : start + 1 + m ≡ start + suc m = omega arith in
     let less : start + 1 - 1 ≡ start = omega arith in
-    rw (← sum, ← append_assoc above (start ∷ []) (range_with_len (start + 1) (suc m)))
-    (way_along c m (start + 1) (Some start) (above ++ start ∷ []) (rw less at (chain (start + 1) (omega arith) (omega arith))) (step e up refl) (λ n lt le. chain n (omega arith) (omega arith)))
+    search (rules, append_assoc, (way_along c m (start + 1) (Some start) (above ++ start ∷ []) (rw less at (chain (start + 1) (omega arith) (omega arith))) (step e up refl) (λ n lt le. chain n (omega arith) (omega arith))))
 
 -- The nodes from `from` on and before `at` go on from a front of the path `old`, each the parent of the next one, so that they end the path `above` to the parent
 -- of the node `at`.

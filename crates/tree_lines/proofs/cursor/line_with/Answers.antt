@@ -1,6 +1,5 @@
 -- The path names a node, since the line has a sequence.
-use Rattle.std.proofs.Common.{◌<◌, length, ap, arith}
-use Rattle.tree_lines.specs.Following.{nodes_before}
+use Rattle.std.proofs.Common.{◌<◌, length, rules}
 use Rattle.tree_lines.proofs.CursorStates.{line_is}
 use Rattle.tree_lines.proofs.LineNodes.{as_long}
 use Rattle.tree_lines.proofs.SequenceCursors.{some_end}
@@ -8,10 +7,7 @@ use Rattle.tree_lines.proofs.cursor.line_with.Goals as goal
 use Rattle.tree_lines.proofs.cursor.line_with.Goals.{After-sequences-sequences}
 
 some_node : (c : After-sequences-sequences) → 0 < length c.args.path.now
-some_node c =
-    let at = c.args.sequences.now.at in
-    let some = some_end c.args.sequences.now.ends (length (nodes_before at)) c.sequences-sequences.ensures.divided (omega (arith, c.sequences-sequences.ensures.some c.requires.some, c.sequences-sequences.ensures.count)) in
-    omega (arith, some, as_long at, ap length c.requires.path)
+some_node c = search (rules, some_end, as_long)
 
 pub invariant_of-result : goal.invariant_of-result
 invariant_of-result c = record { some_node = some_node (goal.at.invariant_of-result c).After-sequences-sequences }

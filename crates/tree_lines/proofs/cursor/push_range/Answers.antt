@@ -12,7 +12,6 @@ unwrap-requires c = grind (arith, common_steps, length-append, length-range_with
 pub loop-number-preserved : goal.loop-number-preserved
 loop-number-preserved c =
     let done = c.loop-number.number - c.args.first in
-    let from = c.loop-number.auto.number in
     let here : c.args.first + done ≡ c.loop-number.number = omega arith in
     let count : done + 1 ≡ c.loop-number.number + 1 - c.args.first = omega arith in
     let pushed : c.push.new.self.items ≡ c.loop-number.path.items ++ c.loop-number.number ∷ [] = rw c.unwrap.ensures at c.push.ensures.items in

@@ -1,5 +1,5 @@
 -- Each sequence follows those before it, until all nodes are there.
-use Rattle.std.proofs.Common.{◌≡◌, ℕ, ◌+◌, ◌-◌, ◌++◌, List, length, take, drop, sym, ap, ◌∙◌, append_assoc, append-nil, length-append, arith}
+use Rattle.std.proofs.Common.{◌≡◌, ℕ, ◌+◌, ◌-◌, ◌++◌, List, length, drop, sym, ap, ◌∙◌, append_assoc, append-nil, length-append, arith, rules}
 use Rattle.std.specs.List.{range_with_len}
 use Rattle.std.proofs.lemmas.List.{take-append-drop}
 use Rattle.std.proofs.lemmas.List.FromFn.{length-range_with_len}
@@ -19,46 +19,16 @@ module _ (c : After-numbers-first) where
   rest = drop (nodes_in c.args.sequences.now.ends (c.loop-index.index + 1)) (path_before c.args.sequences.now.at)
 
   next : drop (nodes_in c.args.sequences.now.ends c.loop-index.index) (path_before c.args.sequences.now.at) ≡ next_range c ++ rest
-  next =
-      next_part c.args.sequences.now.ends (path_before c.args.sequences.now.at) (length (nodes_before c.args.sequences.now.at)) c.loop-index.index (next_range c) c.sequences-count.ensures.divided
-      c.numbers-first.ensures.path
+  next = search (rules, next_part)
 
 pub loop-index-init : goal.loop-index-init
-loop-index-init c =
-    let path = path_before c.args.sequences.now.at in
-    let n = c.args.front.nodes in
-    record {
-      up_to =
-          ap (λ ns. ns ++ drop (nodes_in c.args.sequences.now.ends c.args.front.sequences) path) (c.truncate.ensures.items ∙ c.requires.held)
-          ∙ ap (λ k. take n path ++ drop k path) (sym c.requires.count) ∙ take-append-drop n path;
-      room = omega (arith, c.requires.room, c.truncate.ensures.capacity);
-    }
+loop-index-init c = search (rules, take-append-drop)
 
 pub push_range-requires-clause-room : goal.push_range-requires-clause-room
-push_range-requires-clause-room c =
-    let at = (goal.at.push_range-requires-clause-room c).After-numbers-first in
-    let items = c.loop-index.path.items in
-    omega (
-      arith,
-      c.loop-index.path.ok.0,
-      c.loop-index.invariant.room,
-      as_long c.args.sequences.now.at,
-      ap length c.loop-index.invariant.up_to,
-      ap length (next at),
-      length-append items (drop (nodes_in c.args.sequences.now.ends c.loop-index.index) (path_before c.args.sequences.now.at)),
-      length-append (next_range at) (rest at),
-      length-range_with_len c.numbers-first.result.0 (c.numbers-first.result.1 - c.numbers-first.result.0),
-    )
+push_range-requires-clause-room c = search (rules, as_long, next, length-append, length-range_with_len)
 
 pub loop-index-preserved : goal.loop-index-preserved
-loop-index-preserved c =
-    let at = (goal.at.loop-index-preserved c).After-numbers-first in
-    let items = c.loop-index.path.items in
-    record {
-      up_to =
-          ap (λ ns. ns ++ rest at) c.push_range.ensures.appended ∙ append_assoc items (next_range at) (rest at) ∙ ap (λ ns. items ++ ns) (sym (next at)) ∙ c.loop-index.invariant.up_to;
-      room = omega (arith, c.loop-index.invariant.room, c.push_range.ensures.room);
-    }
+loop-index-preserved c = search (rules, append_assoc, next)
 
 pub returns : goal.returns
 returns c =

@@ -1,5 +1,6 @@
 -- One step up the way writes one sequence more.
-use Rattle.std.proofs.Common.{arith}
+use Rattle.std.proofs.lemmas.Grind.{common_steps}
+use Rattle.std.proofs.Common.{arith, rules}
 use Rattle.tree_lines.proofs.SequenceStarts.{fewer}
 use Rattle.tree_lines.proofs.SequenceClimbing.{room_for, fill_begins, fills, filled}
 use Rattle.tree_lines.proofs.sequence_cursor.fill_path.Goals as goal
@@ -14,14 +15,10 @@ overflow_sub-room c =
     omega (arith, at.some_room)
 
 pub overflow_cast-path : goal.overflow_cast-path
-overflow_cast-path c =
-    let at = room_for c.args.outline.now c.args.last c.in-Some.number c.loop-sequence.room c.loop-sequence.path c.loop-sequence.sequence c.loop-sequence.invariant c.in-Some.is in
-    omega (arith, at.there, fewer c.args.outline.now, c.requires.few)
+overflow_cast-path c = search (rules, room_for, fewer)
 
 pub bounds-path-room : goal.bounds-path-room
-bounds-path-room c =
-    let at = room_for c.args.outline.now c.args.last c.in-Some.number c.loop-sequence.room c.loop-sequence.path c.loop-sequence.sequence c.loop-sequence.invariant c.in-Some.is in
-    omega (arith, at.some_room, c.loop-sequence.invariant.within)
+bounds-path-room c = grind (arith, common_steps, room_for)
 
 pub sequence_outer-sequence-requires : goal.sequence_outer-sequence-requires
 sequence_outer-sequence-requires c =

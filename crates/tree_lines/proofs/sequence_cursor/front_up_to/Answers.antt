@@ -1,5 +1,5 @@
 -- One step back leaves one sequence out.
-use Rattle.std.proofs.Common.{◌≡◌, ◌≤◌, ◌<◌, ◌-◌, ◌+◌, ℕ, inl, inr, length, get_or, take, slice_get, Some, sym, ap, ◌∙◌, arith}
+use Rattle.std.proofs.Common.{◌≡◌, ◌≤◌, ◌<◌, ◌-◌, ◌+◌, ℕ, inl, inr, length, get_or, take, slice_get, Some, sym, ap, ◌∙◌, arith, rules}
 use Rattle.std.proofs.lemmas.Bool.{cases_eq}
 use Rattle.std.proofs.lemmas.Option.{slice_get-get_or, slice_get_within}
 use Rattle.std.proofs.Math.Seq.{take-length}
@@ -25,15 +25,7 @@ back c =
     rw one at (one_back c.args.outline.now path i (last c) c.requires.parts there)
 
 pub loop-kept-init : goal.loop-kept-init
-loop-kept-init c =
-    let games = c.args.outline.now in
-    let parts = parts_of games 0 c.args.path.now in
-    let long : length c.args.path.now ≡ length parts = sym (length-parts_of games 0 c.args.path.now) in
-    record {
-      within = omega arith;
-      count = c.requires.count ∙ ap (λ ps. length (part_numbers games ps)) (sym (take-length parts) ∙ ap (λ k. take k parts) (sym long));
-      others = λ i part low there. absurd (omega (arith, long, slice_get_within parts i part there));
-    }
+loop-kept-init c = search (rules, length-parts_of, take-length, slice_get_within)
 
 pub sequence_length-nodes-requires : goal.sequence_length-nodes-requires
 sequence_length-nodes-requires c = (back (goal.at.sequence_length-nodes-requires c).Then-path-kept).0

@@ -1,5 +1,5 @@
 -- The line has as many nodes as are kept.
-use Rattle.std.proofs.Common.{◌≡◌, length, sym, ap, ◌∙◌, arith}
+use Rattle.std.proofs.Common.{◌≡◌, length, ap, arith, rules}
 use Rattle.sgf_outline.specs.Tree.{node_count}
 use Rattle.tree_lines.specs.Following.{nodes_before}
 use Rattle.tree_lines.proofs.SequenceCursors.{nodes_long, few_nodes, games_are}
@@ -7,9 +7,7 @@ use Rattle.tree_lines.proofs.sequence_cursor.SequenceCursor.len.Goals as goal
 use Rattle.tree_lines.proofs.sequence_cursor.SequenceCursor.len.Goals.{After-nodes-nodes}
 
 nodes_are : (c : After-nodes-nodes) → c.self.inside.nodes ≡ length (nodes_before c.args.self.now.at)
-nodes_are c =
-    c.self.invariant.count
-    ∙ sym (nodes_long c.self.inside.outline.now c.self.inside.next c.self.inside.path.items c.self.invariant.after c.args.self.now c.self.view_is)
+nodes_are c = search (rules, nodes_long)
 
 pub returns-clause-nodes : goal.returns-clause-nodes
 returns-clause-nodes c = nodes_are (goal.at.returns-clause-nodes c).After-nodes-nodes
