@@ -1,5 +1,5 @@
 -- What the sgf form copies of a text, as a reader tells it.
-use Rattle.std.proofs.Common.{◌≡◌, ℕ, ◌<◌, ◌≤◌, List, [], ◌++◌, length, slice_range, sym, ap, ◌∙◌, arith, append_assoc, append-nil}
+use Rattle.std.proofs.Common.{◌≡◌, ℕ, ◌<◌, ◌≤◌, List, [], ◌++◌, length, slice_range, sym, ap, ◌∙◌, arith, append_assoc, append-nil, rules}
 use Rattle.sgf_outline.specs.Machine.{Stack}
 use Rattle.sgf_outline.specs.OwnNodes.{Coming, IsCopied, Copies}
 use Rattle.sgf_outline.specs.declared.layout.Segment.{Segment}
@@ -19,31 +19,12 @@ module _ (t : List ℕ) (first : ℕ) (before : Segment) (written : List ℕ) (f
   -- a part that goes on with the present segment
   pub goes-on : (keeps : List ℕ → Type 0) → IsCopied keeps t first before written → before.end ≡ from
       → IsCopied keeps t first (record { start = before.start; end = to }) (written ++ slice_range t from to)
-  goes-on keeps is same = record {
-    told = is.told;
-    kept = is.kept;
-    are =
-        ap (λ s. is.told ++ s) (sym (span-join t before.start from to (omega (arith, is.rises)) le))
-        ∙ sym (append_assoc is.told (slice_range t before.start from) (slice_range t from to))
-        ∙ ap (λ i. (is.told ++ slice_range t before.start i) ++ slice_range t from to) (sym same) ∙ ap (λ s. s ++ slice_range t from to) is.are;
-    alone = is.alone;
-    low = is.low;
-    rises = omega (arith, is.rises);
-    within = within;
-  }
+  goes-on keeps is same = search (rules, span-join, append_assoc, slice_range)
 
   -- a part that begins another one
   pub begins : (kept keeps : List ℕ → Type 0) → IsCopied kept t first before written → ((told : List ℕ) → kept told → keeps (told ++ slice_range t before.start before.end))
       → before.end < from → IsCopied keeps t first (record { start = from; end = to }) (written ++ slice_range t from to)
-  begins kept keeps is told lt = record {
-    told = is.told ++ slice_range t before.start before.end;
-    kept = told is.told is.kept;
-    are = ap (λ s. s ++ slice_range t from to) is.are;
-    alone = λ same. absurd (omega (arith, is.low, is.rises));
-    low = omega (arith, is.low, is.rises);
-    rises = le;
-    within = within;
-  }
+  begins kept keeps is told lt = search (rules, slice_range)
 
 -- two parts, one after another
 pub copies-then : (kept keeps told : Stack → Coming → Type 0) (t : List ℕ) (before between after : Segment) (part next : List ℕ)

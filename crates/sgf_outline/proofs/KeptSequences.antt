@@ -1,6 +1,6 @@
 -- What the table of sequences keeps: with one more sequence, and after a game that ends.
 use Rattle.std.proofs.lemmas.Grind.{common_steps}
-use Rattle.std.proofs.Common.{◌≡◌, ℕ, ◌+◌, ◌-◌, ◌/◌, ◌%◌, ◌<◌, ◌≤◌, Bool, true, false, cond, inl, inr, List, [], ◌∷◌, ◌++◌, length, get_or, drop, slice_get, slice_range, Option, Some, None, refl, sym, ap, subst, ◌∙◌, arith, length-append}
+use Rattle.std.proofs.Common.{◌≡◌, ℕ, ◌+◌, ◌-◌, ◌/◌, ◌%◌, ◌<◌, ◌≤◌, Bool, true, false, cond, inl, inr, List, [], ◌∷◌, ◌++◌, length, get_or, drop, slice_get, slice_range, Option, Some, None, refl, sym, ap, subst, ◌∙◌, arith, length-append, rules}
 use Rattle.std.proofs.Math.Dec.{eqb}
 use Rattle.std.proofs.Math.Seq.{drop-length}
 use Rattle.std.proofs.lemmas.Bool.{eqb-true}
@@ -54,9 +54,7 @@ packs-root written flag ordinal is low = grind (arith, common_steps, flag-even, 
 module _ (text : List ℕ) where
   -- what is kept stays right with more segments
   segments-grown : (segments more : List KeptSegment) (index : ℕ) (nodes : List Node) → HasSegments text segments index nodes → HasSegments text (segments ++ more) index nodes
-  segments-grown segments more index nodes whole =
-      let le : index ≤ length segments = omega (arith, whole-within text segments index (flat_map node_text nodes) whole) in
-      rw (drop-append-le index segments more le) (whole-grown text (drop index segments) more (flat_map node_text nodes) whole)
+  segments-grown segments more index nodes whole = search (rules, whole-within, drop-append-le, whole-grown)
 
   kept-grown : (segments more : List KeptSegment) (table : List Sequence) (sequences : List Listed) → AreKept text segments table sequences → AreKept text (segments ++ more) table sequences
   kept-grown segments more table sequences are = record {

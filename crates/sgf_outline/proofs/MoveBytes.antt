@@ -50,6 +50,4 @@ module _ (t : List ℕ) (at : ℕ) (room : at + 16 ≤ length t) (fits : (i : �
 
     -- the byte after them
     pub node-ended : EndsNode t (at + 12)
-    node-ended =
-        let byte : above (get_or t (at + 12) 0) 33 ≤ 31 = all-there 12 (at + 12) refl (omega arith) refl in
-        record { within = omega arith; above = omega (arith, byte, fits (at + 12)); below = omega (arith, byte, fits (at + 12)) }
+    node-ended = grind (arith, common_steps, above, all-there)

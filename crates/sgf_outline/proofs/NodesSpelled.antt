@@ -1,6 +1,6 @@
 -- Each node's properties are spelled in the text from its `;` on.
 use Rattle.std.proofs.lemmas.Grind.{common_steps}
-use Rattle.std.proofs.Common.{◌≡◌, ◌≢◌, ℕ, ◌+◌, ◌-◌, true, false, List, ◌∷◌, ◌++◌, length, drop, All, Option, Some, None, refl, sym, ap, subst, ◌∙◌, arith}
+use Rattle.std.proofs.Common.{◌≡◌, ◌≢◌, ℕ, ◌+◌, ◌-◌, true, false, List, ◌∷◌, ◌++◌, length, drop, All, Option, Some, None, refl, sym, ap, subst, ◌∙◌, arith, rules}
 use Rattle.std.proofs.lemmas.List.Elements.{All-nil, All-cons, All-append}
 use Rattle.sgf_outline.specs.Tree.{Node, Games, node_count}
 use Rattle.sgf_outline.specs.FileOrder.{OrderedNode, further_nodes, nodes_from, ordered_nodes}
@@ -47,8 +47,7 @@ module _ (t : List ℕ) where
   further-spelled : {ns : List Node} {below : Games} {s r v x : List ℕ} (last : ℕ) → AreNodes (length t) ns s r → AreGames (length t) below r v → WhiteSpace v (41 ∷ x) → IsEnd t s → All Spelled (further_nodes last ns)
   further-spelled last no_node below w end = All-nil Spelled
   further-spelled last (nodes {n} {ns} n_is ns_are) below w end =
-      All-cons Spelled (record { node = n; parent = Some last; opens = false }) (further_nodes (last + 1) ns) (node-spelled n_is end (ends-nodes ns_are below w))
-      (further-spelled (last + 1) ns_are below w (end-IsNode n_is end))
+      search (rules, All-cons, node-spelled, ends-nodes, (further-spelled (last + 1) ns_are below w (end-IsNode n_is end)))
 
   games-spelled : {g : Games} {s r : List ℕ} (at : ℕ) (parent : Option ℕ) → AreGames (length t) g s r → IsEnd t s → All Spelled (nodes_from at parent g)
   games-spelled at parent no_game end = All-nil Spelled
@@ -58,10 +57,7 @@ module _ (t : List ℕ) where
       let low_end = end-AreNodes ns (end-IsNode n first_end) in
       let under : List OrderedNode = nodes_from (last + 1) (Some last) below in
       let later : List OrderedNode = nodes_from (last + 1 + node_count below) parent after in
-      All-cons Spelled (record { node = first; parent = parent; opens = true }) ((further_nodes at more ++ under) ++ later) (node-spelled n first_end (ends-nodes ns low v))
-      (All-append Spelled (further_nodes at more ++ under) later
-      (All-append Spelled (further_nodes at more) under (further-spelled at ns low v (end-IsNode n first_end)) (games-spelled (last + 1) (Some last) low low_end))
-      (games-spelled (last + 1 + node_count below) parent next (tail (end-WhiteSpace v (end-AreGames low low_end)))))
+      search (rules, tail, end-WhiteSpace, end-AreNodes, end-IsNode, All-cons, node-spelled, ends-nodes, All-append, further-spelled, (games-spelled (last + 1) (Some last) low low_end), (games-spelled (last + 1 + node_count below) parent next (tail (end-WhiteSpace v (end-AreGames low low_end)))))
 
   pub ordered-spelled : (c : Games) → Spells c t → All Spelled (ordered_nodes c)
   ordered-spelled c (spells m are end) = games-spelled 0 None are (end-ByteOrderMark m all)

@@ -1,6 +1,6 @@
 -- What the table of an outline says of its nodes and sequences.
 use Rattle.std.proofs.lemmas.Grind.{common_steps}
-use Rattle.std.proofs.Common.{◌≡◌, ℕ, zero, suc, ◌+◌, ◌-◌, ◌<◌, ◌≤◌, true, false, inl, inr, List, [], ◌∷◌, ◌++◌, length, map, drop, get_or, slice_get, slice_range, Option, Some, None, option_map, refl, sym, ap, subst, ◌∙◌, arith, length-append}
+use Rattle.std.proofs.Common.{◌≡◌, ℕ, zero, suc, ◌+◌, ◌-◌, ◌<◌, ◌≤◌, true, false, inl, inr, List, [], ◌∷◌, ◌++◌, length, map, drop, get_or, slice_get, slice_range, Option, Some, None, option_map, refl, sym, ap, subst, ◌∙◌, arith, length-append, rules}
 use Rattle.std.specs.Prelude.{MatchOption, ◌≢◌}
 use Rattle.std.proofs.lemmas.Bool.{cases_lt}
 use Rattle.std.specs.List.{flat_map, range_with_len}
@@ -99,8 +99,7 @@ module _ (g : Games) where
     pub end-listed : sequence_end g i ≡ last_number s + 1
     end-listed =
         let e : i + 1 ≡ suc i = omega arith in
-        ap (λ ns. get_or ns (i + 1) (node_count g)) (starts-are g) ∙ ap (λ k. get_or (starts_from 0 g) k (node_count g)) e
-        ∙ ends-listed 0 0 None 1 g i (node_count g) s (omega arith) is
+        search (rules, starts-are, starts_from, ends-listed)
 
     pub own-at : (j : ℕ) → j < 1 + length s.more → slice_get (ordered_nodes g) (s.number + j) ≡ slice_get (own_ordered s stands.own) j
     own-at j lt =
@@ -145,30 +144,14 @@ module _ (g : Games) where
       → (parent_at g (sequence_start g i) ≡ Some None) × (game_of g (sequence_start g i) ≡ s.ordinal)
   root-listed i s is none =
       let w = stands i s is in
-      elim w.goes_on [
-        | inl begins ↦
-            let e : sequence_start g i ≡ length w.before = omega (arith, start-listed i s is, w.number_is) in (
-              parent-listed i s is ∙ ap Some begins.parent_is,
-              omega (arith, ap (game_of g) e, begins.ordinal_is),
-            )
-        | inr from ↦ let never : None ≡ Some (0 + from.other) = sym none ∙ from.outer_is in absurd (cc)
-      ]
+      search (rules, stands, start-listed, parent-listed)
 
   -- the parent where it goes on from another one
   outer-listed : (i o : ℕ) (s : Listed) → slice_get (sequences_of g) i ≡ Some s → s.outer ≡ Some o
       → (o < i) × (parent_at g (sequence_start g i) ≡ Some (Some (sequence_end g o - 1)))
   outer-listed i o s is some =
       let w = stands i s is in
-      elim w.goes_on [
-        | inl begins ↦ let never : Some o ≡ None = sym some ∙ begins.outer_is in absurd (cc)
-        | inr from ↦
-            let sum : Some o ≡ Some (0 + from.other) = sym some ∙ from.outer_is in
-            let same : o ≡ from.other = omega (arith, same_Some o (0 + from.other) sum) in
-            let last : last_number from.sequence ≡ sequence_end g o - 1 = omega (arith, ap (sequence_end g) same, end-listed from.other from.sequence from.is) in (
-              omega (arith, same, from.before),
-              parent-listed i s is ∙ ap Some from.parent_is ∙ ap (λ k. Some (Some k)) last,
-            )
-      ]
+      search (rules, stands, same_Some, last_number, end-listed, parent-listed)
 
   -- the sequence of an index
   module _ (i : ℕ) (lt : i < length (sequence_starts g)) where
@@ -252,10 +235,7 @@ module _ (g : Games) where
   pub starts-first : (number : ℕ) → number < node_count g → (0 < length (sequence_starts g)) × (sequence_start g 0 ≤ number)
   starts-first number lt =
       let first : get_or (sequence_starts g) 0 (node_count g) ≡ 0 = ap (λ ns. get_or ns 0 (node_count g)) (starts-are g) ∙ first-start 0 (node_count g) g (omega arith) in
-      elim (cases_lt 0 (length (sequence_starts g))) [
-        | inl some ↦ (some, omega (arith, first, get_or_default (sequence_starts g) 0 (node_count g) 0 some))
-        | inr none ↦ absurd (omega (arith, lt, first, get_or_past (sequence_starts g) 0 (node_count g) none))
-      ]
+      search (rules, starts-are, first-start, cases_lt, get_or_default, get_or_past)
 
   -- there are no more sequences than nodes
   pub starts-few : length (sequence_starts g) ≤ node_count g

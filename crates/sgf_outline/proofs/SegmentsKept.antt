@@ -1,5 +1,5 @@
 -- Segments that are kept: with one more, and up to the last one of a sequence.
-use Rattle.std.proofs.Common.{◌≡◌, ℕ, ◌+◌, ◌<◌, ◌≤◌, true, false, inl, inr, List, [], ◌∷◌, ◌++◌, length, drop, get_or, slice_range, refl, sym, ap, subst, ◌∙◌, append_assoc, append-nil}
+use Rattle.std.proofs.Common.{◌≡◌, ℕ, ◌+◌, ◌<◌, ◌≤◌, true, false, inl, inr, List, [], ◌∷◌, ◌++◌, length, drop, get_or, slice_range, refl, sym, ap, subst, ◌∙◌, append_assoc, append-nil, rules}
 use Rattle.std.proofs.lemmas.Bool.{cases_lt, false≢true}
 use Rattle.std.proofs.lemmas.List.{drop_all, drop_more}
 use Rattle.sgf_outline.specs.Outlining.{start_by, is_last_by, IsCopiedFirst, AreTold, AreWhole}
@@ -37,11 +37,7 @@ module _ (t : List ℕ) where
 
   -- there is a first one
   pub whole-within : (segments : List KeptSegment) (index : ℕ) (written : List ℕ) → AreWhole t (drop index segments) written → index < length segments
-  whole-within segments index written whole =
-      elim (cases_lt index (length segments)) [
-        | inl lt ↦ lt
-        | inr none ↦ absurd (subst (λ left. AreWhole t left written) (drop_all index segments none) whole)
-      ]
+  whole-within segments index written whole = search (rules, cases_lt, drop_all)
 
   pub whole-first : (segments : List KeptSegment) (index : ℕ) (written : List ℕ) (kept : KeptSegment) → AreWhole t (drop index segments) written → kept ≡ get_or segments index kept
       → AreWhole t (kept ∷ drop (index + 1) segments) written
