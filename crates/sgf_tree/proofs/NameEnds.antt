@@ -1,6 +1,6 @@
 -- How the name of a property is read, up to the `[` after it.
 use Rattle.std.proofs.lemmas.Grind.{common_steps}
-use Rattle.std.proofs.Common.{◌≡◌, ◌≢◌, ℕ, zero, suc, ◌+◌, ◌-◌, ◌<◌, ◌≤◌, false, inl, inr, IsTrue, List, [], ◌∷◌, ◌++◌, length, get_or, slice_range, Some, None, refl, sym, ap, subst, ◌∙◌, arith, if◌then◌else◌, ne_eqb}
+use Rattle.std.proofs.Common.{◌≡◌, ◌≢◌, ℕ, zero, suc, ◌+◌, ◌-◌, ◌<◌, ◌≤◌, false, inl, inr, IsTrue, List, [], ◌∷◌, ◌++◌, length, get_or, slice_range, Some, None, refl, sym, ap, subst, ◌∙◌, arith, if◌then◌else◌, ne_eqb, rules}
 use Rattle.std.proofs.lemmas.Bool.{cases_lt, or_cases, or_parts}
 use Rattle.std.proofs.lemmas.List.Elements.{filter-append}
 use Rattle.sgf_outline.specs.Spelling.{is_white_space, is_upper, is_lower}
@@ -122,5 +122,4 @@ pub capitals-are : (t : List ℕ) (from to : ℕ) → IsSpan is_upper t from to 
 capitals-are t from to run =
     let rises : from ≤ to = run.rises in
     let all : from + (to - from) ≡ to = omega arith in
-    sym (subst (λ i. name_in (slice_range t from i) ≡ slice_range t from i) all
-    (capitals-name t from (to - from) (omega (arith, run.within)) (λ i low high. run.passing i low (omega arith))))
+    search (rules, slice_range, capitals-name)

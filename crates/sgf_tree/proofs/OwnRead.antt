@@ -1,10 +1,10 @@
 -- How the own nodes of a game are read one by one, and what a visitor keeps of them.
 use Rattle.std.proofs.lemmas.Grind.{flat_map-append}
-use Rattle.std.proofs.Common.{◌≡◌, ◌≢◌, ℕ, ◌+◌, ◌-◌, ◌<◌, ◌≤◌, true, List, [], ◌∷◌, ◌++◌, length, get_or, slice_range, refl, sym, ap, subst, ◌∙◌, arith, length-append, append_assoc, append-nil}
+use Rattle.std.proofs.Common.{◌≡◌, ◌≢◌, ℕ, ◌+◌, ◌-◌, ◌<◌, ◌≤◌, true, List, [], ◌∷◌, ◌++◌, length, get_or, slice_range, refl, sym, ap, subst, ◌∙◌, arith, length-append, append_assoc, append-nil, rules}
 use Rattle.std.proofs.Math.Seq.{get_or-append_seam}
 use Rattle.std.proofs.lemmas.List.{map-append}
 use Rattle.std.specs.List.{flat_map}
-use Rattle.sgf_outline.specs.Tree.{Property, Node, no_games, node_count}
+use Rattle.sgf_outline.specs.Tree.{Property, Node, no_games}
 use Rattle.sgf_outline.specs.Spelling.{is_white_space}
 use Rattle.sgf_tree.specs.Refusal.{IsFaultyAt}
 use Rattle.sgf_outline.specs.Written.{property_text, node_text}
@@ -93,18 +93,7 @@ module _ (t : List ℕ) where
   -- no node was read yet
   pub own-start : (keeps : Stack → Coming → Type 0) (at first : ℕ) (k : Stack) → IsSpan is_white_space t at first → ComesTo t at (opened k) → keeps k nothing
       → AreOwnRead keeps t at k (record { own = record { first = first; last = first; count = 0; segment = record { start = first; end = first } }; end = first })
-  own-start keeps at first k white after held =
-      record {
-        after = after;
-        nodes = [];
-        to = white;
-        are = record { counted = refl; first_is = λ default some. absurd (omega arith); last_is = λ default some. absurd (omega arith); ends = omega arith };
-        copied = record { told = []; kept = held; are = span-none t first; alone = λ _. refl; low = omega arith; rises = omega arith; within = white.within };
-        few = omega (arith, white.rises);
-        ends = omega arith;
-        within = white.within;
-        first = λ _. refl;
-      }
+  own-start keeps at first k white after held = search (rules, span-none)
 
   module _ (kept keeps : Stack → Coming → Type 0) (before after : NodesRead) where
     -- one node more
@@ -174,12 +163,4 @@ module _ (t : List ℕ) where
         → ((k : Stack) (g : UnclosedGame) → AreOwnNodes read.own (own_of g)
         → IsCopied (λ text. keeps k (coming_of (own_of g) text)) t read.own.first read.own.segment (flat_map node_text (own_of g)) → g.below ≡ no_games → told (with_game k g) nothing)
         → unclosed_count k.closed k.unclosed < at → IsGameRead told t read.end k
-    own-done told some other tells few =
-        let g = own-game some in
-        record {
-          read = g.game;
-          nothing_below = g.nothing_below;
-          stands = nodes-done t read.end k g.game g.nodes other;
-          kept = tells k g.game g.are g.copied g.nothing_below;
-          few = omega (arith, few, own.few, own.ends, g.are.counted, ap node_count g.nothing_below);
-        }
+    own-done told some other tells few = search (rules, own-game, nodes-done)

@@ -1,5 +1,5 @@
 -- Values such as `[pd]`, one after the other: what was read before them goes on after them.
-use Rattle.std.proofs.Common.{◌≡◌, ℕ, zero, suc, ◌+◌, ◌*◌, ◌<◌, ◌≤◌, List, ◌++◌, slice_range, sym, subst, arith}
+use Rattle.std.proofs.Common.{◌≡◌, ℕ, zero, suc, ◌+◌, ◌*◌, ◌<◌, ◌≤◌, List, ◌++◌, slice_range, sym, subst, arith, rules}
 use Rattle.sgf_outline.specs.Spelling.{is_white_space}
 use Rattle.sgf_properties.specs.Offsets.{IsSpan, IsValueEnd, IsPoint, ArePoints, IsBracket}
 use Rattle.sgf_properties.proofs.NameEnds.{bracket-here}
@@ -36,10 +36,4 @@ module _ (t : List ℕ) where
   values-run Wrote Other bracket from last close next so_far points stands is_end white to =
       let run = points-read Wrote from bracket from last (omega arith) (values-as t Wrote (After Wrote t from from) bracket from (after-none Wrote t from) so_far) points stands in
       let all = values-step t Wrote from bracket last close next run (omega (arith, points.ends)) stands is_end white in
-      record {
-        rises = all.rises;
-        reached = λ n name h.
-            let (p, there, named, wrote) = all.reached n name h in
-            let (before, earlier, are) = wrote in
-            (p, there, named, subst Other are (to before earlier));
-      }
+      search (rules, points-read, values-as, after-none, values-step)

@@ -1,15 +1,15 @@
 -- How the machine goes over the own nodes of a game.
 use Rattle.std.proofs.lemmas.Grind.{common_steps}
-use Rattle.std.proofs.Common.{◌≡◌, ◌≢◌, ℕ, ◌+◌, ◌<◌, true, false, List, [], ◌∷◌, ◌++◌, length, get_or, None, refl, ap, arith, ne_eqb}
+use Rattle.std.proofs.Common.{◌≡◌, ◌≢◌, ℕ, ◌+◌, ◌<◌, true, false, List, [], ◌∷◌, ◌++◌, length, get_or, None, refl, arith, ne_eqb, rules}
 use Rattle.std.specs.List.{flat_map}
 use Rattle.sgf_outline.specs.Tree.{Property, Node, Games, no_games, game}
 use Rattle.sgf_outline.specs.Spelling.{is_white_space}
 use Rattle.sgf_outline.specs.Written.{property_text}
-use Rattle.sgf_outline.specs.Machine.{UnclosedGame, Stack, Started, opened, in_node, add_node, after_game, after_node, between_games, ended, new_game, new_node, next_state, accepted}
+use Rattle.sgf_outline.specs.Machine.{UnclosedGame, Stack, Started, opened, in_node, after_game, after_node, between_games, ended, new_game, new_node, next_state, accepted}
 use Rattle.sgf_tree.specs.Refusal.{IsFaultyAt}
 use Rattle.sgf_tree.specs.inner.Progress.{ComesTo}
 use Rattle.sgf_properties.specs.Offsets.{IsSpan}
-use Rattle.sgf_tree.specs.inner.PropertiesRead.{StandsAfterNode, ArePropertiesRead, with_properties}
+use Rattle.sgf_tree.specs.inner.PropertiesRead.{StandsAfterNode, ArePropertiesRead}
 use Rattle.sgf_tree.specs.inner.GamesRead.{StandsBetween}
 use Rattle.sgf_tree.specs.inner.NodesRead.{NodesSoFar}
 use Rattle.sgf_tree.proofs.Run.{run-take-step}
@@ -54,33 +54,12 @@ module _ (t : List ℕ) where
       → ArePropertiesRead Wrote t (place + 1) text_end end → (ps : List Property) × NodesSoFar t end k (new_game (record { place = place; properties = ps })) × Wrote (flat_map property_text ps)
   nodes-first Wrote at place text_end end k white after lt e read =
       let n : Started = record { stack = k; opens = true; place = place; properties = [] } in
-      let (ps, stands, wrote) = read.reached n refl (place-node at place k white after lt e) in (
-        ps,
-        record {
-          whole = with_properties n ps;
-          stands = stands;
-          stack_is = refl;
-          nothing_below = refl;
-          not_white_space = read.white_space.stops;
-        },
-        wrote,
-      )
+      let (ps, stands, wrote) = read.reached n refl (place-node at place k white after lt e) in
+      search rules
 
   pub nodes-next : (Wrote : List ℕ → Type 0) (place text_end end : ℕ) (k : Stack) (last : UnclosedGame) → NodesSoFar t place k last → place < length t → get_or t place 0 ≡ 59
       → ArePropertiesRead Wrote t (place + 1) text_end end → (ps : List Property) × NodesSoFar t end k (with_node last (record { place = place; properties = ps })) × Wrote (flat_map property_text ps)
-  nodes-next Wrote place text_end end k last so_far lt e read =
-      let n : Started = record { stack = ended so_far.whole; opens = false; place = place; properties = [] } in
-      let (ps, stands, wrote) = read.reached n refl (next-node place so_far.whole so_far.stands lt e) in (
-        ps,
-        record {
-          whole = with_properties n ps;
-          stands = stands;
-          stack_is = ap (λ (s : Stack). record { closed = s.closed; unclosed = add_node s.unclosed (record { place = place; properties = ps }) }) so_far.stack_is;
-          nothing_below = so_far.nothing_below;
-          not_white_space = read.white_space.stops;
-        },
-        wrote,
-      )
+  nodes-next Wrote place text_end end k last so_far lt e read = search (rules, next-node)
 
   -- no further node follows
   pub nodes-done : (end : ℕ) (k : Stack) (last : UnclosedGame) → NodesSoFar t end k last → (end < length t → get_or t end 0 ≢ 59)

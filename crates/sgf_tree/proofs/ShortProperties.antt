@@ -1,11 +1,11 @@
 -- A property with one value, as the code tells it.
 use Rattle.std.proofs.lemmas.Grind.{common_steps, flat_map-append}
-use Rattle.std.proofs.Common.{◌≡◌, ◌≢◌, ℕ, ◌+◌, ◌<◌, ◌≤◌, Bool, false, IsTrue, List, [], ◌∷◌, ◌++◌, length, get_or, slice_range, Some, None, refl, sym, ap, subst, ◌∙◌, arith, append-nil}
+use Rattle.std.proofs.Common.{◌≡◌, ◌≢◌, ℕ, ◌+◌, ◌<◌, ◌≤◌, Bool, false, IsTrue, List, [], ◌∷◌, ◌++◌, length, get_or, slice_range, Some, None, refl, sym, ap, subst, ◌∙◌, arith, append-nil, rules}
 use Rattle.std.proofs.lemmas.Bool.{or_left}
 use Rattle.std.specs.List.{flat_map}
 use Rattle.sgf_outline.specs.Tree.{Property, values}
 use Rattle.sgf_outline.specs.Spelling.{is_white_space, is_upper, is_lower}
-use Rattle.sgf_outline.specs.Written.{value_text, property_text}
+use Rattle.sgf_outline.specs.Written.{property_text}
 use Rattle.sgf_outline.specs.Machine.{Started, in_node}
 use Rattle.sgf_properties.specs.Front.{is_letter}
 use Rattle.sgf_tree.specs.inner.Progress.{ComesTo}
@@ -34,16 +34,7 @@ stands-join t from between to le le' u v first next =
 pub property-read : (Named Valued Wrote : List ℕ → Type 0) (t : List ℕ) (start bracket text_end end : ℕ) → IsNameRead Named t start bracket → ValuesBefore t Valued bracket end
     → bracket < text_end → IsSpan is_white_space t text_end end → (end < length t → get_or t end 0 ≢ 91)
     → ((u v : List ℕ) → Named u → Valued v → Wrote (u ++ v)) → IsPropertyRead Wrote t start text_end end
-property-read Named Valued Wrote t start bracket text_end end name_read values_read some white other join =
-    record {
-      rises = omega (arith, name_read.rises);
-      white_space = white;
-      no_value = other;
-      reached = λ n h.
-          let (name, there, named) = name_read.reached n h in
-          let (p, after, same, valued) = values_read.reached n name there in
-          (p, after, subst (λ m. Wrote (m ++ flat_map value_text (values p))) (sym same) (join name (flat_map value_text (values p)) named valued));
-    }
+property-read Named Valued Wrote t start bracket text_end end name_read values_read some white other join = search rules
 
 pub short-property : (t : List ℕ) (start bracket close next : ℕ) → start < length t → IsTrue (is_upper (get_or t start 0)) → IsSpan is_letter t start bracket
     → IsSpan is_upper t start bracket → IsBracket t bracket → IsValueEnd t (bracket + 1) close → AreValuesEnded t (close + 1) next
@@ -59,7 +50,6 @@ short-property t start bracket close next lt capital letters capitals stands val
 module _ (t : List ℕ) (at close : ℕ) (is : IsShortProperty t at close) where
   two-whole : (next : ℕ) → AreValuesEnded t (close + 1) next → IsPropertyRead (StandsIn t at (close + 1)) t at (close + 1) next
   two-whole next ended =
-      let rises : at + 3 ≤ close = is.ordinary.rises in
       short-property t at (at + 2) close next (omega (arith, is.within)) is.first (two-letters t at close is)
       (two-name t at close is is_upper is.first is.second refl) (record { within = omega (arith, is.within); bracket = is.bracket }) (two-value t at close is) ended
 
@@ -120,13 +110,7 @@ module _ (t : List ℕ) (at : ℕ) where
 
   pub so-far-done : (Wrote : List ℕ → Type 0) (text_end end : ℕ) → ReadSoFar Wrote t at text_end end → (end < length t → is_upper (get_or t end 0) ≡ false)
       → ArePropertiesRead Wrote t at text_end end
-  so-far-done Wrote text_end end so_far no_property =
-      record {
-        rises = so_far.rises;
-        white_space = so_far.white_space;
-        no_property = no_property;
-        reached = λ n none h. let (ps, stands, wrote) = so_far.reached n none h in (ps, node-done t end (with_properties n ps) stands so_far.white_space.stops no_property, wrote);
-      }
+  so-far-done Wrote text_end end so_far no_property = search (rules, node-done)
 
 -- The properties of a node were read up to a `]` just before `end`: whatever white space follows there, all before it is read.
 abbrev pub AreReadTo : List ℕ → ℕ → ℕ → Type 0

@@ -1,5 +1,5 @@
 -- How the values of a property are read, one after another, and what the sgf form writes for them.
-use Rattle.std.proofs.Common.{◌≡◌, ℕ, ◌+◌, ◌<◌, ◌≤◌, List, [], ◌∷◌, ◌++◌, length, get_or, slice_range, refl, sym, ap, subst, ◌∙◌, arith, append_assoc, append-nil}
+use Rattle.std.proofs.Common.{◌≡◌, ℕ, ◌+◌, ◌<◌, ◌≤◌, List, [], ◌∷◌, ◌++◌, length, get_or, slice_range, refl, sym, ap, subst, ◌∙◌, arith, append_assoc, append-nil, rules}
 use Rattle.std.proofs.lemmas.Grind.{flat_map-append}
 use Rattle.std.specs.List.{flat_map}
 use Rattle.sgf_outline.specs.Tree.{Property, values}
@@ -30,11 +30,7 @@ module _ (Wrote : List ℕ → Type 0) (t : List ℕ) where
   after-none at written wrote = (written, wrote, ap (λ s. written ++ s) (span-none t at) ∙ append-nil written)
 
   after-more : (from a b : ℕ) → from ≤ a → a ≤ b → (written : List ℕ) → After Wrote t from a written → After Wrote t from b (written ++ slice_range t a b)
-  after-more from a b le le' written (before, wrote, are) = (
-    before,
-    wrote,
-    ap (λ s. before ++ s) (sym (span-join t from a b le le')) ∙ sym (append_assoc before (slice_range t from a) (slice_range t a b)) ∙ ap (λ s. s ++ slice_range t a b) are,
-  )
+  after-more from a b le le' written (before, wrote, are) = search (rules, span-join, append_assoc, slice_range)
 
 module _ (t : List ℕ) where
   -- a value, as the sgf form writes it
@@ -64,11 +60,7 @@ module _ (t : List ℕ) where
   values-begin Wrote bracket none = record { rises = omega arith; reached = λ n name h. ([], h, none) }
 
   pub values-as : (Wrote Other : List ℕ → Type 0) (bracket at : ℕ) → ((written : List ℕ) → Wrote written → Other written) → ValuesSoFar Wrote bracket at → ValuesSoFar Other bracket at
-  values-as Wrote Other bracket at to so_far =
-      record {
-        rises = so_far.rises;
-        reached = λ n name h. let (before, there, wrote) = so_far.reached n name h in (before, there, to (flat_map value_text before) wrote);
-      }
+  values-as Wrote Other bracket at to so_far = search rules
 
   pub values-step : (Wrote : List ℕ → Type 0) (from bracket at end next : ℕ) → ValuesSoFar (After Wrote t from at) bracket at → from ≤ at → IsBracket t at → IsValueEnd t (at + 1) end
       → IsSpan is_white_space t (end + 1) next → ValuesBefore (After Wrote t from (end + 1)) bracket next

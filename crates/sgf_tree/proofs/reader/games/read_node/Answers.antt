@@ -1,9 +1,7 @@
-use Rattle.std.proofs.Common.{◌≡◌, ◌+◌, refl, sym, ap, subst, arith, rules}
+use Rattle.std.proofs.Common.{◌≡◌, ◌+◌, refl, ap, subst, arith, rules}
 use Rattle.std.proofs.lemmas.Result.{err_from_is_err_and}
 use Rattle.sgf_outline.specs.OwnNodes.{Copies}
 use Rattle.sgf_tree.specs.inner.NodesRead.{AreNodesRead}
-use Rattle.sgf_outline.specs.Machine.{in_node}
-use Rattle.sgf_tree.specs.inner.Progress.{ComesTo}
 use Rattle.sgf_tree.specs.inner.PropertiesRead.{ArePropertiesRead}
 use Rattle.sgf_outline.specs.declared.layout.OwnNodes.{OwnNodes}
 use Rattle.sgf_tree.specs.declared.reader.own_nodes.NodesRead.{NodesRead}
@@ -33,10 +31,4 @@ returns-clause-read g c =
     (ap (λ (o : OwnNodes). record { first = o.first; last = o.last; count = o.count; segment = segment }) begun.ensures.taken) refl)
 
 pub returns-in_err-properties-clause-fault : goal.returns-in_err-properties-clause-fault
-returns-in_err-properties-clause-fault g c =
-    let p = err_from_is_err_and c.from_residual-in_err-properties.result c.from_residual-in_err-properties.ensures.1 in
-    rw (p.1, p.2)
-    (λ at k own.
-    let begins = c.requires.begins in
-    let node = read-node c.args.text.now at k own.after c.args.before.end own.nodes own.to begins.inside begins.begins in
-    c.in_err-properties.ensures.fault node.0 node.1.0 (subst (λ i. ComesTo c.args.text.now i (in_node node.0)) (sym c.in_ok-own.ensures.end) node.1.1))
+returns-in_err-properties-clause-fault g c = search (rules, err_from_is_err_and, read-node)

@@ -1,15 +1,9 @@
-use Rattle.std.proofs.Common.{arith}
+use Rattle.std.proofs.Common.{arith, rules}
 use Rattle.sgf_tree.proofs.OwnRead.{read-faulty, own-start, own-game, own-done}
 use Rattle.sgf_tree.proofs.reader.games.read_sequence.Goals as goal
 
 pub nodes-init : goal.nodes-init
-nodes-init g c =
-    let t = c.args.text.now in
-    let first = c.skip_white_space in
-    record {
-      so_far = λ k after held. rw c.none-read.ensures (own-start t (g.K.Visitor.keeps t c.args.visitor.now) c.args.at first.result k first.ensures after held);
-      long = c.requires.long;
-    }
+nodes-init g c = search (rules, own-start)
 
 pub nodes-preserved : goal.nodes-preserved
 nodes-preserved g c = record { so_far = λ k after held. c.in_ok-read.ensures.read.more c.args.at k (c.nodes.invariant.so_far k after held); long = c.in_ok-read.ensures.long }

@@ -1,22 +1,13 @@
-use Rattle.std.proofs.Common.{◌≡◌, ◌+◌, slice_range, sym, ap, subst, arith}
+use Rattle.std.proofs.Common.{◌≡◌, ◌+◌, slice_range, subst, arith, rules}
 use Rattle.sgf_properties.specs.Front.{name_in}
 use Rattle.sgf_outline.specs.OwnNodes.{Copies}
-use Rattle.sgf_outline.proofs.Copying.{copies-none, copies-then}
+use Rattle.sgf_outline.proofs.Copying.{copies-then}
 use Rattle.sgf_tree.proofs.NameEnds.{name-join}
 use Rattle.sgf_properties.proofs.Spans.{span-none}
 use Rattle.sgf_tree.proofs.reader.properties.copy_capitals.Goals as goal
 
 pub letters-init : goal.letters-init
-letters-init g c =
-    let t = c.args.text.now in
-    let keeps = g.K.Visitor.keeps t c.args.visitor.now in
-    record {
-      low = omega arith;
-      high = c.requires.segment.goes;
-      rises = c.requires.segment.rises;
-      after = c.requires.segment.after;
-      copied = subst (Copies keeps keeps t c.args.segment c.args.segment) (ap name_in (sym (span-none t c.args.from))) (copies-none keeps t c.args.segment);
-    }
+letters-init g c = search (rules, span-none)
 
 pub letters-preserved : goal.letters-preserved
 letters-preserved g c =

@@ -1,15 +1,11 @@
-use Rattle.std.proofs.Common.{subst, arith}
+use Rattle.std.proofs.Common.{subst, arith, rules}
 use Rattle.sgf_outline.specs.OwnNodes.{Copies}
 use Rattle.sgf_outline.proofs.Copying.{copies-none}
 use Rattle.sgf_tree.proofs.NameEnds.{name-capital, name-small}
 use Rattle.sgf_tree.proofs.reader.properties.copy_letter.Goals as goal
 
 pub returns-then-not-capital_at-clause-copied : goal.returns-then-not-capital_at-clause-copied
-returns-then-not-capital_at-clause-copied g c =
-    let t = c.args.text.now in
-    let keeps = g.K.Visitor.keeps t c.args.visitor.now in
-    subst (Copies keeps keeps t c.args.segment c.args.segment) (name-small t c.args.at c.requires.within (c.capital_at.ensures.other c.if-not-capital_at.true c.requires.within))
-    (copies-none keeps t c.args.segment)
+returns-then-not-capital_at-clause-copied g c = search (rules, name-small, copies-none)
 
 pub returns-clause-copied : goal.returns-clause-copied
 returns-clause-copied g c =

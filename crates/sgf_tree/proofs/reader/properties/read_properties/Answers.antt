@@ -1,4 +1,4 @@
-use Rattle.std.proofs.Common.{sym, subst, arith}
+use Rattle.std.proofs.Common.{sym, subst, arith, rules}
 use Rattle.std.proofs.lemmas.Result.{err_from_is_err_and}
 use Rattle.sgf_outline.specs.OwnNodes.{Copies}
 use Rattle.sgf_tree.specs.inner.PropertiesRead.{StandsIn}
@@ -8,15 +8,7 @@ use Rattle.sgf_tree.proofs.ShortProperties.{ReadSoFar, so-far-begin, so-far-more
 use Rattle.sgf_tree.proofs.reader.properties.read_properties.Goals as goal
 
 pub properties-init : goal.properties-init
-properties-init g c =
-    let t = c.args.text.now in
-    let segment = c.args.segment in
-    let keeps = g.K.Visitor.keeps t c.args.visitor.now in
-    record {
-      rises = c.requires.segment.rises;
-      so_far = so-far-begin t segment.end (Copies keeps keeps t segment segment) c.skip_white_space.result c.skip_white_space.ensures (copies-none keeps t segment);
-      kept = c.requires.kept;
-    }
+properties-init g c = search (rules, so-far-begin, copies-none)
 
 pub properties-preserved-in-Some : goal.properties-preserved-in-Some
 properties-preserved-in-Some g c =

@@ -8,17 +8,7 @@ use Rattle.sgf_tree.proofs.ValuesRead.{After, after-none, values-as, values-begi
 use Rattle.sgf_tree.proofs.reader.properties.read_property.Goals as goal
 
 pub values-init : goal.values-init
-values-init g c =
-    let t = c.args.text.now in
-    let name = c.in_ok-name.ensures.read in
-    let keeps = g.K.Visitor.keeps t c.read_name.new.visitor in
-    record {
-      rises = name.rises;
-      after = name.after;
-      stands = name.name.stands;
-      so_far = values-begin t (Copies keeps keeps t c.in_ok-name.name.segment c.in_ok-name.name.segment) c.in_ok-name.name.end (copies-none keeps t c.in_ok-name.name.segment);
-      kept = c.requires.kept;
-    }
+values-init g c = search (rules, values-begin, copies-none)
 
 pub returns-then-not-stands_at-clause-read : goal.returns-then-not-stands_at-clause-read
 returns-then-not-stands_at-clause-read g c =
