@@ -1,7 +1,7 @@
 -- What properties hold, gathered one after the other.
-use Rattle.std.proofs.Common.{◌≡◌, ◌<◌, ℕ, Bor, Bool, Option, Some, None, List, [], ◌∷◌, ◌++◌, map, length, All, refl, sym, ap, subst, ◌∙◌, append_assoc, inl, inr, arith, append-nil, length-append, rules}
+use Rattle.std.proofs.Common.{◌≡◌, ◌<◌, ℕ, Bor, Bool, Option, Some, None, List, [], ◌∷◌, ◌++◌, map, length, All, refl, sym, ap, subst, ◌∙◌, append_assoc, inl, arith, append-nil, length-append, rules}
 use Rattle.std.proofs.lemmas.Grind.{common_steps}
-use Rattle.std.specs.Prelude.{option_map, option_and_then, option_copied, find, codes, bytes_eq}
+use Rattle.std.specs.Prelude.{option_map, option_and_then, option_copied, codes}
 use Rattle.std.specs.Option.{option_or}
 use Rattle.std.specs.List.{flat_map}
 use Rattle.std.proofs.lemmas.Grind.{flat_map-append}
@@ -28,7 +28,7 @@ use Rattle.judged_lines.specs.declared.judging.contents.Setup.TheVariants.{Fault
 use Rattle.judged_lines.specs.declared.judging.contents.Contents.{Contents}
 use Rattle.judged_lines.specs.declared.judging.contents.Kind.{Kind}
 use Rattle.judged_lines.specs.declared.judging.contents.Kind.TheVariants.{Move as move_kind, Stones as stones_kind, Player as player_kind, Comment as comment_kind}
-use Rattle.judged_lines.specs.NodeContents.{Move, Stones, moves_in, moves_by, stones_in, stones_of, players_in, is_named, first_value}
+use Rattle.judged_lines.specs.NodeContents.{Move, Stones, moves_in, moves_by, stones_in, stones_of, players_in, first_value}
 use Rattle.judged_lines.specs.NodeValues.{player_value, operations, last_player}
 use Rattle.judged_lines.specs.inner.Gathered.{kind_of, AreMoves, IsSetup, setup_with_stones, setup_with_player, AddsRectangles, HoldsAlone, IsGathered, ComesAs}
 
@@ -115,29 +115,7 @@ held_by (Some player_kind) p = record nothing { players = values p }
 held_by (Some comment_kind) p = record nothing { comment = Some p.first }
 
 by_name : (name first : List ℕ) (more : List (List ℕ)) → let p : Property = record { name = name; first = first; more = more } in held p ≡ held_by (kind_of p) p
-by_name name first more =
-    elim (cases_Bool (bytes_eq name (codes "B"))) [
-      | inl e ↦ rw ((bytes_eq-Decides name (codes "B")).0 e) refl
-      | inr b ↦ elim (cases_Bool (bytes_eq name (codes "W"))) [
-        | inl e ↦ rw ((bytes_eq-Decides name (codes "W")).0 e) refl
-        | inr w ↦ elim (cases_Bool (bytes_eq name (codes "AB"))) [
-          | inl e ↦ rw ((bytes_eq-Decides name (codes "AB")).0 e) refl
-          | inr ab ↦ elim (cases_Bool (bytes_eq name (codes "AW"))) [
-            | inl e ↦ rw ((bytes_eq-Decides name (codes "AW")).0 e) refl
-            | inr aw ↦ elim (cases_Bool (bytes_eq name (codes "AE"))) [
-              | inl e ↦ rw ((bytes_eq-Decides name (codes "AE")).0 e) refl
-              | inr ae ↦ elim (cases_Bool (bytes_eq name (codes "PL"))) [
-                | inl e ↦ rw ((bytes_eq-Decides name (codes "PL")).0 e) refl
-                | inr pl ↦ elim (cases_Bool (bytes_eq name (codes "C"))) [
-                  | inl e ↦ rw ((bytes_eq-Decides name (codes "C")).0 e) refl
-                  | inr c ↦ rw (b, w, ab, aw, ae, pl, c) refl
-                ]
-              ]
-            ]
-          ]
-        ]
-      ]
-    ]
+by_name name first more = search (rules, cases_Bool, bytes_eq-Decides)
 
 one_more : {A : Type 0} (f : Property → List A) (ps : List Property) (p : Property) (xs : List A) → f p ≡ xs → flat_map f (ps ++ p ∷ []) ≡ flat_map f ps ++ xs
 one_more f ps p xs is = flat_map-append f ps (p ∷ []) ∙ ap (λ t. flat_map f ps ++ t) (append-nil (f p) ∙ is)
@@ -157,17 +135,7 @@ module _ (side : ℕ) (ps : List Property) (ops : List SetupOp) (old : Contents)
       → IsSetup side new.setup new_ops (flat_map stones_in ps ++ (held_by k p).stones) (flat_map players_in ps ++ (held_by k p).players)
       → option_copied new.comment ≡ option_or (option_copied old.comment) (held_by k p).comment → All (λ (op : SetupOp). IsRectOn side op.area) new_ops
       → IsGathered side (ps ++ p ∷ []) new_ops new
-  gathered_more k new_ops new is moves setup comment on_board =
-      let all : held p ≡ held_by k p = by_name p.name p.first p.more ∙ ap (λ o. held_by o p) is in
-      let found = find-append (is_named (codes "C")) ps (p ∷ []) in
-      record {
-        moves_are = rw (one_more moves_in ps p (held_by k p).moves (ap (λ (l : Held). l.moves) all)) moves;
-        setup_is =
-            rw (one_more stones_in ps p (held_by k p).stones (ap (λ (l : Held). l.stones) all), one_more players_in ps p (held_by k p).players (ap (λ (l : Held). l.players) all)) setup;
-        comment_is = comment ∙ ap (λ o. option_or o (held_by k p).comment) h.comment_is ∙ ap (option_or (first_value (codes "C") ps)) (sym (ap (λ (l : Held). l.comment) all))
-            ∙ sym (ap (option_map (λ (q : Property). q.first)) found ∙ map_or (find (is_named (codes "C")) ps) (find (is_named (codes "C")) (p ∷ [])));
-        on_board = on_board;
-      }
+  gathered_more k new_ops new is moves setup comment on_board = search (rules, held, held_by, by_name, find-append, one_more, map_or)
 
   -- the moves and the setup as they were
   moves_stay : AreMoves old.moves (flat_map moves_in ps ++ [])

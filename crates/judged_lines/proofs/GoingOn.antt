@@ -36,12 +36,7 @@ goes_on Holds Held old new held stands go = record {
   games = ap (λ (p : CursorState). p.games) go.0;
   index = omega (arith, ap (λ (p : CursorState). p.index) go.0);
 }
-goes_on Holds Refused old new held stands go = record {
-  some_node = rw go.0 stands;
-  are_held = ap (λ (f : Front). f.nodes) go.1;
-  games = ap (λ (p : SequencesState). p.at.games) go.0;
-  index = ap (λ (p : SequencesState). p.at.index - 1) go.0;
-}
+goes_on Holds Refused old new held stands go = search (rules, some_node)
 
 pub has_plays : (before : Before) (old new : SequencesState) (held : Front) → IsNext before old new held → (counts : ℕ → ℕ) → HasPlays counts before old.at (counts (fresh_plays (nodes_before new.at) held.nodes))
 has_plays before old new held next counts = first_of (search rules, grind (arith, common_steps, line_is, some_before, some_line))

@@ -1,5 +1,5 @@
 -- A judge goes on by the nodes of a line, and how many of them are judged.
-use Rattle.std.proofs.Common.{◌≡◌, ℕ, ◌+◌, ◌≤◌, List, [], ◌∷◌, length, min, take, drop, ◌++◌, refl, slice_get, Some, None, Result, Ok, Err, OnOk, sym, ap, subst, ◌∙◌, arith, length-append, append-nil, append_assoc}
+use Rattle.std.proofs.Common.{◌≡◌, ℕ, ◌+◌, ◌≤◌, List, [], ◌∷◌, length, min, take, drop, ◌++◌, refl, slice_get, Some, None, Result, Ok, Err, OnOk, sym, ap, subst, ◌∙◌, arith, length-append, append-nil, append_assoc, rules}
 use Rattle.std.proofs.Math.Seq.{take-append_seam}
 use Rattle.std.proofs.lemmas.List.{length-take, length-take-le, take-append-drop}
 use Rattle.std.specs.Result.{IsErr}
@@ -10,7 +10,7 @@ use Rattle.judged_lines.specs.JudgedGames.{GameKind, game_kind, root_properties}
 use Rattle.judged_lines.specs.Walk.{LegalNode, legal_on}
 use Rattle.judged_lines.specs.Verdict.{judged_on}
 use Rattle.judged_lines.specs.inner.Judging.{Judging, IsDecided, IsStepFrom, IsUndecided, state_after}
-use Rattle.judged_lines.specs.Judgement.{IsLegalStep, after, begun_game, board_in, judging}
+use Rattle.judged_lines.specs.Judgement.{IsLegalStep, after, begun_game, board_in}
 use Rattle.judged_lines.specs.Keeping.{HasJudged, PlaysUpTo, fresh_plays}
 use Rattle.judged_lines.specs.inner.Keeping.{WentOn, plays_for}
 use Rattle.judged_lines.proofs.Judgements.{judging_more, plays_one, decided_all, decided_by}
@@ -58,14 +58,7 @@ pub record Going (holds : GameKind → List LegalNode → Type 0) (kind : GameKi
 -- before the first of them
 pub starts : {holds : GameKind → List LegalNode → Type 0} {kind : GameKind} {before : List Node} (all rest : List Node) (old : ℕ) (judge : Judging) → HasJudged holds kind before judge.judgement → judge.plays ≡ old
     → rest ≡ all → Going holds kind before all rest old judge
-starts {holds} {kind} {before} all rest old judge has plays is = record {
-  done = [];
-  whole = is;
-  on = record {
-    has_judged = subst (λ nodes. HasJudged holds kind nodes judge.judgement) (sym (append-nil before)) has;
-    plays = omega (arith, plays, few kind before []);
-  };
-}
+starts {holds} {kind} {before} all rest old judge has plays is = search (rules, append-nil, few)
 
 module _ {holds : GameKind → List LegalNode → Type 0} {kind : GameKind} {before all rest : List Node} {old : ℕ} {judge : Judging} (h : Going holds kind before all rest old judge) where
   pub countable : judge.plays + length rest ≤ old + length all
@@ -82,13 +75,7 @@ module _ {holds : GameKind → List LegalNode → Type 0} {kind : GameKind} {bef
       let known = subst IsDecided h.on.has_judged.judged decided in
       let on = decided_all kind nodes rest known in
       let same : before ++ all ≡ nodes ++ rest = ap (λ nodes. before ++ nodes) (sym h.whole) ∙ sym (append_assoc before h.done rest) in
-      record {
-        has_judged = record {
-          judged = h.on.has_judged.judged ∙ sym (ap (judging kind) same ∙ on.0);
-          taken = subst (holds kind) (sym (ap (legal_on kind) same ∙ taken_decided kind nodes rest known)) h.on.has_judged.taken;
-        };
-        plays = omega (arith, h.on.plays, ap (judged_count kind) same, on.1);
-      }
+      search (rules, decided_all, append_assoc, taken_decided, judged_count)
 
   module _ (more others : List Node) (is : rest ≡ more ++ others) where
     whole : (h.done ++ more) ++ others ≡ all
@@ -107,10 +94,7 @@ module _ {holds : GameKind → List LegalNode → Type 0} {kind : GameKind} {bef
 
     -- or by some of these, for want of memory
     pub stops : (new : ℕ) → (judge.plays ≤ new) × (new ≤ judge.plays + plays_for kind (before ++ h.done) more) → (old ≤ new) × (new ≤ old + plays_for kind before all)
-    stops new up = (
-      omega (arith, h.on.plays, up.0),
-      omega (arith, h.on.plays, up.1, plays_sum kind before h.done more, plays_sum kind before (h.done ++ more) others, ap (plays_for kind before) whole),
-    )
+    stops new up = search (rules, plays_sum, whole)
 
 -- a judge took the first of these nodes, and the others are left
 pub record TookOne (judge : Judging) (rest : List Node) (node : Node) (others : List Node) (new : Judging) : Type 0 where
@@ -160,10 +144,7 @@ module _ (nodes : List Node) (held : ℕ) (le : held ≤ length nodes) {A E : Ty
 
   pub finish : (tells : GameKind → List LegalNode → Type 0) (old : ℕ) (judge : Judging) → WentOn tells kind_of (take held nodes) (drop held nodes) old judge
       → record { judged : OnOk r (HasJudged tells kind_of nodes judge.judgement); plays : PlaysUpTo old judge.plays (fresh_plays nodes held) r }
-  finish tells old judge on = record {
-    judged = on_any r (subst (λ ns. HasJudged tells kind_of ns judge.judgement) (take-append-drop held nodes) on.has_judged);
-    plays = record { not_fewer = omega (arith, on.plays); not_more = omega (arith, on.plays, fresh); each = on_any r (omega (arith, on.plays, fresh)) };
-  }
+  finish tells old judge on = search (rules, on_any, kind_of, take-append-drop, fresh)
 
   pub stopped : (old new : ℕ) → IsErr r → (old ≤ new) × (new ≤ old + plays_for kind_of (take held nodes) (drop held nodes)) → PlaysUpTo old new (fresh_plays nodes held) r
   stopped old new is up = record { not_fewer = up.0; not_more = omega (arith, up.1, fresh); each = on_none _ r is }

@@ -242,10 +242,8 @@ decided_all kind nodes [] h = (ap (judging kind) (append-nil nodes), ap (λ ns. 
 decided_all kind nodes (n ∷ ns) h =
     let same = decided_more kind nodes n h in
     let on = decided_all kind (nodes ++ n ∷ []) ns (subst IsDecided (sym same) h) in
-    let split : nodes ++ n ∷ ns ≡ (nodes ++ n ∷ []) ++ ns = sym (append_assoc nodes (n ∷ []) ns) in (
-      ap (judging kind) split ∙ on.0 ∙ same,
-      ap (λ ms. length (judged_on kind ms)) split ∙ on.1 ∙ plays_more kind nodes n ∙ omega (arith, (decided_none (judging kind nodes) n h).1),
-    )
+    let split : nodes ++ n ∷ ns ≡ (nodes ++ n ∷ []) ++ ns = sym (append_assoc nodes (n ∷ []) ns) in
+    search (rules, decided_more, append_assoc, plays_more, decided_none, (decided_all kind (nodes ++ n ∷ []) ns (subst IsDecided (sym same) h)))
 
 -- no verdict is held while it isn't known
 no_verdict : (ended : Option Verdict) (r : States) → IsUndecided (judged r ended) → ended ≡ None

@@ -1,5 +1,5 @@
 -- What is held of a line is kept of the next one, as far as it begins alike.
-use Rattle.std.proofs.Common.{◌≡◌, ℕ, suc, ◌+◌, ◌<◌, ◌≤◌, List, [], ◌∷◌, length, take, map, slice_get, Option, Some, refl, sym, ap, subst, inl, inr, ◌∙◌, arith, add-one, length-append, rules}
+use Rattle.std.proofs.Common.{◌≡◌, ℕ, suc, ◌+◌, ◌<◌, ◌≤◌, List, [], ◌∷◌, length, take, map, slice_get, Option, Some, refl, sym, ap, inl, inr, ◌∙◌, arith, add-one, length-append, rules}
 use Rattle.std.proofs.lemmas.Grind.{common_steps}
 use Rattle.std.proofs.lemmas.List.{take-map, length-take-le}
 use Rattle.std.proofs.lemmas.List.FromFn.{length-range_with_len}
@@ -61,13 +61,7 @@ module _ (old nodes : List Node) (count : ℕ) (some : 0 < count) (within : coun
 
   taken_same : (keeps : GameKind → List LegalNode → Type 0) → keeps (game_kind (root_properties old)) (legal_on (game_kind (root_properties old)) old)
       → (taken : List LegalNode) × keeps (game_kind (root_properties nodes)) taken × (take count taken ≡ taken_front nodes count)
-  taken_same keeps h =
-      let kind = game_kind (root_properties old) in
-      let taken = legal_on kind old in (
-        taken,
-        subst (λ k. keeps k taken) kinds h,
-        sym (taken_cut kind old count within) ∙ ap (legal_on kind) same ∙ ap (λ k. legal_on k (take count nodes)) kinds,
-      )
+  taken_same keeps h = search (rules, kinds, taken_cut)
 
 -- the cursor went on by a line
 named : (at : CursorState) → map Some (nodes_before at) ≡ map (node_at at.games) (path_before at)

@@ -1,5 +1,5 @@
 -- While no node changes the board, its score stays.
-use Rattle.std.proofs.Common.{◌≡◌, ◌⊎◌, ℕ, ◌+◌, ◌<◌, ◌≤◌, min, inl, inr, List, [], ◌∷◌, ◌++◌, length, refl, sym, ap, ◌∙◌, subst, Option, Some, None, Err, arith}
+use Rattle.std.proofs.Common.{◌≡◌, ◌⊎◌, ℕ, ◌+◌, ◌<◌, ◌≤◌, min, inl, inr, List, [], ◌∷◌, ◌++◌, length, refl, sym, ap, ◌∙◌, subst, Option, Some, None, Err, arith, rules}
 use Rattle.std.proofs.lemmas.Bool.{cases_lt}
 use Rattle.std.specs.Prelude.{Result, Ok, IfSome}
 use Rattle.sgf_outline.specs.Tree.{Node}
@@ -37,14 +37,7 @@ length_back s (e ∷ es) d le =
 -- back in two steps
 back_back : (s : State) (es : List State) (count d : ℕ) → d ≤ count → back_to (back_from s es count) d ≡ back_from s es d
 back_back s [] count d le = refl
-back_back s (e ∷ es) count d le =
-    elim (cases_lt count (length (e ∷ es))) [
-      | inl below ↦
-          ap (λ (states : States). back_to states d) (back_one s e es count below)
-          ∙ back_back e es count d le
-          ∙ sym (back_one s e es d (omega (arith, le, below)))
-      | inr above ↦ ap (λ (states : States). back_to states d) (back_none (record { present = s; earlier = e ∷ es }) count above)
-    ]
+back_back s (e ∷ es) count d le = search (rules, cases_lt, back_one, back_none, (back_back e es count d le))
 
 -- the score of another state with the same board
 on_same : (a b : State) (k : ℕ × ℕ) → a.colouring ≡ b.colouring → IsScoreOf a (Some k) → IsScoreOf b (Some k)
@@ -53,19 +46,13 @@ on_same a b k same is = (is.0 ∙ ap (λ g. score_of g Black) same, is.1 ∙ ap 
 -- after a step
 pub scored_stepped : {A : Type 0} (r : Result State Reason) (old new : States) (result : Result A TurnFault) (scored : ℕ) (score : Option (ℕ × ℕ)) → IsStepped r old new result → IsScoreAt old scored score → IsScoreAt new scored score
 scored_stepped r old new result scored None stepped known = tt
-scored_stepped r old new (Ok value) scored (Some k) stepped known =
-    let more : length new.earlier ≡ length old.earlier + 1 = ap (λ (states : States). length states.earlier) stepped.1 ∙ omega arith in
-    let same : back_to new scored ≡ back_to old scored = back_undone new old scored new.present (omega (arith, more, known.0)) stepped.1 in
-    (omega (arith, more, known.0), subst (λ (states : States). IsScoreOf states.present (Some k)) (sym same) known.1)
+scored_stepped r old new (Ok value) scored (Some k) stepped known = search (rules, back_undone)
 scored_stepped r old new (Err (Illegal reason)) scored (Some k) stepped known = subst (λ (states : States). IsScoreAt states scored (Some k)) (sym stepped.1) known
 scored_stepped r old new (Err Memory) scored (Some k) stepped known = subst (λ (states : States). IsScoreAt states scored (Some k)) (sym stepped) known
 
 -- on the present board
 pub scored_now : (states : States) (scored : ℕ) (score : Option (ℕ × ℕ)) (k : ℕ × ℕ) → score ≡ Some k → IsScoreAt states scored score → HadSameBoardSince states scored → IsScoreOf states.present (Some k)
-scored_now states scored score k is known since =
-    let here : IsScoreAt states scored (Some k) = subst (IsScoreAt states scored) is known in
-    on_same (back_to states scored).present states.present k
-    (same_back states.present.colouring states.present states.earlier scored scored (omega arith) refl since) here.1
+scored_now states scored score k is known since = search (rules, on_same, same_back)
 
 pub scored_here : (states : States) (depth : ℕ) (k : ℕ × ℕ) → depth ≡ length states.earlier → IsScoreOf states.present (Some k) → IsScoreAt states depth (Some k)
 scored_here states depth k is known =
@@ -73,11 +60,7 @@ scored_here states depth k is known =
 
 -- after the first nodes
 at_depth : (states : States) (count scored m : ℕ) (k : ℕ × ℕ) → count < length states.earlier → min scored count ≡ m → IsScoreOf (back_to states m).present (Some k) → IsScoreAt (back_to states count) (min scored count) (Some k)
-at_depth states count scored m k fewer at there =
-    let left : length (back_to states count).earlier ≡ count = length_back states.present states.earlier count (omega (arith, fewer)) in
-    let twice : back_to (back_to states count) (min scored count) ≡ back_to states (min scored count) =
-    back_back states.present states.earlier count (min scored count) (omega arith) in
-    (omega (arith, left), subst (λ (s : States). IsScoreOf s.present (Some k)) (sym (twice ∙ ap (back_to states) at)) there)
+at_depth states count scored m k fewer at there = search (rules, length_back, back_back)
 
 pub scored_back : (states : States) (count scored : ℕ) (score kept : Option (ℕ × ℕ)) → count < length states.earlier → IfSome kept (λ k. (score ≡ Some k) × ((scored ≤ count) ⊎ HadSameBoardSince states count)) → IsScoreAt states scored score → IsScoreAt (back_to states count) (min scored count) kept
 scored_back states count scored score None fewer is known = tt

@@ -1,5 +1,5 @@
 -- Taken nodes are told one by one, and those of a line's front are kept for the next line.
-use Rattle.std.proofs.Common.{◌≡◌, ℕ, zero, suc, ◌<◌, List, [], ◌∷◌, ◌++◌, take, Some, None, Result, Ok, Err, refl, sym, ap, subst, ◌∙◌, arith, append-nil, append_assoc}
+use Rattle.std.proofs.Common.{◌≡◌, ℕ, zero, suc, ◌<◌, List, [], ◌∷◌, ◌++◌, take, Some, None, Result, Ok, Err, refl, sym, ap, subst, ◌∙◌, append-nil, append_assoc, rules}
 use Rattle.std.specs.Prelude.{fold}
 use Rattle.sgf_outline.specs.Tree.{Node}
 use Rattle.go_board.specs.declared.reason.Reason.{Reason}
@@ -10,7 +10,7 @@ use Rattle.judged_lines.specs.declared.verdict.Verdict.TheVariants.{NotGo, BadSi
 use Rattle.judged_lines.specs.JudgedGames.{GameKind, not_go, bad_size, board, game_kind, root_properties}
 use Rattle.judged_lines.specs.Step.{step}
 use Rattle.judged_lines.specs.Walk.{LegalNode, legal_on}
-use Rattle.judged_lines.specs.Judgement.{Judgement, unjudged, judged, judging, begun_game, after, stepped, board_in, IsStepOf, IsLegalStep}
+use Rattle.judged_lines.specs.Judgement.{Judgement, unjudged, judged, judging, begun_game, after, stepped, board_in, IsLegalStep}
 use Rattle.judged_lines.specs.inner.Judging.{IsDecided, side_in, state_after, legal_by, IsStepFrom}
 use Rattle.judged_lines.proofs.Steps.{side-step}
 use Rattle.judged_lines.proofs.Keeping.{KeepsTaken, judging_front, taken_front}
@@ -20,9 +20,7 @@ use Rattle.judged_lines.proofs.Judgements.{judging_more, decided_none, decided_m
 pub taken_decided : (kind : GameKind) (nodes more : List Node) → IsDecided (judging kind nodes) → legal_on kind (nodes ++ more) ≡ legal_on kind nodes
 taken_decided kind nodes [] h = ap (legal_on kind) (append-nil nodes)
 taken_decided kind nodes (n ∷ ns) h =
-    let none = decided_none (judging kind nodes) n h in
-    ap (legal_on kind) (sym (append_assoc nodes (n ∷ []) ns)) ∙ taken_decided kind (nodes ++ n ∷ []) ns (subst IsDecided (sym (decided_more kind nodes n h)) h)
-    ∙ taken_more kind nodes n ∙ ap (λ o. legal_on kind nodes ++ legal_by o n) none.0 ∙ append-nil (legal_on kind nodes)
+    search (rules, decided_none, append_assoc, decided_more, taken_more, append-nil, (taken_decided kind (nodes ++ n ∷ []) ns (subst IsDecided (sym (decided_more kind nodes n h)) h)))
 
 -- each board of a game has its side
 abbrev HasSide : ℕ → Judgement → Type 0
@@ -72,11 +70,7 @@ module _ (kind : GameKind) (nodes : List Node) (n : Node) (j : Judgement) (is : 
       let both : Some grid ≡ Some taken.0.colouring = there ∙ board_after j n taken.0 taken.1 in
       let same : grid ≡ taken.0.colouring = cc in
       let next : board_in (judging kind (nodes ++ n ∷ [])) ≡ Some grid = ap board_in (judging_more kind nodes n ∙ ap (λ k. after k n) (sym is)) ∙ sym there in
-      record {
-        kind_is = kind_there kind (nodes ++ n ∷ []) grid next;
-        board_is = same;
-        step_is = subst (λ side. IsStepOf side n step) (side_after j n taken.0 taken.1 ∙ ap (λ (g : Grid). g.side) (sym same)) taken.2;
-      }
+      search (rules, board_after, judging_more, kind_there, side_after)
 
 -- what is kept of a line is told of its first nodes
 told_none : (kind : GameKind) → legal_on kind [] ≡ []
@@ -89,7 +83,4 @@ pub told_front : (keeps tells : GameKind → List LegalNode → Type 0) (nodes :
     → KeepsTaken keeps nodes held → tells (game_kind (root_properties nodes)) (taken_front nodes held)
 told_front keeps tells nodes zero j is begun kept h =
     let kind = game_kind (root_properties nodes) in subst (tells kind) (sym (told_none kind)) (begun refl kind (ap board_in is))
-told_front keeps tells nodes (suc held) j is begun kept h =
-    let kind = game_kind (root_properties nodes) in
-    let some : 0 < suc held = omega arith in
-    let k = h some in subst (tells kind) k.2 (kept some kind k.0 k.1)
+told_front keeps tells nodes (suc held) j is begun kept h = search rules

@@ -1,5 +1,5 @@
 -- The verdict of the line before a cursor, of the line that ends in a leaf, and of the line that has a place.
-use Rattle.std.proofs.Common.{◌≡◌, ℕ, ◌<◌, List, length, Option, Some, ap, ◌∙◌, arith, rules, suc, ◌+◌, add-one}
+use Rattle.std.proofs.Common.{◌≡◌, ℕ, ◌<◌, List, length, Option, Some, ap, ◌∙◌, arith, rules, ◌+◌}
 use Rattle.std.proofs.lemmas.Grind.{common_steps}
 use Rattle.std.specs.Prelude.{option_map, Result, Ok, Err, IfOk}
 use Rattle.sgf_outline.specs.Tree.{Node, Games, node_count}
@@ -8,13 +8,13 @@ use Rattle.judged_lines.specs.Verdict.{verdict_of, verdict, IsVerdictAt, IsVerdi
 use Rattle.tree_lines.specs.Cursor.{CursorState, IsAfterPlace}
 use Rattle.judged_lines.specs.JudgedGames.{game_kind, root_properties}
 use Rattle.judged_lines.specs.declared.verdict.Verdict.{Verdict}
-use Rattle.tree_lines.specs.Following.{nodes_of, line_before, nodes_before, line_in, lines_before}
+use Rattle.tree_lines.specs.Following.{nodes_of, line_before, nodes_before}
 use Rattle.judged_lines.specs.Judgement.{Judgement, judging}
 use Rattle.judged_lines.specs.inner.Judging.{verdict_in}
 use Rattle.judged_lines.proofs.Judgements.{judging_verdict}
 use Rattle.sgf_outline.specs.FileOrder.{IsLeaf}
 use Rattle.sgf_properties.specs.declared.fault.MemoryFault.{MemoryFault}
-use Rattle.tree_lines.specs.Paths.{Path, leaf_of}
+use Rattle.tree_lines.specs.Paths.{Path}
 use Rattle.tree_lines.proofs.CursorStates.{IsNextLine, next_line, before}
 use Rattle.tree_lines.proofs.Named.{line_at}
 
@@ -39,20 +39,7 @@ module _ (c : Games) (leaf : ℕ) (lt : leaf < node_count c) (is_leaf : IsLeaf c
   pub judged_at : (at : CursorState) → at ≡ before c (leaf + 1) → (told : Result Verdict MemoryFault) → IfOk told (λ v. option_map verdict (line_before at) ≡ Some v)
       → IfOk told (IsVerdictAt c leaf)
   judged_at at is (Err fault) told = told
-  judged_at at is (Ok v) told =
-      let index = lines_before c leaf in
-      let line = line_at c index own.0 own.1.found in
-      let count : lines_before c (leaf + 1) ≡ suc index = own.1.one_more ∙ add-one index in
-      let there : line_before at ≡ Some line.0 = ap line_before is ∙ ap (line_in c) count ∙ line.1.found in
-      let same : Some (verdict line.0) ≡ Some v = rw there at told in
-      record {
-        index = index;
-        line = line.0;
-        found = line.1.found;
-        ends = ap (λ o. option_map leaf_of o) own.1.found ∙ ap Some own.1.ends;
-        placed = rw own.1.ends at line.1.place;
-        verdict_is = cc;
-      }
+  judged_at at is (Ok v) told = search (rules, line_at, own, verdict_is)
 
 -- the line before a cursor that was moved to just after a place has that place
 pub verdict_before : (old at : CursorState) (place : ℕ) (told : Verdict) → IsAfterPlace place old at → option_map verdict (line_before at) ≡ Some told → IsVerdictOf old.games place told

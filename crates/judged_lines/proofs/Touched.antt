@@ -1,6 +1,6 @@
 -- The places of nodes on lines, each once. A line adds the places that it doesn't share with the line before it, since these rise from that of the first node
 -- after that line. So the places on all lines are those of all nodes, and no more nodes are judged than there are.
-use Rattle.std.proofs.Common.{◌≡◌, ℕ, ◌+◌, ◌-◌, ◌<◌, ◌≤◌, Bool, true, false, List, [], ◌∷◌, ◌++◌, inl, inr, refl, sym, ap, ◌∙◌, arith, zero, suc, length, map, slice_get, Some, None, unwrap_or, append_assoc, append-nil, length-append, take, drop}
+use Rattle.std.proofs.Common.{◌≡◌, ℕ, ◌+◌, ◌-◌, ◌<◌, ◌≤◌, Bool, true, false, List, [], ◌∷◌, ◌++◌, inl, inr, refl, sym, ap, ◌∙◌, arith, zero, suc, length, map, slice_get, Some, None, unwrap_or, append_assoc, append-nil, length-append, take, drop, rules}
 use Rattle.std.specs.Prelude.{filter, ◌||◌, if◌then◌else◌}
 use Rattle.std.specs.List.{flat_map, range_with_len, IsDistinct, drop-map}
 use Rattle.std.specs.Set.{is_member}
@@ -66,9 +66,7 @@ different_more (x ∷ xs) n = grind (arith, common_steps, (different_more xs n),
 nothing_more : (xs ys : List ℕ) → Each (λ n. has xs n ≡ true) ys → different (xs ++ ys) ≡ different xs
 nothing_more xs [] h = ap different (append-nil xs)
 nothing_more xs (y ∷ ys) h =
-    ap different (sym (append_assoc xs (y ∷ []) ys))
-    ∙ nothing_more (xs ++ y ∷ []) ys (each_weaker (λ n. has xs n ≡ true) (λ n. has (xs ++ y ∷ []) n ≡ true) (λ n. has_left xs (y ∷ []) n) ys h.1)
-    ∙ different_more xs y ∙ rw h.0 (append-nil (different xs))
+    search (rules, append_assoc, each_weaker, has, has_left, different_more, append-nil, (nothing_more (xs ++ y ∷ []) ys (each_weaker (λ n. has xs n ≡ true) (λ n. has (xs ++ y ∷ []) n ≡ true) (λ n. has_left xs (y ∷ []) n) ys h.1)))
 
 -- numbers that rise strictly from `low` on
 abbrev pub RisesFrom : ℕ → List ℕ → Type 0

@@ -1,5 +1,5 @@
 -- The next line was judged from where it leaves the line before it.
-use Rattle.std.proofs.Common.{◌≡◌, ◌≤◌, true, Ok, ap, arith}
+use Rattle.std.proofs.Common.{◌≡◌, ◌≤◌, true, Ok, ap, arith, rules}
 use Rattle.std.proofs.lemmas.Grind.{common_steps}
 use Rattle.sgf_outline.specs.Tree.{node_count}
 use Rattle.sgf_outline.specs.FileOrder.{PlacesRise}
@@ -52,9 +52,4 @@ invariant_of-self c =
     (stands at.In-Ok-true) plays.2)
 
 pub returns-in-Ok-true-clause-verdict : goal.returns-in-Ok-true-clause-verdict
-returns-in-Ok-true-clause-verdict c =
-    let at = goal.at.returns-in-Ok-true-clause-verdict c in
-    let old = c.self.inside.lines in
-    let new = c.next.new.self in
-    let plays = plays at.In-Ok-true in
-    given old.before old.cursor.at _ old.keeper.judged.judge.plays c.self.inside.streak c.self.invariant plays.0 plays.1 new.cursor.at (came at.In-Ok-true).1 c.args.self.now c.self.view_is new.keeper.judged.verdict (stands at.In-Ok-true).1.0.verdict_is
+returns-in-Ok-true-clause-verdict c = search (rules, plays, In-Ok-true, given, came, stands)

@@ -1,5 +1,5 @@
 -- The buffer is empty at first.
-use Rattle.std.proofs.Common.{[], ◌∷◌, ◌++◌, sym, ap, subst, refl, ◌∙◌, append_assoc}
+use Rattle.std.proofs.Common.{sym, subst, refl, append_assoc, rules}
 use Rattle.sgf_outline.specs.Tree.{told_property}
 use Rattle.judged_lines.specs.inner.Gathered.{IsGathered}
 use Rattle.judged_lines.proofs.judging.contents.gathered.Goals as goal
@@ -13,16 +13,4 @@ loop-property-init c =
     }
 
 pub loop-property-preserved : goal.loop-property-preserved
-loop-property-preserved c =
-    let h = c.loop-property.invariant in
-    let front = h.gathered.0 in
-    let property = c.in-Some.property in
-    let rest = c.next_property.new.self.properties in
-    record {
-      gathered = (
-        front ++ property ∷ [],
-        c.in_ok-take.ensures front h.gathered.1,
-        append_assoc front (property ∷ []) rest ∙ ap (λ ps. front ++ ps) (sym c.in-Some.ensures.0) ∙ h.gathered.2,
-      );
-      left = c.in-Some.ensures.1 ∙ h.left;
-    }
+loop-property-preserved c = search (rules, append_assoc)

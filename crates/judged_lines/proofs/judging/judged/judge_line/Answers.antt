@@ -15,10 +15,7 @@ use Rattle.judged_lines.proofs.judging.judged.judge_line.Goals.{After-sequences-
 
 -- the front is no longer than the line
 within : (g : Over) (c : After-sequences-end g) → c.args.held.nodes ≤ length (nodes_before c.args.cursor.now.at)
-within g c =
-    let cursor = c.args.cursor.now in
-    let through = rises_through 0 cursor.ends (length (nodes_before cursor.at)) c.args.held.sequences c.sequences-end.ensures.divided (omega (arith, c.requires.front.more)) in
-    omega (arith, through.1, c.requires.front.count)
+within g c = search (rules, rises_through, ends)
 
 pub keep-requires : goal.keep-requires
 keep-requires g c = omega (arith, within g (goal.at.keep-requires g c).After-sequences-end, c.len-nodes.ensures.nodes, c.len-nodes.ensures.small)

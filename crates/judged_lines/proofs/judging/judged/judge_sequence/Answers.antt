@@ -1,5 +1,5 @@
 -- One node more is judged, and told if its step is taken, until all are, or the verdict is known.
-use Rattle.std.proofs.Common.{◌≡◌, ◌<◌, Bor, Option, Some, None, [], ◌∷◌, OnErr, Result, Ok, Err, refl, sym, ap, subst, ◌∙◌, length, arith}
+use Rattle.std.proofs.Common.{◌≡◌, ◌<◌, Bor, Option, Some, None, [], ◌∷◌, OnErr, Result, Ok, Err, refl, sym, ap, subst, ◌∙◌, length, arith, rules}
 use Rattle.std.specs.Prelude.{IsSome, option_copied}
 use Rattle.std.proofs.lemmas.Bool.{eqb-true}
 use Rattle.std.proofs.lemmas.List.{nil_from_length}
@@ -59,19 +59,13 @@ module _ (g : Over) (c : In_ok-step g) where
   taken step is = subst (IsStepFrom c.steps.judge.judgement node) is (c.in_ok-step.ensures.step node coming)
 
 pub steps-init : goal.steps-init
-steps-init g c = record {
-  going = λ kind before h. starts c.args.nodes.nodes c.args.nodes.nodes c.args.judge.now.plays c.args.judge.now h refl refl;
-  undecided = c.requires.undecided;
-}
+steps-init g c = search (rules, starts)
 
 pub returns-clause-judged : goal.returns-clause-judged
 returns-clause-judged g c kind before h = ends (c.steps.invariant.going kind before h) (nil_from_length c.steps.nodes.nodes (eqb-true _ _ (sym c.is_empty.ensures ∙ c.steps-test.false)))
 
 pub take-requires-clause-countable : goal.take-requires-clause-countable
-take-requires-clause-countable g c =
-    let (kind, before, h) = c.requires.known in
-    let some = some_left c.steps.nodes c.next.new.self c.unwrap-next.result (rw c.unwrap-next.ensures at c.next.ensures) in
-    omega (arith, countable (c.steps.invariant.going kind before h), some, c.requires.countable)
+take-requires-clause-countable g c = search (rules, some, some_left, next, countable)
 
 pub returns-in_err-step-clause-refused : goal.returns-in_err-step-clause-refused
 returns-in_err-step-clause-refused g c kind before h =

@@ -80,10 +80,7 @@ pub returns-in_err-held-clause-stands : goal.returns-in_err-held-clause-stands
 returns-in_err-held-clause-stands g c = rw (c.in_err-held.ensures.refused.0) tt
 
 pub returns-in_err-held-clause-plays : goal.returns-in_err-held-clause-plays
-returns-in_err-held-clause-plays g c =
-    let old = c.args.self.now in
-    no_plays g.K.LineKeeper.counts old.before old.cursor.at (g.K.LineKeeper.played old.keeper) (g.K.LineKeeper.played c.go_on.new.self.keeper)
-    c.from_residual.result c.from_residual.ensures.0 (ap g.K.LineKeeper.played c.go_on.ensures.keeper)
+returns-in_err-held-clause-plays g c = search (rules, no_plays)
 
 pub returns-in_default-clause-moved : goal.returns-in_default-clause-moved
 returns-in_default-clause-moved g c = rw c.in_default.is at c.in_ok-held.ensures.none_left
@@ -98,16 +95,10 @@ pub follow-requires-clause-divided : goal.follow-requires-clause-divided
 follow-requires-clause-divided g c = c.sequences-sequences.ensures.divided
 
 pub follow-requires-clause-front : goal.follow-requires-clause-front
-follow-requires-clause-front g c =
-    let old = c.args.self.now in
-    front old.before old.cursor c.go_on.new.self.cursor c.in-Some.held (rw c.in-Some.is at c.in_ok-held.ensures.found)
-    (some_end c.go_on.new.self.cursor.ends _ c.sequences-sequences.ensures.divided (next_is g (goal.at.follow-requires-clause-front g c).After-len-nodes).some_node)
+follow-requires-clause-front g c = search (rules, front, some_end, next_is)
 
 pub follow-requires-clause-held : goal.follow-requires-clause-held
-follow-requires-clause-held g c =
-    let old = c.args.self.now in
-    rw c.go_on.ensures.keeper
-    (held_of (g.K.LineKeeper.holds old.keeper) old.before old.cursor c.go_on.new.self.cursor c.in-Some.held c.requires.stands (rw c.in-Some.is at c.in_ok-held.ensures.found))
+follow-requires-clause-held g c = search (rules, held_of)
 
 pub follow-requires-clause-countable : goal.follow-requires-clause-countable
 follow-requires-clause-countable g c =

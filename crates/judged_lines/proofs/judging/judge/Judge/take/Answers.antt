@@ -1,5 +1,5 @@
 -- The step leads to the state that it added, or the refusal decides the verdict.
-use Rattle.std.proofs.Common.{◌≡◌, Err, subst}
+use Rattle.std.proofs.Common.{◌≡◌, Err, subst, rules}
 use Rattle.judged_lines.specs.Step.{step}
 use Rattle.judged_lines.specs.Judgement.{IsStepOf}
 use Rattle.judged_lines.proofs.Gathered.{coming}
@@ -7,10 +7,7 @@ use Rattle.judged_lines.proofs.Judgements.{side_stood, leads_to, leads_on, refus
 use Rattle.judged_lines.proofs.judging.judge.Judge.take.Goals as goal
 
 pub returns-in-Ok-clause-judged : goal.returns-in-Ok-clause-judged
-returns-in-Ok-clause-judged c node is =
-    let s = c.self.inside in
-    let on = c.in-Ok.ensures.stepped node is in
-    leads_on s.ended s.game c.in-Some.game s.plays c.args.self.now c.self.view_is c.in-Some.is c.requires.undecided node c.take.new.self on.0 on.1
+returns-in-Ok-clause-judged c node is = search (rules, leads_on)
 
 pub returns-in-Ok-clause-step : goal.returns-in-Ok-clause-step
 returns-in-Ok-clause-step c node is =
