@@ -1,6 +1,6 @@
 -- The sgf output of a collection is itself a text of the grammar, with the same sgf output and the same verdicts.
 use Rattle.std.proofs.lemmas.Grind.{common_steps}
-use Rattle.std.proofs.Common.{◌≡◌, ℕ, suc, ◌+◌, List, [], ◌∷◌, ◌++◌, fold, slice_get, Some, None, Result, Ok, Err, refl, sym, ap, ◌∙◌, subst, ◌≢◌, length, map, arith, append_assoc, length-append}
+use Rattle.std.proofs.Common.{◌≡◌, ℕ, suc, ◌+◌, List, [], ◌∷◌, ◌++◌, fold, slice_get, Some, None, Result, Ok, Err, refl, sym, ap, ◌∙◌, subst, ◌≢◌, length, map, arith, append_assoc, length-append, rules}
 use Rattle.std.specs.List.{flat_map, AllZip}
 use Rattle.sgf_outline.specs.Tree.{Property, Node, Games, no_games, game}
 use Rattle.go_board.specs.declared.reason.Reason.{Reason}
@@ -15,7 +15,7 @@ use Rattle.judged_lines.proofs.Walking.{after_illegal}
 use Rattle.sgf_lines.specs.SplitAgain.{HaveSame, SaysSame, scored, illegal_at, another_game, another_size, IsKept}
 use Rattle.sgf_properties.specs.RawValue.{IsValue, no_unit, ordinary, escaped}
 use Rattle.sgf_outline.specs.Spelling.{WhiteSpace, no_white_space, white_space, Letters, no_letter, upper, lower, IsPropValue, prop_value, ArePropValues, no_value, value, IsProperty, property, AreProperties, no_property, properties, IsNode, node, AreNodes, no_node, nodes, AreGames, no_game, games, no_byte_order_mark, Spells, spells}
-use Rattle.tree_lines.specs.Lines.{Line, through, node_lines, lines_of_game, lines_from, lines}
+use Rattle.tree_lines.specs.Lines.{Line, through, node_lines, lines_from, lines}
 use Rattle.sgf_lines.specs.Record.{value_text, property_text, node_text, sgf_record, output}
 use Rattle.sgf_lines.specs.Page.{page}
 use Rattle.sgf_lines.specs.declared.options.Options.{Options}
@@ -232,9 +232,7 @@ each_line number no_games h = tt
 each_line number (game first more below after) h =
     let own = through (first ∷ more) (node_lines below) in
     let parts = each_parts IsSpelledLine own (node_lines after) h in
-    each_append (λ line. IsSpelledLine line.nodes) (lines_of_game number own) (lines_from (number + 1) after)
-    (each_map (λ line. IsSpelledLine line.nodes) (λ nodes. record { game_number = number; nodes = nodes }) own parts.0)
-    (each_line (number + 1) after parts.1)
+    search (rules, each_append, each_map, (each_line (number + 1) after parts.1))
 
 -- and so is each line of a page
 page_spelled : (c : Games) (t : List ℕ) → Spells c t → (o : Options) (asked : List Line) → page o c ≡ Some asked → Each IsSpelledLine (nodes_of asked)

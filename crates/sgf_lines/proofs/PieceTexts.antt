@@ -44,8 +44,7 @@ pub whole : (start : ℕ) (ends text : List ℕ) → concat (pieces_from start e
 whole start [] text = refl
 whole start (end ∷ ends) text =
     let n = end - start in
-    append_assoc (take n text) (concat (pieces_from end ends (drop n text))) (rest_from end ends (drop n text))
-    ∙ ap (λ t. take n text ++ t) (whole end ends (drop n text)) ∙ take-append-drop n text
+    search (rules, append_assoc, take-append-drop, (whole end ends (drop n text)))
 
 pieces_again : (start : ℕ) (ps : List (List ℕ)) (begun : List ℕ) → pieces_from start (ends_from start ps) (concat ps ++ begun) ≡ ps
 pieces_again start [] begun = refl
@@ -60,10 +59,7 @@ abbrev pub IsSeen : List ℕ → List ℕ → PiecesState → Type 0
 IsSeen ends text state = (seen ends text ≡ state) × AreEnds ends text
 
 is_seen : (ends text : List ℕ) (ps : List (List ℕ)) (begun : List ℕ) → ends ≡ ends_from 0 ps → text ≡ concat ps ++ begun → IsSeen ends text (record { pieces = ps; begun = begun })
-is_seen ends text ps begun e t =
-    let pieces = pieces_again 0 ps begun in
-    let rest = rest_again 0 ps begun in
-    rw (e, t) (cc, ap (ends_from 0) (sym pieces))
+is_seen ends text ps begun e t = search (rules, pieces_again, rest_again)
 
 module _ (ends text : List ℕ) (h : AreEnds ends text) where
   abbrev ps : List (List ℕ)

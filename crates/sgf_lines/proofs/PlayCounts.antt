@@ -1,6 +1,6 @@
 -- How many nodes a run plays for its page: a line adds those of its judged nodes that it doesn't share with the line before it.
 use Rattle.std.proofs.lemmas.Grind.{common_steps, flat_map-append}
-use Rattle.std.proofs.Common.{◌≡◌, ℕ, zero, suc, ◌+◌, ◌<◌, ◌≤◌, List, length, take, inl, inr, refl, ap, ◌∙◌, arith, ◌-◌, drop, slice_get, Some, sym, Option, None, Result, Ok, Err}
+use Rattle.std.proofs.Common.{◌≡◌, ℕ, zero, suc, ◌+◌, ◌<◌, ◌≤◌, List, length, take, inl, inr, refl, ap, ◌∙◌, arith, ◌-◌, drop, slice_get, Some, sym, Option, None, Result, Ok, Err, rules}
 use Rattle.std.proofs.lemmas.Bool.{cases_Bool}
 use Rattle.sgf_outline.specs.Tree.{Games, node_count}
 use Rattle.sgf_outline.specs.FileOrder.{PlacesRise}
@@ -50,15 +50,7 @@ module _ (form : Form) (c : Games) (first limit : ℕ) (old : SinkState) (k : �
   -- the next record is written too
   pub one_written : (new : CursorState) (sink : SinkState) (line : Line) → k < limit → slice_get (lines at.games) at.index ≡ Some line → new ≡ advanced at
       → Appends now.taken sink.taken (record_of form line) → sink.failures ≡ now.failures → IsSoFar form c first limit old (k + 1) new sink
-  one_written new sink line lt found moved more failures =
-      let there = next_of_page line lt found in
-      record {
-        same = ap (λ p. p.games) moved ∙ h.same;
-        index = ap (λ p. p.index) moved ∙ omega (arith, h.index);
-        within = omega (arith, slice_get_within (page_from c first limit) k line there);
-        takes = rw (one_more form (page_from c first limit) k line there) (Appends-trans old.taken now.taken sink.taken (output form (take k (page_from c first limit))) (record_of form line) h.takes more);
-        failures = failures ∙ h.failures;
-      }
+  one_written new sink line lt found moved more failures = search (rules, next_of_page, slice_get_within, page_from, one_more, Appends-trans)
 
   -- the sink failed within the next record
   pub cut_short : (sink : SinkState) (line : Line) (n : ℕ) → k < limit → slice_get (lines at.games) at.index ≡ Some line → n < length (record_of form line)

@@ -1,5 +1,5 @@
 -- A record in sgf form goes on by sequences, and back.
-use Rattle.std.proofs.Common.{◌≡◌, ℕ, suc, ◌+◌, ◌-◌, ◌<◌, List, [], ◌∷◌, ◌++◌, length, take, map, slice_get, Some, refl, sym, ap, ◌∙◌, add-one, arith}
+use Rattle.std.proofs.Common.{◌≡◌, ℕ, suc, ◌+◌, ◌-◌, ◌<◌, List, [], ◌∷◌, ◌++◌, length, take, map, slice_get, Some, refl, sym, ap, ◌∙◌, add-one, arith, rules}
 use Rattle.std.specs.Prelude.{codes}
 use Rattle.std.specs.List.{concat, flat_map}
 use Rattle.std.proofs.lemmas.List.{take-map, map-append}
@@ -36,13 +36,7 @@ record_back sequences k =
 pub record_kept : (holds : SequencesState → Type 0) (cursor : SequencesState) (front : Front) → IsHeldOf holds cursor front
     → (game : PiecesState) → ((old : SequencesState) → holds old → game ≡ whole_record (sequences_before old)) → RiseTo 0 cursor.ends (length (nodes_before cursor.at))
     → 0 < front.sequences → cut (front.sequences + 1) game ≡ unclosed_record (take front.sequences (sequences_before cursor))
-record_kept holds cursor front held game of rise some =
-    by_old holds cursor front held (cut (front.sequences + 1) game ≡ unclosed_record (take front.sequences (sequences_before cursor))) some (λ old h moved shares.
-    let nodes = same_nodes old.at cursor.at front.nodes moved shares.nodes in
-    let count : front.nodes ≡ end_of 0 cursor.ends front.sequences - 0 = omega (arith, (has_front old cursor front shares).count) in
-    let same : take front.sequences (sequences_before cursor) ≡ take front.sequences (sequences_before old) =
-    alike 0 cursor.ends old.ends (nodes_before cursor.at) (nodes_before old.at) (length (nodes_before cursor.at)) front.sequences rise (omega (arith, shares.more)) shares.ends (rw (← count) (sym nodes)) in
-    ap (cut (front.sequences + 1)) (of old h) ∙ record_back (sequences_before old) front.sequences ∙ ap (λ ps. unclosed_record ps) (sym same))
+record_kept holds cursor front held game of rise some = search (rules, by_old, same_nodes, end_of, has_front, alike, record_back)
 
 -- its text
 pub joined : {X : Type 0} (f : X → List ℕ) (xs : List X) → concat (map f xs) ≡ flat_map f xs

@@ -1,12 +1,11 @@
 -- The record that a form made is that of the line before the cursor.
-use Rattle.std.proofs.Common.{◌≡◌, ℕ, List, ◌++◌, length, Some, sym, ap, ◌∙◌, append_assoc}
+use Rattle.std.proofs.Common.{◌≡◌, ℕ, List, ◌++◌, length, Some, ap, ◌∙◌, append_assoc, rules}
 use Rattle.std.specs.Prelude.{option_map, codes}
 use Rattle.std.specs.List.{concat}
-use Rattle.sgf_outline.specs.Tree.{Node}
 use Rattle.tree_lines.specs.Lines.{Line}
 use Rattle.sgf_lines.specs.Record.{record_of, sgf_record}
 use Rattle.sgf_lines.specs.ListRow.{list_row}
-use Rattle.sgf_lines.specs.Script.{comment_row, commands_by}
+use Rattle.sgf_lines.specs.Script.{comment_row}
 use Rattle.judged_lines.specs.Verdict.{verdict_of}
 use Rattle.tree_lines.specs.Cursor.{CursorState}
 use Rattle.judged_lines.specs.JudgedGames.{game_kind, root_properties}
@@ -34,13 +33,7 @@ module _ (at : CursorState) (own : Line) (before : line_before at ≡ Some own) 
   -- in gtp form: its row as a comment, its commands, and an empty row
   pub made_script : (v : Verdict) → v ≡ verdict_of (nodes_before at) → (row : List ℕ) → row ≡ comment_row (row_of own v)
       → (script : ScriptState) → script ≡ script_of (game_kind (root_properties (nodes_before at))) (legal_on (game_kind (root_properties (nodes_before at))) (nodes_before at)) → row ++ (script_text script ++ codes "\n") ≡ record_of gtp_form own
-  made_script v told row is script said =
-      let kind = game_kind (root_properties own.nodes) in
-      let same : script ≡ script_of kind (legal_on kind own.nodes) =
-      said ∙ ap (λ (ns : List Node). script_of (game_kind (root_properties ns)) (legal_on (game_kind (root_properties ns)) ns)) nodes_are in
-      ap (λ t. t ++ (script_text script ++ codes "\n")) (is ∙ ap comment_row (row_is v told))
-      ∙ ap (λ t. comment_row (list_row own) ++ (t ++ codes "\n")) (ap script_text same ∙ script_put kind own.nodes)
-      ∙ sym (append_assoc (comment_row (list_row own)) (commands_by kind own.nodes) (codes "\n"))
+  made_script v told row is script said = search (rules, nodes_are, row_is, script_put, append_assoc)
 
   -- in sgf form
   pub made_record : (game : PiecesState) (ends : List ℕ) → RiseTo 0 ends (length (nodes_before at)) → game ≡ whole_record (sequences_of ends (nodes_before at))

@@ -163,11 +163,7 @@ letter_is col lt =
     let named = is_some (position (λ l. l == letter) column_letters) col in
     let h = and_parts (nat_le 48 letter) (capital letter == letter && named) (below_each letter_reads 25 col refl lt) in
     let k = and_parts (capital letter == letter) named h.1 in
-    record {
-      solid = solid_by letter h.0;
-      upper = same_by (capital letter) letter k.0;
-      names = some_from (position (λ l. l == letter) column_letters) col k.1;
-    }
+    search (rules, slice_index, is_some, and_parts, nat_le, below_each, letter_reads, solid_by, same_by, some_from)
 
 pub letter_solid : (col : ℕ) → col < 25 → IsSolid (slice_index column_letters col)
 letter_solid col lt = (letter_is col lt).solid

@@ -1,25 +1,18 @@
 -- A run ends where reading ends. A source that has nothing to give at once is as it was.
-use Rattle.std.proofs.Common.{arith}
+use Rattle.std.proofs.Common.{arith, rules}
 use Rattle.std.proofs.lemmas.Result.{err_from_is_err_and}
 use Rattle.sgf_lines.proofs.Running.{no_reading_run, has_read_all, has_given_all}
 use Rattle.sgf_lines.proofs.run.split_counted.Goals as goal
 
 pub returns-in_err-read_all-clause-runs : goal.returns-in_err-read_all-clause-runs
-returns-in_err-read_all-clause-runs g c =
-    let fault = err_from_is_err_and c.from_residual.result c.from_residual.ensures.1 in
-    let same = rw c.in_default.is at c.give_rest.follows.holds-at-none.0 in
-    let read = c.in_err-read_all.ensures in
-    rw (fault.1, fault.2) (no_reading_run c.args.options.now _ _ _ _ _ _ (rw same at read.answer) (rw same at read.failures))
+returns-in_err-read_all-clause-runs g c = search (rules, err_from_is_err_and, no_reading_run)
 
 pub returns-in-Some-clause-runs : goal.returns-in-Some-clause-runs
 returns-in-Some-clause-runs g c =
     c.split_text.ensures _ _ (has_given_all _ _ c.in-Some.text (rw c.in-Some.is at c.give_rest.follows.holds-at-none.0))
 
 pub returns-clause-runs : goal.returns-clause-runs
-returns-clause-runs g c =
-    let same = rw c.in_default.is at c.give_rest.follows.holds-at-none.0 in
-    let read = c.in_ok-read_all.ensures in
-    c.split_text-2.ensures _ _ (has_read_all _ _ _ _ _ (rw same at read.answer) (rw same at read.failures) c.deref.ensures.value)
+returns-clause-runs g c = search (rules, has_read_all)
 
 pub split_text-requires-2-clause-sink_countable : goal.split_text-requires-2-clause-sink_countable
 split_text-requires-2-clause-sink_countable g c = c.requires.sink_countable

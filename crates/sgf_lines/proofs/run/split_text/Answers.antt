@@ -1,5 +1,5 @@
 -- What is said of the text is said of the run, whatever source gave it.
-use Rattle.std.proofs.Common.{◌≡◌, take, drop, Err, ap, ◌∙◌, arith}
+use Rattle.std.proofs.Common.{◌≡◌, take, drop, Err, ap, ◌∙◌, rules}
 use Rattle.std.specs.Prelude.{unwrap_or}
 use Rattle.std.proofs.lemmas.Result.{err_from_is_err_and}
 use Rattle.sgf_outline.specs.Tree.{node_count}
@@ -11,12 +11,7 @@ use Rattle.sgf_lines.proofs.Running.{no_start_run, unread_run, lines_run}
 use Rattle.sgf_lines.proofs.run.split_text.Goals as goal
 
 pub returns-in_err-cursor : goal.returns-in_err-cursor
-returns-in_err-cursor g c source new_source read =
-    let fault = err_from_is_err_and c.from_residual.result c.from_residual.ensures.1 in
-    rw (fault.1, fault.2)
-    (no_start_run c.args.options.now source new_source c.args.text.now read (g.T.Sink.state c.args.sink.now) c.args.plays.now
-    c.in-Ok.outline c.in_err-cursor.field-0.0 c.in-Ok.ensures.spelled (c.in_err-cursor.ensures.start c.args.text.now c.in-Ok.ensures.spelled)
-    c.in_err-cursor.ensures.no_read (omega (arith, c.in_err-cursor.ensures.no_write)))
+returns-in_err-cursor g c source new_source read = search (rules, err_from_is_err_and, no_start_run)
 
 pub returns : goal.returns
 returns g c source new_source read =

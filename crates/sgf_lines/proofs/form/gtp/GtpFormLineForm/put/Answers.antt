@@ -1,5 +1,5 @@
 -- The parts of the record were put one after the other.
-use Rattle.std.proofs.Common.{◌≡◌, ◌++◌, Some, Ok, Err, subst}
+use Rattle.std.proofs.Common.{◌≡◌, ◌++◌, Some, Ok, Err, subst, rules}
 use Rattle.std.specs.Prelude.{codes}
 use Rattle.byte_streams.specs.Streams.{PutsAll}
 use Rattle.tree_lines.specs.Lines.{Line}
@@ -15,10 +15,7 @@ use Rattle.sgf_lines.proofs.form.gtp.GtpFormLineForm.put.Goals.{After-put_all, I
 
 parts_are : (g : Over) (c : After-put_all g) (line : Line) → line_before c.args.cursor.now.at ≡ Some line
     → built_text c.lay_out_comment.new.self ++ (script_text c.args.self.now.judged.keeper ++ codes "\n") ≡ script line
-parts_are g c line before =
-    let held = c.requires.holds in
-    let judged = c.args.self.now.judged in
-    made_script c.args.cursor.now.at line before judged.verdict held.verdict_is (built_text c.lay_out_comment.new.self) (c.lay_out_comment.ensures line before) judged.keeper held.line.taken
+parts_are g c line before = search (rules, made_script)
 
 first_put : (g : Over) (c : In_ok-put_all g) → PutsAll {E = Unit {0}} (g.T.Sink.state c.args.sink.now) (g.T.Sink.state c.put_all.new.sink) (built_text c.lay_out_comment.new.self) (Ok (tt {0}))
 first_put g c = rw c.text.ensures at c.in_ok-put_all.ensures

@@ -1,12 +1,12 @@
 -- One sequence more is a piece, until all are. Then the end is begun.
-use Rattle.std.proofs.Common.{◌≡◌, take, inl, inr, sym, ap, ◌∙◌, arith}
+use Rattle.std.proofs.Common.{◌≡◌, ap, ◌∙◌, arith, rules}
 use Rattle.std.proofs.lemmas.Grind.{common_steps}
 use Rattle.std.specs.List.{flat_map}
 use Rattle.std.proofs.lemmas.Bool.{cases_lt}
 use Rattle.std.proofs.lemmas.List.{take_all}
 use Rattle.sgf_lines.specs.Record.{node_text}
 use Rattle.tree_lines.specs.Following.{nodes_before}
-use Rattle.sgf_lines.specs.inner.Recording.{sequences_before, unclosed_record}
+use Rattle.sgf_lines.specs.inner.Recording.{sequences_before}
 use Rattle.sgf_lines.specs.inner.Pieces.{pushed, closed}
 use Rattle.tree_lines.proofs.Fronts.{as_many_parts}
 use Rattle.sgf_lines.proofs.Recordings.{record_kept, record_more}
@@ -21,12 +21,7 @@ loop-index-init c =
     let cursor = c.args.cursor.now in
     let sequences = sequences_before cursor in
     let kept = record_kept _ cursor c.args.held c.requires.held c.args.self.now.record (λ old h. h.0) c.requires.divided in
-    elim (cases_lt 0 c.args.held.sequences) [
-      | inl some ↦ c.in_ok-keep.ensures.some some ∙ kept some
-      | inr none ↦
-          let zero : c.args.held.sequences ≡ 0 = omega arith in
-          c.in_ok-keep.ensures.none zero ∙ ap (λ k. unclosed_record (take k sequences)) (sym zero)
-    ]
+    search (rules, record_kept, cases_lt)
 
 pub loop-index-preserved : goal.loop-index-preserved
 loop-index-preserved c =

@@ -1,20 +1,9 @@
 -- The parts of a verdict are put from its last to its first.
-use Rattle.std.proofs.Common.{append_assoc}
+use Rattle.std.proofs.Common.{append_assoc, rules}
 use Rattle.sgf_lines.proofs.form.text_row.TextRow.put_verdict.Goals as goal
 
 pub returns-in-Illegal-clause-text : goal.returns-in-Illegal-clause-text
-returns-in-Illegal-clause-text c =
-    rw (
-      c.put-in-Illegal-4.ensures.text,
-      c.put_number-in-Illegal-2.ensures.text,
-      c.put-in-Illegal-3.ensures.text,
-      c.put_number-in-Illegal.ensures.text,
-      c.put-in-Illegal-2.ensures.text,
-      c.put-in-Illegal.ensures.text,
-      c.as_bytes.ensures.value,
-      c.word.ensures,
-      c.in-Illegal.is,
-    ) (simp append_assoc)
+returns-in-Illegal-clause-text c = search (rules, append_assoc)
 
 pub returns-in-NotGo-clause-text : goal.returns-in-NotGo-clause-text
 returns-in-NotGo-clause-text c = rw c.in-NotGo.is c.put-in-NotGo.ensures.text
