@@ -1,10 +1,10 @@
 -- The first property of a text has one form, and the others come after it.
 use Rattle.std.proofs.lemmas.Grind.{common_steps}
-use Rattle.std.proofs.Common.{◌≡◌, ◌≢◌, ℕ, ◌-◌, ◌<◌, Bool, true, false, IsTrue, List, [], ◌∷◌, ◌++◌, length, get_or, drop, refl, sym, ap, subst, ◌∙◌, inl, inr, arith, get_or-drop, length-drop}
+use Rattle.std.proofs.Common.{◌≡◌, ◌≢◌, ℕ, ◌-◌, ◌<◌, Bool, true, false, IsTrue, List, [], ◌∷◌, ◌++◌, length, get_or, drop, refl, sym, ap, subst, ◌∙◌, inl, inr, arith, get_or-drop, length-drop, rules}
 use Rattle.std.proofs.lemmas.Bool.{cases_lt, false≢true}
 use Rattle.sgf_properties.specs.Property.{Property}
 use Rattle.sgf_properties.specs.Spelling.{is_white_space, WhiteSpace, IsProperty, property, AreProperties, no_property, properties}
-use Rattle.sgf_properties.specs.Front.{is_letter, left_after, front, values_in, property_from, name_in, after_values_up_to, properties_in, NoValueFollows, NoPropertyFollows, ArePropertiesIn}
+use Rattle.sgf_properties.specs.Front.{is_letter, left_after, front, values_in, name_in, after_values_up_to, properties_in, NoValueFollows, NoPropertyFollows, ArePropertiesIn}
 use Rattle.sgf_properties.specs.Offsets.{IsSpan}
 use Rattle.sgf_properties.proofs.Classes.{upper-not_white_space, white-not_bracket}
 use Rattle.sgf_properties.proofs.FrontSpelled.{white-byte}
@@ -51,10 +51,8 @@ head-same {qs = qs} {m = m} (property {b} {name} {v} {t = t} {u} {r = r} {vs = v
     let at : u ≡ z = sym i.0 ∙ ap (left_after is_letter) e ∙ o.0 in
     let names : c ∷ other ≡ b ∷ name = sym o.1 ∙ ap (λ a. name_in (front is_letter a)) (sym e) ∙ i.1 in
     let all : x ∷ xs ≡ v ∷ vs = sym o.2 ∙ ap values_in (sym at) ∙ i.2 in
-    let left : j ≡ r = sym o.3 ∙ ap (λ a. after_values_up_to (length a) z) (sym same.1) ∙ ap (after_values_up_to (length t)) (sym at) ∙ i.3 in (
-      ap (λ n. property_from n (x ∷ xs)) names ∙ ap (property_from (b ∷ name)) all,
-      subst (λ a. AreProperties qs a m) left are,
-    )
+    let left : j ≡ r = sym o.3 ∙ ap (λ a. after_values_up_to (length a) z) (sym same.1) ∙ ap (after_values_up_to (length t)) (sym at) ∙ i.3 in
+    search (rules, white-same, upper-not_white_space, property-is, ends-values)
 
 pub properties-more : {ps : List Property} {p : Property} {s m r : List ℕ} → AreProperties ps s m → IsProperty p m r → AreProperties (ps ++ p ∷ []) s r
 properties-more no_property is = properties is no_property

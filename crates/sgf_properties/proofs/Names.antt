@@ -1,5 +1,5 @@
 -- The letters of an identifier that are its name, one letter after another.
-use Rattle.std.proofs.Common.{◌≡◌, ◌≢◌, ℕ, ◌+◌, ◌<◌, ◌≤◌, Bool, true, cond, List, ◌∷◌, ◌++◌, length, get_or, take, drop, filter, sym, ap, ◌∙◌, length-append, take-append-drop, length-take-le, rules}
+use Rattle.std.proofs.Common.{◌≡◌, ◌≢◌, ℕ, ◌+◌, ◌<◌, ◌≤◌, Bool, true, cond, List, ◌∷◌, ◌++◌, length, get_or, take, drop, filter, sym, ap, ◌∙◌, length-append, take-append-drop, rules}
 use Rattle.std.proofs.lemmas.List.{drop_more, get_or_at}
 use Rattle.std.proofs.lemmas.List.Elements.{filter-append}
 
@@ -13,5 +13,4 @@ module _ (p : ℕ → Bool) (xs : List ℕ) (i : ℕ) (within : i < length xs) w
       ∙ ap (λ zs. filter p (take i xs) ++ filter p zs) (drop_more xs i 0 within)
       ∙ ap (λ b. filter p (take i xs) ++ cond b (get_or xs i 0 ∷ rest) rest) capital
       ∙ ap (λ zs. zs ++ get_or xs i 0 ∷ rest) front in
-      let fronts : length (take m ys) ≡ m = length-take-le m ys le in
       search (rules, get_or_at, length-append)

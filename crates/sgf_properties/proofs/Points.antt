@@ -1,5 +1,5 @@
 -- Values such as `[pd]`, one after the other.
-use Rattle.std.proofs.Common.{◌≡◌, ℕ, zero, suc, ◌+◌, ◌-◌, ◌*◌, ◌<◌, ◌≤◌, List, [], ◌∷◌, length, get_or, drop, slice_range, inl, inr, subst, arith}
+use Rattle.std.proofs.Common.{◌≡◌, ℕ, zero, suc, ◌+◌, ◌-◌, ◌*◌, ◌<◌, ◌≤◌, List, [], ◌∷◌, length, drop, slice_range, inl, inr, subst, arith, rules}
 use Rattle.std.proofs.lemmas.Bool.{cases_lt}
 use Rattle.sgf_properties.specs.Spelling.{IsPropValue, ArePropValues, no_value, value}
 use Rattle.sgf_properties.specs.Offsets.{IsValueEnd, IsPoint, ArePoints, IsBracket}
@@ -24,9 +24,7 @@ module _ (t : List ℕ) where
 
   -- a fourth one begins after three
   pub fourth_stands : (end : ℕ) → ArePoints t end (end + 16) → end + 16 ≤ length t → IsBracket t (end + 12)
-  fourth_stands end four within =
-      let same : end + 4 * 3 ≡ end + 12 = omega arith in
-      record { within = omega arith; bracket = subst (λ i. get_or t i 0 ≡ 91) same (four.each 3 (omega (arith, four.ends))).begins }
+  fourth_stands end four within = search rules
 
   pub value-end : (at : ℕ) → IsPoint t at → IsValueEnd t (at + 1) (at + 3)
   value-end at point =

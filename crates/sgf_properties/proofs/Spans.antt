@@ -15,6 +15,5 @@ module _ (t : List ℕ) where
 
   pub span-more : (at i : ℕ) → at ≤ i → i < length t → slice_range t at (i + 1) ≡ slice_range t at i ++ get_or t i 0 ∷ []
   span-more at i le lt =
-      let e : i + 1 - at ≡ (i - at) + 1 = omega arith in
       let f : at + (i - at) ≡ i = omega arith in
       search (rules, length-drop, take_more, get_or-drop)

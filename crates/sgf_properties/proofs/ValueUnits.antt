@@ -78,13 +78,11 @@ module _ (t : List ℕ) (at : ℕ) where
 
     pub even-units : (end - first) % 2 ≡ 0 → AreValueUnits t at end
     even-units even =
-        let high : first ≤ end = run.rises in
         let e : first + 2 * ((end - first) / 2) ≡ end = omega arith in
         subst (AreValueUnits t at) e (run-pairs ((end - first) / 2) (omega arith))
 
     pub odd-units : end < length t → (end - first) % 2 ≢ 0 → AreValueUnits t at (end + 1)
     odd-units inside odd =
-        let high : first ≤ end = run.rises in
         let last : ℕ = first + 2 * ((end - first) / 2) in
         let e : first + 2 * ((end - first) / 2) + 1 ≡ end = omega arith in
         let f : last + 2 ≡ end + 1 = omega arith in

@@ -1,5 +1,5 @@
-use Rattle.std.proofs.Common.{◌+◌, ◌∙◌, get_or, ℕ, List, Option, Some, None, IsSome, MatchOption, drop, slice_range, refl, subst}
-use Rattle.sgf_properties.specs.inner.Iterating.{IsNoPropValue, IsValueAt}
+use Rattle.std.proofs.Common.{◌+◌, ◌∙◌, get_or, ℕ, List, Option, Some, None, IsSome, MatchOption, drop, slice_range, refl, rules}
+use Rattle.sgf_properties.specs.inner.Iterating.{IsNoPropValue}
 use Rattle.sgf_properties.proofs.NameEnds.{name-begins}
 use Rattle.sgf_properties.proofs.Iterating.{IsNextProperty, value-there, next-property}
 use Rattle.sgf_properties.proofs.iter.property_at.Goals as goal
@@ -11,24 +11,14 @@ some None u P none there = absurd (there none)
 some (Some v) u P h there = refl
 
 pub unwrap-from-requires : goal.unwrap-from-requires
-unwrap-from-requires c =
-    let s = c.args.text.now in
-    some c.value_at.result (drop c.identifier_end-end.result s) (λ v. IsValueAt s c.identifier_end-end.result v.0 v.1) c.value_at.ensures
-    (value-there s c.args.start c.requires.white_space c.requires.held c.requires.within c.requires.capital c.identifier_end-end.result c.identifier_end-end.ensures)
+unwrap-from-requires c = search (rules, some, value-there)
 
 -- a property was found
 found : (c : After-values_end-next) → IsNextProperty c.args.text.now c.args.start c.identifier_end-end.result
     (slice_range c.args.text.now c.unwrap-from.result.0 c.unwrap-from.result.1)
     (drop (c.unwrap-from.result.1 + 1) c.args.text.now)
     (drop c.values_end-next.result c.args.text.now)
-found c =
-    let s = c.args.text.now in
-    let end = c.identifier_end-end.result in
-    let value : IsValueAt s end c.unwrap-from.result.0 c.unwrap-from.result.1 =
-    subst (λ o. MatchOption o (IsNoPropValue (drop end s)) (λ v. IsValueAt s end v.0 v.1)) c.unwrap-from.ensures c.value_at.ensures in
-    next-property s c.args.start c.requires.white_space c.requires.held c.requires.within c.requires.capital end c.identifier_end-end.ensures
-    (slice_range s c.unwrap-from.result.0 c.unwrap-from.result.1) (drop (c.unwrap-from.result.1 + 1) s) (drop c.values_end-next.result s)
-    value.spelled c.values_end-next.ensures.past
+found c = search (rules, next-property, slice_range)
 
 pub invariant_of-property : goal.invariant_of-property
 invariant_of-property c =

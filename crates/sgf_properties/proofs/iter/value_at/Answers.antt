@@ -1,4 +1,4 @@
-use Rattle.std.proofs.Common.{arith}
+use Rattle.std.proofs.Common.{arith, rules}
 use Rattle.sgf_properties.proofs.Iterating.{no-bracket, no-end, first-value}
 use Rattle.sgf_properties.proofs.iter.value_at.Goals as goal
 
@@ -7,9 +7,7 @@ returns-then-not-stands_at c =
     no-bracket c.args.text.now c.args.at c.skip_white_space-bracket.result c.skip_white_space-bracket.ensures (c.stands_at.ensures.other c.if-not-stands_at.true)
 
 pub returns-in_default : goal.returns-in_default
-returns-in_default c =
-    let (within, bracket) = c.stands_at.ensures.stands c.if-not-stands_at.false in
-    no-end c.args.text.now c.args.at c.skip_white_space-bracket.result c.skip_white_space-bracket.ensures within bracket c.in_default.ensures
+returns-in_default c = search (rules, no-end)
 
 pub returns : goal.returns
 returns c =

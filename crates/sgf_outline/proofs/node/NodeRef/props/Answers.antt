@@ -1,15 +1,8 @@
-use Rattle.std.proofs.Common.{◌∙◌, ap, length, length-drop, arith, rules}
+use Rattle.std.proofs.Common.{◌∙◌, ap, length, length-drop, rules}
 use Rattle.sgf_outline.specs.Tree.{Node, Property}
 use Rattle.sgf_properties.proofs.Taking.{taken-all}
 use Rattle.sgf_properties.proofs.Iterating.{count-properties-held}
 use Rattle.sgf_outline.proofs.node.NodeRef.props.Goals as goal
-
-pub new-left-requires : goal.new-left-requires
-new-left-requires c = record {
-  within = omega (arith, ap length c.self.invariant.0.begins);
-  held = c.self.invariant.0.properties;
-  kept = c.self.invariant.1;
-}
 
 pub count-requires-clause-fits : goal.count-requires-clause-fits
 count-requires-clause-fits c = search (rules, count-properties-held, length-drop)

@@ -1,4 +1,4 @@
-use Rattle.std.proofs.Common.{◌≡◌, List, ℕ, ◌+◌, ◌∙◌, [], ◌∷◌, ◌++◌, drop, slice_range, refl, sym, ap, arith, append_assoc, append-nil}
+use Rattle.std.proofs.Common.{◌≡◌, List, ℕ, ◌+◌, ◌∙◌, [], ◌∷◌, ◌++◌, drop, slice_range, refl, sym, ap, arith, append_assoc, append-nil, rules}
 use Rattle.std.specs.List.{flat_map}
 use Rattle.sgf_outline.specs.FileOrder.{nodes_at, sequence_numbers}
 use Rattle.sgf_outline.specs.Written.{node_text}
@@ -24,8 +24,7 @@ part-written-requires-clause-within c = (entry (goal.at.part-written-requires-cl
 pub returns-then-is_written-clause-appended : goal.returns-then-is_written-clause-appended
 returns-then-is_written-clause-appended c =
     let e = entry (goal.at.returns-then-is_written-clause-appended c).After-index-sequence in
-    c.in_ok-extend_from_slice.ensures.items
-    ∙ ap (λ t. c.args.out.now.items ++ t) (c.part-written.ensures ∙ e.written (sym c.is_written.ensures ∙ c.if-is_written.true))
+    search (rules, entry)
 
 pub segments-init : goal.segments-init
 segments-init c = record {
@@ -59,10 +58,7 @@ returns-then-is_last-clause-appended c =
     c.in_ok-extend_from_slice-2.ensures.items ∙ ap (λ s. c.segments.out.items ++ s) (copied ∙ sym all) ∙ c.segments.invariant.appended
 
 pub returns-then-is_last-clause-goes_on : goal.returns-then-is_last-clause-goes_on
-returns-then-is_last-clause-goes_on c =
-    let (more, before) = c.segments.invariant.goes_on in
-    let copied = c.part-copied.result.now in
-    (more ++ copied, c.in_ok-extend_from_slice-2.ensures.items ∙ ap (λ s. s ++ copied) before ∙ append_assoc c.args.out.now.items more copied)
+returns-then-is_last-clause-goes_on c = search (rules, append_assoc)
 
 pub segments-preserved : goal.segments-preserved
 segments-preserved c =
@@ -70,15 +66,7 @@ segments-preserved c =
     let segment = c.index-segment.result.now in
     let out = c.segments.out.items in
     let copied = c.part-copied.result.now in
-    let left : c.segments.invariant.left ≡ copied ++ rest =
-    is.are ∙ ap (λ s. s ++ rest) (sym (c.part-copied.ensures ∙ ap (λ i. slice_range c.self.inside.text.now i segment.end) c.start.ensures)) in
-    let (more, before) = c.segments.invariant.goes_on in
-    record {
-      left = rest;
-      whole = next (sym c.is_last.ensures ∙ c.if-is_last.false);
-      appended = ap (λ s. s ++ rest) c.in_ok-extend_from_slice-2.ensures.items ∙ append_assoc out copied rest ∙ ap (λ s. out ++ s) (sym left) ∙ c.segments.invariant.appended;
-      goes_on = (more ++ copied, c.in_ok-extend_from_slice-2.ensures.items ∙ ap (λ s. s ++ copied) before ∙ append_assoc c.args.out.now.items more copied);
-    }
+    search (rules, first, slice_range, append_assoc)
 
 -- the answers below are only there for speed
 pub returns-then-is_written-clause-goes_on : goal.returns-then-is_written-clause-goes_on

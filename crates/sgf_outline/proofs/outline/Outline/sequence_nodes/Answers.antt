@@ -1,7 +1,7 @@
-use Rattle.std.proofs.Common.{◌<◌, [], arith, ap, length, sym, subst, ◌∙◌}
+use Rattle.std.proofs.Common.{◌<◌, [], arith, ap, length, sym, subst, ◌∙◌, rules}
 use Rattle.sgf_outline.specs.FileOrder.{sequence_starts, sequence_start, sequence_end}
 use Rattle.sgf_outline.specs.Machine.{games_in}
-use Rattle.sgf_outline.specs.inner.Traversing.{IsTraversal, nodes_between}
+use Rattle.sgf_outline.specs.inner.Traversing.{nodes_between}
 use Rattle.sgf_outline.proofs.Outlined.{table-length}
 use Rattle.sgf_outline.proofs.Traversing.{sequence-traversal}
 use Rattle.sgf_outline.proofs.outline.Outline.sequence_nodes.Goals as goal
@@ -12,11 +12,8 @@ index-requires c = omega (arith, c.requires, table-length c.self.inside.text.now
 pub invariant_of-result : goal.invariant_of-result
 invariant_of-result c =
     let s = c.self.inside in
-    let traversal = sequence-traversal s.text.now s.sequences c.self.invariant.0 c.args.i c.index.result.now (subst (λ g. c.args.i < length (sequence_starts g)) (sym c.self.view_is) c.requires) c.index.ensures in (
-      rw (c.sequence_start.ensures, c.sequence_end.ensures.end)
-          (subst (λ g. IsTraversal s.text.now c.index.result.now.first (sequence_start g c.args.i) (sequence_end g c.args.i)) c.self.view_is traversal.0),
-      c.self.invariant.1,
-    )
+    let traversal = sequence-traversal s.text.now s.sequences c.self.invariant.0 c.args.i c.index.result.now (subst (λ g. c.args.i < length (sequence_starts g)) (sym c.self.view_is) c.requires) c.index.ensures in
+    search (rules, sequence-traversal)
 
 pub returns : goal.returns
 returns c =

@@ -1,9 +1,8 @@
-use Rattle.std.proofs.Common.{◌≡◌, ℕ, ◌+◌, cond, get_or, Some, ap, arith}
+use Rattle.std.proofs.Common.{◌≡◌, ℕ, ◌+◌, cond, get_or, Some, ap, arith, rules}
 use Rattle.std.proofs.Math.Dec.{eqb}
 use Rattle.sgf_outline.specs.OwnNodes.{nothing}
 use Rattle.sgf_outline.specs.Outlining.{outer_by}
 use Rattle.sgf_outline.specs.declared.sequences.Sequence.{Sequence}
-use Rattle.sgf_outline.specs.declared.sequences.Sequences.{Sequences}
 use Rattle.sgf_outline.proofs.GameEnds.{unclosed_games-least, cast-to, at_most_1}
 use Rattle.sgf_outline.proofs.KeptSequences.{innermost-within, sequences-ended}
 use Rattle.sgf_outline.proofs.sequences.SequencesVisitor.game_ends.Goals.{in-Some, in_default}
@@ -16,14 +15,7 @@ index-requires c =
     omega (arith, h, c.args.self.now.table.ok.0)
 
 pub overflow_add-self : goal.overflow_add-self
-overflow_add-self c =
-    let (text, k, holds, is_unclosed, few) = c.requires.few in
-    let same : c.match-self.self.games ≡ c.args.self.now.games = elim c.match-self.branch [
-      | in-Some w ↦ ap (λ (s : Sequences). s.games) w.self-is
-      | in_default w ↦ ap (λ (s : Sequences). s.games) w.self-is
-    ] in
-    let is : c.from.result ≡ cond (eqb c.args.depth 0) 1 0 = cast-to (eqb c.args.depth 0) c.from.result (λ e. rw e at c.from.ensures) (λ e. rw e at c.from.ensures) in
-    omega (arith, unclosed_games-least k.closed k.unclosed, holds.games_counted, at_most_1 (eqb c.args.depth 0))
+overflow_add-self c = search (rules, unclosed_games-least, at_most_1)
 
 pub returns : goal.returns
 returns c =

@@ -1,4 +1,4 @@
-use Rattle.std.proofs.Common.{◌≡◌, ℕ, ◌+◌, ◌<◌, ◌≤◌, cond, false, List, [], ◌∷◌, ◌++◌, length, None, Some, refl, sym, ap, ◌∙◌, arith, append-nil}
+use Rattle.std.proofs.Common.{◌≡◌, ℕ, ◌+◌, ◌<◌, ◌≤◌, cond, false, List, [], ◌∷◌, ◌++◌, length, None, Some, refl, sym, ap, ◌∙◌, arith, append-nil, rules}
 use Rattle.std.proofs.lemmas.Bool.{false≢true}
 use Rattle.sgf_outline.specs.OwnNodes.{is_written}
 use Rattle.sgf_outline.specs.declared.sequences.KeptSegment.{KeptSegment}
@@ -8,22 +8,13 @@ use Rattle.sgf_outline.proofs.sequences.SequencesVisitor.own_nodes.Goals.{in-Som
 use Rattle.sgf_outline.proofs.sequences.SequencesVisitor.own_nodes.Goals as goal
 
 pub overflow_cast-number : goal.overflow_cast-number
-overflow_cast-number c =
-    let (text, k, g, are, copied, few) = c.requires.few in
-    let h = sequences-few text c.args.self.now k _ copied.kept in
-    omega (arith, h, c.len-number.ensures, c.args.self.now.table.ok.0)
+overflow_cast-number c = search (rules, sequences-few)
 
 pub overflow_add-outer : goal.overflow_add-outer
-overflow_add-outer c =
-    let (text, k, g, are, copied, few) = c.requires.few in
-    let h = sequences-few text c.args.self.now k _ copied.kept in
-    omega (arith, h)
+overflow_add-outer c = search (rules, sequences-few)
 
 pub overflow_add-outer-in-None : goal.overflow_add-outer-in-None
-overflow_add-outer-in-None c =
-    let (text, k, g, are, copied, few) = c.requires.few in
-    let h = sequences-few text c.args.self.now k _ copied.kept in
-    omega (arith, h)
+overflow_add-outer-in-None c = search (rules, sequences-few)
 
 pub overflow_add-outer-2 : goal.overflow_add-outer-2
 overflow_add-outer-2 c =
@@ -43,12 +34,7 @@ push_segment-requires-clause-rises c = let (text, k, g, are, copied, few) = c.re
 
 -- where the segments of the next game begin
 few-kept : (c : Joined-is_written) → length c.if-is_written.self.segments.items ≤ 67108864
-few-kept c =
-    let (text, k, g, are, copied, few) = c.requires.few in
-    elim c.if-is_written.branch [
-      | then-is_written w ↦ rw w.self-is copied.kept.few
-      | else-is_written+in_ok-push_segment w ↦ rw w.self-is w.in_ok-push_segment.ensures.few
-    ]
+few-kept c = search rules
 
 pub overflow_cast-self : goal.overflow_cast-self
 overflow_cast-self c = omega (arith, few-kept (goal.at.overflow_cast-self c).Joined-is_written, c.len.ensures, c.if-is_written.self.segments.ok.0)

@@ -46,7 +46,6 @@ invariant_of-self-2 c =
 
 pub skip_white_space-self-inside-requires-2 : goal.skip_white_space-self-inside-requires-2
 skip_white_space-self-inside-requires-2 c =
-    let s = c.self.inside in
     let at = next (goal.at.skip_white_space-self-inside-requires-2 c).After-rest_from-node in
     omega (arith, at.2.inside)
 

@@ -9,15 +9,6 @@ returns-then-not-capital_at-clause-steps c =
     let none = sym c.self.view_is ∙ no-property c.self.inside.rest.now white.result white.ensures c.self.invariant.0 (c.capital_at.ensures.other c.if-not-capital_at.true) in
     (none, none)
 
-pub property_at-property-requires : goal.property_at-property-requires
-property_at-property-requires c = record {
-  held = c.self.invariant.0;
-  kept = c.self.invariant.1;
-  white_space = c.skip_white_space-start.ensures;
-  within = (c.capital_at.ensures.stands c.if-not-capital_at.false).0;
-  capital = (c.capital_at.ensures.stands c.if-not-capital_at.false).1;
-}
-
 pub invariant_of-self : goal.invariant_of-self
 invariant_of-self c =
     let at = c.property_at-property.ensures in
