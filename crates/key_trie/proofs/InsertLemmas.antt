@@ -1,5 +1,5 @@
 -- One item more comes into a trie.
-use Rattle.std.proofs.Common.{◌≡◌, ◌≢◌, ℕ, suc, ◌+◌, ◌-◌, ◌<◌, ◌≤◌, ◌==◌, Bool, true, false, not, if◌then◌else◌, List, [], ◌∷◌, ◌++◌, length, take, slice_set, length-append, inl, inr, refl, sym, ap, subst, ◌∙◌, arith}
+use Rattle.std.proofs.Common.{◌≡◌, ◌≢◌, ℕ, suc, ◌+◌, ◌-◌, ◌<◌, ◌≤◌, ◌==◌, Bool, true, false, not, if◌then◌else◌, List, [], ◌∷◌, ◌++◌, length, take, slice_set, length-append, inl, inr, refl, sym, ap, subst, ◌∙◌, arith, below_more}
 use Rattle.std.proofs.lemmas.Bool.{cases_lt, cases_eq, eq-eqb, ne_eqb}
 use Rattle.std.proofs.lemmas.List.{get_or-set_same, get_or-set_other, get_or_append_left, set-get_or, set-set, length-set}
 use Rattle.std.proofs.Math.Seq.{get_or-append_seam, take-append_seam}
@@ -19,10 +19,7 @@ grown {w} {n} {b} {d} {o} {r} {t} child new = record {
   under = child.under;
   reach = child.reach;
   far = child.far;
-  alike = λ j h u. elim (cases_lt j n) [
-    | inl low ↦ child.alike j low u
-    | inr high ↦ let e : j ≡ n = omega (arith, high, h) in subst (λ x. Agree (b x) (b r) child.reach) (sym e) (new (subst (λ x. IsUnder b d o t x) e u))
-  ];
+  alike = below_more (λ x. IsUnder b d o t x → Agree (b x) (b r) child.reach) n child.alike new;
 }
 
 -- Item `n` parts from item `l` at position `p`, and from no item later. The slot is where the descent by its bits ends before that
@@ -45,6 +42,14 @@ module _ {w n : ℕ} {b : ℕ → ℕ → Bool} {d : ℕ → ℕ} {k : ℕ → B
       part.best (k o side) child.there
       (agree_more (p + 1) (omega arith) (agree_on (agree_less p (omega (arith, position)) child.under.path) a)
       (subst (λ m. b (k o side) m ≡ side) position (child.under.turn (omega (arith, e)))))
+
+  abbrev IsAlone : ℕ → ℕ → Type 0
+  IsAlone x y = 0 < d x → d x ≡ d y → Agree (b x) (b y) (d x - 1) → x ≡ y
+
+  apart_from : (o : ℕ) → o < n → d o ≡ d n → Agree (b o) (b n) (d o - 1) → o ≡ n
+  apart_from o before same a =
+      let at : d o ≡ p + 1 = same ∙ depth in
+      absurd (no_node_there o before at (agree_less p (omega (arith, at)) a))
 
   deep : d i < d (k i s) → p + 1 < d (k i s)
   deep inner =
@@ -82,10 +87,7 @@ module _ {w n : ℕ} {b : ℕ → ℕ → Bool} {d : ℕ → ℕ} {k : ℕ → B
     under = under_as n under (agree_less (d i) low (agree_back part.same));
     reach = p;
     far = inl (omega (arith, low, depth), omega (arith, depth));
-    alike = λ j h u. elim (cases_lt j n) [
-      | inl before ↦ front j before u
-      | inr high ↦ let e : j ≡ n = omega (arith, high, h) in subst (λ x. Agree (b x) (b n) p) (sym e) (agree_self (b n) p)
-    ];
+    alike = below_more (λ x. IsUnder b d i s x → Agree (b x) (b n) p) n front (λ u. agree_self (b n) p);
   }
 
   own : IsChild w (n + 1) b d n (b n p) n
@@ -96,10 +98,9 @@ module _ {w n : ℕ} {b : ℕ → ℕ → Bool} {d : ℕ → ℕ} {k : ℕ → B
         under = record { path = agree_self (b n) (d n - 1); turn = λ some. ap (b n) position };
         reach = w;
         far = inr (omega arith, refl);
-        alike = λ j h u. elim (cases_lt j n) [
-          | inl before ↦ absurd (part.best j before (agree_more (p + 1) (omega arith) (subst (λ m. Agree (b j) (b n) m) position u.path) (subst (λ m. b j m ≡ b n p) position (u.turn (omega (arith, depth))))))
-          | inr high ↦ let e : j ≡ n = omega (arith, high, h) in subst (λ x. Agree (b x) (b n) w) (sym e) (agree_self (b n) w)
-        ];
+        alike = below_more (λ x. IsUnder b d n (b n p) x → Agree (b x) (b n) w) n
+            (λ j before u. absurd (part.best j before (agree_more (p + 1) (omega arith) (subst (λ m. Agree (b j) (b n) m) position u.path) (subst (λ m. b j m ≡ b n p) position (u.turn (omega (arith, depth)))))))
+            (λ u. agree_self (b n) w);
       }
 
   rest : IsChild w (n + 1) b d n (not (b n p)) (k i s)
@@ -107,13 +108,6 @@ module _ {w n : ℕ} {b : ℕ → ℕ → Bool} {d : ℕ → ℕ} {k : ℕ → B
       let r = k i s in
       let child = tree.children i s slot in
       let position : d n - 1 ≡ p = omega (arith, depth) in
-      let old : (j : ℕ) → j < n + 1 → IsUnder b d n (not (b n p)) j → (j < n) × IsUnder b d i s j = λ j h u.
-      let turn : b j p ≡ not (b n p) = subst (λ m. b j m ≡ not (b n p)) position (u.turn (omega (arith, depth))) in
-      elim (cases_lt j n) [
-        | inl before ↦ (before, under_as j under (agree_less (d i) low (agree_on (subst (λ m. Agree (b j) (b n) m) position u.path) (agree_back part.same))))
-        | inr high ↦ let e : j ≡ n = omega (arith, high, h) in absurd (not_itself (b n p) (subst (λ x. b x p ≡ not (b n p)) e turn))
-      ]
-      in
       record {
         there = omega (arith, child.there);
         under = record {
@@ -125,85 +119,60 @@ module _ {w n : ℕ} {b : ℕ → ℕ → Bool} {d : ℕ → ℕ} {k : ℕ → B
           | inl is ↦ inl (omega (arith, depth, deep is.0), is.1)
           | inr is ↦ inr (omega (arith, depth, low, is.0), is.1)
         ];
-        alike = λ j h u. let under_old = old j h u in child.alike j under_old.0 under_old.1;
+        alike = below_more (λ x. IsUnder b d n (not (b n p)) x → Agree (b x) (b r) child.reach) n
+            (λ j before u. child.alike j before (under_as j under (agree_less (d i) low (agree_on (subst (λ m. Agree (b j) (b n) m) position u.path) (agree_back part.same)))))
+            (λ u. absurd (not_itself (b n p) (subst (λ m. b n m ≡ not (b n p)) position (u.turn (omega (arith, depth))))));
       }
 
   pub parted_tree : (k' : ℕ → Bool → ℕ) → k' i s ≡ n → k' n (b n p) ≡ n → k' n (not (b n p)) ≡ k i s
       → ((o : ℕ) (t : Bool) → o < n → (i ≡ o → s ≢ t) → k' o t ≡ k o t) → IsTree w (n + 1) b d k'
   parted_tree k' to_new to_own to_rest others = record {
     root = λ some. tree.root (omega (arith, slot.there));
-    within = λ o h. elim (cases_lt o n) [
-      | inl before ↦ tree.within o before
-      | inr high ↦ let e : o ≡ n = omega (arith, high, h) in subst (λ x. d x ≤ w) (sym e) (omega (arith, depth, within))
-    ];
-    children = λ o t at. elim (cases_lt o n) [
-      | inl before ↦
+    within = below_more (λ x. d x ≤ w) n tree.within (omega (arith, depth, within));
+    children = λ o t at. below_more (λ x. IsSlot (n + 1) d x t → IsChild w (n + 1) b d x t (k' x t)) n (kept t) (λ _. newest t) o at.there at;
+    alone = λ one other h g. below_more (λ x. IsAlone x other) n (λ x before. below_more (λ y. IsAlone x y) n (λ y. tree.alone x y before) (λ _ same. apart_from x before same) other g)
+        (below_more (λ y. IsAlone n y) n (λ y before _ same a. sym (apart_from y before (sym same) (subst (λ m. Agree (b y) (b n) (m - 1)) same (agree_back a)))) (λ _ _ _. refl) other g) one h;
+  }
+    where
+      newest : (t : Bool) → IsChild w (n + 1) b d n t (k' n t)
+      newest t = elim (cases_same t (b n p)) [
+        | inl same ↦ subst (λ x. IsChild w (n + 1) b d n x (k' n x)) (sym same) (subst (λ x. IsChild w (n + 1) b d n (b n p) x) (sym to_own) own)
+        | inr other ↦ subst (λ x. IsChild w (n + 1) b d n x (k' n x)) (sym (other_bit t (b n p) other)) (subst (λ x. IsChild w (n + 1) b d n (not (b n p)) x) (sym to_rest) rest)
+      ]
+
+      kept : (t : Bool) (o : ℕ) → o < n → IsSlot (n + 1) d o t → IsChild w (n + 1) b d o t (k' o t)
+      kept t o before at =
           let old : IsSlot n d o t = record { there = before; real = at.real; one = at.one } in
-          let kept : (i ≡ o → s ≢ t) → IsChild w (n + 1) b d o t (k' o t) = λ apart.
+          let stays : (i ≡ o → s ≢ t) → IsChild w (n + 1) b d o t (k' o t) = λ apart.
           subst (λ x. IsChild w (n + 1) b d o t x) (sym (others o t before apart)) (grown (tree.children o t old) (elsewhere o t old apart))
           in
           elim (cases_eq i o) [
-            | inr apart ↦ kept (λ e. absurd (apart e))
+            | inr apart ↦ stays (λ e. absurd (apart e))
             | inl same_node ↦ elim (cases_same s t) [
-              | inr apart ↦ kept (λ e. apart)
+              | inr apart ↦ stays (λ e. apart)
               | inl same_side ↦
                   let goes : IsChild w (n + 1) b d i s (k' i s) = subst (λ x. IsChild w (n + 1) b d i s x) (sym to_new) here in
                   subst (λ x. IsChild w (n + 1) b d x t (k' x t)) same_node (subst (λ x. IsChild w (n + 1) b d i x (k' i x)) same_side goes)
             ]
           ]
-      | inr high ↦
-          let e : o ≡ n = omega (arith, high, at.there) in
-          subst (λ x. IsChild w (n + 1) b d x t (k' x t)) (sym e)
-          (elim (cases_same t (b n p)) [
-            | inl same ↦ subst (λ x. IsChild w (n + 1) b d n x (k' n x)) (sym same) (subst (λ x. IsChild w (n + 1) b d n (b n p) x) (sym to_own) own)
-            | inr other ↦ subst (λ x. IsChild w (n + 1) b d n x (k' n x)) (sym (other_bit t (b n p) other)) (subst (λ x. IsChild w (n + 1) b d n (not (b n p)) x) (sym to_rest) rest)
-          ])
-    ];
-    alone = λ one other h g some same a. elim (cases_lt one n) [
-      | inl before ↦ elim (cases_lt other n) [
-        | inl before_too ↦ tree.alone one other before before_too some same a
-        | inr high ↦
-            let e : other ≡ n = omega (arith, high, g) in
-            let at : d one ≡ p + 1 = same ∙ ap d e ∙ depth in
-            absurd (no_node_there one before at (agree_less p (omega (arith, at)) (subst (λ x. Agree (b one) (b x) (d one - 1)) e a)))
-      ]
-      | inr high ↦ elim (cases_lt other n) [
-        | inl before ↦
-            let e : one ≡ n = omega (arith, high, h) in
-            let at : d other ≡ p + 1 = sym same ∙ ap d e ∙ depth in
-            absurd (no_node_there other before at (agree_less p (omega (arith, at, same)) (agree_back (subst (λ x. Agree (b x) (b other) (d one - 1)) e a))))
-        | inr high_too ↦ omega (arith, high, high_too, h, g)
-      ]
-    ];
-  }
 
 -- Item `n` equals item `l`: no slot changes.
 pub repeated_tree : {w n : ℕ} {b : ℕ → ℕ → Bool} {d : ℕ → ℕ} {k : ℕ → Bool → ℕ} (tree : IsTree w n b d k) {l : ℕ} → l < n → Agree (b l) (b n) w → d n ≡ 0
     → (k' : ℕ → Bool → ℕ) → ((o : ℕ) (t : Bool) → o < n → k' o t ≡ k o t) → IsTree w (n + 1) b d k'
 repeated_tree {w} {n} {b} {d} {k} tree {l} there same depth k' kept = record {
   root = λ some. tree.root (omega (arith, there));
-  within = λ o h. elim (cases_lt o n) [
-    | inl before ↦ tree.within o before
-    | inr high ↦ let e : o ≡ n = omega (arith, high, h) in subst (λ x. d x ≤ w) (sym e) (omega (arith, depth))
-  ];
-  children = λ o t at. elim (cases_lt o n) [
-    | inl before ↦
-        let old : IsSlot n d o t = record { there = before; real = at.real; one = at.one } in
-        let child = tree.children o t old in
-        let few : child.reach ≤ w = elim child.far [ inl is ↦ omega (arith, is.1, tree.within (k o t) child.there) | inr is ↦ omega (arith, is.1) ] in
-        subst (λ x. IsChild w (n + 1) b d o t x) (sym (kept o t before)) (grown child (λ new.
-        agree_on (agree_less child.reach few (agree_back same)) (child.alike l there (under_as l new (agree_less (d o) (tree.within o before) same)))))
-    | inr high ↦
-        let e : o ≡ n = omega (arith, high, at.there) in
-        absurd (omega (arith, at.real (omega (arith, e, there)), ap d e, depth))
-  ];
-  alone = λ one other h g some same_depth a. elim (cases_lt one n) [
-    | inl before ↦ elim (cases_lt other n) [
-      | inl before_too ↦ tree.alone one other before before_too some same_depth a
-      | inr high ↦ let e : other ≡ n = omega (arith, high, g) in absurd (omega (arith, some, same_depth, ap d e, depth))
-    ]
-    | inr high ↦ let e : one ≡ n = omega (arith, high, h) in absurd (omega (arith, some, ap d e, depth))
-  ];
+  within = below_more (λ x. d x ≤ w) n tree.within (omega (arith, depth));
+  children = λ o t at. below_more (λ x. IsSlot (n + 1) d x t → IsChild w (n + 1) b d x t (k' x t)) n
+      (λ o before at.
+      let old : IsSlot n d o t = record { there = before; real = at.real; one = at.one } in
+      let child = tree.children o t old in
+      let few : child.reach ≤ w = elim child.far [ inl is ↦ omega (arith, is.1, tree.within (k o t) child.there) | inr is ↦ omega (arith, is.1) ] in
+      subst (λ x. IsChild w (n + 1) b d o t x) (sym (kept o t before)) (grown child (λ new.
+      agree_on (agree_less child.reach few (agree_back same)) (child.alike l there (under_as l new (agree_less (d o) (tree.within o before) same))))))
+      (λ at. absurd (omega (arith, at.real (omega (arith, there)), depth))) o at.there at;
+  alone = λ one other h g. below_more (λ x. 0 < d x → d x ≡ d other → Agree (b x) (b other) (d x - 1) → x ≡ other) n
+      (λ x before. below_more (λ y. 0 < d x → d x ≡ d y → Agree (b x) (b y) (d x - 1) → x ≡ y) n (λ y. tree.alone x y before) (λ some same_depth _. absurd (omega (arith, some, same_depth, depth))) other g)
+      (λ some _ _. absurd (omega (arith, some, depth))) one h;
 }
 
 -- the first item

@@ -2,7 +2,7 @@ use Rattle.std.proofs.Common.{◌≡◌, ◌∙◌, ap, arith}
 use Rattle.std.proofs.lemmas.List.{get_or_default}
 use Rattle.key_trie.specs.declared.node.Node.{Node}
 use Rattle.key_trie.specs.Trie.{no_node, node_at}
-use Rattle.key_trie.proofs.TrieLemmas.{way_opens, end_opens}
+use Rattle.key_trie.proofs.TrieLemmas.{end_opens}
 use Rattle.key_trie.proofs.trie.Trie.opening.Goals as goal
 
 pub returns-then-from-position-clause-opening : goal.returns-then-from-position-clause-opening
@@ -11,7 +11,3 @@ returns-then-from-position-clause-opening g c = λ width keys bits end trie desc
     let from = c.args.from.node in
     let at : c.index.result.now ≡ node_at nodes from = c.index.ensures ∙ get_or_default nodes from c.index.result.now no_node c.requires.from in
     end_opens width keys c.args.self.now trie c.args.from descent c.args.position before (omega (arith, c.if-from-position.true, c.from.ensures, ap (λ (x : Node). x.depth) at)) part
-
-pub returns-clause-opening : goal.returns-clause-opening
-returns-clause-opening g c = λ width keys bits end trie descent before same part.
-    way_opens c.descend.result c.args.position (c.descend.ensures.way width keys trie) same part
