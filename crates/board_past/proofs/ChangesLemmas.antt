@@ -111,8 +111,7 @@ either_first g c d apart =
     let side_c = side-changed g c in
     let side_d = side-changed g d in
     let side_cd : (with_change gc d).side ≡ g.side = side-changed gc d ∙ side_c in
-    let side_dc : (with_change gd c).side ≡ g.side = side-changed gd c ∙ side_d in
-    one_colouring (with_change gc d) (with_change gd c) (side_cd ∙ sym side_dc)
+    one_colouring (with_change gc d) (with_change gd c) (side_cd ∙ sym (side-changed gd c ∙ side_d))
     (length-changed gc d ∙ ap (λ n. n * n) (sym (side-changed gc d)))
     (length-changed gd c ∙ ap (λ n. n * n) (sym (side-changed gd c)))
     (λ p at.

@@ -45,11 +45,10 @@ past-pop g start older older' o changes parts past =
     let kept = subst (λ (os : List Older). AreKept g os changes) turned past.kept in
     let started = subst (λ (os : List Older). AreStarted start os) turned past.started in
     let fresh = subst (λ (os : List Older). AreFresh os (all_held g start os changes)) turned past.fresh in
-    let side : (before g o changes).side ≡ g.side = step-side g o (drop o.start changes) in
     record {
       kept = kept.4;
       started = started.2;
-      on_grid = rw side (All-take (IsChangeOn g.side) o.start changes past.on_grid);
+      on_grid = rw (step-side g o (drop o.start changes)) (All-take (IsChangeOn g.side) o.start changes past.on_grid);
       fresh = fresh.1;
       few = omega (arith, length-take o.start changes, past.few);
     }
@@ -57,8 +56,7 @@ past-pop g start older older' o changes parts past =
 -- a step that is alone has no changes
 pub none_kept : (g : Grid) (start : ℕ) (older older' : List Older) (o : Older) (changes : List Change) → older ≡ older' ++ o ∷ [] → IsPast g start older changes → o.alone ≡ true → changes_before o changes ≡ changes
 none_kept g start older older' o changes parts past alone =
-    let turned : reverse older ≡ o ∷ reverse older' = ap reverse parts ∙ reverse-append older' (o ∷ []) in
-    let kept = subst (λ (os : List Older). AreKept g os changes) turned past.kept in
+    let kept = subst (λ (os : List Older). AreKept g os changes) (ap reverse parts ∙ reverse-append older' (o ∷ [])) past.kept in
     take_all o.start changes (omega (arith, (kept.1 alone).1))
 
 -- One colouring more. The step back from it is known, and its changes are those that were added.
@@ -441,10 +439,9 @@ written-next held older changes n end start board prints print at is low written
     let k = length older - n in
     let one : Held = record { colouring = board; begins = start == length (reverse (take n older)) } in
     let rest : drop (k + 1) held ≡ held_before board (reverse (take n older)) (take end changes) = sym (drop-drop 1 k held) ∙ ap (λ (hs : List Held). drop 1 hs) at.whole in
-    let head : drop k held ≡ one ∷ drop (k + 1) held = at.whole ∙ ap (λ (hs : List Held). one ∷ hs) (sym rest) in
     let later = drop (n + 1) prints in
     written
-    ∙ ap (λ (hs : List Held). reverse later ++ prints_of hs) head
+    ∙ ap (λ (hs : List Held). reverse later ++ prints_of hs) (at.whole ∙ ap (λ (hs : List Held). one ∷ hs) (sym rest))
     ∙ ap (λ p. reverse later ++ p ∷ prints_of (drop (k + 1) held)) (sym is)
     ∙ sym (append_assoc (reverse later) (print ∷ []) (prints_of (drop (k + 1) held)))
     ∙ ap (λ (ps : List ℕ). ps ++ prints_of (drop (k + 1) held)) (sym (reverse-append (print ∷ []) later))

@@ -103,12 +103,11 @@ whole_same start start' print print' hash hash' grid grid' side few all all' a =
     let row = p.row in
     let col = p.col in
     let left : col < 64 = omega (arith, on.0, few) in
-    let low' : row < grid'.side = omega (arith, on.1, side) in
     let left' : col < grid'.side = omega (arith, on.0, side) in
     let same : (white : ℕ) → white < 2 → same_cell (cell_at grid p) (if white == 0 then Black else White) ≡ same_cell (cell_at grid' p) (if white == 0 then Black else White) = λ white two.
     sym (stone-on grid (if white == 0 then Black else White) row col on.1 on.0)
     ∙ sym (stone_at start print hash grid row col white left two)
     ∙ a.each (64 * (2 * row + 3 + white) + col) (omega (arith, on.1, few, left, two))
     ∙ stone_at start' print' hash' grid' row col white left two
-    ∙ stone-on grid' (if white == 0 then Black else White) row col low' left' in
+    ∙ stone-on grid' (if white == 0 then Black else White) row col (omega (arith, on.1, side)) left' in
     cells_one (cell_at grid p) (cell_at grid' p) (same 0 (omega arith)) (same 1 (omega arith)))

@@ -28,9 +28,8 @@ pub any_power : (exponent : ℕ) → exponent < 2704 → (get_or LOW (exponent %
 any_power exponent few =
     let rest = exponent % 64 in
     let times = exponent / 64 in
-    let whole : rest + 64 * times ≡ exponent = mod-add-div exponent 64 in
     ap (λ n. (n * get_or HIGH times 0) % 2 ^ 64) (low_power rest (omega arith))
     ∙ ap (λ n. (31 ^ rest % 2 ^ 64 * n) % 2 ^ 64) (high_power times (omega (arith, few)))
     ∙ sym (mul-mod (31 ^ rest) (31 ^ (64 * times)) (2 ^ 64))
     ∙ ap (λ n. n % 2 ^ 64) (sym (pow-add 31 rest (64 * times)))
-    ∙ ap (λ n. 31 ^ n % 2 ^ 64) whole
+    ∙ ap (λ n. 31 ^ n % 2 ^ 64) (mod-add-div exponent 64)

@@ -31,14 +31,11 @@ sum_has region seed c is none low =
     elim (cases_Bool (has_bit (region + seed) c)) [
       | inl there ↦ there
       | inr lacks ↦
-          let double = two-pow-succ c in
           let first = low-set region c is in
           let second = low-unset seed c none in
-          let fits : region % 2 ^ suc c + seed % 2 ^ suc c < 2 ^ suc c = omega (arith, double, first, second, low) in
-          let whole : (region + seed) % 2 ^ suc c ≡ region % 2 ^ suc c + seed % 2 ^ suc c = add-mod region seed (2 ^ suc c) ∙ mod-eq_of_lt fits in
-          let less = low-unset (region + seed) c lacks in
+          let fits : region % 2 ^ suc c + seed % 2 ^ suc c < 2 ^ suc c = omega (arith, two-pow-succ c, first, second, low) in
           let below = low-below (region + seed) c in
-          absurd (omega (arith, first, second, whole, less, below))
+          absurd (omega (arith, first, second, add-mod region seed (2 ^ suc c) ∙ mod-eq_of_lt fits, low-unset (region + seed) c lacks, below))
     ]
 
 -- where something is carried into a column of the one word alone, the sum lacks it
@@ -47,16 +44,14 @@ sum_lacks region seed c is none carries =
     elim (cases_Bool (has_bit (region + seed) c)) [
       | inl there ↦
           let double = two-pow-succ c in
-          let first = low-set region c is in
           let second = low-unset seed c none in
           let region_low = low-below region c in
           let seed_low = low-below seed c in
           let rest = region % 2 ^ c + seed % 2 ^ c - 2 ^ c in
-          let all : region % 2 ^ suc c + seed % 2 ^ suc c ≡ 2 ^ suc c + rest = omega (arith, double, first, second, carries) in
+          let all : region % 2 ^ suc c + seed % 2 ^ suc c ≡ 2 ^ suc c + rest = omega (arith, double, low-set region c is, second, carries) in
           let fits : rest < 2 ^ suc c = omega (arith, double, region_low, seed_low, carries) in
           let whole : (region + seed) % 2 ^ suc c ≡ rest = add-mod region seed (2 ^ suc c) ∙ ap (λ n. n % 2 ^ suc c) all ∙ add-mod_left (2 ^ suc c) rest ∙ mod-eq_of_lt fits in
-          let more = low-set (region + seed) c there in
-          absurd (omega (arith, whole, more, region_low, seed_low, carries))
+          absurd (omega (arith, whole, low-set (region + seed) c there, region_low, seed_low, carries))
       | inr lacks ↦ lacks
     ]
 
@@ -98,13 +93,10 @@ module _ (region seed : ℕ) (low : region < 2 ^ 64) (part : IsPart (has_bit see
     -- where something is carried into a column, the set has the one before it
     carry_from : (c : ℕ) → 2 ^ c ≤ region % 2 ^ c + seed % 2 ^ c → (d : ℕ) × (d + 1 ≡ c) × (set d ≡ true)
     carry_from zero carries =
-        let first = low-below region 0 in
-        let second = low-below seed 0 in
         let unit : 2 ^ 0 ≡ 1 = omega arith in
-        absurd (omega (arith, first, second, unit, carries))
+        absurd (omega (arith, low-below region 0, low-below seed 0, unit, carries))
     carry_from (suc c) carries =
         let double = two-pow-succ c in
-        let region_low = low-below region c in
         let seed_low = low-below seed c in (
           c,
           omega arith,
@@ -114,12 +106,10 @@ module _ (region seed : ℕ) (low : region < 2 ^ 64) (part : IsPart (has_bit see
                 let second = low-unset seed c none in
                 elim (cases_Bool (has_bit region c)) [
                   | inl is ↦
-                      let first = low-set region c is in
-                      let before = carry_from c (omega (arith, double, first, second, carries)) in
+                      let before = carry_from c (omega (arith, double, low-set region c is, second, carries)) in
                       beside c before.0 (inr before.1) is before.2
                   | inr lacks ↦
-                      let first = low-unset region c lacks in
-                      absurd (omega (arith, double, first, second, carries, region_low, seed_low))
+                      absurd (omega (arith, double, low-unset region c lacks, second, carries, low-below region c, seed_low))
                 ]
           ],
         )
@@ -199,7 +189,6 @@ pub fewer_left : (left before next : ℕ) → before ≢ 0 → before < 2 ^ 64 �
 fewer_left left before next some low part next_is =
     let there = (lowest_left before before some low (λ _ is. is)).0 in
     let lowest = trailing_zeros w64 before in
-    let at_most = le_from_part next left (λ c is. (and_parts _ _ (sym (next_is c) ∙ is)).0) in
     let gone : has_bit next lowest ≡ false = next_is lowest ∙ ap (λ b. has_bit left lowest && not b) there ∙ and-false (has_bit left lowest) in
     let differs : next ≢ left = λ same. false≢true (sym gone ∙ ap (λ w. has_bit w lowest) same ∙ part lowest there) in
-    omega (arith, at_most, differs)
+    omega (arith, le_from_part next left (λ c is. (and_parts _ _ (sym (next_is c) ∙ is)).0), differs)

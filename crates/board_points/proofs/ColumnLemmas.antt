@@ -81,8 +81,7 @@ highest word low some =
     let j = top.0 in
     let at : 63 - leading_zeros w64 word ≡ j = omega (arith, top.1) in
     let whole : 1 * 2 ^ j + (word - 2 ^ j) ≡ word = omega (arith, top.2) in
-    let double = two-pow-succ j in
-    let under : word - 2 ^ j < 2 ^ j = omega (arith, top.2, top.3, double) in
+    let under : word - 2 ^ j < 2 ^ j = omega (arith, top.2, top.3, two-pow-succ j) in
     let first : j - j ≡ 0 = omega arith in
     ap (has_bit word) at
     ∙ ap (λ n. n == 1)
@@ -96,9 +95,8 @@ without_smaller word next col is gone elsewhere =
       | inl same ↦ ap (has_bit word) same ∙ is
       | inr other ↦ sym (elsewhere k other) ∙ there
     ] in
-    let at_most = le_from_part next word part in
     let differs : next ≢ word = λ same. false≢true (sym gone ∙ ap (λ w. has_bit w col) same ∙ is) in
-    omega (arith, at_most, differs)
+    omega (arith, le_from_part next word part, differs)
 
 -- what is left without its lowest column
 module _ (columns left next : ℕ) (some : left ≢ 0) (low : columns < 2 ^ 64) (part : IsPart (has_bit left) (has_bit columns)) (there : has_bit next (trailing_zeros w64 left) ≡ false) (elsewhere : (k : ℕ) → k ≢ trailing_zeros w64 left → has_bit next k ≡ has_bit left k) where

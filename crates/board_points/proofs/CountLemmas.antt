@@ -46,21 +46,17 @@ module _ (side : ℕ) (test : Point → Bool) where
   counted_row row word zero on fits same =
       let none : word % 2 ^ 0 ≡ 0 = omega arith in
       let base : row * side + 0 ≡ row * side = omega arith in
-      let first = ap counted base in
-      let last = ap count_ones none ∙ ones_of_bit 0 (omega arith) in
-      omega (arith, first, last)
+      omega (arith, ap counted base, ap count_ones none ∙ ones_of_bit 0 (omega arith))
   counted_row row word (suc c) on fits same =
-      let before = counted_row row word c on (omega arith) same in
       let at : point_at side (row * side + c) ≡ record { col = c; row = row } = point_at-index_of side (record { col = c; row = row }) (omega arith, on) in
       let next : row * side + suc c ≡ (row * side + c) + 1 = omega arith in
-      let more = ones_more word c in
       let width : suc c ≡ 1 + c = omega arith in
       ap counted next
       ∙ sum_by-map-range_with_len_more (λ p. cond (test p) 1 0) (point_at side) 0 (row * side + c) (row * side + c) (omega arith)
       ∙ ap (λ b. counted (row * side + c) + cond b 1 0) (ap test at ∙ same c (omega arith))
-      ∙ ap (λ m. m + cond (has_bit word c) 1 0) before
+      ∙ ap (λ m. m + cond (has_bit word c) 1 0) (counted_row row word c on (omega arith) same)
       ∙ add_assoc (counted (row * side)) (count_ones (word % 2 ^ c)) (cond (has_bit word c) 1 0)
-      ∙ ap (λ m. counted (row * side) + m) (sym more ∙ ap (λ k. count_ones (word % 2 ^ k)) (sym width))
+      ∙ ap (λ m. counted (row * side) + m) (sym (ones_more word c) ∙ ap (λ k. count_ones (word % 2 ^ k)) (sym width))
 
 -- how many of the points of the first rows are set in the one and not in the other
 abbrev pub apart_before : ℕ → List ℕ → List ℕ → ℕ → ℕ
@@ -91,10 +87,9 @@ pub record IsCounted (side : ℕ) (rows others : List ℕ) (row count : ℕ) : T
 
 pub counted_more : (side : ℕ) (rows others : List ℕ) (row word other count : ℕ) → IsCounted side rows others row count → side ≤ 52 → row < side → get_or rows row 0 ≡ word → get_or others row 0 ≡ other → word < 2 ^ 64 → other < 2 ^ 64 → ((p : Point) → IsTrue (is_set rows p) → IsOn side p) → IsCounted side rows others (row + 1) (count + count_ones (bit_and word (bit_not w64 other)))
 counted_more side rows others row word other count was small on is_word is_other low low_other board =
-    let more = apart_more side rows others row small on (omega (arith, is_other, low_other)) board in
     let same : count_ones (bit_and (get_or rows row 0) (bit_not w64 (get_or others row 0))) ≡ count_ones (bit_and word (bit_not w64 other)) = rw (is_word, is_other) in
     record {
-      value = omega (arith, was.value, more, same);
+      value = omega (arith, was.value, apart_more side rows others row small on (omega (arith, is_other, low_other)) board, same);
       few = omega (arith, was.few, ones-le 64 (bit_and word (bit_not w64 other)) (omega (arith, low, and_le_l word (bit_not w64 other))));
     }
 

@@ -251,8 +251,7 @@ module _ (d : Direction) (region first rows : List ℕ) (flags back row next giv
           elim (cases_eq r next) [
             | inl same ↦
                 (let home : n ≡ row = back_one d row next n is_next (subst (λ k. IsNext (opposite d) k n) same step) in
-                let unmarked : has_bit more next ≡ false = ap (has_bit more) (sym same) ∙ free in
-                let none = zero_of _ (taken_with back more next _ there unmarked) in
+                let none = zero_of _ (taken_with back more next _ there (ap (has_bit more) (sym same) ∙ free)) in
                 elim (had_or_took col (sym (at_next r col same) ∙ has)) [
                   | inl own ↦
                       still n col

@@ -25,8 +25,7 @@ pub row_inside : (own others : List ℕ) (middle i r free : ℕ) → r + 2 ≡ m
 row_inside own others middle i r free at below within off = record {
   are_free = λ col is.
       let low = off col is in
-      let none = not-true _ (sym (within col low) ∙ is) in
-      let parts = or_parts _ _ (sym (has_bit-or (get_or own r 0) (get_or others r 0) col) ∙ none) in
+      let parts = or_parts _ _ (sym (has_bit-or (get_or own r 0) (get_or others r 0) col) ∙ (not-true _ (sym (within col low) ∙ is))) in
       (record { col = col; row = r }, (refl, at), ((low, below), parts.0, parts.1));
   are_own = λ col is. (record { col = col; row = r }, (refl, at), is);
   has_others = λ p there is. ap (λ n. has_bit (get_or others n 0) p.col) (omega (arith, there, at)) ∙ is;

@@ -32,10 +32,9 @@ has_bit-low_half word col =
 has_bit-high_half : (word col : ℕ) → has_bit (word / 2 ^ 32) col ≡ has_bit word (32 + col)
 has_bit-high_half word col =
     let whole : word ≡ (word / 2 ^ 32) * 2 ^ 32 + word % 2 ^ 32 = omega arith in
-    let back : 32 + col - 32 ≡ col = omega arith in
     sym (ap (λ n. has_bit n (32 + col)) whole
     ∙ ap (λ n. n == 1) (bit_at_cat_high (word / 2 ^ 32) 32 (word % 2 ^ 32) (32 + col) (mod_below word (2 ^ 32) (pow_pos 32)) (omega arith))
-    ∙ ap (has_bit (word / 2 ^ 32)) back)
+    ∙ ap (has_bit (word / 2 ^ 32)) (omega arith))
 
 -- the point of the words that has a point of the high halves, and back
 abbrev pub shifted : Point → Point

@@ -56,24 +56,22 @@ pub rows-with_bit : (side : ℕ) (rows : List ℕ) (p : Point) → side ≤ leng
 rows-with_bit side rows p fits low on =
     let old = map (is_set rows) (points side) in
     let all : length old ≡ side * side = length-map (points side) (is_set rows) ∙ length-points side in
-    let below : index_of side p < length old = rw all (index_below side p on) in
     let within : p.row < length rows = omega (arith, on.1, fits) in
     let column : p.col < 64 = omega (arith, on.0, low) in
     ap (λ l. record { side = side; marks = l })
     (sym (is_map-points (is_set (with_bit rows p)) side (set old (index_of side p) true) false (length-set old (index_of side p) true ∙ all)
     (λ i h.
     let q = point_at side i in
-    let at = IsOn-point_at side i h in
     elim (cases_eq i (index_of side p)) [
       | inl same ↦
           ap (λ j. get_or (set old (index_of side p) true) j false) same
-          ∙ get_or-set_same old (index_of side p) true false below
+          ∙ get_or-set_same old (index_of side p) true false (rw all (index_below side p on))
           ∙ sym (ap (λ j. is_set (with_bit rows p) (point_at side j)) same ∙ ap (is_set (with_bit rows p)) (point_at-index_of side p on)
           ∙ is_set-same rows p within column)
       | inr other ↦
           get_or-set_other old (index_of side p) i true false other
           ∙ ap (λ j. get_or old j false) (sym (index_of-point_at side i h))
-          ∙ get_or-map-points (is_set rows) side q false at
+          ∙ get_or-map-points (is_set rows) side q false (IsOn-point_at side i h)
           ∙ sym (is_set-other rows p q within column (λ e. other (sym (index_of-point_at side i h) ∙ ap (index_of side) e)))
     ])))
 

@@ -55,14 +55,12 @@ get_or-points side i h = get_or-map-range_with_len (point_at side) 0 (side * sid
 pub slice_get-points : (side index : ℕ) (point : Point) → ((slice_get (points side) index ≡ Some point) ↔ (IsOn side point × (index ≡ index_of side point)))
 slice_get-points side index point = (
   λ at.
-      let within = slice_get_within (points side) index point at in
-      let below : index < side * side = rw (← length-points side) within in
+      let below : index < side * side = rw (← length-points side) (slice_get_within (points side) index point at) in
       let same : point_at side index ≡ point = sym (get_or-points side index below) ∙ get_or_from_slice_get (points side) index point origin at in
       (subst (IsOn side) same (IsOn-point_at side index below), sym (index_of-point_at side index below) ∙ ap (index_of side) same),
   λ w.
       let below : index < side * side = rw w.1 (index_below side point w.0) in
-      let within : index < length (points side) = rw length-points below in
-      slice_get-get_or (points side) index origin within
+      slice_get-get_or (points side) index origin (rw length-points below)
       ∙ ap Some (get_or-points side index below ∙ ap (point_at side) w.1 ∙ point_at-index_of side point w.0),
 )
 
@@ -83,8 +81,7 @@ Contains-take_more ps n q within = (
 -- a function of the points, in a list, read at a point's index
 pub get_or-map-points : {X : Type 0} (f : Point → X) (side : ℕ) (p : Point) (d : X) → IsOn side p → get_or (map f (points side)) (index_of side p) d ≡ f p
 get_or-map-points f side p d h =
-    let below : index_of side p < length (points side) = rw length-points (index_below side p h) in
-    get_or-map f (points side) (index_of side p) origin d below
+    get_or-map f (points side) (index_of side p) origin d (rw length-points (index_below side p h))
     ∙ ap f (get_or-points side (index_of side p) (index_below side p h) ∙ point_at-index_of side p h)
 
 -- a list as long as the grid is that of a function of the points which it is at each index
@@ -106,8 +103,7 @@ Decides-some_point side test P each = (
       (point_at side found.0, on, (each _ on).0 (ap test (sym (get_or-points side found.0 below)) ∙ found.2 origin)),
   λ w.
       let below = index_below side w.0 w.1 in
-      let within : index_of side w.0 < length (points side) = rw length-points below in
-      list_any_at test (points side) (index_of side w.0) origin within
+      list_any_at test (points side) (index_of side w.0) origin (rw length-points below)
       (ap test (get_or-points side _ below ∙ point_at-index_of side w.0 w.1) ∙ (each w.0 w.1).1 w.2),
 )
 

@@ -24,8 +24,7 @@ pub vertex_of_injective : (side : ℕ) (p q : Point) → side ≤ 25 → IsOn si
 unfolding vertex_of
 vertex_of_injective side p q letters hp hq same =
     let row : side - p.row ≡ side - q.row = ap (λ (v : Vertex). v.row) same in
-    let letter : slice_index column_letters p.col ≡ slice_index column_letters q.col = ap (λ (v : Vertex). v.letter) same in
     let rows : p.row ≡ q.row = omega arith in
     let cols : p.col ≡ q.col =
-    sym (column_of-letter p.col (omega arith)) ∙ ap column_of letter ∙ column_of-letter q.col (omega arith) in
+    sym (column_of-letter p.col (omega arith)) ∙ ap column_of (ap (λ (v : Vertex). v.letter) same) ∙ column_of-letter q.col (omega arith) in
     ap (λ a. record { col = a; row = p.row }) cols ∙ ap (λ b. record { col = q.col; row = b }) rows

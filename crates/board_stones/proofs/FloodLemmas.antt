@@ -54,10 +54,9 @@ IsUnderWay-step g k s t u p way on marked cleared same finds = record {
 pub complete : (g : Grid) (k : Cell) (s : Searched) → IsUnderWay g k s → s.waiting ≡ [] → (own : Cell) (p : Point) (path : List Point) → Leads g own k p path → IsTrue (is_marked s.marking p)
 complete g k s way none own p [] leads = way.begun p leads.0 leads.1
 complete g k s way none own p (q ∷ path) leads =
-    let at = Leads-on g own k q path leads.3 in
     let through : ReachesThrough g k q p =
     (AreAdjacent-sym p q leads.2, elim (step_kind g own k p q path leads) [ inl same ↦ inr (sym same) | inr there ↦ inl there ]) in
-    elim (way.closed q p at leads.0 (complete g k s way none own q path leads.3) through) [
+    elim (way.closed q p (Leads-on g own k q path leads.3) leads.0 (complete g k s way none own q path leads.3) through) [
       | inl waits ↦ absurd (omega (arith, waits.1, ap (λ (l : List Point). length l) none))
       | inr found ↦ found
     ]

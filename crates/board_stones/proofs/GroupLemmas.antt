@@ -42,8 +42,7 @@ grid_of-cells g f all each =
     ap (λ l. record { side = g.side; cells = l })
     (sym (is_map-points f g.side g.cells Empty all
     (λ i below.
-    let on = IsOn-point_at g.side i below in
-    ap (λ j. get_or g.cells j Empty) (sym (index_of-point_at g.side i below)) ∙ sym (each (point_at g.side i) on))))
+    ap (λ j. get_or g.cells j Empty) (sym (index_of-point_at g.side i below)) ∙ sym (each (point_at g.side i) (IsOn-point_at g.side i below)))))
 
 -- functions that agree on the points of a grid make the same one
 pub same_colours : (side : ℕ) (f h : Point → Cell) → ((p : Point) → IsOn side p → f p ≡ h p) → grid_of side f ≡ grid_of side h

@@ -136,13 +136,11 @@ module _ (g : Grid) (k : Colour) (rows others first : List ℕ) (small : g.side 
       along : (p : Point) (path : List Point) → is_set rows p ≡ true → Leads g (stone_of k) Empty p path → is_set reached p ≡ true
       along p [] own way = absurd (stone_of≢Empty k (sym (stone_there p own) ∙ way.1))
       along p (q ∷ []) own way =
-          let on = is_own.off p own in
           let at = way.3.0 in
           let free : IsFree rows others q = (subst (λ n. IsOn n q) (sym all) at, is_own.on q at ∙ empty_apart k (cell_at g q) way.3.1, is_other.on q at ∙ empty_apart (opponent k) (cell_at g q) way.3.1) in
-          grows.kept p (alive.to p (omega (arith, on.0, small)) own (q, free, AreAdjacent-sym p q way.2))
+          grows.kept p (alive.to p (omega (arith, (is_own.off p own).0, small)) own (q, free, AreAdjacent-sym p q way.2))
       along p (q ∷ r ∷ path) own way =
-          let next : is_set rows q ≡ true = is_own.on q way.3.0 ∙ (Decides-same_cell _ _).1 way.3.1 in
-          closed p q way.2 own (along q (r ∷ path) next way.3)
+          closed p q way.2 own (along q (r ∷ path) (is_own.on q way.3.0 ∙ (Decides-same_cell _ _).1 way.3.1) way.3)
 
       reached_is : (p : Point) → IsOn g.side p → is_set reached p ≡ (same_cell (cell_at g p) (stone_of k) && reaches g Empty p)
       unfolding reaching

@@ -26,10 +26,9 @@ unfolding Within reaching_within spread
 Decides-reaching_within g k zero p on =
     Decides-at _ _ (is_marked-marking_of g.side (λ q. same_cell (cell_at g q) k) p on) (Decides-same_cell _ _)
 Decides-reaching_within g k (suc n) p on =
-    let m = reaching_within g k n in
     Decides-at _ _ (is_marked-marking_of g.side _ p on)
     (Decides-or _ _ (Decides-reaching_within g k n p on)
-    (Decides-some_point g.side (leads_on g k m p) _
+    (Decides-some_point g.side (leads_on g k (reaching_within g k n) p) _
     (λ q at.
     Decides-and _ _ (Decides-are_adjacent p q)
     (Decides-and _ _ (Decides-reaching_within g k n q at)

@@ -96,12 +96,10 @@ pub same_since : (past : PastColourings) (turns n : ℕ) (es : List Earlier) (d 
 same_since past turns n [] d still [] older before is few = absurd cc
 same_since past turns n [] d still (state ∷ later) older before is few = absurd cc
 same_since past turns n (e ∷ es) d still [] older before is few =
-    let left : grew e.call ≡ false = still 0 few in
     let head : before ≡ state_of (past_before past e) (player_of e.mover) e.passes (turns_before turns e) = cc in
-    ap (λ (s : State). s.colouring) head ∙ rw left refl
+    ap (λ (s : State). s.colouring) head ∙ rw (still 0 few) refl
 same_since past turns n (e ∷ es) d still (state ∷ later) older before is few =
-    let left : grew e.call ≡ false = still 0 (omega (arith, few)) in
-    let same : past_before past e ≡ past = rw left refl in
+    let same : past_before past e ≡ past = rw (still 0 (omega (arith, few))) refl in
     let rest : states_before (past_before past e) (turns_before turns e) es ≡ later ++ before ∷ older = cc in
     same_since past (turns_before turns e) (n - 1) es d (λ i below. still (suc i) (omega (arith, below))) later older before
     (ap (λ p. states_before p (turns_before turns e) es) (sym same) ∙ rest) (omega (arith, few))

@@ -14,9 +14,8 @@ returns-then-next-rows-clause-filled c = λ start flags was.
     let l = c.rows in
     IsFilledBut-last c.args.direction c.args.region.now start l.rows flags l.flags l.row l.given (l.invariant.filled start flags was)
     (λ next step col there given.
-    let past = row_there c.args.region.now next col there in
     let at : c.next-next.result ≡ next = c.next-next.ensures.only next step in
-    absurd (omega (arith, past, at, c.if-next-rows.true, l.invariant.within.same)))
+    absurd (omega (arith, row_there c.args.region.now next col there, at, c.if-next-rows.true, l.invariant.within.same)))
 
 pub columns_apart-here-requires : goal.columns_apart-here-requires
 columns_apart-here-requires c = λ col is. c.rows.invariant.within.within (record { col = col; row = c.next-next.result }) is
@@ -40,10 +39,8 @@ rows-smaller c =
     let here = c.columns_apart-here in
     let taken = c.widened-taken in
     let next = c.next-next.result in
-    let low : here.result < 2 ^ 64 = search rules in
-    let room : slice_index c.args.region.now next < 2 ^ 64 = search rules in
     lacking-taken c.args.region.now l.rows next l.given here.result taken.result.0 c.if-next-rows.false l.invariant.within.within here.ensures taken.ensures.within
-    c.if-here-given-eq0.false low room taken.ensures.kept
+    c.if-here-given-eq0.false (search rules) (search rules) taken.ensures.kept
 
 pub rows-preserved : goal.rows-preserved
 rows-preserved c =
@@ -55,16 +52,13 @@ rows-preserved c =
     let word = bit_or (slice_index l.rows next) taken.result.0 in
     let after = set l.rows next word in
     let below : next < length l.rows = c.if-next-rows.false in
-    let low : here.result < 2 ^ 64 = search rules in
-    let room : slice_index region next < 2 ^ 64 = search rules in
     let long : length after ≡ length l.rows = length-set l.rows next word in
-    let few = l.invariant.within.few in
-    let is_next = c.next-next.ensures.next (omega (arith, below, few)) in
+    let is_next = c.next-next.ensures.next (omega (arith, below, l.invariant.within.few)) in
     let flags = c.with_flag-flags in
     record {
       within = record {
         same = long ∙ l.invariant.within.same;
-        few = omega (arith, long, few);
+        few = omega (arith, long, l.invariant.within.few);
         within = IsAmong-taken region l.rows next l.given here.result taken.result.0 below l.invariant.within.within here.ensures taken.ensures.within;
       };
       row = omega (arith, long, below);
@@ -77,5 +71,5 @@ rows-preserved c =
       more =
           HaveMore-twice c.args.rows.now l.rows after c.args.back l.flags flags.result l.invariant.more
           (inr (lacking-taken region l.rows next l.given here.result taken.result.0 below l.invariant.within.within here.ensures taken.ensures.within
-          c.if-here-given-eq0.false low room taken.ensures.kept));
+          c.if-here-given-eq0.false (search rules) (search rules) taken.ensures.kept));
     }

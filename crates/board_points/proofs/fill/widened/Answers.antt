@@ -12,8 +12,7 @@ columns_apart-left-requires-in-widen c = λ col is. (in_before c.widen.word c.wi
 
 pub widen-smaller : goal.widen-smaller
 widen-smaller c =
-    let low : bit_and (c.widen.word / 2 ^ 1) c.widen.left < 2 ^ 64 = search rules in
-    fewer_left c.widen.left (bit_and (c.widen.word / 2 ^ 1) c.widen.left) c.columns_apart-left-in-widen.result c.if-before-eq0.false low
+    fewer_left c.widen.left (bit_and (c.widen.word / 2 ^ 1) c.widen.left) c.columns_apart-left-in-widen.result c.if-before-eq0.false (search rules)
     (λ col is. (in_before c.widen.word c.widen.left col is).1) c.columns_apart-left-in-widen.ensures
 
 pub widen-preserved : goal.widen-preserved

@@ -12,6 +12,5 @@ loop-row-preserved c =
 
 pub returns : goal.returns
 returns c =
-    let l = c.loop-row in
-    HaveLiberty-all c.args.own.now c.args.others.now l.found (l.auto.found ∙ c.requires.found)
-    (λ r below. l.invariant r (omega (arith, below, c.loop-row-test.false)))
+    HaveLiberty-all c.args.own.now c.args.others.now c.loop-row.found (c.loop-row.auto.found ∙ c.requires.found)
+    (λ r below. c.loop-row.invariant r (omega (arith, below, c.loop-row-test.false)))

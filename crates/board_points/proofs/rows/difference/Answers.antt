@@ -6,13 +6,10 @@ use Rattle.board_points.proofs.rows.difference.Goals as goal
 pub loop-row-preserved : goal.loop-row-preserved
 loop-row-preserved c =
     let l = c.loop-row in
-    let rows = c.args.rows.now in
-    let others = c.args.others.now in
-    written_more (λ r w. w ≡ bit_and (slice_index rows r) (bit_not w64 (slice_index others r))) l.left l.row _
+    written_more (λ r w. w ≡ bit_and (slice_index c.args.rows.now r) (bit_not w64 (slice_index c.args.others.now r))) l.left l.row _
     (omega (arith, c.loop-row-test.true, l.auto.left, c.requires.left)) l.invariant refl
 
 pub returns : goal.returns
 returns c =
-    let l = c.loop-row in
-    IsDifference-all c.args.rows.now c.args.others.now l.left (l.auto.left ∙ c.requires.left) (search rules)
-    (λ r below. l.invariant r (omega (arith, below, c.loop-row-test.false)))
+    IsDifference-all c.args.rows.now c.args.others.now c.loop-row.left (c.loop-row.auto.left ∙ c.requires.left) (search rules)
+    (λ r below. c.loop-row.invariant r (omega (arith, below, c.loop-row-test.false)))

@@ -11,6 +11,5 @@ loop-row-preserved c =
 
 pub returns : goal.returns
 returns c =
-    let l = c.loop-row in
-    AreRowsOf-others c.args.rows.now l.others (l.auto.others ∙ c.requires.same)
-    (λ r below. l.invariant r (omega (arith, below, c.loop-row-test.false)))
+    AreRowsOf-others c.args.rows.now c.loop-row.others (c.loop-row.auto.others ∙ c.requires.same)
+    (λ r below. c.loop-row.invariant r (omega (arith, below, c.loop-row-test.false)))

@@ -4,8 +4,7 @@ use Rattle.board_points.proofs.points.Point.is_on.Goals as goal
 
 pub returns-then-self-side : goal.returns-then-self-side
 returns-then-self-side c =
-    let side = c.side-then-self-side in
-    let below = Decides-ltb c.args.self.row side.result in (
-      λ is. (omega (arith, c.if-self-side.true, c.side.ensures.value), omega (arith, below.0 is, side.ensures.value)),
-      λ on. below.1 (omega (arith, on.1, side.ensures.value)),
+    let below = Decides-ltb c.args.self.row c.side-then-self-side.result in (
+      λ is. (omega (arith, c.if-self-side.true, c.side.ensures.value), omega (arith, below.0 is, c.side-then-self-side.ensures.value)),
+      λ on. below.1 (omega (arith, on.1, c.side-then-self-side.ensures.value)),
     )

@@ -16,14 +16,11 @@ here c = record { own = c.args.here.own; others = c.args.here.others; free = c.w
 
 up : (c : After-columns_beside-in_doubt) → IsLookedAt c.args.own.now c.args.others.now c.args.point 0 c.args.first.free c.args.above 0
 up c =
-    let p = c.args.point in
-    let own = c.args.own.now in
-    let others = c.args.others.now in
     record {
       stones = c.requires.above;
-      free_above = free_elsewhere own others p 0 c.args.first (omega arith) c.requires.first;
-      free_here = free_elsewhere own others p 1 c.args.above (omega arith) c.requires.above;
-      free_below = none_free own others p 2;
+      free_above = free_elsewhere c.args.own.now c.args.others.now c.args.point 0 c.args.first (omega arith) c.requires.first;
+      free_here = free_elsewhere c.args.own.now c.args.others.now c.args.point 1 c.args.above (omega arith) c.requires.above;
+      free_below = none_free c.args.own.now c.args.others.now c.args.point 2;
     }
 
 along : (c : After-columns_beside-in_doubt) → IsLookedAt c.args.own.now c.args.others.now c.args.point 1 c.args.above.free (here c) c.args.below.free
@@ -45,14 +42,11 @@ along c =
 
 down : (c : After-columns_beside-in_doubt) → IsLookedAt c.args.own.now c.args.others.now c.args.point 2 0 c.args.below c.args.last.free
 down c =
-    let p = c.args.point in
-    let own = c.args.own.now in
-    let others = c.args.others.now in
     record {
       stones = c.requires.below;
-      free_above = none_free own others p 2;
-      free_here = free_elsewhere own others p 3 c.args.below (omega arith) c.requires.below;
-      free_below = free_elsewhere own others p 4 c.args.last (omega arith) c.requires.last;
+      free_above = none_free c.args.own.now c.args.others.now c.args.point 2;
+      free_here = free_elsewhere c.args.own.now c.args.others.now c.args.point 3 c.args.below (omega arith) c.requires.below;
+      free_below = free_elsewhere c.args.own.now c.args.others.now c.args.point 4 c.args.last (omega arith) c.requires.last;
     }
 
 -- no stone of the opponent beside the point is without a free point beside it
@@ -72,23 +66,21 @@ leaves_along c none q set next =
 
 leaves_across : (c : After-columns_beside-in_doubt) → NoneInDoubt c → LeavesAcross c.args.own.now c.args.others.now c.args.point
 leaves_across c none q set next =
-    let p = c.args.point in
     let own = c.args.own.now in
     let others = c.args.others.now in
     let in_doubt = c.columns_beside-in_doubt in
     let above = c.columns_beside-up in
     let below = c.columns_beside-down in
-    let above_low : c.args.above.others < 2 ^ 64 = search rules in
     let below_low : c.args.below.others < 2 ^ 64 = search rules in
     let up_low : above.result < 2 ^ 64 = search rules in
     let down_low : below.result < 2 ^ 64 = search rules in
     let column : c.from-col.result < 64 = omega (arith, c.from-col.ensures, c.requires.on_board.0, c.requires.rows.few) in
     let same = c.from-col.ensures ∙ next.0 in
     elim next.1 [
-      | inl row ↦ left_there own others p 2 0 c.args.below c.args.last.free (down c) below.result below.ensures.from q below_low down_low
+      | inl row ↦ left_there own others c.args.point 2 0 c.args.below c.args.last.free (down c) below.result below.ensures.from q below_low down_low
           (λ is. false≢true (sym none ∙ in_doubt.ensures.to c.from-col.result column (inr (inl (ap (has_bit (bit_and c.args.below.others (bit_not w64 below.result))) same ∙ is)))))
           (omega (arith, row)) set
-      | inr row ↦ left_there own others p 0 c.args.first.free c.args.above 0 (up c) above.result above.ensures.from q above_low up_low
+      | inr row ↦ left_there own others c.args.point 0 c.args.first.free c.args.above 0 (up c) above.result above.ensures.from q (search rules) up_low
           (λ is. false≢true (sym none ∙ in_doubt.ensures.to c.from-col.result column (inl (ap (has_bit (bit_and c.args.above.others (bit_not w64 above.result))) same ∙ is))))
           (omega (arith, row)) set
     ]

@@ -54,9 +54,8 @@ module _ (own others old : List ℕ) (from : Point) (joined row : ℕ) (at : row
 pub returns-then-is_in_one_row-clause-lives : goal.returns-then-is_in_one_row-clause-lives
 returns-then-is_in_one_row-clause-lives c = λ is.
     let own = c.args.own.now in
-    let joined = c.args.joined in
-    let low : joined < 2 ^ 64 = search rules in
-    let both = common_column joined c.columns_with_liberty.result low (λ none. false≢true (sym (ap (λ n. not (nat_eq n 0)) none) ∙ is)) in (
+    let low : c.args.joined < 2 ^ 64 = search rules in
+    let both = common_column c.args.joined c.columns_with_liberty.result low (λ none. false≢true (sym (ap (λ n. not (nat_eq n 0)) none) ∙ is)) in (
       record { col = both.0; row = c.args.from.row },
       record {
         own_stone = c.requires.row.within both.0 both.1;
@@ -149,8 +148,7 @@ returns-then-lives_ahead-clause-part c =
     let own = c.args.own.now in
     let others = c.args.others.now in
     let old = c.args.group.now in
-    let start = set old c.from-first.result c.args.joined in
-    part_linked own start c.lives_ahead.new.group c.args.from c.lives_ahead.ensures.grows
+    part_linked own (set old c.from-first.result c.args.joined) c.lives_ahead.new.group c.args.from c.lives_ahead.ensures.grows
     (linked own others old c.args.from c.args.joined c.from-first.result c.from-first.ensures c.requires.stone c.requires.row c.requires.none.all c.requires.none.none)
 
 pub returns-then-lives_ahead-2-clause-part : goal.returns-then-lives_ahead-2-clause-part

@@ -27,8 +27,7 @@ returns-then-taken-columns_with_liberty-ne0-clause-lives c = λ _.
     let own = c.args.own.now in
     let w = c.widened-taken in
     let next = c.next-next.result in
-    let low : w.result.0 < 2 ^ 64 = search rules in
-    let both = common_column w.result.0 c.columns_with_liberty.result low c.if-taken-columns_with_liberty-ne0.true in
+    let both = common_column w.result.0 c.columns_with_liberty.result (search rules) c.if-taken-columns_with_liberty-ne0.true in
     let below : next < length l.group = omega (arith, c.if-next-own.false, l.invariant.within.same) in
     let is_next = c.next-next.ensures.next (omega (arith, below, l.invariant.within.few)) in (
       record { col = both.0; row = next },
@@ -60,7 +59,5 @@ rows-preserved c =
 
 pub rows-smaller : goal.rows-smaller
 rows-smaller c =
-    let l = c.rows in
-    let next = c.next-next.result in
-    let few : next < 64 = omega (arith, c.if-next-own.false, l.invariant.within.same, l.invariant.within.few) in
-    fewer_ahead c.args.direction l.row next (c.next-next.ensures.next few) few
+    let few : c.next-next.result < 64 = omega (arith, c.if-next-own.false, c.rows.invariant.within.same, c.rows.invariant.within.few) in
+    fewer_ahead c.args.direction c.rows.row c.next-next.result (c.next-next.ensures.next few) few

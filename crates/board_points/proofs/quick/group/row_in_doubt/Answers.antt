@@ -7,8 +7,7 @@ use Rattle.board_points.proofs.quick.group.row_in_doubt.Goals as goal
 pub returns-then-joined-free-ne0-clause-lives : goal.returns-then-joined-free-ne0-clause-lives
 returns-then-joined-free-ne0-clause-lives c =
     let joined = c.joined_in_row-joined in
-    let low : joined.result < 2 ^ 64 = search rules in
-    let both = common_column joined.result c.columns_with_liberty-free.result low c.if-joined-free-ne0.true in (
+    let both = common_column joined.result c.columns_with_liberty-free.result (search rules) c.if-joined-free-ne0.true in (
       record { col = both.0; row = c.args.from.row },
       record {
         own_stone = joined.ensures.within both.0 both.1;

@@ -9,8 +9,7 @@ use Rattle.board_points.proofs.quick.group.some_lives.Goals.{else-group-row-ne0-
 pub returns-then-group-row-ne0-2-clause-lives : goal.returns-then-group-row-ne0-2-clause-lives
 returns-then-group-row-ne0-2-clause-lives c = λ _.
     let word = slice_index c.args.group.now c.rows.row in
-    let low : word < 2 ^ 64 = search rules in
-    let both = common_column word c.columns_with_liberty.result low c.if-group-row-ne0-2.true in
+    let both = common_column word c.columns_with_liberty.result (search rules) c.if-group-row-ne0-2.true in
     (record { col = both.0; row = c.rows.row }, both.1, c.columns_with_liberty.ensures.from both.0 both.2)
 
 pub rows-preserved : goal.rows-preserved

@@ -30,15 +30,13 @@ rows-preserved c =
     left_high word other.result alone.result low_word other_fits alone.ensures.within alone.ensures.off
     ∙ ap (λ w. bit_and (word / 2 ^ 32) (bit_not w64 w)) other.ensures.high in
     let both : count_ones alone.result ≡ count_ones (alone.result / 2 ^ 32) + count_ones (alone.result % 2 ^ 32) = ones_by_halves alone.result in
-    let in_low = ap count_ones low in
-    let in_high = ap count_ones high in
     let one = c.rows.in_one in
     let black = c.rows.in_black in
     let black_too = c.rows.invariant.black_too in
     record {
-      black = subst (λ k. IsCounted n (low_halves areas) (high_halves areas) (row + 1) (black + k)) (sym in_low)
+      black = subst (λ k. IsCounted n (low_halves areas) (high_halves areas) (row + 1) (black + k)) (sym (ap count_ones low))
           (counted_more n (low_halves areas) (high_halves areas) row _ _ black c.rows.invariant.black small on low_is high_is low_fits high_fits c.requires.black_on);
-      white = subst (IsCounted n (high_halves areas) (low_halves areas) (row + 1)) (omega (arith, both, in_high, black_too))
+      white = subst (IsCounted n (high_halves areas) (low_halves areas) (row + 1)) (omega (arith, both, ap count_ones high, black_too))
           (counted_more n (high_halves areas) (low_halves areas) row _ _ (one - black) c.rows.invariant.white small on high_is low_is high_fits low_fits c.requires.white_on);
       black_too = omega (arith, both, black_too);
     }

@@ -23,17 +23,15 @@ rows-init c = record { areas = λ r low. absurd (omega arith); region = λ r low
 
 pub returns-clause-areas : goal.returns-clause-areas
 returns-clause-areas c =
-    let l = c.rows in
-    let long = l.auto.areas ∙ c.requires.areas in
-    paired_all c.args.black.now c.args.white.now l.areas long (long ∙ sym c.requires.stones.same)
-    (λ r below. l.invariant.areas r (omega (arith, below, long, c.rows-test.false)))
+    let long = c.rows.auto.areas ∙ c.requires.areas in
+    paired_all c.args.black.now c.args.white.now c.rows.areas long (long ∙ sym c.requires.stones.same)
+    (λ r below. c.rows.invariant.areas r (omega (arith, below, long, c.rows-test.false)))
 
 pub returns-clause-region : goal.returns-clause-region
 returns-clause-region c =
-    let l = c.rows in
-    let long = l.auto.region ∙ c.requires.region in
-    others_paired_all c.args.black.now c.args.white.now l.region long (long ∙ sym c.requires.stones.same)
-    (λ r below. l.invariant.region r (omega (arith, below, long, c.rows-test.false)))
+    let long = c.rows.auto.region ∙ c.requires.region in
+    others_paired_all c.args.black.now c.args.white.now c.rows.region long (long ∙ sym c.requires.stones.same)
+    (λ r below. c.rows.invariant.region r (omega (arith, below, long, c.rows-test.false)))
 
 pub rows-preserved : goal.rows-preserved
 rows-preserved c =

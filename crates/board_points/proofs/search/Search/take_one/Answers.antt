@@ -36,8 +36,7 @@ invariant_of-self c =
 
 pub returns-then-self-eq0-clause-none_waits : goal.returns-then-self-eq0-clause-none_waits
 returns-then-self-eq0-clause-none_waits c =
-    let i = c.self.inside in
-    sym (ap (λ (s : Searched). s.waiting) c.self.view_is) ∙ ap (λ n. take n i.points) c.if-self-eq0.true
+    sym (ap (λ (s : Searched). s.waiting) c.self.view_is) ∙ ap (λ n. take n c.self.inside.points) c.if-self-eq0.true
 
 pub returns : goal.returns
 returns c =

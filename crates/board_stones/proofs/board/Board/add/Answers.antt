@@ -23,10 +23,9 @@ both : (c : After-with_column-column)
 both c =
     let i = c.self.inside in
     let p = c.args.point in
-    let g = c.args.self.now in
     let column = c.with_column-column.result in
-    let is : grid_with i.size i.black i.white ≡ g = c.self.view_is in
-    let side : i.size ≡ g.side = ap (λ (h : Grid). h.side) is in
+    let is : grid_with i.size i.black i.white ≡ c.args.self.now = c.self.view_is in
+    let side : i.size ≡ c.args.self.now.side = ap (λ (h : Grid). h.side) is in
     let on : IsOn i.size p = subst (λ n. IsOn n p) (sym side) c.requires.on_board in
     let empty = ap (λ h. cell_at h p) is ∙ c.requires.empty in
     let all = ap (λ (h : Grid). length h.cells) is ∙ c.has_all_cells.ensures.all ∙ ap (λ n. n * n) (sym side) in

@@ -21,11 +21,10 @@ returns-clause-group c =
 
 pub returns-clause-alive : goal.returns-clause-alive
 returns-clause-alive c =
-    let g = c.args.self.now in
     let k = c.args.colour in
     let own = c.rows_of in
     let other = c.rows_of-2 in
-    let are = rows_of_opponent g k c.opponent.result other.result.now c.opponent.ensures other.ensures.are in
+    let are = rows_of_opponent c.args.self.now k c.opponent.result other.result.now c.opponent.ensures other.ensures.are in
     let adds = c.add_to_either.ensures.alive in
     record {
       all = adds.all ∙ c.requires.alive.all;
@@ -35,6 +34,6 @@ returns-clause-alive c =
             | inr new ↦
                 (let on = own.ensures.are.off p new.0 in
                 let stone = (Decides-same_cell _ _).0 (sym (own.ensures.are.on p on) ∙ new.0) in
-                Reaches-liberty g k own.result.now other.result.now p own.ensures.rows own.ensures.are are on stone new.1.0 new.1.1)
+                Reaches-liberty c.args.self.now k own.result.now other.result.now p own.ensures.rows own.ensures.are are on stone new.1.0 new.1.1)
           ];
     }

@@ -21,7 +21,6 @@ rows-preserved c =
 pub returns : goal.returns
 unfolding with_rectangle
 returns c =
-    let op = c.args.op in
     c.rows.invariant
-    ∙ painted_all c.args.self.now (is_in op.area) op.cell c.rows.row
-    (λ p is. let rows = rectangle_rows op.area p is in omega (arith, rows, c.rows-test.false))
+    ∙ painted_all c.args.self.now (is_in c.args.op.area) c.args.op.cell c.rows.row
+    (λ p is. let rows = rectangle_rows c.args.op.area p is in omega (arith, rows, c.rows-test.false))

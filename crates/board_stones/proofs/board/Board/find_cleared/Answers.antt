@@ -59,16 +59,14 @@ returns-clause-cleared c = λ is.
 
 pub returns-clause-none : goal.returns-clause-none
 returns-clause-none c = λ fails.
-    let g = c.args.self.now in
-    let k = c.args.colour in
     let p = c.args.point in
-    let placed = with_cell g p (stone_of k) in
+    let placed = with_cell c.args.self.now p (stone_of c.args.colour) in
     let here : c.add.new.self ≡ placed = c.add.ensures in
     elim c.if-not-some.branch [
       | then-not-some w ↦
-          let reach : ReachBeside placed (opponent k) p =
+          let reach : ReachBeside placed (opponent c.args.colour) p =
           subst (λ o. ReachBeside placed o p) c.opponent.ensures (subst (λ h. ReachBeside h c.opponent.result p) here (c.find_shut_beside-some.ensures.lives w.if-not-some.true)) in
-          clears_nothing g p k c.requires.stone.on_board c.has_all_cells.ensures.all c.requires.stone.settled
+          clears_nothing c.args.self.now p c.args.colour c.requires.stone.on_board c.has_all_cells.ensures.all c.requires.stone.settled
           ((λ _. subst (λ h. Reaches h Empty p) here (w.find_suicide-some.ensures.lives (sym w.some-is ∙ fails))), reach)
       | else-not-some w ↦ absurd (false≢true (sym fails ∙ w.some-is ∙ w.if-not-some.false))
     ]

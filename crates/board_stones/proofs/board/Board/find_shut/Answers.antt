@@ -22,10 +22,9 @@ group : (c : After-fill_if_shut) → c.fill_if_shut.result ≡ true → AddsGrou
 group c is =
     let g = c.args.self.now in
     let own = c.rows_of in
-    let other = c.rows_of-2 in
     let new = c.fill_if_shut.new.group in
-    AddsGroup-rows g c.args.colour own.result.now other.result.now c.args.shut.now new c.args.point true own.ensures.rows own.ensures.are
-    (rows_of_opponent g c.args.colour c.opponent.result other.result.now c.opponent.ensures other.ensures.are)
+    AddsGroup-rows g c.args.colour own.result.now c.rows_of-2.result.now c.args.shut.now new c.args.point true own.ensures.rows own.ensures.are
+    (rows_of_opponent g c.args.colour c.opponent.result c.rows_of-2.result.now c.opponent.ensures c.rows_of-2.ensures.are)
     (record { on_board = c.requires.on_board; stone = c.requires.stone; shut = AreShutGroups-none g c.args.colour c.args.shut.now c.requires.none.all c.requires.none.none })
     (record {
       lives = λ no. absurd (false≢true (sym no));

@@ -31,7 +31,6 @@ loop-at-init c = record {
 pub loop-at-preserved : goal.loop-at-preserved
 loop-at-preserved c =
     let g = c.args.self.now in
-    let k = c.args.colour in
     let before = c.loop-at.invariant in
     let turn = λ (q : Point). Contains-take_more c.neighbours-beside.result c.loop-at.at-index q (omega arith) in
     elim c.if-is_unsearched.branch [
@@ -43,8 +42,8 @@ loop-at-preserved c =
             adds = search (rules, adds_either, before.adds, now, w.some-is);
             beside = λ q among on.
                 elim ((turn q).0 among) [
-                  | inl earlier ↦ cleared_still g k _ _ q now.adds.kept (before.beside q earlier on)
-                  | inr is ↦ subst (IsClearedOrReaches g k w.add_to_either-some.new.shut) (sym is) now.here
+                  | inl earlier ↦ cleared_still g c.args.colour _ _ q now.adds.kept (before.beside q earlier on)
+                  | inr is ↦ subst (IsClearedOrReaches g c.args.colour w.add_to_either-some.new.shut) (sym is) now.here
                 ];
           })
       | else-is_unsearched w ↦

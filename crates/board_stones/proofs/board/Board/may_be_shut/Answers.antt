@@ -17,10 +17,8 @@ lives_in_row-requires c =
 
 pub returns-clause-lives : goal.returns-clause-lives
 returns-clause-lives c = λ lives on stone.
-    let g = c.args.self.now in
-    let k = c.args.colour in
     let own = c.rows_of in
     let other = c.rows_of-2 in
-    let are = rows_of_opponent g k c.opponent.result other.result.now c.opponent.ensures other.ensures.are in
+    let are = rows_of_opponent c.args.self.now c.args.colour c.opponent.result other.result.now c.opponent.ensures other.ensures.are in
     let w = c.lives_in_row.ensures (not-false c.lives_in_row.result lives) in
-    Reaches-liberty g k own.result.now other.result.now c.args.point own.ensures.rows own.ensures.are are on stone w.0 w.1
+    Reaches-liberty c.args.self.now c.args.colour own.result.now other.result.now c.args.point own.ensures.rows own.ensures.are are on stone w.0 w.1

@@ -11,9 +11,8 @@ returns-then-eq c =
     let o = c.other.inside in
     let sizes = (Decides-eqb i.size o.size).0 (not-false _ (sym c.ne.ensures ∙ c.if-ne.false)) in
     let same = same_rows c.from-side.result i.size o.size i.black i.white o.black o.white _ _ (c.from-side.ensures ∙ c.side.ensures.value) sizes c.self.view_is c.other.view_is c.self.invariant.0 c.other.invariant.0 in
-    let blacks = (slice_eq-Decides Decides-eqb _ _ c.eq.result c.eq.ensures).0 c.if-eq.true in
     let whites = slice_eq-Decides Decides-eqb _ _ c.eq-then-eq.result c.eq-then-eq.ensures in
-    (λ is. same.0 (blacks, whites.0 is), λ e. whites.1 (same.1 e).1)
+    (λ is. same.0 ((slice_eq-Decides Decides-eqb _ _ c.eq.result c.eq.ensures).0 c.if-eq.true, whites.0 is), λ e. whites.1 (same.1 e).1)
 
 pub returns-else-eq : goal.returns-else-eq
 returns-else-eq c =

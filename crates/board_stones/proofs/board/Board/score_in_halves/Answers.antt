@@ -13,14 +13,12 @@ use Rattle.board_stones.proofs.board.Board.score_in_halves.Goals.{After-fill}
 
 pub fill-requires : goal.fill-requires
 fill-requires c =
-    let g = c.args.self.now in
-    let black = c.rows_of in
     let white = c.rows_of-2 in
     record {
       same = search rules;
       few = search rules;
-      within = stones_within g black.result.now white.result.now c.pair_rows.new.areas c.pair_rows.new.region c.requires
-          black.ensures.are white.ensures.are black.ensures.rows white.ensures.rows c.pair_rows.ensures.areas c.pair_rows.ensures.region;
+      within = stones_within c.args.self.now c.rows_of.result.now white.result.now c.pair_rows.new.areas c.pair_rows.new.region c.requires
+          c.rows_of.ensures.are white.ensures.are c.rows_of.ensures.rows white.ensures.rows c.pair_rows.ensures.areas c.pair_rows.ensures.region;
     }
 
 module _ (c : After-fill) where
@@ -30,10 +28,9 @@ module _ (c : After-fill) where
   pub are : AreRowsOf c.args.self.now.side (reaches_through_own c.args.self.now Empty (stone_of Black)) (low_halves c.fill.new.rows)
       × AreRowsOf c.args.self.now.side (reaches_through_own c.args.self.now Empty (stone_of White)) (high_halves c.fill.new.rows)
   are =
-      let black = c.rows_of in
       let white = c.rows_of-2 in
-      areas c.args.self.now black.result.now white.result.now c.pair_rows.new.areas c.pair_rows.new.region c.requires
-      black.ensures.are white.ensures.are black.ensures.rows white.ensures.rows c.pair_rows.ensures.areas c.pair_rows.ensures.region
+      areas c.args.self.now c.rows_of.result.now white.result.now c.pair_rows.new.areas c.pair_rows.new.region c.requires
+      c.rows_of.ensures.are white.ensures.are c.rows_of.ensures.rows white.ensures.rows c.pair_rows.ensures.areas c.pair_rows.ensures.region
       c.fill.new.rows c.fill.ensures.grows c.fill.ensures.closed
 
 pub count_halves-requires-clause-black_on : goal.count_halves-requires-clause-black_on

@@ -56,8 +56,7 @@ invariant_of-self-2 g c =
 -- these two are only there for speed
 pub overflow_add-self : goal.overflow_add-self
 overflow_add-self g c =
-    let few : c.self.inside.turns ≤ length (reverse c.self.inside.earlier.items) = c.self.invariant.few_turns in
-    omega (arith, rw length-reverse at few)
+    omega (arith, rw length-reverse at c.self.invariant.few_turns)
 
 pub returns-clause-ok : goal.returns-clause-ok
 returns-clause-ok g c =

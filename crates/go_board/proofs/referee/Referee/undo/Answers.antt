@@ -48,17 +48,15 @@ returns-then-grew-clause-value g c =
     let past = g.P.Past.held c.self.inside.past in
     let kept : Earlier = c.unwrap-earlier.result in
     let parts : c.self.inside.earlier.items ≡ c.pop.new.self.items ++ kept ∷ [] = search rules in
-    let newest : reverse c.self.inside.earlier.items ≡ kept ∷ reverse c.pop.new.self.items = ap reverse parts ∙ reverse-append c.pop.new.self.items (kept ∷ []) in
     let from : c.from.result ≡ from_bool (turned kept.call) = search rules in
     let is : past_before past kept ≡ g.P.Past.held c.pop-then-grew.new.self = ap (λ b. cond b (past_of_older past past.older) past) (sym c.grew.ensures ∙ c.if-grew.true) ∙ ap (past_of_older past) c.pop-then-grew.ensures in
-    rw (sym c.self.view_is) (simp (newest, is, from) refl)
+    rw (sym c.self.view_is) (simp (ap reverse parts ∙ reverse-append c.pop.new.self.items (kept ∷ []), is, from) refl)
 
 pub returns-else-grew-clause-value : goal.returns-else-grew-clause-value
 returns-else-grew-clause-value g c =
     let past = g.P.Past.held c.self.inside.past in
     let kept : Earlier = c.unwrap-earlier.result in
     let parts : c.self.inside.earlier.items ≡ c.pop.new.self.items ++ kept ∷ [] = search rules in
-    let newest : reverse c.self.inside.earlier.items ≡ kept ∷ reverse c.pop.new.self.items = ap reverse parts ∙ reverse-append c.pop.new.self.items (kept ∷ []) in
     let from : c.from.result ≡ from_bool (turned kept.call) = search rules in
     let is : past_before past kept ≡ past = ap (λ b. cond b (past_of_older past past.older) past) (sym c.grew.ensures ∙ c.if-grew.false) in
-    rw (sym c.self.view_is) (simp (newest, is, from) refl)
+    rw (sym c.self.view_is) (simp (ap reverse parts ∙ reverse-append c.pop.new.self.items (kept ∷ []), is, from) refl)

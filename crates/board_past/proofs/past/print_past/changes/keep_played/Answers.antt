@@ -33,8 +33,7 @@ loop-row-preserved c =
 
 pub returns : goal.returns
 returns c = λ k move.
-    let g = c.args.board.now in
     let all : c.loop-row.row ≡ c.rows_to_keep-row-end.result = omega arith in
-    kept_rest (c.loop-row.invariant.kept k move) g.side (omega (arith, all, c.rows_to_keep-row-end.ensures.few))
+    kept_rest (c.loop-row.invariant.kept k move) c.args.board.now.side (omega (arith, all, c.rows_to_keep-row-end.ensures.few))
     (λ r rest low. let still = c.rows_to_keep-row-end.ensures.rest r (omega (arith, rest, all)) (omega (arith, low)) in
-    (still.0, row_kept g k c.args.point c.args.cleared.now r move low still.1 still.2))
+    (still.0, row_kept c.args.board.now k c.args.point c.args.cleared.now r move low still.1 still.2))

@@ -7,32 +7,28 @@ use Rattle.board_past.proofs.past.print_past.print.number_by_bytes.Goals as goal
 pub loop-byte-preserved : goal.loop-byte-preserved
 loop-byte-preserved c =
     let m = 2 ^ 64 in
-    let was = c.loop-byte.invariant in
     let left = c.loop-byte.left in
-    let byte = c.loop-byte.byte in
     let shifted = c.args.columns * 2 ^ (8 * c.div_ceil-bytes.result - c.args.side) % m in
-    let number = word_number (8 * byte) shifted in
+    let number = word_number (8 * c.loop-byte.byte) shifted in
     let next = c.byte_number in
     let fits : next.result < m = search rules in
-    let next_is : next.result ≡ word_number 8 left % m = sym (mod-eq_of_lt fits) ∙ ap (λ n. n % m) next.ensures in
     record {
-      rest = byte_less shifted left byte was.rest;
-      same = ap (λ n. (n * c.small_power.result % m + next.result) % m) was.same
+      rest = byte_less shifted left c.loop-byte.byte c.loop-byte.invariant.rest;
+      same = ap (λ n. (n * c.small_power.result % m + next.result) % m) c.loop-byte.invariant.same
           ∙ ap (λ n. (number % m * n % m + next.result) % m) c.small_power.ensures
-          ∙ ap (λ n. (number % m * (31 ^ 8 % m) % m + n) % m) next_is
+          ∙ ap (λ n. (number % m * (31 ^ 8 % m) % m + n) % m) (sym (mod-eq_of_lt fits) ∙ ap (λ n. n % m) next.ensures)
           ∙ digit_more m (31 ^ 8) number (word_number 8 left)
-          ∙ ap (λ n. n % m) (sym (byte_more shifted left byte was.rest));
+          ∙ ap (λ n. n % m) (sym (byte_more shifted left c.loop-byte.byte c.loop-byte.invariant.rest));
     }
 
 pub returns : goal.returns
 returns c =
     let m = 2 ^ 64 in
     let side = c.args.side in
-    let word = c.args.columns in
     let bytes = c.div_ceil-bytes.result in
     let up = 8 * bytes - side in
     let enough : (side ≤ 8 * bytes) × (8 * bytes ≤ 56) = omega (arith, c.div_ceil-bytes.ensures, c.requires.side) in
     let all : 8 * c.loop-byte.byte ≡ up + side = omega (arith, c.loop-byte-test.false, c.loop-byte.auto.byte-end, enough) in
     c.loop-byte.invariant.same
-    ∙ ap (λ n. word_number n (word * 2 ^ up % m) % m) all
-    ∙ ap (λ n. n % m) (shifted_number side up word (omega (arith, enough)))
+    ∙ ap (λ n. word_number n (c.args.columns * 2 ^ up % m) % m) all
+    ∙ ap (λ n. n % m) (shifted_number side up c.args.columns (omega (arith, enough)))

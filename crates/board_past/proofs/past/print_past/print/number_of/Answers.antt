@@ -7,20 +7,17 @@ use Rattle.board_past.proofs.past.print_past.print.number_of.Goals as goal
 
 pub returns-then-columns-eq0 : goal.returns-then-columns-eq0
 returns-then-columns-eq0 c =
-    let side = c.args.side in
-    ap (λ n. n % 2 ^ 64) (sym (no_column side))
-    ∙ ap (λ n. word_number side n % 2 ^ 64) (sym c.if-columns-eq0.true)
+    ap (λ n. n % 2 ^ 64) (sym (no_column c.args.side))
+    ∙ ap (λ n. word_number c.args.side n % 2 ^ 64) (sym c.if-columns-eq0.true)
 
 pub overflow_sub-from : goal.overflow_sub-from
 overflow_sub-from c =
-    let word = c.args.columns in
-    let found = lowest_left word word c.if-columns-eq0.false (search rules) (λ k is. is) in
+    let found = lowest_left c.args.columns c.args.columns c.if-columns-eq0.false (search rules) (λ k is. is) in
     omega (arith, c.from.ensures, c.requires.columns _ found.0)
 
 pub overflow_sub-from-then-without_column-eq0 : goal.overflow_sub-from-then-without_column-eq0
 overflow_sub-from-then-without_column-eq0 c =
-    let word = c.args.columns in
-    let found = lowest_left word word c.if-columns-eq0.false (search rules) (λ k is. is) in
+    let found = lowest_left c.args.columns c.args.columns c.if-columns-eq0.false (search rules) (λ k is. is) in
     omega (arith, c.from.ensures, c.requires.columns _ found.0)
 
 pub returns-then-without_column-eq0 : goal.returns-then-without_column-eq0

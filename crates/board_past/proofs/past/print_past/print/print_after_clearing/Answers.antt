@@ -25,7 +25,6 @@ returns c =
     let k = c.args.colour in
     let p = c.args.point in
     let cleared = c.args.cleared.now in
-    let made = with_cell g p (stone_of k) in
     let left = play g k p in
     let played = c.requires.stone.cleared.played in
     let side = side_play g k p in
@@ -35,18 +34,16 @@ returns c =
     let is : c.has_point-is_cleared.result ≡ is_set cleared p = c.has_point-is_cleared.ensures in
     elim c.if-is_cleared.branch [
       | then-is_cleared w ↦
-          let there : is_set cleared p ≡ true = sym is ∙ w.if-is_cleared.true in
           search (print_left g g left cleared refl side
           (λ q on gone. (played.emptied q on gone, refl))
           (λ q on none.
-          let other : q ≢ p = λ e. false≢true (sym none ∙ ap (is_set cleared) e ∙ there) in
+          let other : q ≢ p = λ e. false≢true (sym none ∙ ap (is_set cleared) e ∙ (sym is ∙ w.if-is_cleared.true)) in
           sym (played.kept q on (λ gone. false≢true (sym none ∙ gone)) ∙ cell_at-with_cell_elsewhere g p q (stone_of k) c.requires.stone.on_board on other))
           all all_left c.if-is_cleared.put c.print_within.result (w.put-is ∙ c.requires.print) c.print_within.ensures)
       | else-is_cleared w ↦
-          let not_there : is_set cleared p ≡ false = sym is ∙ w.if-is_cleared.false in
-          search (print_left g made left cleared refl side
+          search (print_left g (with_cell g p (stone_of k)) left cleared refl side
           (λ q on gone.
-          let other : q ≢ p = λ e. false≢true (sym not_there ∙ ap (is_set cleared) (sym e) ∙ gone) in
+          let other : q ≢ p = λ e. false≢true (sym (sym is ∙ w.if-is_cleared.false) ∙ ap (is_set cleared) (sym e) ∙ gone) in
           (played.emptied q on gone, cell_at-with_cell_elsewhere g p q (stone_of k) c.requires.stone.on_board on other))
           (λ q on none. sym (played.kept q on (λ gone. false≢true (sym none ∙ gone))))
           all_made all_left c.if-is_cleared.put c.print_within.result (w.put-is ∙ w.print_after_stone-put.ensures) c.print_within.ensures)

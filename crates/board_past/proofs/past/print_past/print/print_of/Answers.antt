@@ -9,10 +9,7 @@ loop-row-preserved c =
     let g = c.args.board.now in
     let row = c.loop-row.row in
     let side = c.side-side.result in
-    let black = c.columns_of in
-    let white = c.columns_of-in-loop-row in
-    let black_number = word_number side black.result in
-    let white_number = word_number side white.result in
+    let black_number = word_number side c.columns_of.result in
     let base = 31 ^ g.side in
     let number = in_base base row (row_number g) in
     let side_is : g.side ≡ side = omega (arith, c.side-side.ensures.value, c.size.ensures) in
@@ -21,10 +18,10 @@ loop-row-preserved c =
     c.in_both.ensures
     ∙ ap (λ n. (n + 2 * c.number_of-white.result) % m) c.number_of-black.ensures
     ∙ ap (λ n. (black_number % m + 2 * n) % m) c.number_of-white.ensures
-    ∙ sum_of_both black_number white_number m
-    ∙ ap (λ n. n % m) (sym (row_by_words g row side black.result white.result side_is
-    (λ col low. black.ensures.within col (omega (arith, low, side_is)))
-    (λ col low. white.ensures.within col (omega (arith, low, side_is))))) in
+    ∙ sum_of_both black_number (word_number side c.columns_of-in-loop-row.result) m
+    ∙ ap (λ n. n % m) (sym (row_by_words g row side c.columns_of.result c.columns_of-in-loop-row.result side_is
+    (λ col low. c.columns_of.ensures.within col (omega (arith, low, side_is)))
+    (λ col low. c.columns_of-in-loop-row.ensures.within col (omega (arith, low, side_is))))) in
     ap (λ n. (n * c.small_power-shift.result % m + c.in_both.result) % m) c.loop-row.invariant
     ∙ ap (λ n. (number % m * n % m + c.in_both.result) % m) shift
     ∙ ap (λ n. (number % m * (base % m) % m + n) % m) row_is

@@ -32,17 +32,15 @@ loop-row-preserved c =
     let shift_is : shift ≡ base % m = c.small_power-shift.ensures ∙ ap (λ n. 31 ^ n % m) (c.from.ensures ∙ sym side_is) in
     elim c.if-within-ne0.branch [
       | then-within-ne0 w ↦
-          let black = w.columns_of in
           let white = w.columns_of-then-within-ne0 in
-          let black_number = word_number side (bit_and black.result within.result) in
-          let white_number = word_number side (bit_and white.result within.result) in
+          let black_number = word_number side (bit_and w.columns_of.result within.result) in
           let row_is : w.in_both-print.result ≡ digits row % m =
           w.in_both-print.ensures
           ∙ ap (λ n. (n + 2 * w.number_of-white.result) % m) w.number_of-black.ensures
           ∙ ap (λ n. (black_number % m + 2 * n) % m) w.number_of-white.ensures
-          ∙ sum_of_both black_number white_number m
-          ∙ ap (λ n. n % m) (sym (row_within_words g row within.result side black.result white.result side_is
-          (λ col low. black.ensures.within col (omega (arith, low, side_is)))
+          ∙ sum_of_both black_number (word_number side (bit_and white.result within.result)) m
+          ∙ ap (λ n. n % m) (sym (row_within_words g row within.result side w.columns_of.result white.result side_is
+          (λ col low. w.columns_of.ensures.within col (omega (arith, low, side_is)))
           (λ col low. white.ensures.within col (omega (arith, low, side_is)))))
           ∙ ap (λ n. row_within g n row % m) within.ensures in
           w.print-is

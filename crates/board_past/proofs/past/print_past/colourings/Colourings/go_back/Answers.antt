@@ -58,12 +58,11 @@ each-init c =
             high = rw w.at-is (omega (arith, lt));
           }
       | else-at-len w ↦
-          let same : c.args.board.now ≡ p.newest = c.requires.newest ∙ ap newest_grid (sym c.self.view_is) in
           let at : to.result.0 ≡ length p.older.items = omega (arith, found.high, w.if-at-len.false, count) in
           record {
             there = (
               p.stretch_start,
-              rw (w.board-is, w.at-is, w.end-is, same)
+              rw (w.board-is, w.at-is, w.end-is, c.requires.newest ∙ ap newest_grid (sym c.self.view_is))
                   (there-newest p.newest p.stretch_start p.older.items p.changes.items held to.result.0 to.result.1 (ap all_of c.self.view_is) at (found.end.0 at ∙ c.len.ensures ∙ p.changes.ok.0) c.self.invariant.0),
             );
             low = rw w.at-is found.low;
@@ -86,10 +85,9 @@ step_back-requires-clause-changes c = rw c.deref-in-each.ensures.value (step (go
 
 pub each-preserved : goal.each-preserved
 each-preserved c =
-    let is = step (goal.at.each-preserved c).After-deref-in-each in
     let board = rw c.deref-in-each.ensures.value at c.step_back.ensures in
     record {
-      there = (c.index-kept.result.now.stretch_start, rw board is.there);
+      there = (c.index-kept.result.now.stretch_start, rw board (step (goal.at.each-preserved c).After-deref-in-each).there);
       low = omega (arith, c.each-test.true);
       high = omega (arith, c.each.invariant.high);
     }

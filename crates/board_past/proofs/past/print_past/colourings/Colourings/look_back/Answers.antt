@@ -31,18 +31,16 @@ look c =
 -- the stretch has the looked for colouring exactly if the colourings before this one have it
 earlier : (c : After-index-kept) → Contains (present_stretch c.args.self.now) c.args.made.now ↔ Contains (stretch_of (drop (length c.self.inside.older.items - (c.each.at - 1)) (all_of c.args.self.now))) c.args.made.now
 earlier c =
-    let made = c.args.made.now in
     let rest = stretch_of (drop (length c.self.inside.older.items - (c.each.at - 1)) (all_of c.args.self.now)) in
-    let others = contains-others c.each.past rest made (λ e. false≢true (sym c.if-same.false ∙ c.same.ensures.1 e)) in
+    let others = contains-others c.each.past rest c.args.made.now (λ e. false≢true (sym c.if-same.false ∙ c.same.ensures.1 e)) in
     let split = (look c).stretch in (
-      λ has. others.0 (subst (λ (gs : List Grid). Contains gs made) split (c.each.invariant.same.0 has)),
-      λ has. c.each.invariant.same.1 (subst (λ (gs : List Grid). Contains gs made) (sym split) (others.1 has)),
+      λ has. others.0 (subst (λ (gs : List Grid). Contains gs c.args.made.now) split (c.each.invariant.same.0 has)),
+      λ has. c.each.invariant.same.1 (subst (λ (gs : List Grid). Contains gs c.args.made.now) (sym split) (others.1 has)),
     )
 
 pub at-requires : goal.at-requires
 at-requires c =
-    let is = look (goal.at.at-requires c).After-index-kept in
-    rw c.each.invariant.side (is.point (sym c.is_fresh.ensures ∙ c.if-is_fresh.true))
+    rw c.each.invariant.side ((look (goal.at.at-requires c).After-index-kept).point (sym c.is_fresh.ensures ∙ c.if-is_fresh.true))
 
 pub returns-then-ne : goal.returns-then-ne
 returns-then-ne c =

@@ -17,10 +17,9 @@ kept-first g older older' o changes parts kept = subst (λ (os : List Older). Ar
 pub invariant_of-self : goal.invariant_of-self
 invariant_of-self c =
     let p = c.self.inside in
-    let o = c.unwrap-kept.result in
-    let parts : p.older.items ≡ c.pop.new.self.items ++ o ∷ [] = search rules in
-    let less = past-pop p.newest p.stretch_start p.older.items c.pop.new.self.items o p.changes.items parts c.self.invariant.0 in
-    let board = rw (c.deref.ensures.value, take_rest p.changes.items o.start) at c.step_back.ensures in
+    let parts : p.older.items ≡ c.pop.new.self.items ++ c.unwrap-kept.result ∷ [] = search rules in
+    let less = past-pop p.newest p.stretch_start p.older.items c.pop.new.self.items c.unwrap-kept.result p.changes.items parts c.self.invariant.0 in
+    let board = rw (c.deref.ensures.value, take_rest p.changes.items c.unwrap-kept.result.start) at c.step_back.ensures in
     let count : length p.older.items ≡ length c.pop.new.self.items + 1 = search rules in
     (rw (c.set_settled.ensures, board, c.truncate.ensures.items) less, omega (arith, count, c.pop.ensures.capacity, c.self.invariant.1))
 
@@ -48,8 +47,7 @@ slice_bounds-step_back-start c =
 pub step_back-requires-clause-point : goal.step_back-requires-clause-point
 step_back-requires-clause-point c = λ is.
     let p = c.self.inside in
-    let parts : p.older.items ≡ c.pop.new.self.items ++ c.unwrap-kept.result ∷ [] = search rules in
-    ((kept-first p.newest p.older.items c.pop.new.self.items c.unwrap-kept.result p.changes.items parts c.self.invariant.0.kept).1 is).0
+    ((kept-first p.newest p.older.items c.pop.new.self.items c.unwrap-kept.result p.changes.items (search rules) c.self.invariant.0.kept).1 is).0
 
 pub set_settled-requires : goal.set_settled-requires
 set_settled-requires c = λ is.

@@ -36,8 +36,7 @@ invariant_of-self c =
 pub returns-clause-taken_back : goal.returns-clause-taken_back
 returns-clause-taken_back c = λ _.
     let p = c.self.inside in
-    let o = c.unwrap-kept.result.now in
     let w = (goal.at.returns-clause-taken_back c).After-set in
-    let alone : o.alone ≡ true = search rules in
-    let turned = ap reverse (parts w alone) ∙ reverse-append c.pop.new.self.items (o ∷ []) in
+    let alone : c.unwrap-kept.result.now.alone ≡ true = search rules in
+    let turned = ap reverse (parts w alone) ∙ reverse-append c.pop.new.self.items (c.unwrap-kept.result.now ∷ []) in
     rw (sym c.self.view_is) (simp (turned, board w alone, none w alone, c.set_settled.ensures, c.set.ensures) refl)
