@@ -1,6 +1,6 @@
 -- Past colourings, as what is kept of them tells them.
 use Rattle.std.proofs.Common.{◌≡◌, ◌≢◌, ◌↔◌, ◌==◌, ℕ, zero, suc, ◌+◌, ◌-◌, ◌*◌, ◌<◌, ◌≤◌, inl, inr, List, [], ◌∷◌, ◌++◌, Bool, true, false, cond, length, get_or, take, drop, reverse, slice_range, slice_set, append_assoc, refl, sym, ap, subst, ◌∙◌, arith, length-take, length-append, IsTrue, Contains}
-use Rattle.std.proofs.lemmas.List.{length-set, take_more, take_all, take_at, drop_at, drop-drop, drop-set, drop_all, take-take, append-nil, reverse-append, length-reverse, get_or-reverse}
+use Rattle.std.proofs.lemmas.List.{length-set, take_more, take_all, take_at, drop_at, drop-drop, drop-set, drop_all, take-take, append-nil, reverse-append, length-reverse, get_or-reverse, get_or_default}
 use Rattle.std.proofs.lemmas.List.Elements.{All-take, All-drop, All-append}
 use Rattle.std.proofs.lemmas.Bool.{cases_eq, eq-eqb, ne_eqb, false≢true}
 use Rattle.std.proofs.lemmas.Slice.{between_is}
@@ -136,67 +136,109 @@ grown_alone g h stretch older older' o changes past view is side on_point back g
 
 -- Going back by one colouring.
 
-turned-take : (older : List Older) (i : ℕ) (d : Older) → i < length older → reverse (take (i + 1) older) ≡ get_or older i d ∷ reverse (take i older)
-turned-take older i d h = ap reverse (take_more older i d h) ∙ reverse-append (take i older) (get_or older i d ∷ [])
-
 -- that is the colouring of a number, with the start of its stretch, and what is kept of the ones before it
 pub record IsThere (held : List Held) (older : List Older) (changes : List Change) (number end start : ℕ) (grid : Grid) : Type 0 where
   pub past : IsPast grid start (take number older) (take end changes)
   pub whole : drop (length older - number) held ≡ all_held grid start (reverse (take number older)) (take end changes)
   pub within : end ≤ length changes
 
-module _ (held : List Held) (older : List Older) (changes : List Change) (n end start : ℕ) (board : Grid) (d : Older) (is_one : n < length older) (at : IsThere held older changes (n + 1) end start board) where
-  abbrev one : Older
-  one = get_or older n d
+-- One step back, from a number to the one before it: `one` is what is kept of that.
+pub record IsStep (held : List Held) (older : List Older) (changes : List Change) (number end : ℕ) (board : Grid) (one : Older) : Type 0 where
+  pub low : one.start ≤ end
+  pub high : end ≤ length changes
+  pub point : IsTrue one.alone → IsOn board.side one.point
+  pub on : AreOn board.side (slice_range changes one.start end)
+  pub side : (step_back board one (slice_range changes one.start end)).side ≡ board.side
+  pub there : IsThere held older changes (number - 1) one.start one.stretch_start (step_back board one (slice_range changes one.start end))
 
-  abbrev pub newest_changes : List Change
+-- One step back within a stretch. The stretch of the number has its colouring, and those of the stretch of the number before it.
+pub record IsLook (held : List Held) (older : List Older) (number start : ℕ) (board : Grid) (one : Older) : Type 0 where
+  pub same_start : start ≡ one.stretch_start
+  pub stretch : stretch_of (drop (length older - number) held) ≡ board ∷ stretch_of (drop (length older - (number - 1)) held)
+  pub point : IsTrue (is_fresh one.known) → IsOn board.side one.point
+  pub stone : IsTrue (is_fresh one.known) → cell_at board one.point ≢ Empty
+  pub new : IsTrue (is_fresh one.known) → (grid : Grid) → Contains (stretch_of (drop (length older - (number - 1)) held)) grid → cell_at grid one.point ≡ Empty
+
+module _ (held : List Held) (older : List Older) (changes : List Change) (number end start : ℕ) (board : Grid) (one : Older) (some : 0 < number) (high : number ≤ length older) (is_one : one ≡ get_or older (number - 1) one) (at : IsThere held older changes number end start board) where
+  abbrev front : List Older
+  front = take (number - 1) older
+
+  abbrev newest_changes : List Change
   newest_changes = slice_range changes one.start end
+
+  taken : take number older ≡ front ++ one ∷ []
+  taken =
+      let next : number ≡ number - 1 + 1 = omega (arith, some) in
+      ap (λ m. take m older) next ∙ take_more older (number - 1) one (omega (arith, some, high)) ∙ ap (λ (o : Older). front ++ o ∷ []) (sym is_one)
+
+  turned_back : reverse (take number older) ≡ one ∷ reverse front
+  turned_back = ap reverse taken ∙ reverse-append front (one ∷ [])
+
+  count : length (reverse front) ≡ number - 1
+  count = length-reverse front ∙ length-take (number - 1) older ∙ omega (arith, high)
 
   same_newest : drop one.start (take end changes) ≡ newest_changes
   same_newest = sym (between_is changes one.start end)
 
-  parts : AreKept board (get_or older n d ∷ reverse (take n older)) (take end changes)
-  parts = subst (λ (os : List Older). AreKept board os (take end changes)) (turned-take older n d is_one) at.past.kept
+  parts : AreKept board (one ∷ reverse front) (take end changes)
+  parts = subst (λ (os : List Older). AreKept board os (take end changes)) turned_back at.past.kept
 
-  -- the start of the stretch of the colouring before, if this one doesn't begin a stretch
-  pub start-back : AreStarted start (get_or older n d ∷ reverse (take n older))
-  start-back = subst (λ (os : List Older). AreStarted start os) (turned-take older n d is_one) at.past.started
-
-  pub start-within : one.start ≤ end
-  start-within = omega (arith, parts.0, length-take end changes)
-
-  pub point-on : IsTrue one.alone → IsOn board.side one.point
-  point-on = λ is. (parts.1 is).0
-
-  pub changes-on : AreOn board.side newest_changes
-  changes-on = subst (λ (cs : List Change). AreOn board.side cs) same_newest (All-drop (IsChangeOn board.side) one.start (take end changes) at.past.on_grid)
+  low : one.start ≤ end
+  low = omega (arith, parts.0, length-take end changes)
 
   same_rest : changes_before one (take end changes) ≡ take one.start changes
-  same_rest = take-take one.start end changes start-within
+  same_rest = take-take one.start end changes low
 
   -- the changes of a full step lead to the colouring before it from any colouring
-  pub full-back : IsTrue (is_full n) → MakeOne (step_back board one newest_changes) newest_changes
-  full-back is =
-      let count : length (reverse (take n older)) ≡ n = length-reverse (take n older) ∙ length-take n older ∙ omega arith in
-      subst (λ (cs : List Change). MakeOne (step_back board one cs) cs) same_newest (parts.3 (rw count is))
+  full-back : IsTrue (is_full (number - 1)) → MakeOne (step_back board one newest_changes) newest_changes
+  full-back is = subst (λ (cs : List Change). MakeOne (step_back board one cs) cs) same_newest (parts.3 (rw count is))
 
   -- the colourings, of which the newest is split off
-  pub whole-back : drop (length older - (n + 1)) held ≡ record { colouring = board; begins = start == suc (length (reverse (take n older))) } ∷ all_held (step_back board one newest_changes) one.stretch_start (reverse (take n older)) (take one.start changes)
+  whole-back : drop (length older - number) held ≡ record { colouring = board; begins = start == suc (length (reverse front)) } ∷ all_held (step_back board one newest_changes) one.stretch_start (reverse front) (take one.start changes)
   whole-back =
       at.whole
-      ∙ ap (λ (os : List Older). all_held board start os (take end changes)) (turned-take older n d is_one)
-      ∙ ap (λ (cs : List Change). record { colouring = board; begins = start == suc (length (reverse (take n older))) } ∷ all_held (step_back board one cs) one.stretch_start (reverse (take n older)) (changes_before one (take end changes))) same_newest
-      ∙ ap (λ (cs : List Change). record { colouring = board; begins = start == suc (length (reverse (take n older))) } ∷ all_held (step_back board one newest_changes) one.stretch_start (reverse (take n older)) cs) same_rest
+      ∙ ap (λ (os : List Older). all_held board start os (take end changes)) turned_back
+      ∙ ap (λ (cs : List Change). record { colouring = board; begins = start == suc (length (reverse front)) } ∷ all_held (step_back board one cs) one.stretch_start (reverse front) (changes_before one (take end changes))) same_newest
+      ∙ ap (λ (cs : List Change). record { colouring = board; begins = start == suc (length (reverse front)) } ∷ all_held (step_back board one newest_changes) one.stretch_start (reverse front) cs) same_rest
 
-  pub there-back : IsThere held older changes n one.start one.stretch_start (step_back board one newest_changes)
+  there-back : IsThere held older changes (number - 1) one.start one.stretch_start (step_back board one newest_changes)
   there-back =
-      let count : length older - n ≡ 1 + (length older - (n + 1)) = omega (arith, is_one) in
+      let more : length older - (number - 1) ≡ length older - number + 1 = omega (arith, some, high) in
       record {
-        past = subst (λ (cs : List Change). IsPast (step_back board one newest_changes) one.stretch_start (take n older) cs) same_rest
-            (subst (λ (cs : List Change). IsPast (step_back board one cs) one.stretch_start (take n older) (changes_before one (take end changes))) same_newest
-            (past-pop board start (take (n + 1) older) (take n older) one (take end changes) (take_more older n d is_one) at.past));
-        whole = ap (λ k. drop k held) (count ∙ omega arith) ∙ sym (drop-drop 1 (length older - (n + 1)) held) ∙ ap (λ (hs : List Held). drop 1 hs) whole-back;
-        within = omega (arith, start-within, at.within);
+        past = subst (λ (cs : List Change). IsPast (step_back board one newest_changes) one.stretch_start front cs) same_rest
+            (subst (λ (cs : List Change). IsPast (step_back board one cs) one.stretch_start front (changes_before one (take end changes))) same_newest
+            (past-pop board start (take number older) front one (take end changes) taken at.past));
+        whole = ap (λ k. drop k held) more ∙ sym (drop-drop 1 (length older - number) held) ∙ ap (λ (hs : List Held). drop 1 hs) whole-back;
+        within = omega (arith, low, at.within);
+      }
+
+  pub step-from : IsStep held older changes number end board one
+  step-from = record {
+    low = low;
+    high = at.within;
+    point = λ is. (parts.1 is).0;
+    on = subst (λ (cs : List Change). AreOn board.side cs) same_newest (All-drop (IsChangeOn board.side) one.start (take end changes) at.past.on_grid);
+    side = step-side board one newest_changes;
+    there = there-back;
+  }
+
+  pub look-from : start ≢ number → IsLook held older number start board one
+  look-from later =
+      let one_more : suc (length (reverse front)) ≡ number = ap suc count ∙ omega (arith, some) in
+      let begins : (start == suc (length (reverse front))) ≡ false = ne_eqb start (suc (length (reverse front))) (λ e. later (e ∙ one_more)) in
+      let split : drop (length older - number) held ≡ record { colouring = board; begins = false } ∷ drop (length older - (number - 1)) held =
+      whole-back
+      ∙ ap (λ b. record { colouring = board; begins = b } ∷ all_held (step_back board one newest_changes) one.stretch_start (reverse front) (take one.start changes)) begins
+      ∙ ap (λ (hs : List Held). record { colouring = board; begins = false } ∷ hs) (sym there-back.whole) in
+      let started = subst (λ (os : List Older). AreStarted start os) turned_back at.past.started in
+      let fresh = subst (λ (os : List Older). AreFresh os (all_held board start (reverse (take number older)) (take end changes))) turned_back at.past.fresh in
+      let last = subst (λ (hs : List Held). AreFresh (one ∷ reverse front) hs) (sym at.whole ∙ split) fresh in
+      record {
+        same_start = started.1 (omega (arith, started.0, one_more, later));
+        stretch = ap stretch_of split;
+        point = λ is. (last.0 is).on;
+        stone = λ is. (last.0 is).there;
+        new = λ is. (last.0 is).new;
       }
 
 -- the newest one is there
@@ -216,17 +258,21 @@ abbrev pub IsSomeThere : Grid → List Held → List Older → List Change → �
 IsSomeThere newest held older changes number end =
     (start : ℕ) × (g : Grid) × (g.side ≡ newest.side) × IsThere held older changes number end start g
 
+-- and so is the one before it
+there-before : (newest : Grid) (held : List Held) (older : List Older) (changes : List Change) (upper end number : ℕ) (d : Older) → upper ≡ number + 1 → upper ≤ length older → IsSomeThere newest held older changes upper end → IsSomeThere newest held older changes number (get_or older number d).start
+there-before newest held older changes upper end number d next high there =
+    let one = get_or older number d in
+    let before_upper : upper - 1 ≡ number = omega (arith, next) in
+    let is_one : one ≡ get_or older (upper - 1) one = get_or_default older number d one (omega (arith, next, high)) ∙ ap (λ k. get_or older k one) (sym before_upper) in
+    let step = step-from held older changes upper end there.0 there.1 one (omega (arith, next)) high is_one there.3 in
+    (_, _, step.side ∙ there.2, subst (λ k. IsThere held older changes k one.start one.stretch_start (step_back there.1 one (slice_range changes one.start end))) before_upper step.there)
+
 -- and so each older one is: so many numbers below the newest
 there-all : (held : List Held) (older : List Older) (changes : List Change) (start : ℕ) (newest : Grid) → IsThere held older changes (length older) (length changes) start newest → (less number : ℕ) (d : Older) → number + suc less ≡ length older → IsSomeThere newest held older changes number (get_or older number d).start
 there-all held older changes start newest at zero number d is =
-    let below : number < length older = omega arith in
-    let next : length older ≡ number + 1 = omega arith in
-    let from = subst (λ n. IsThere held older changes n (length changes) start newest) next at in
-    (_, _, step-side newest (get_or older number d) (slice_range changes (get_or older number d).start (length changes)), there-back held older changes number (length changes) start newest d below from)
+    there-before newest held older changes (length older) (length changes) number d (omega arith) (omega arith) (start, newest, refl, at)
 there-all held older changes start newest at (suc less) number d is =
-    let below : number < length older = omega arith in
-    let upper = there-all held older changes start newest at less (number + 1) d (omega arith) in
-    (_, _, step-side upper.1 (get_or older number d) (slice_range changes (get_or older number d).start (get_or older (number + 1) d).start) ∙ upper.2, there-back held older changes number (get_or older (number + 1) d).start upper.0 upper.1 d below upper.3)
+    there-before newest held older changes (number + 1) _ number d refl (omega arith) (there-all held older changes start newest at less (number + 1) d (omega arith))
 
 -- so from the number at which a look back begins, the colouring of that number is there
 pub there-from : (newest : Grid) (start : ℕ) (older : List Older) (changes : List Change) (held : List Held) → all_held newest start (reverse older) changes ≡ held → IsPast newest start older changes → (number end count : ℕ) (d : Older) → number < length older → count ≡ length changes → IsEndOf older count number end
@@ -235,71 +281,6 @@ there-from newest start older changes held same past number end count d lt is_co
     let at = there-newest newest start older changes held (length older) (length changes) same refl refl past in
     let up = there-all held older changes start newest at (length older - number - 1) number d (omega arith) in
     subst (λ e. IsSomeThere newest held older changes number e) (sym (ends.1 d lt)) up
-
--- One step back, from a number to the one before it: `one` is what is kept of that.
-pub record IsStep (held : List Held) (older : List Older) (changes : List Change) (number end : ℕ) (board : Grid) (one : Older) : Type 0 where
-  pub low : one.start ≤ end
-  pub high : end ≤ length changes
-  pub point : IsTrue one.alone → IsOn board.side one.point
-  pub on : AreOn board.side (slice_range changes one.start end)
-  pub side : (step_back board one (slice_range changes one.start end)).side ≡ board.side
-  pub there : IsThere held older changes (number - 1) one.start one.stretch_start (step_back board one (slice_range changes one.start end))
-
-module _ (held : List Held) (older : List Older) (changes : List Change) (number end start : ℕ) (board : Grid) (one : Older) (some : 0 < number) (high : number ≤ length older) (is_one : one ≡ get_or older (number - 1) one) (at : IsThere held older changes number end start board) where
-  n : ℕ
-  n = number - 1
-
-  pub step-from : IsStep held older changes number end board one
-  unfolding n
-  step-from =
-      let next : number ≡ n + 1 = omega (arith, some) in
-      let below : n < length older = omega (arith, some, high) in
-      let here = subst (λ m. IsThere held older changes m end start board) next at in
-      subst (λ (o : Older). IsStep held older changes number end board o) (sym is_one)
-      (record {
-        low = start-within held older changes n end start board one below here;
-        high = at.within;
-        point = point-on held older changes n end start board one below here;
-        on = changes-on held older changes n end start board one below here;
-        side = step-side board (get_or older n one) (slice_range changes (get_or older n one).start end);
-        there = there-back held older changes n end start board one below here;
-      })
-
--- One step back within a stretch. The stretch of the number has its colouring, and those of the stretch of the number before it.
-pub record IsLook (held : List Held) (older : List Older) (number start : ℕ) (board : Grid) (one : Older) : Type 0 where
-  pub same_start : start ≡ one.stretch_start
-  pub stretch : stretch_of (drop (length older - number) held) ≡ board ∷ stretch_of (drop (length older - (number - 1)) held)
-  pub point : IsTrue (is_fresh one.known) → IsOn board.side one.point
-  pub stone : IsTrue (is_fresh one.known) → cell_at board one.point ≢ Empty
-  pub new : IsTrue (is_fresh one.known) → (grid : Grid) → Contains (stretch_of (drop (length older - (number - 1)) held)) grid → cell_at grid one.point ≡ Empty
-
-module _ (held : List Held) (older : List Older) (changes : List Change) (number end start : ℕ) (board : Grid) (one : Older) (some : 0 < number) (high : number ≤ length older) (is_one : one ≡ get_or older (number - 1) one) (at : IsThere held older changes number end start board) (later : start ≢ number) where
-  pub look-from : IsLook held older number start board one
-  look-from =
-      let n = number - 1 in
-      let o = get_or older n one in
-      let next : number ≡ n + 1 = omega (arith, some) in
-      let below : n < length older = omega (arith, some, high) in
-      let here = subst (λ m. IsThere held older changes m end start board) next at in
-      let count : suc (length (reverse (take n older))) ≡ number = ap suc (length-reverse (take n older) ∙ length-take n older) ∙ omega (arith, below, next) in
-      let started = start-back held older changes n end start board one below here in
-      let begins : (start == suc (length (reverse (take n older)))) ≡ false = ne_eqb start (suc (length (reverse (take n older)))) (λ e. later (e ∙ count)) in
-      let rest = (there-back held older changes n end start board one below here).whole in
-      let split : drop (length older - number) held ≡ record { colouring = board; begins = false } ∷ drop (length older - n) held =
-      ap (λ m. drop (length older - m) held) next
-      ∙ whole-back held older changes n end start board one below here
-      ∙ ap (λ b. record { colouring = board; begins = b } ∷ all_held (step_back board o (slice_range changes o.start end)) o.stretch_start (reverse (take n older)) (take o.start changes)) begins
-      ∙ ap (λ (hs : List Held). record { colouring = board; begins = false } ∷ hs) (sym rest) in
-      let fresh = subst (λ (os : List Older). AreFresh os (all_held board start (reverse (take (n + 1) older)) (take end changes))) (turned-take older n one below) here.past.fresh in
-      let last = subst (λ (hs : List Held). AreFresh (o ∷ reverse (take n older)) hs) (sym here.whole ∙ sym (ap (λ m. drop (length older - m) held) next) ∙ split) fresh in
-      subst (λ (x : Older). IsLook held older number start board x) (sym is_one)
-      (record {
-        same_start = started.1 (omega (arith, started.0, count, later));
-        stretch = ap stretch_of split;
-        point = λ is. (last.0 is).on;
-        stone = λ is. (last.0 is).there;
-        new = λ is. (last.0 is).new;
-      })
 
 -- what a colouring that isn't the first one tells
 pub contains-others : (x : Grid) (xs : List Grid) (made : Grid) → x ≢ made → Contains (x ∷ xs) made ↔ Contains xs made
@@ -406,24 +387,19 @@ pub record IsFullStep (held : List Held) (older : List Older) (changes : List Ch
 pub there-full : (newest board : Grid) (start : ℕ) (older : List Older) (changes : List Change) (held : List Held) → all_held newest start (reverse older) changes ≡ held → IsPast newest start older changes → board ≡ newest → length board.cells ≡ board.side * board.side
     → (from end count : ℕ) (one : Older) → 0 < from → from < length older → IsTrue (is_full (from - 1)) → count ≡ length changes → IsEndOf older count from end → one ≡ get_or older (from - 1) one
     → IsFullStep held older changes from end board one
-there-full newest board start older changes held same past is cells from end count d some low full is_count ends is_one =
-    let at = there-from newest start older changes held same past from end count d low is_count ends in
-    let top = from - 1 in
-    let one = get_or older top d in
-    let next : from ≡ top + 1 = omega (arith, some) in
-    let below : top < length older = omega (arith, low) in
-    let here : IsThere held older changes (top + 1) end at.0 at.1 = subst (λ n. IsThere held older changes n end at.0 at.1) next at.3 in
+there-full newest board start older changes held same past is cells from end count one some low full is_count ends is_one =
+    let at = there-from newest start older changes held same past from end count one low is_count ends in
+    let step = step-from held older changes from end at.0 at.1 one some (omega (arith, low)) is_one at.3 in
     let steps = slice_range changes one.start end in
     let side : board.side ≡ at.1.side = ap (λ (g : Grid). g.side) is ∙ sym at.2 in
     let made : step_back at.1 one steps ≡ after_changes board steps =
-    sym (full-back held older changes top end at.0 at.1 d below here full board (side ∙ sym (step-side at.1 one steps)) cells) in
-    subst (λ (o : Older). IsFullStep held older changes from end board o) (sym is_one)
-    (record {
-      low = start-within held older changes top end at.0 at.1 d below here;
-      high = at.3.within;
-      on = subst (λ n. AreOn n steps) (sym side) (changes-on held older changes top end at.0 at.1 d below here);
-      there = subst (λ (g : Grid). IsThere held older changes top one.start one.stretch_start g) made (there-back held older changes top end at.0 at.1 d below here);
-    })
+    sym (full-back held older changes from end at.0 at.1 one some (omega (arith, low)) is_one at.3 full board (side ∙ sym step.side) cells) in
+    record {
+      low = step.low;
+      high = step.high;
+      on = subst (λ n. AreOn n steps) (sym side) step.on;
+      there = subst (λ (g : Grid). IsThere held older changes (from - 1) one.start one.stretch_start g) made step.there;
+    }
 
 -- a colouring that is there has its number
 pub there-number : (held : List Held) (older : List Older) (changes : List Change) (number end start : ℕ) (grid : Grid) → length held ≡ length older + 1 → IsThere held older changes number end start grid → IsNumber held number grid

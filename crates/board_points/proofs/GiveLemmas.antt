@@ -22,8 +22,7 @@ next_one Up row n m one other = omega (arith, one, other)
 next_one Down row n m one other = omega (arith, one, other)
 
 back_one : (d : Direction) (row next n : ℕ) → IsNext d row next → IsNext (opposite d) next n → n ≡ row
-back_one Up row next n there back = omega (arith, there, back)
-back_one Down row next n there back = omega (arith, there, back)
+back_one d row next n there back = grind arith
 
 -- nothing is in a part that is 0
 none_in : {X : Type 0} (a b col : ℕ) → bit_and a b ≡ 0 → has_bit a col ≡ true → has_bit b col ≡ true → X
@@ -373,10 +372,7 @@ fewer_flags a b c ups downs next some low up down =
 
 -- what the row that was widened last lacks
 pub after_sweep : (region rows : List ℕ) (r row word left : ℕ) → r ≡ row → slice_index rows row ≡ word → ((col : ℕ) → has_bit left col ≡ (has_bit (slice_index region row) col && not (has_bit word col))) → (col : ℕ) → has_bit left col ≡ (has_bit (slice_index region r) col && not (has_bit (slice_index rows r) col))
-after_sweep region rows r row word left same is left_is col =
-    left_is col
-    ∙ ap (λ w. has_bit (slice_index region row) col && not (has_bit w col)) (sym is)
-    ∙ ap (λ k. has_bit (slice_index region k) col && not (has_bit (slice_index rows k) col)) (sym same)
+after_sweep region rows r row word left same is left_is col = cc (left_is col)
 
 without_both : (a b c : Bool) → ((a && not b) && not c) ≡ (a && not (b || c))
 without_both true true c = refl

@@ -15,39 +15,33 @@ abbrev here : After-columns_beside-in_doubt → RowStones
 here c = record { own = c.args.here.own; others = c.args.here.others; free = c.without_column-free.result }
 
 up : (c : After-columns_beside-in_doubt) → IsLookedAt c.args.own.now c.args.others.now c.args.point 0 c.args.first.free c.args.above 0
-up c =
-    record {
-      stones = c.requires.above;
-      free_above = free_elsewhere c.args.own.now c.args.others.now c.args.point 0 c.args.first (omega arith) c.requires.first;
-      free_here = free_elsewhere c.args.own.now c.args.others.now c.args.point 1 c.args.above (omega arith) c.requires.above;
-      free_below = none_free c.args.own.now c.args.others.now c.args.point 2;
-    }
+up c = record {
+  stones = c.requires.above;
+  free_above = free_elsewhere _ _ c.args.point 0 c.args.first (omega arith) c.requires.first;
+  free_here = free_elsewhere _ _ c.args.point 1 c.args.above (omega arith) c.requires.above;
+  free_below = none_free c.args.own.now c.args.others.now c.args.point 2;
+}
 
 along : (c : After-columns_beside-in_doubt) → IsLookedAt c.args.own.now c.args.others.now c.args.point 1 c.args.above.free (here c) c.args.below.free
 along c =
-    let p = c.args.point in
-    let own = c.args.own.now in
-    let others = c.args.others.now in
-    let same = c.from-col.ensures in
     let free = c.without_column-free.result in
-    let gone = c.without_column-free.ensures in
-    let out = ap (has_bit free) (sym same) ∙ gone.there in
-    let left : (k : ℕ) → k ≢ p.col → has_bit free k ≡ has_bit c.args.here.free k = λ k other. gone.elsewhere k (λ e. other (e ∙ same)) in
+    let same = c.from-col.ensures in
+    let out = ap (has_bit free) (sym same) ∙ c.without_column-free.ensures.there in
+    let left : (k : ℕ) → k ≢ c.args.point.col → has_bit free k ≡ has_bit c.args.here.free k = λ k other. c.without_column-free.ensures.elsewhere k (λ e. other (e ∙ same)) in
     record {
-      stones = row_here own others p free c.args.here out left c.requires.here;
-      free_above = free_elsewhere own others p 1 c.args.above (omega arith) c.requires.above;
-      free_here = free_here own others p free c.args.here out left c.requires.here;
-      free_below = free_elsewhere own others p 3 c.args.below (omega arith) c.requires.below;
+      stones = row_here _ _ c.args.point free c.args.here out left c.requires.here;
+      free_above = free_elsewhere _ _ c.args.point 1 c.args.above (omega arith) c.requires.above;
+      free_here = free_here _ _ c.args.point free c.args.here out left c.requires.here;
+      free_below = free_elsewhere _ _ c.args.point 3 c.args.below (omega arith) c.requires.below;
     }
 
 down : (c : After-columns_beside-in_doubt) → IsLookedAt c.args.own.now c.args.others.now c.args.point 2 0 c.args.below c.args.last.free
-down c =
-    record {
-      stones = c.requires.below;
-      free_above = none_free c.args.own.now c.args.others.now c.args.point 2;
-      free_here = free_elsewhere c.args.own.now c.args.others.now c.args.point 3 c.args.below (omega arith) c.requires.below;
-      free_below = free_elsewhere c.args.own.now c.args.others.now c.args.point 4 c.args.last (omega arith) c.requires.last;
-    }
+down c = record {
+  stones = c.requires.below;
+  free_above = none_free c.args.own.now c.args.others.now c.args.point 2;
+  free_here = free_elsewhere _ _ c.args.point 3 c.args.below (omega arith) c.requires.below;
+  free_below = free_elsewhere _ _ c.args.point 4 c.args.last (omega arith) c.requires.last;
+}
 
 -- no stone of the opponent beside the point is without a free point beside it
 abbrev NoneInDoubt : After-columns_beside-in_doubt → Type 0

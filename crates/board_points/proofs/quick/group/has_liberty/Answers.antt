@@ -2,175 +2,156 @@ use Rattle.std.proofs.Common.{◌≡◌, ◌+◌, ◌<◌, ◌^◌, ℕ, not, na
 use Rattle.std.proofs.lemmas.Bool.{false≢true}
 use Rattle.std.proofs.lemmas.List.{length-set}
 use Rattle.board_points.specs.declared.points.Point.{Point}
-use Rattle.board_points.specs.Rows.{has_bit, is_set, IsClosed, IsWithin}
+use Rattle.board_points.specs.Rows.{has_bit, is_set, IsClosed, IsWithin, Grows}
 use Rattle.board_points.specs.inner.Columns.{IsPart}
-use Rattle.board_points.specs.inner.Joined.{HasNoneAcross, IsJoined}
-use Rattle.board_points.specs.Linked.{HasLiberty, IsLinked, IsStone}
+use Rattle.board_points.specs.inner.Joined.{HasNoneAcross, HasOneAlive}
+use Rattle.board_points.specs.Linked.{HasLiberty, IsLiberty, IsLinked}
 use Rattle.board_points.proofs.GrowLemmas.{Grows-twice, zero_of}
 use Rattle.board_points.proofs.LinkedLemmas.{in_first, of_first, first_within, alive_linked, common_column, none_lives, part_linked}
 use Rattle.board_points.proofs.quick.group.has_liberty.Goals as goal
+use Rattle.board_points.proofs.quick.group.has_liberty.Goals.{After-from-first}
 
 -- the stones in the row of a stone that are linked to it, as a set
-module _ (own others old : List ℕ) (from : Point) (joined row : ℕ) (at : row ≡ from.row) (stone : IsStone own others from) (joins : IsJoined own from joined) (all : length old ≡ length own) (none : (p : Point) → is_set old p ≡ false) where
+module _ (c : After-from-first) where
+  abbrev own : List ℕ
+  own = c.args.own.now
+
+  abbrev old : List ℕ
+  old = c.args.group.now
+
+  abbrev row : ℕ
+  row = c.from-first.result
+
+  abbrev joined : ℕ
+  joined = c.args.joined
+
   abbrev start : List ℕ
   start = set old row joined
 
+  abbrev from : Point
+  from = c.args.from
+
+  at : row ≡ from.row
+  at = c.from-first.ensures
+
   below : row < length old
-  below = omega (arith, at, stone.on_board, all)
+  below = omega (arith, at, c.requires.stone.on_board, c.requires.none.all)
+
+  in_start : (p : Point) → is_set start p ≡ true → (p.row ≡ row) × (has_bit joined p.col ≡ true)
+  in_start = in_first own old row joined c.requires.none.none below
 
   linked : (p : Point) → is_set start p ≡ true → IsLinked (is_set own) from p
   linked p is =
-      let w = in_first own old row joined none below p is in
-      subst (λ r. IsLinked (is_set own) from (record { col = p.col; row = r })) (sym (w.0 ∙ at)) (joins.linked p.col w.1)
+      let w = in_start p is in
+      subst (λ r. IsLinked (is_set own) from (record { col = p.col; row = r })) (sym (w.0 ∙ at)) (c.requires.row.linked p.col w.1)
 
   start_within : IsWithin start own
   start_within = record {
-    same = length-set old row joined ∙ all;
-    few = omega (arith, length-set old row joined, all, stone.rows.few);
-    within = first_within own old row joined none below (subst (λ r. IsPart (has_bit joined) (has_bit (slice_index own r))) (sym at) joins.within);
+    same = length-set old row joined ∙ c.requires.none.all;
+    few = omega (arith, length-set old row joined, c.requires.none.all, c.requires.stone.rows.few);
+    within = first_within own old row joined c.requires.none.none below (subst (λ r. IsPart (has_bit joined) (has_bit (slice_index own r))) (sym at) c.requires.row.within);
   }
 
   there : is_set start from ≡ true
-  there = ap (λ r. has_bit (slice_index start r) from.col) (sym at) ∙ of_first own old row joined none below from.col joins.start
+  there = ap (λ r. has_bit (slice_index start r) from.col) (sym at) ∙ of_first own old row joined c.requires.none.none below from.col c.requires.row.start
+
+  alive : (new : List ℕ) → Grows (is_set own) (is_set start) (is_set new) → HasOneAlive own c.args.others.now new → (p : Point) × IsLiberty own c.args.others.now from p
+  alive new grows = alive_linked own c.args.others.now start new from grows linked
+
+  part : (new : List ℕ) → Grows (is_set own) (is_set start) (is_set new) → (stone : Point) → is_set new stone ≡ true → (is_set own stone ≡ true) × IsLinked (is_set own) from stone
+  part new grows = part_linked own start new from grows linked
 
   -- if no stone is across, it is the whole group
   alone_closed : HasNoneAcross own row joined → IsClosed (is_set own) (is_set start)
-  alone_closed across point other beside own_stone is =
-      let w = in_first own old row joined none below other is in
-      elim beside [
-        | inl column ↦
-            (let in_column : has_bit joined point.col ≡ true = ap (λ k. has_bit joined k) column.0 ∙ w.1 in
-            let gone : is_set own point ≡ false = elim column.1 [
-              | inl up ↦ across point (inl (up ∙ w.0)) in_column
-              | inr down ↦ across point (inr (ap (λ r. r + 1) (sym w.0) ∙ down)) in_column
-            ] in
-            absurd (false≢true (sym gone ∙ own_stone)))
-        | inr in_row ↦
-            (let point_row : point.row ≡ row = in_row.0 ∙ w.0 in
-            let there = ap (λ r. has_bit (slice_index own r) point.col) (sym (point_row ∙ at)) ∙ own_stone in
-            ap (λ r. has_bit (slice_index start r) point.col) point_row ∙ of_first own old row joined none below point.col (joins.closed point.col other.col in_row.1 there w.1))
-      ]
+  alone_closed across point other (inl column) own_stone is =
+      let w = in_start other is in
+      let in_column : has_bit joined point.col ≡ true = ap (λ k. has_bit joined k) column.0 ∙ w.1 in
+      let gone : is_set own point ≡ false = elim column.1 [
+        | inl up ↦ across point (inl (up ∙ w.0)) in_column
+        | inr down ↦ across point (inr (ap (λ r. r + 1) (sym w.0) ∙ down)) in_column
+      ] in
+      absurd (false≢true (sym gone ∙ own_stone))
+  alone_closed across point other (inr in_row) own_stone is =
+      let w = in_start other is in
+      let point_row : point.row ≡ row = in_row.0 ∙ w.0 in
+      let there = ap (λ r. has_bit (slice_index own r) point.col) (sym (point_row ∙ at)) ∙ own_stone in
+      ap (λ r. has_bit (slice_index start r) point.col) point_row
+      ∙ of_first own old row joined c.requires.none.none below point.col (c.requires.row.closed point.col other.col in_row.1 there w.1)
 
 pub returns-then-is_in_one_row-clause-lives : goal.returns-then-is_in_one_row-clause-lives
 returns-then-is_in_one_row-clause-lives c = λ is.
-    let own = c.args.own.now in
-    let low : c.args.joined < 2 ^ 64 = search rules in
-    let both = common_column c.args.joined c.columns_with_liberty.result low (λ none. false≢true (sym (ap (λ n. not (nat_eq n 0)) none) ∙ is)) in (
+    let joined = c.args.joined in
+    let low : joined < 2 ^ 64 = search rules in
+    let both = common_column joined c.columns_with_liberty.result low (λ none. false≢true (sym (ap (λ n. not (nat_eq n 0)) none) ∙ is)) in (
       record { col = both.0; row = c.args.from.row },
       record {
         own_stone = c.requires.row.within both.0 both.1;
         linked = c.requires.row.linked both.0 both.1;
-        liberty = subst (λ r. HasLiberty own c.args.others.now (record { col = both.0; row = r })) c.from-first.ensures (c.columns_with_liberty.ensures.from both.0 both.2);
+        liberty = subst (λ r. HasLiberty c.args.own.now c.args.others.now (record { col = both.0; row = r })) c.from-first.ensures (c.columns_with_liberty.ensures.from both.0 both.2);
       },
     )
 
 pub returns-then-is_in_one_row-clause-shut : goal.returns-then-is_in_one_row-clause-shut
 returns-then-is_in_one_row-clause-shut c = λ no.
-    let own = c.args.own.now in
-    let others = c.args.others.now in
-    let old = c.args.group.now in
-    let row = c.from-first.result in
-    let joined = c.args.joined in
-    let low : joined < 2 ^ 64 = search rules in
-    let long = below own others old c.args.from joined row c.from-first.ensures c.requires.stone c.requires.row c.requires.none.all c.requires.none.none in
+    let w = (goal.at.returns-then-is_in_one_row-clause-shut c).After-from-first in
+    let low : c.args.joined < 2 ^ 64 = search rules in
     record {
-      all = length-set old row joined ∙ c.requires.none.all;
-      within = (start_within own others old c.args.from joined row c.from-first.ensures c.requires.stone c.requires.row c.requires.none.all c.requires.none.none).within;
-      start = there own others old c.args.from joined row c.from-first.ensures c.requires.stone c.requires.row c.requires.none.all c.requires.none.none;
-      closed = alone_closed own others old c.args.from joined row c.from-first.ensures c.requires.stone c.requires.row c.requires.none.all c.requires.none.none (c.is_in_one_row.ensures c.if-is_in_one_row.true);
+      all = length-set (old w) (row w) c.args.joined ∙ c.requires.none.all;
+      within = (start_within w).within;
+      start = there w;
+      closed = alone_closed w (c.is_in_one_row.ensures c.if-is_in_one_row.true);
       shut = λ stone is.
-          let w = in_first own old row joined c.requires.none.none long stone is in
-          none_lives own others row joined c.columns_with_liberty.result low c.columns_with_liberty.ensures.to (zero_of _ no) stone w.0 w.1;
+          let at = in_start w stone is in
+          none_lives c.args.own.now c.args.others.now (row w) c.args.joined c.columns_with_liberty.result low c.columns_with_liberty.ensures.to (zero_of _ no) stone at.0 at.1;
     }
 
 pub returns-then-is_in_one_row-clause-part : goal.returns-then-is_in_one_row-clause-part
 returns-then-is_in_one_row-clause-part c = λ stone is.
-    let own = c.args.own.now in
-    let others = c.args.others.now in
-    let old = c.args.group.now in
-    let row = c.from-first.result in
-    let joined = c.args.joined in (
-      (start_within own others old c.args.from joined row c.from-first.ensures c.requires.stone c.requires.row c.requires.none.all c.requires.none.none).within stone is,
-      linked own others old c.args.from joined row c.from-first.ensures c.requires.stone c.requires.row c.requires.none.all c.requires.none.none stone is,
-    )
+    let w = (goal.at.returns-then-is_in_one_row-clause-part c).After-from-first in
+    ((start_within w).within stone is, linked w stone is)
 
 pub lives_ahead-requires-clause-group : goal.lives_ahead-requires-clause-group
-lives_ahead-requires-clause-group c =
-    start_within c.args.own.now c.args.others.now c.args.group.now c.args.from c.args.joined c.from-first.result c.from-first.ensures c.requires.stone c.requires.row c.requires.none.all c.requires.none.none
+lives_ahead-requires-clause-group c = start_within (goal.at.lives_ahead-requires-clause-group c).After-from-first
 
 pub returns-then-lives_ahead-clause-lives : goal.returns-then-lives_ahead-clause-lives
 returns-then-lives_ahead-clause-lives c = λ is.
-    let own = c.args.own.now in
-    let others = c.args.others.now in
-    let old = c.args.group.now in
-    alive_linked own others (set old c.from-first.result c.args.joined) c.lives_ahead.new.group c.args.from c.lives_ahead.ensures.grows
-    (linked own others old c.args.from c.args.joined c.from-first.result c.from-first.ensures c.requires.stone c.requires.row c.requires.none.all c.requires.none.none)
-    (c.lives_ahead.ensures.lives c.if-lives_ahead.true)
+    alive (goal.at.returns-then-lives_ahead-clause-lives c).After-from-first _ c.lives_ahead.ensures.grows (c.lives_ahead.ensures.lives c.if-lives_ahead.true)
 
 pub returns-then-lives_ahead-2-clause-lives : goal.returns-then-lives_ahead-2-clause-lives
 returns-then-lives_ahead-2-clause-lives c = λ is.
-    let own = c.args.own.now in
-    let others = c.args.others.now in
-    let old = c.args.group.now in
-    let start = set old c.from-first.result c.args.joined in
-    alive_linked own others start c.lives_ahead-2.new.group c.args.from
-    (Grows-twice own start c.lives_ahead.new.group c.lives_ahead-2.new.group c.lives_ahead.ensures.grows c.lives_ahead-2.ensures.grows)
-    (linked own others old c.args.from c.args.joined c.from-first.result c.from-first.ensures c.requires.stone c.requires.row c.requires.none.all c.requires.none.none)
-    (c.lives_ahead-2.ensures.lives c.if-lives_ahead-2.true)
+    let w = (goal.at.returns-then-lives_ahead-2-clause-lives c).After-from-first in
+    let grows = Grows-twice (own w) (start w) c.lives_ahead.new.group c.lives_ahead-2.new.group c.lives_ahead.ensures.grows c.lives_ahead-2.ensures.grows in
+    alive w _ grows (c.lives_ahead-2.ensures.lives c.if-lives_ahead-2.true)
 
 pub returns-clause-lives : goal.returns-clause-lives
 returns-clause-lives c = λ is.
-    let own = c.args.own.now in
-    let others = c.args.others.now in
-    let old = c.args.group.now in
-    let start = set old c.from-first.result c.args.joined in
-    alive_linked own others start c.fill.new.rows c.args.from
-    (Grows-twice own start c.lives_ahead-2.new.group c.fill.new.rows
-    (Grows-twice own start c.lives_ahead.new.group c.lives_ahead-2.new.group c.lives_ahead.ensures.grows c.lives_ahead-2.ensures.grows) c.fill.ensures.grows)
-    (linked own others old c.args.from c.args.joined c.from-first.result c.from-first.ensures c.requires.stone c.requires.row c.requires.none.all c.requires.none.none)
-    (c.some_lives.ensures.lives is)
+    let w = (goal.at.returns-clause-lives c).After-from-first in
+    let grows = Grows-twice (own w) (start w) c.lives_ahead.new.group c.lives_ahead-2.new.group c.lives_ahead.ensures.grows c.lives_ahead-2.ensures.grows in
+    alive w _ (Grows-twice (own w) (start w) c.lives_ahead-2.new.group c.fill.new.rows grows c.fill.ensures.grows) (c.some_lives.ensures.lives is)
 
 pub returns-clause-shut : goal.returns-clause-shut
-returns-clause-shut c = λ no.
-    let own = c.args.own.now in
-    let old = c.args.group.now in
-    record {
-      all = omega (arith, c.fill.auto.rows, c.lives_ahead-2.ensures.all, c.lives_ahead.ensures.all, length-set old c.from-first.result c.args.joined, c.requires.none.all);
-      within = c.fill.ensures.grows.within;
-      start = c.fill.ensures.grows.kept c.args.from (c.lives_ahead-2.ensures.grows.kept c.args.from (c.lives_ahead.ensures.grows.kept c.args.from
-          (there own c.args.others.now old c.args.from c.args.joined c.from-first.result c.from-first.ensures c.requires.stone c.requires.row c.requires.none.all c.requires.none.none)));
-      closed = c.fill.ensures.closed;
-      shut = c.some_lives.ensures.shut no;
-    }
+returns-clause-shut c = λ no. record {
+  all = omega (arith, c.fill.auto.rows, c.lives_ahead-2.ensures.all, c.lives_ahead.ensures.all, length-set c.args.group.now c.from-first.result c.args.joined, c.requires.none.all);
+  within = c.fill.ensures.grows.within;
+  start = c.fill.ensures.grows.kept c.args.from (c.lives_ahead-2.ensures.grows.kept c.args.from (c.lives_ahead.ensures.grows.kept c.args.from
+      (there (goal.at.returns-clause-shut c).After-from-first)));
+  closed = c.fill.ensures.closed;
+  shut = c.some_lives.ensures.shut no;
+}
 
 pub returns-then-lives_ahead-clause-part : goal.returns-then-lives_ahead-clause-part
-returns-then-lives_ahead-clause-part c =
-    let own = c.args.own.now in
-    let others = c.args.others.now in
-    let old = c.args.group.now in
-    part_linked own (set old c.from-first.result c.args.joined) c.lives_ahead.new.group c.args.from c.lives_ahead.ensures.grows
-    (linked own others old c.args.from c.args.joined c.from-first.result c.from-first.ensures c.requires.stone c.requires.row c.requires.none.all c.requires.none.none)
+returns-then-lives_ahead-clause-part c = part (goal.at.returns-then-lives_ahead-clause-part c).After-from-first _ c.lives_ahead.ensures.grows
 
 pub returns-then-lives_ahead-2-clause-part : goal.returns-then-lives_ahead-2-clause-part
 returns-then-lives_ahead-2-clause-part c =
-    let own = c.args.own.now in
-    let others = c.args.others.now in
-    let old = c.args.group.now in
-    let start = set old c.from-first.result c.args.joined in
-    part_linked own start c.lives_ahead-2.new.group c.args.from
-    (Grows-twice own start c.lives_ahead.new.group c.lives_ahead-2.new.group c.lives_ahead.ensures.grows c.lives_ahead-2.ensures.grows)
-    (linked own others old c.args.from c.args.joined c.from-first.result c.from-first.ensures c.requires.stone c.requires.row c.requires.none.all c.requires.none.none)
+    let w = (goal.at.returns-then-lives_ahead-2-clause-part c).After-from-first in
+    part w _ (Grows-twice (own w) (start w) c.lives_ahead.new.group c.lives_ahead-2.new.group c.lives_ahead.ensures.grows c.lives_ahead-2.ensures.grows)
 
 pub returns-clause-part : goal.returns-clause-part
 returns-clause-part c =
-    let own = c.args.own.now in
-    let others = c.args.others.now in
-    let old = c.args.group.now in
-    let start = set old c.from-first.result c.args.joined in
-    part_linked own start c.fill.new.rows c.args.from
-    (Grows-twice own start c.lives_ahead-2.new.group c.fill.new.rows
-    (Grows-twice own start c.lives_ahead.new.group c.lives_ahead-2.new.group c.lives_ahead.ensures.grows c.lives_ahead-2.ensures.grows) c.fill.ensures.grows)
-    (linked own others old c.args.from c.args.joined c.from-first.result c.from-first.ensures c.requires.stone c.requires.row c.requires.none.all c.requires.none.none)
+    let w = (goal.at.returns-clause-part c).After-from-first in
+    let grows = Grows-twice (own w) (start w) c.lives_ahead.new.group c.lives_ahead-2.new.group c.lives_ahead.ensures.grows c.lives_ahead-2.ensures.grows in
+    part w _ (Grows-twice (own w) (start w) c.lives_ahead-2.new.group c.fill.new.rows grows c.fill.ensures.grows)
 
 pub returns-then-lives_ahead-clause-all : goal.returns-then-lives_ahead-clause-all
 returns-then-lives_ahead-clause-all c = omega (arith, c.lives_ahead.ensures.all, length-set c.args.group.now c.from-first.result c.args.joined, c.requires.none.all)
