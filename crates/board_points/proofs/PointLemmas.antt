@@ -126,3 +126,5 @@ DifferByOne-sym a b (inr e) = inl e
 pub AreAdjacent-sym : (p q : Point) → AreAdjacent p q → AreAdjacent q p
 AreAdjacent-sym p q (inl (e, d)) = inl (sym e, DifferByOne-sym _ _ d)
 AreAdjacent-sym p q (inr (e, d)) = inr (sym e, DifferByOne-sym _ _ d)
+
+pub ruleset index_and_back = (index_of-point_at)

@@ -58,3 +58,5 @@ added_all old rows new each p =
           ∙ sym (or-false (is_set old p))
           ∙ ap (λ b. is_set old p || b) (sym (ap (λ w. has_bit w p.col) (get_or_past rows p.row 0 above) ∙ has_bit-zero p.col))
     ]
+
+pub ruleset difference_by_rows = (IsDifference-all)

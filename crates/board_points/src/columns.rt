@@ -6,6 +6,7 @@ ghost use Rattle.board_points.specs.Rows.{has_bit, AreAllColumns};
 ghost use Rattle.board_points.specs.inner.Columns.{IsPart};
 
 /// Whether a word has the bit of a column.
+#[tactic(auto, using(std::proofs::lemmas::Nat::Bits::shr_and_one))]
 pub fn has_column(word: u64, col: usize) -> bool
     requires { col < 64 }
     ensures { result ≡ has_bit word col }
@@ -34,6 +35,7 @@ pub fn without_column(word: u64, col: usize) -> u64
 }
 
 /// All columns of a row that has `side` columns. There must be fewer than 64.
+#[tactic(auto, using(crate::proofs::WordLemmas::bits_of_words))]
 pub fn all_columns(side: usize) -> u64
     requires { side < 64 }
     ensures { AreAllColumns side result }
@@ -52,6 +54,7 @@ pub(crate) fn other_columns(word: u64, side: usize) -> u64
 }
 
 /// The columns of `all` that aren't in `word`.
+#[tactic(auto, using(std::proofs::lemmas::Bool::and_parts, crate::proofs::WordLemmas::bits_of_words))]
 pub fn columns_left(all: u64, word: u64) -> u64
     ensures within { (col : ℕ) → col < 64 → has_bit result col ≡ (has_bit all col && not (has_bit word col)) }
     ensures off { (col : ℕ) → IsTrue (has_bit result col) → IsTrue (has_bit all col) }
@@ -70,6 +73,7 @@ pub(crate) fn columns_apart(all: u64, part: u64) -> u64
 }
 
 /// The columns from one to another, both included. The first must not be after the last, and the last must be less than 63.
+#[tactic(auto, using(std::proofs::lemmas::Nat::pow_below, crate::proofs::ColumnLemmas::column_word, crate::proofs::ColumnLemmas::columns_between))]
 pub fn columns_between(first: u8, last: u8) -> u64
     requires ordered { first ≤ last }
     requires few { last < 63 }

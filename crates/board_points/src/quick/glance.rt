@@ -56,6 +56,7 @@ fn stands_apart(own: &[u64], others: &[u64], point: Point) -> bool
 }
 
 /// The row above a row.
+#[tactic(auto, using(crate::proofs::GlanceLemmas::next_row, crate::proofs::GlanceLemmas::no_next_row))]
 #[inline(always)]
 fn next_above(own: &[u64], others: &[u64], row: usize) -> NextRow
     requires rows { AreOfOneBoard own.now others.now }
@@ -75,6 +76,7 @@ fn next_above(own: &[u64], others: &[u64], row: usize) -> NextRow
 }
 
 /// The row below a row.
+#[tactic(auto, using(crate::proofs::GrowLemmas::row_below, crate::proofs::GlanceLemmas::next_row, crate::proofs::GlanceLemmas::no_next_row))]
 #[inline(always)]
 fn next_below(own: &[u64], others: &[u64], row: usize) -> NextRow
     requires rows { AreOfOneBoard own.now others.now }

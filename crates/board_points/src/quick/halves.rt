@@ -48,6 +48,7 @@ fn paired(low: u64, high: u64) -> u64
 }
 
 /// A word with its halves exchanged.
+#[tactic(auto, using(crate::proofs::HalvesLemmas::low_rotated, crate::proofs::HalvesLemmas::high_rotated))]
 fn exchanged(word: u64) -> u64
     ensures low { result % 2 ^ 32 ≡ word / 2 ^ 32 }
     ensures high { result / 2 ^ 32 ≡ word % 2 ^ 32 }

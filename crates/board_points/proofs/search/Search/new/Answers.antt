@@ -1,4 +1,0 @@
-use Rattle.board_points.proofs.search.Search.new.Goals as goal
-
-pub returns : goal.returns
-returns c = cc
