@@ -49,3 +49,5 @@ cell_at-with_cell g p c h all = grind (arith, common_steps, get_or-set_same, ind
 
 pub cell_at-with_cell_elsewhere : (g : Grid) (p q : Point) (c : Cell) → IsOn g.side p → IsOn g.side q → q ≢ p → cell_at (with_cell g p c) q ≡ cell_at g q
 cell_at-with_cell_elsewhere g p q c hp hq other = grind (arith, common_steps, get_or-set_other, index_of-injective)
+
+pub ruleset grid_rules = (cell_at-grid_of, same_cell-eq, cell_at-with_cell_elsewhere)

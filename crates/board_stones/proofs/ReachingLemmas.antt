@@ -177,3 +177,5 @@ module _ (g : Grid) (k : Cell) where
 pub Decides-reaches : (g : Grid) (k : Cell) (p : Point) → IsOn g.side p → Decides (reaches g k p) (Reaches g k p)
 unfolding reaches
 Decides-reaches g k p on = grind (arith, common_steps, Decides-like, Decides-reaching_within, Reaches-Within, Within-Leads, Within-all)
+
+pub ruleset reach_rules = (Decides-reaches)

@@ -69,3 +69,5 @@ Decides-all_three x y z p q r = grind (arith, common_steps, Decides-and, Decides
 pub decides_counts_for : (g : Grid) (k : Colour) (p : Point) → IsOn g.side p → Decides (counts_for g k p) (CountsFor g k p)
 unfolding counts_for
 decides_counts_for g k p on = grind (arith, common_steps, Decides-all_three, Decides-not, Decides-or, Decides-reaches, Decides-same_cell)
+
+pub ruleset play_rules = (emptied, kept, others_kept, side-clear, length-clear, cell_at-clear, Decides-has_unreaching)

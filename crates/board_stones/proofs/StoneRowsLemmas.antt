@@ -239,3 +239,5 @@ AreStones-none side black white small no_black no_white = (
 pub rows_front : (g h : Grid) (words : List ℕ) (n : ℕ) (wanted : Cell) → h ≡ g → n ≡ h.side → h.side ≤ length words → AreRowsOf h.side (λ p. same_cell (cell_at h p) wanted) (take h.side words)
     → AreRowsOf g.side (λ p. same_cell (cell_at g p) wanted) (take n words) × (length (take n words) ≡ g.side)
 rows_front g h words n wanted is all long are = rw (← is, all) (are, length-take-le h.side words long)
+
+pub ruleset row_rules = (AreStones-coloured, grid-coloured, grid-row)

@@ -69,6 +69,7 @@ impl Board {
     }
 
     /// For proofs: every point has a cell, and the board is no larger than the largest one.
+    #[tactic(auto, using(crate::proofs::StoneRowsLemmas::all_cells))]
     pub fn has_all_cells(&self)
         ensures all { length self.now.cells ≡ self.now.side * self.now.side }
         ensures few { self.now.side ≤ MAX_ROWS }
@@ -78,6 +79,7 @@ impl Board {
     }
 
     /// What stands on a point, which must be on the board.
+    #[tactic(auto, using(crate::proofs::GridLemmas::grid_rules))]
     pub fn at(&self, point: Point) -> Cell
         requires { IsOn self.now.side point }
         ensures { result ≡ cell_at self.now point }
@@ -97,6 +99,7 @@ impl Board {
     }
 
     /// Changes what stands on one point, and on no other. The point must be on the board. Nothing is cleared.
+    #[tactic(auto, using(crate::proofs::StoneRowsLemmas::one_coloured))]
     pub fn set(&mut self, point: Point, cell: Cell)
         requires { IsOn self.old.side point }
         ensures { self.new ≡ with_cell self.old point cell }
@@ -123,6 +126,7 @@ impl Board {
     }
 
     /// Colours the points of a row that are in a set of columns. Nothing is cleared.
+    #[tactic(auto, using(crate::proofs::StoneRowsLemmas::row_rules))]
     pub(crate) fn colour_columns(&mut self, row: u8, columns: u64, cell: Cell)
         requires row { row < self.old.side }
         requires columns { (col : ℕ) → IsTrue (has_bit columns col) → col < self.old.side }
@@ -135,6 +139,7 @@ impl Board {
     }
 
     /// Changes what stands in a row. A column that is in both words gets a white stone. Nothing is cleared.
+    #[tactic(auto, using(crate::proofs::StoneRowsLemmas::row_rules))]
     pub fn set_row(&mut self, row: u8, black: u64, white: u64)
         requires row { row < self.old.side }
         requires black { (col : ℕ) → IsTrue (has_bit black col) → col < self.old.side }
@@ -159,6 +164,7 @@ impl Board {
     }
 
     /// Whether a row is the same as on another board of the same size.
+    #[tactic(auto, using(crate::proofs::GridLemmas::same_stones))]
     pub fn has_same_row(&self, other: &Board, row: u8) -> bool
         requires side { other.now.side ≡ self.now.side }
         requires row { row < self.now.side }
@@ -236,6 +242,7 @@ impl Board {
     /// colour and not the other's. An empty point that reaches both or neither counts for nobody.
     ///
     /// After the first test, which is a shortcut for small boards (`count_halves` counts there), this is the plain way.
+    #[tactic(auto, using(crate::proofs::ScoreLemmas::score_by_rows))]
     pub fn score(&self) -> (u32, u32)
         ensures black { result.0 ≡ score_of self.now Black }
         ensures white { result.1 ≡ score_of self.now White }

@@ -28,12 +28,14 @@ pub fn colouring()
 {}
 
 /// `reaches` is true of exactly those points of the grid that reach a colour by a path.
+#[tactic(auto, using(crate::proofs::ReachingLemmas::reach_rules))]
 pub fn reaching()
     ensures { (grid : Grid) (wanted : Cell) (point : Point) → IsOn grid.side point
         → (IsTrue (reaches grid wanted point) ↔ Reaches grid wanted point) }
 {}
 
 /// Setting a point colours that point and no other.
+#[tactic(auto, using(crate::proofs::GridLemmas::grid_rules))]
 pub fn setting()
     ensures there { (grid : Grid) (point : Point) (cell : Cell) → IsOn grid.side point
         → length grid.cells ≡ grid.side * grid.side
@@ -44,6 +46,7 @@ pub fn setting()
 {}
 
 /// Clearing a colour empties exactly its points that don't reach empty by a path.
+#[tactic(auto, using(crate::proofs::RuleLemmas::play_rules))]
 pub fn clearing()
     ensures side { (grid : Grid) (colour : Colour) → (clear grid colour).side ≡ grid.side }
     ensures all { (grid : Grid) (colour : Colour)
@@ -66,6 +69,7 @@ pub fn scoring()
 {}
 
 /// `has_unreaching` is true exactly if a point of the grid has a stone and no path to an empty point.
+#[tactic(auto, using(crate::proofs::RuleLemmas::play_rules))]
 pub fn unreaching()
     ensures { (grid : Grid) → (IsTrue (has_unreaching grid) ↔ HasUnreaching grid) }
 {}
@@ -77,6 +81,7 @@ pub fn moving()
 {}
 
 /// Colouring a rectangle colours its points and no others.
+#[tactic(auto, using(crate::proofs::GridLemmas::grid_rules), unfolding(crate::specs::Rectangle::with_rectangle))]
 pub fn areas()
     ensures { (grid : Grid) (op : SetupOp) (point : Point) → IsOn grid.side point
         → cell_at (with_rectangle grid op) point

@@ -24,6 +24,7 @@ pub(crate) fn cell_in(black: u64, white: u64, col: usize) -> Cell
 }
 
 /// The word of the stones of one kind, once some columns have a cell.
+#[tactic(auto, using(crate::proofs::StoneRowsLemmas::columns_set, crate::proofs::StoneRowsLemmas::columns_cleared, crate::proofs::GridLemmas::grid_rules))]
 pub(crate) fn with_columns(word: u64, columns: u64, cell: Cell, stone: Cell) -> u64
     ensures { (col : ℕ) → has_bit result col
         ≡ (if has_bit columns col then same_cell cell stone else has_bit word col) }
