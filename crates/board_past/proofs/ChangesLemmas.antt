@@ -1,5 +1,5 @@
 -- Changes that lead back from a colouring to the one before it.
-use Rattle.std.proofs.Common.{◌≡◌, ◌≢◌, ◌⊎◌, ◌==◌, ℕ, ◌+◌, ◌*◌, ◌<◌, ◌≤◌, inl, inr, Bool, true, false, cond, List, [], ◌∷◌, ◌++◌, length, take, drop, refl, sym, ap, subst, ◌∙◌, append_assoc, length-append, All, slice_index, arith}
+use Rattle.std.proofs.Common.{◌≡◌, ◌≢◌, ◌⊎◌, ◌==◌, ℕ, ◌+◌, ◌*◌, ◌<◌, ◌≤◌, inl, inr, Bool, true, false, cond, List, [], ◌∷◌, ◌++◌, length, take, drop, refl, sym, ap, subst, ◌∙◌, append_assoc, length-append, All, slice_index, arith, below_more}
 use Rattle.std.proofs.lemmas.Bool.{cases_lt, cases_Bool, cases_eq, false≢true}
 use Rattle.std.proofs.lemmas.Bool.Decides.{Decides-eqb}
 use Rattle.std.proofs.lemmas.List.{append-nil, take-append-drop, length-set}
@@ -210,10 +210,8 @@ module _ {old new : Grid} {all : Bool} {row : ℕ} {a b : List Change} (h : Keep
     added = adds.added ∙ ap (λ xs. xs ++ adds.change ∷ []) h.added ∙ append_assoc a h.more (adds.change ∷ []);
     are = All-push (IsRowOf old) h.more adds.change h.are adds.is;
     few = omega (arith, h.few, length-append h.more (adds.change ∷ []));
-    each = λ r low. elim (cases_eq r row) [
-      | inl at ↦ inl (has_row-last r h.more adds.change (adds.at ∙ sym at))
-      | inr other ↦ elim (h.each r (omega (arith, low, other))) [ inl there ↦ inl (has_row-front r h.more adds.change there) | inr same ↦ inr same ]
-    ];
+    each = below_more (λ r. HasRow r (h.more ++ adds.change ∷ []) ⊎ ((all ≡ false) × IsSameRow old new r)) row
+        (λ r low. elim (h.each r low) [ inl there ↦ inl (has_row-front r h.more adds.change there) | inr same ↦ inr same ]) (inl (has_row-last row h.more adds.change adds.at));
   }
 
   pub kept_same : all ≡ false → IsSameRow old new row → KeepRows old new all (row + 1) a b
@@ -222,10 +220,7 @@ module _ {old new : Grid} {all : Bool} {row : ℕ} {a b : List Change} (h : Keep
     added = h.added;
     are = h.are;
     few = omega (arith, h.few);
-    each = λ r low. elim (cases_eq r row) [
-      | inl at ↦ inr (none, subst (IsSameRow old new) (sym at) same)
-      | inr other ↦ h.each r (omega (arith, low, other))
-    ];
+    each = below_more (λ r. HasRow r h.more ⊎ ((all ≡ false) × IsSameRow old new r)) row h.each (inr (none, same));
   }
 
 -- rows that stay as they are needn't be kept

@@ -10,7 +10,7 @@ use Rattle.board_points.specs.inner.Columns.{IsPart, HasBeside, IsTaken}
 use Rattle.board_points.specs.inner.Fill.{row_above, IsNext, opposite, AreRowsBelow, HaveGiven, HaveGivenBut, IsFilledBut, HaveMore, lacking}
 use Rattle.board_points.proofs.WordLemmas.{has_bit-or, has_bit-and, has_bit-zero, not_in_part, le_from_part}
 use Rattle.board_points.proofs.ColumnLemmas.{lowest_left}
-use Rattle.board_points.proofs.GrowLemmas.{row_below, set_there, set_elsewhere, Grows-twice, Grows-row, above_at, seed_of, lacking-more, zero_of, taken_with, from_with, part_with}
+use Rattle.board_points.proofs.GrowLemmas.{row_below, set_there, set_elsewhere, each_row, Grows-twice, Grows-row, above_at, seed_of, lacking-more, zero_of, taken_with, from_with, part_with}
 
 -- a row is beside one row in each direction
 next_other : (d : Direction) (row next : ℕ) → IsNext d row next → next ≢ row
@@ -213,13 +213,7 @@ module _ (d : Direction) (region first rows : List ℕ) (flags back row next giv
     IsFilledBut-give = record {
       all = length-set rows next word ∙ was.all;
       grows = Grows-twice region first rows after was.grows Grows-give;
-      wide = λ r col beside differ room is.
-          elim (cases_eq r next) [
-            | inl same ↦
-                at_next r col same
-                ∙ shut col beside differ (ap (λ k. has_bit (slice_index region k) col) (sym same) ∙ room) (sym (at_next r beside same) ∙ is)
-            | inr other ↦ at_other r col other ∙ was.wide r col beside differ room (sym (at_other r beside other) ∙ is)
-          ];
+      wide = each_row (λ r w. HasBeside (has_bit (slice_index region r)) (has_bit w)) rows next word below (λ r _. was.wide r) shut;
       flags_in = was.flags_in;
       back_in = λ r is.
           elim (from_with back more next _ there elsewhere r is) [
@@ -295,11 +289,7 @@ module _ (region first rows : List ℕ) (ups row above word : ℕ) (was : IsSwep
     IsSwept-more = record {
       all = length-set rows row word ∙ was.all;
       grows = Grows-twice region first rows swept was.grows Grows-sweep;
-      wide = λ r low col beside differ room is.
-          elim (cases_eq r row) [
-            | inl same ↦ at_row r col same ∙ closed col beside differ (ap (λ k. has_bit (slice_index region k) col) (sym same) ∙ room) (sym (at_row r beside same) ∙ is)
-            | inr other ↦ off_row r col other ∙ was.wide r (omega (arith, low, other)) col beside differ room (sym (off_row r beside other) ∙ is)
-          ];
+      wide = λ r low. each_row (λ r w. r < row + 1 → HasBeside (has_bit (slice_index region r)) (has_bit w)) rows row word below (λ r other low. was.wide r (omega (arith, low, other))) (λ _. closed) r low;
       ups_in = λ r is.
           elim (from_with ups more row _ there elsewhere r is) [
             | inl old ↦ let low = was.ups_in r old in omega (arith, low)
@@ -391,15 +381,12 @@ module _ (region rows : List ℕ) (next given here taken : ℕ) (below : next < 
   now_there col = set_there rows next grown below (record { col = col; row = next }) refl
 
   pub IsAmong-taken : IsAmong (is_set (set rows next grown)) (is_set region)
-  IsAmong-taken p is =
-      elim (cases_eq p.row next) [
-        | inl same ↦
-            elim (or_cases _ _ (sym (has_bit-or (slice_index rows next) taken p.col) ∙ sym (set_there rows next grown below p same) ∙ is)) [
-              | inl own ↦ within p (ap (λ r. has_bit (slice_index rows r) p.col) same ∙ own)
-              | inr new ↦ ap (λ r. has_bit (slice_index region r) p.col) same ∙ (here_parts p.col (in_here p.col new)).0
-            ]
-        | inr other ↦ within p (sym (set_elsewhere rows next grown p other) ∙ is)
-      ]
+  IsAmong-taken p = each_row (λ r w. IsPart (has_bit w) (has_bit (slice_index region r))) rows next grown below (λ r _ col is. within (record { col = col; row = r }) is)
+      (λ col is.
+      elim (or_cases _ _ (sym (has_bit-or (slice_index rows next) taken col) ∙ is)) [
+        | inl own ↦ within (record { col = col; row = next }) own
+        | inr new ↦ (here_parts col (in_here col new)).0
+      ]) p.row p.col
 
   pub taken-there : IsPart (has_bit taken) (has_bit (slice_index (set rows next grown) next))
   taken-there col is = now_there col ∙ has_bit-or (slice_index rows next) taken col ∙ or_right _ _ is

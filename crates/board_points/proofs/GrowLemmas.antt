@@ -1,5 +1,5 @@
 -- Filling a set of points, as rows of words: one row grown; the rows that wait, and those that don't.
-use Rattle.std.proofs.Common.{◌≡◌, ◌≢◌, inl, inr, ℕ, zero, suc, ◌+◌, ◌^◌, ◌<◌, ◌≤◌, ◌||◌, Bool, true, List, length, get_or, set, bit_and, bit_or, refl, sym, ap, ◌∙◌, arith, slice_index, ◌⊎◌, false, not, nat_eq}
+use Rattle.std.proofs.Common.{◌≡◌, ◌≢◌, inl, inr, ℕ, zero, suc, ◌+◌, ◌^◌, ◌<◌, ◌≤◌, ◌||◌, Bool, true, List, length, get_or, set, bit_and, bit_or, refl, sym, ap, ◌∙◌, arith, slice_index, ◌⊎◌, false, not, nat_eq, subst}
 use Rattle.std.proofs.lemmas.Grind.{common_steps}
 use Rattle.std.proofs.lemmas.Bool.{or_cases, or_left, or_right, and_parts, and_from, false≢true, cases_eq, cases_Bool}
 use Rattle.std.proofs.lemmas.List.{get_or-set_same, get_or-set_other}
@@ -22,6 +22,14 @@ set_there rows row word within q same = grind (arith, common_steps, get_or-set_s
 
 pub set_elsewhere : (rows : List ℕ) (row word : ℕ) (q : Point) → q.row ≢ row → is_set (set rows row word) q ≡ is_set rows q
 set_elsewhere rows row word q other = ap (λ w. has_bit w q.col) (get_or-set_other rows row q.row word 0 other)
+
+-- what holds of each row but the written one, and of the word there, holds of each
+pub each_row : (P : ℕ → ℕ → Type 0) (rows : List ℕ) (row word : ℕ) → row < length rows → ((r : ℕ) → r ≢ row → P r (slice_index rows r)) → P row word → (r : ℕ) → P r (slice_index (set rows row word) r)
+each_row P rows row word within others here r =
+    elim (cases_eq r row) [
+      | inl same ↦ subst (λ k. P k (slice_index (set rows row word) k)) (sym same) (subst (P row) (sym (get_or-set_same rows row word 0 within)) here)
+      | inr other ↦ subst (P r) (sym (get_or-set_other rows row r word 0 other)) (others r other)
+    ]
 
 pub Grows-twice : (region a b c : List ℕ) → Grows (is_set region) (is_set a) (is_set b) → Grows (is_set region) (is_set b) (is_set c) → Grows (is_set region) (is_set a) (is_set c)
 Grows-twice region a b c first second = record {
@@ -50,12 +58,6 @@ lacking-more rows row grown within more low other = grind (arith, common_steps, 
 module _ (rows region : List ℕ) (row beside grown : ℕ) (within_row : row < length rows) (within : IsAmong (is_set rows) (is_set region)) (beside_in : IsPart (has_bit beside) (has_bit (bit_or (row_above rows row) (slice_index rows (row + 1))))) (in_room : IsPart (has_bit grown) (has_bit (get_or region row 0))) (from_seed : IsPart (has_bit (seed_of rows region row beside)) (has_bit grown)) (least : (set : ℕ → Bool) → HasBeside (has_bit (get_or region row 0)) set → IsPart (has_bit (seed_of rows region row beside)) set → IsPart (has_bit grown) set) where
   abbrev grown_rows : List ℕ
   grown_rows = set rows row grown
-
-  here : (p : Point) → p.row ≡ row → is_set grown_rows p ≡ has_bit grown p.col
-  here = set_there rows row grown within_row
-
-  elsewhere : (p : Point) → p.row ≢ row → is_set grown_rows p ≡ is_set rows p
-  elsewhere = set_elsewhere rows row grown
 
   own_seed : (col : ℕ) → has_bit (get_or rows row 0) col ≡ true → has_bit (seed_of rows region row beside) col ≡ true
   own_seed col is =
@@ -89,26 +91,15 @@ module _ (rows region : List ℕ) (row beside grown : ℕ) (within_row : row < l
 
   pub Grows-row : Grows (is_set region) (is_set rows) (is_set grown_rows)
   Grows-row = record {
-    within = λ p is.
-        elim (cases_eq p.row row) [
-          | inl same ↦ ap (λ r. has_bit (get_or region r 0) p.col) same ∙ in_room p.col (sym (here p same) ∙ is)
-          | inr other ↦ within p (sym (elsewhere p other) ∙ is)
-        ];
-    kept = λ p is.
-        elim (cases_eq p.row row) [
-          | inl same ↦ here p same ∙ from_seed p.col (own_seed p.col (ap (λ r. has_bit (get_or rows r 0) p.col) (sym same) ∙ is))
-          | inr other ↦ elsewhere p other ∙ is
-        ];
-    least = λ set shut part.
-        λ p is.
-        elim (cases_eq p.row row) [
-          | inl same ↦
-              ap (λ r. set (record { col = p.col; row = r })) same
-              ∙ least (λ col. set (record { col = col; row = row }))
-              (λ col d differ there at. shut (record { col = col; row = row }) (record { col = d; row = row }) (inr (refl, differ)) there at)
-              (seed_least set shut part) p.col (sym (here p same) ∙ is)
-          | inr other ↦ part p (sym (elsewhere p other) ∙ is)
-        ];
+    within = λ p. each_row (λ r w. IsPart (has_bit w) (has_bit (get_or region r 0))) rows row grown within_row
+        (λ r _ col is. within (record { col = col; row = r }) is) in_room p.row p.col;
+    kept = λ p. each_row (λ r w. IsPart (has_bit (get_or rows r 0)) (has_bit w)) rows row grown within_row
+        (λ _ _ _ is. is) (λ col is. from_seed col (own_seed col is)) p.row p.col;
+    least = λ set shut part p. each_row (λ r w. IsPart (has_bit w) (λ col. set (record { col = col; row = r }))) rows row grown within_row
+        (λ r _ col is. part (record { col = col; row = r }) is)
+        (least (λ col. set (record { col = col; row = row }))
+        (λ col d differ there at. shut (record { col = col; row = row }) (record { col = d; row = row }) (inr (refl, differ)) there at)
+        (seed_least set shut part)) p.row p.col;
   }
 
 -- a word that isn't told from 0

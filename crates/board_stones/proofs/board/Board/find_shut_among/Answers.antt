@@ -50,12 +50,7 @@ loop-at-preserved c =
           rw (w.shut-is, w.alive-is)
           (record {
             alive = before.alive;
-            adds = record {
-              shut = before.adds.shut;
-              kept = before.adds.kept;
-              none = λ fails. before.adds.none (sym w.some-is ∙ fails);
-              some = λ holds. before.adds.some (sym w.some-is ∙ holds);
-            };
+            adds = rw w.some-is before.adds;
             beside = λ q among on stone.
                 elim ((turn q).0 among) [
                   | inl earlier ↦ before.beside q earlier on stone
