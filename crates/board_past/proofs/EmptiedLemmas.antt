@@ -13,6 +13,8 @@ use Rattle.board_past.specs.inner.Key.{oldest}
 use Rattle.board_points.specs.Rows.{has_bit, is_set, IsAmong}
 use Rattle.board_past.proofs.RepeatLemmas.{HasAllEmptied-more}
 use Rattle.board_points.proofs.RowLemmas.{AddedBelow}
+use Rattle.board_points.proofs.GrowLemmas.{each_row}
+use Rattle.board_points.specs.inner.Columns.{IsPart}
 use Rattle.board_points.proofs.WordLemmas.{has_bit-or}
 
 oldest-same : (count : ℕ) (x : Held) (xs : List Held) → count ≤ length xs → oldest count (x ∷ xs) ≡ oldest count xs
@@ -27,14 +29,8 @@ history_all rows (last ∷ older) held has = has.0
 
 -- a row that got points
 among_set : (rows : List ℕ) (row more : ℕ) → row < length rows → IsAmong (is_set rows) (is_set (slice_set rows row (bit_or (get_or rows row 0) more)))
-among_set rows row more low = λ p is. elim (cases_eq p.row row) [
-  | inl same ↦
-      ap (λ r. has_bit (slice_index (slice_set rows row (bit_or (get_or rows row 0) more)) r) p.col) same
-      ∙ ap (λ w. has_bit w p.col) (get_or-set_same rows row (bit_or (get_or rows row 0) more) 0 low)
-      ∙ has_bit-or (get_or rows row 0) more p.col
-      ∙ or_left (has_bit (get_or rows row 0) p.col) (has_bit more p.col) (ap (λ r. has_bit (get_or rows r 0) p.col) (sym same) ∙ is)
-  | inr other ↦ ap (λ w. has_bit w p.col) (get_or-set_other rows row p.row (bit_or (get_or rows row 0) more) 0 other) ∙ is
-]
+among_set rows row more low = λ p. each_row (λ r w. IsPart (has_bit (get_or rows r 0)) (has_bit w)) rows row (bit_or (get_or rows row 0) more) low
+    (λ _ _ _ is. is) (λ col is. has_bit-or (get_or rows row 0) more col ∙ or_left _ _ is) p.row p.col
 
 history_added : (rows : List ℕ) (log : List OldRow) (held : List Held) (last : OldRow) (more : ℕ) → last.row < length rows → last.word ≡ get_or rows last.row 0 → last.number ≡ length held
     → HasHistory rows log held → HasHistory (slice_set rows last.row (bit_or (get_or rows last.row 0) more)) (last ∷ log) held

@@ -9,6 +9,7 @@ use Rattle.board_stones.specs.Grid.{Grid, cell_at}
 use Rattle.board_past.specs.inner.Key.{has_stone, key_bit, key_bits}
 use Rattle.board_points.specs.Rows.{has_bit}
 use Rattle.key_trie.specs.Key.{Agree}
+use Rattle.board_stones.proofs.GridLemmas.{same_stones}
 use Rattle.board_stones.proofs.GroupLemmas.{one_colouring}
 use Rattle.board_stones.proofs.StoneRowsLemmas.{bit_same}
 
@@ -19,6 +20,12 @@ key_at start print hash grid index col low =
     let word : (64 * index + col) / 64 ≡ index = omega (arith, low) in
     let position : (64 * index + col) % 64 ≡ col = omega (arith, low) in
     ap (λ n. key_bit start print hash grid n ((64 * index + col) % 64)) word ∙ ap (λ n. key_bit start print hash grid index n) position
+
+-- the bit at a position, by the word that it is in
+key_in : (start print hash : ℕ) (grid : Grid) (index position : ℕ) → 64 * index ≤ position → position < 64 * index + 64 → key_bits start print hash grid position ≡ key_bit start print hash grid index (position - 64 * index)
+key_in start print hash grid index position from before =
+    let at : position ≡ 64 * index + (position - 64 * index) = omega (arith, from) in
+    ap (key_bits start print hash grid) at ∙ key_at start print hash grid index (position - 64 * index) (omega (arith, from, before))
 
 -- the first bits of a key are those of its print
 pub print_bit : (start print hash : ℕ) (grid : Grid) (position : ℕ) → position < 64 → key_bits start print hash grid position ≡ has_bit print position
@@ -40,16 +47,8 @@ module _ (start start' print print' hash hash' : ℕ) (grid grid' : Grid) where
   pub front_agrees : start ≡ start' → print ≡ print' → Agree (key_bits start print hash grid) (key_bits start' print' hash' grid') 128
   front_agrees e f = record {
     each = λ p h. elim (cases_lt p 64) [
-      | inl low ↦
-          let at : 64 * 0 + p ≡ p = omega arith in
-          subst (λ m. key_bits start print hash grid m ≡ key_bits start' print' hash' grid' m) at
-          (key_at start print hash grid 0 p low ∙ ap (λ n. has_bit n p) f ∙ sym (key_at start' print' hash' grid' 0 p low))
-      | inr high ↦
-          let col = p - 64 in
-          let low : col < 64 = omega (arith, h, high) in
-          let at : 64 * 1 + col ≡ p = omega (arith, high) in
-          subst (λ m. key_bits start print hash grid m ≡ key_bits start' print' hash' grid' m) at
-          (key_at start print hash grid 1 col low ∙ ap (λ n. has_bit n col) e ∙ sym (key_at start' print' hash' grid' 1 col low))
+      | inl low ↦ key_in start print hash grid 0 p (omega arith) (omega (arith, low)) ∙ ap (λ n. has_bit n (p - 64 * 0)) f ∙ sym (key_in start' print' hash' grid' 0 p (omega arith) (omega (arith, low)))
+      | inr high ↦ key_in start print hash grid 1 p (omega (arith, high)) (omega (arith, h)) ∙ ap (λ n. has_bit n (p - 64 * 1)) e ∙ sym (key_in start' print' hash' grid' 1 p (omega (arith, high)) (omega (arith, h)))
     ];
   }
 
@@ -58,11 +57,7 @@ pub head_agrees : (start print hash : ℕ) (grid grid' : Grid) → Agree (key_bi
 head_agrees start print hash grid grid' = record {
   each = λ p h. elim (cases_lt p 128) [
     | inl low ↦ (front_agrees start start print print hash hash grid grid' refl refl).each p low
-    | inr high ↦
-        let col = p - 128 in
-        let low : col < 64 = omega (arith, h, high) in
-        let at : 64 * 2 + col ≡ p = omega (arith, high) in
-        subst (λ m. key_bits start print hash grid m ≡ key_bits start print hash grid' m) at (key_at start print hash grid 2 col low ∙ sym (key_at start print hash grid' 2 col low))
+    | inr high ↦ key_in start print hash grid 2 p (omega (arith, high)) (omega (arith, h)) ∙ sym (key_in start print hash grid' 2 p (omega (arith, high)) (omega (arith, h)))
   ];
 }
 
@@ -72,17 +67,6 @@ stone-on : (grid : Grid) (stone : Cell) (row col : ℕ) → row < grid.side → 
 stone-on grid stone row col low left =
     ap (λ t. (t && nat_lt col grid.side) && same_cell (cell_at grid (record { col = col; row = row })) stone) (lt-ltb row grid.side low)
     ∙ ap (λ t. t && same_cell (cell_at grid (record { col = col; row = row })) stone) (lt-ltb col grid.side left)
-
-cells_one : (a b : Cell) → same_cell a Black ≡ same_cell b Black → same_cell a White ≡ same_cell b White → a ≡ b
-cells_one Black Black e f = refl
-cells_one Black White e f = absurd (false≢true f)
-cells_one Black Empty e f = absurd (false≢true (sym e))
-cells_one White Black e f = absurd (false≢true e)
-cells_one White White e f = refl
-cells_one White Empty e f = absurd (false≢true (sym f))
-cells_one Empty Black e f = absurd (false≢true e)
-cells_one Empty White e f = absurd (false≢true f)
-cells_one Empty Empty e f = refl
 
 -- the word of a row for Black, and the one for White
 stone_at : (start print hash : ℕ) (grid : Grid) (row col white : ℕ) → col < 64 → white < 2 → key_bits start print hash grid (64 * (2 * row + 3 + white) + col) ≡ has_stone grid (if white == 0 then Black else White) row col
@@ -110,4 +94,4 @@ whole_same start start' print print' hash hash' grid grid' side few all all' a =
     ∙ a.each (64 * (2 * row + 3 + white) + col) (omega (arith, on.1, few, left, two))
     ∙ stone_at start' print' hash' grid' row col white left two
     ∙ stone-on grid' (if white == 0 then Black else White) row col (omega (arith, on.1, side)) left' in
-    cells_one (cell_at grid p) (cell_at grid' p) (same 0 (omega arith)) (same 1 (omega arith)))
+    same_stones (cell_at grid p) (cell_at grid' p) (same 0 (omega arith)) (same 1 (omega arith)))

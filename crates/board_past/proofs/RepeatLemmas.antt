@@ -66,45 +66,39 @@ emptied_by_play g k p rows move = λ q at stone free.
           ])
     ]
 
--- a stone that stays on a point that isn't in the set makes no colouring of the present stretch
-pub never_back : (past : PastColourings) (k : Colour) (p : Point) (rows emptied : List ℕ) → length (newest_grid past).cells ≡ (newest_grid past).side * (newest_grid past).side → HaveSide (newest_grid past).side past → HasAllEmptied (is_set emptied) (all_of past)
-    → IsMove (newest_grid past) k p rows → is_set emptied p ≡ false → is_set rows p ≡ false → Contains (present_stretch past) (play (newest_grid past) k p) → ⊥
-never_back past k p rows emptied all sides kept move fresh stays has =
-    let g = newest_grid past in
-    let there : cell_at (play g k p) p ≡ stone_of k = move.cleared.played.kept p move.on_board (λ cleared. false≢true (sym stays ∙ cleared)) ∙ cell_at-with_cell g p (stone_of k) move.on_board all in
-    let was = emptied-if_back p (play g k p) g (cond past.newest.begins [] (stretch_of past.older)) move.empty (λ e. stone_of≢Empty k (sym there ∙ e)) has in
-    false≢true (sym fresh ∙ was_in_set (is_set emptied) g.side p move.on_board (all_of past) sides kept was)
-
--- a stone that stays on such a point is in no older colouring of the stretch
-pub fresh_stone_put : (past : PastColourings) (k : Colour) (p : Point) (rows emptied : List ℕ) → length (newest_grid past).cells ≡ (newest_grid past).side * (newest_grid past).side → HaveSide (newest_grid past).side past → HasAllEmptied (is_set emptied) (all_of past)
-    → IsMove (newest_grid past) k p rows → is_set emptied p ≡ false → is_set rows p ≡ false → IsFreshStone (with_next past (play (newest_grid past) k p) false) p
-fresh_stone_put past k p rows emptied all sides kept move fresh stays =
-    let g = newest_grid past in
-    let there : cell_at (play g k p) p ≡ stone_of k = move.cleared.played.kept p move.on_board (λ cleared. false≢true (sym stays ∙ cleared)) ∙ cell_at-with_cell g p (stone_of k) move.on_board all in
-    record {
-      on = subst (λ n. IsOn n p) (sym (side_play g k p)) move.on_board;
-      there = λ e. stone_of≢Empty k (sym there ∙ e);
-      new = λ grid has.
-          let here = Decides-same_cell (cell_at grid p) Empty in
-          elim (cases_Bool (same_cell (cell_at grid p) Empty)) [
-            | inl free ↦ here.0 free
-            | inr cleared ↦
-                let was = emptied-if_back p grid g (cond past.newest.begins [] (stretch_of past.older)) move.empty (λ is. false≢true (sym cleared ∙ here.1 is)) has in
-                absurd (false≢true (sym fresh ∙ was_in_set (is_set emptied) g.side p move.on_board (all_of past) sides kept was))
-          ];
-    }
-
 -- What a stone leaves on the grid that it makes, if it isn't cleared at once: itself, and each stone that it doesn't clear.
 module _ (g : Grid) (k : Colour) (p : Point) (rows : List ℕ) (all : length g.cells ≡ g.side * g.side) (move : IsMove g k p rows) where
   pub stone_put : is_set rows p ≡ false → cell_at (play g k p) p ≢ Empty
-  stone_put stays =
-      let there : cell_at (play g k p) p ≡ stone_of k = move.cleared.played.kept p move.on_board (λ cleared. false≢true (sym stays ∙ cleared)) ∙ cell_at-with_cell g p (stone_of k) move.on_board all in
-      λ e. stone_of≢Empty k (sym there ∙ e)
+  stone_put stays e =
+      stone_of≢Empty k (sym (move.cleared.played.kept p move.on_board (λ cleared. false≢true (sym stays ∙ cleared)) ∙ cell_at-with_cell g p (stone_of k) move.on_board all) ∙ e)
 
   pub stone_left : (q : Point) → IsOn g.side q → cell_at g q ≢ Empty → is_set rows q ≡ false → cell_at (play g k p) q ≢ Empty
   stone_left q on there stays =
       let other : q ≢ p = λ same. there (ap (cell_at g) same ∙ move.empty) in
       λ free. there (sym (cell_at-with_cell_elsewhere g p q (stone_of k) move.on_board on other) ∙ sym (move.cleared.played.kept q on (λ cleared. false≢true (sym stays ∙ cleared))) ∙ free)
+
+-- A stone that stays on a point that isn't in the set: no colouring of the present stretch has a stone there.
+module _ (past : PastColourings) (k : Colour) (p : Point) (rows emptied : List ℕ) (all : length (newest_grid past).cells ≡ (newest_grid past).side * (newest_grid past).side) (sides : HaveSide (newest_grid past).side past) (kept : HasAllEmptied (is_set emptied) (all_of past)) (move : IsMove (newest_grid past) k p rows) (fresh : is_set emptied p ≡ false) (stays : is_set rows p ≡ false) where
+  none_there : (made : Grid) → cell_at made p ≢ Empty → Contains (present_stretch past) made → ⊥
+  none_there made stone has =
+      let was = emptied-if_back p made (newest_grid past) (cond past.newest.begins [] (stretch_of past.older)) move.empty stone has in
+      false≢true (sym fresh ∙ was_in_set (is_set emptied) (newest_grid past).side p move.on_board (all_of past) sides kept was)
+
+  -- so it makes none of them
+  pub never_back : Contains (present_stretch past) (play (newest_grid past) k p) → ⊥
+  never_back = none_there (play (newest_grid past) k p) (stone_put (newest_grid past) k p rows all move stays)
+
+  pub fresh_stone_put : IsFreshStone (with_next past (play (newest_grid past) k p) false) p
+  fresh_stone_put = record {
+    on = subst (λ n. IsOn n p) (sym (side_play (newest_grid past) k p)) move.on_board;
+    there = stone_put (newest_grid past) k p rows all move stays;
+    new = λ grid has.
+        let here = Decides-same_cell (cell_at grid p) Empty in
+        elim (cases_Bool (same_cell (cell_at grid p) Empty)) [
+          | inl free ↦ here.0 free
+          | inr cleared ↦ absurd (none_there grid (λ is. false≢true (sym cleared ∙ here.1 is)) has)
+        ];
+  }
 
 -- what becomes of a past when a stone is played: a stone is played, or memory is refused
 module _ {E : Type 0} (k : Colour) (p : Point) (old new : PastColourings) where

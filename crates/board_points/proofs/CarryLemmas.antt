@@ -164,8 +164,7 @@ abbrev pub AreLeft : ℕ → ℕ → ℕ → Type 0
 AreLeft region word left = (c : ℕ) → has_bit left c ≡ (has_bit region c && not (has_bit word c))
 
 pub in_before : (word left c : ℕ) → has_bit (bit_and (word / 2 ^ 1) left) c ≡ true → (has_bit word (suc c) ≡ true) × (has_bit left c ≡ true)
-in_before word left c is =
-    let both = and_parts _ _ (sym (has_bit-and (word / 2 ^ 1) left c) ∙ is) in (sym (has_bit-right word c) ∙ both.0, both.1)
+in_before word left c is = grind (arith, common_steps, and_parts, has_bit-and, has_bit-right)
 
 pub HasBeside-none : (region seed word left : ℕ) → IsWidened region seed word → AreLeft region word left → bit_and (word / 2 ^ 1) left ≡ 0 → HasBeside (has_bit region) (has_bit word)
 HasBeside-none region seed word left widened left_is none c d (inl right) in_room is =

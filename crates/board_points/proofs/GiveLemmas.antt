@@ -14,12 +14,10 @@ use Rattle.board_points.proofs.GrowLemmas.{row_below, set_there, set_elsewhere, 
 
 -- a row is beside one row in each direction
 next_other : (d : Direction) (row next : ℕ) → IsNext d row next → next ≢ row
-next_other Up row next is = omega (arith, is)
-next_other Down row next is = omega (arith, is)
+next_other d row next is = grind arith
 
 next_one : (d : Direction) (row n m : ℕ) → IsNext d row n → IsNext d row m → n ≡ m
-next_one Up row n m one other = omega (arith, one, other)
-next_one Down row n m one other = omega (arith, one, other)
+next_one d row n m one other = grind arith
 
 back_one : (d : Direction) (row next n : ℕ) → IsNext d row next → IsNext (opposite d) next n → n ≡ row
 back_one d row next n there back = grind arith
@@ -366,8 +364,7 @@ after_sweep region rows r row word left same is left_is col = cc (left_is col)
 
 without_both : (a b c : Bool) → ((a && not b) && not c) ≡ (a && not (b || c))
 without_both true true c = refl
-without_both true false c = refl
-without_both false b c = refl
+without_both _ _ c = refl
 
 -- A row that takes columns: `here` has those that it lacks, and `taken` has some of these.
 module _ (region rows : List ℕ) (next given here taken : ℕ) (below : next < length rows) (within : IsAmong (is_set rows) (is_set region)) (here_is : (col : ℕ) → has_bit here col ≡ (has_bit (slice_index region next) col && not (has_bit (slice_index rows next) col))) (in_here : IsPart (has_bit taken) (has_bit here)) where
@@ -460,5 +457,4 @@ rows_ahead Up row = row
 rows_ahead Down row = 64 - row
 
 pub fewer_ahead : (d : Direction) (row next : ℕ) → IsNext d row next → next < 64 → rows_ahead d next < rows_ahead d row
-fewer_ahead Up row next is low = omega (arith, is)
-fewer_ahead Down row next is low = omega (arith, is, low)
+fewer_ahead d row next is low = grind arith

@@ -72,10 +72,7 @@ module _ (own others : List ℕ) (p : Point) (free : ℕ) (row : RowStones) (gon
 
 -- the point beside another one is another
 pub apart : (p q : Point) → AreAdjacent p q → q ≢ p
-apart p q (inl (e, inl d)) same = (let row = ap (λ (x : Point). x.row) same in omega (arith, row, d))
-apart p q (inl (e, inr d)) same = (let row = ap (λ (x : Point). x.row) same in omega (arith, row, d))
-apart p q (inr (e, inl d)) same = (let col = ap (λ (x : Point). x.col) same in omega (arith, col, d))
-apart p q (inr (e, inr d)) same = (let col = ap (λ (x : Point). x.col) same in omega (arith, col, d))
+apart p q beside same = grind arith
 
 -- what a look at a row tells
 module _ (own others : List ℕ) (p : Point) (i above : ℕ) (row : RowStones) (below : ℕ) (is : IsLookedAt own others p i above row below) (near : ℕ) (from : (col : ℕ) → has_bit near col ≡ true → IsInOrBeside above row.free below col) where

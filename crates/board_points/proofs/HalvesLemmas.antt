@@ -78,25 +78,17 @@ among_by_halves some all low high =
 
 -- points that are adjacent in a half
 adjacent_shifted : (p q : Point) → AreAdjacent p q → AreAdjacent (shifted p) (shifted q)
-adjacent_shifted p q (inl column) = inl (ap (λ n. 32 + n) column.0, column.1)
-adjacent_shifted p q (inr (row, inl next)) = inr (row, inl (omega (arith, next)))
-adjacent_shifted p q (inr (row, inr next)) = inr (row, inr (omega (arith, next)))
+adjacent_shifted p q beside = grind arith
 
 pub adjacent_unshifted : (p q : Point) → 32 ≤ p.col → 32 ≤ q.col → AreAdjacent p q → AreAdjacent (unshifted p) (unshifted q)
-adjacent_unshifted p q from_p from_q (inl column) = inl (ap (λ n. n - 32) column.0, column.1)
-adjacent_unshifted p q from_p from_q (inr (row, inl next)) = inr (row, inl (omega (arith, next, from_p, from_q)))
-adjacent_unshifted p q from_p from_q (inr (row, inr next)) = inr (row, inr (omega (arith, next, from_p, from_q)))
+adjacent_unshifted p q from_p from_q beside = grind arith
 
 -- beside a point of the one half, past an empty column, is no point of the other
 pub stays_low : (p q : Point) → AreAdjacent p q → p.col < 32 → p.col ≢ 31 → q.col < 32
-stays_low p q (inl column) below apart = omega (arith, column.0, below)
-stays_low p q (inr (row, inl next)) below apart = omega (arith, next, below, apart)
-stays_low p q (inr (row, inr next)) below apart = omega (arith, next, below)
+stays_low p q beside below apart = grind arith
 
 pub stays_high : (p q : Point) → AreAdjacent p q → 32 ≤ p.col → q.col ≢ 31 → 32 ≤ q.col
-stays_high p q (inl column) from apart = omega (arith, column.0, from)
-stays_high p q (inr (row, inl next)) from apart = omega (arith, next, from)
-stays_high p q (inr (row, inr next)) from apart = omega (arith, next, from, apart)
+stays_high p q beside from apart = grind arith
 
 -- a closed set, and each of its halves
 module _ (region rows : List ℕ) (closed : IsClosed (is_set region) (is_set rows)) where

@@ -50,13 +50,6 @@ added_next old rows now row low is = record {
 }
 
 pub added_all : (old rows new : List ℕ) → AddedBelow old rows (length rows) new → (p : Point) → is_set new p ≡ (is_set old p || is_set rows p)
-added_all old rows new each p =
-    elim (cases_lt p.row (length rows)) [
-      | inl below ↦ ap (λ w. has_bit w p.col) (each.added p.row below) ∙ has_bit-or (slice_index old p.row) (slice_index rows p.row) p.col
-      | inr above ↦
-          ap (λ w. has_bit w p.col) (each.same p.row above)
-          ∙ sym (or-false (is_set old p))
-          ∙ ap (λ b. is_set old p || b) (sym (ap (λ w. has_bit w p.col) (get_or_past rows p.row 0 above) ∙ has_bit-zero p.col))
-    ]
+added_all old rows new each p = grind (arith, common_steps, has_bit-or, get_or_past, has_bit-zero, or-false)
 
 pub ruleset difference_by_rows = (IsDifference-all)

@@ -13,11 +13,9 @@ use Rattle.board_points.specs.inner.Columns.{IsPart}
 by_bits : (P : ℕ → ℕ → Type 0) → P zero zero → P zero (suc zero) → P (suc zero) zero → P (suc zero) (suc zero) → (x y : ℕ) → x < 2 → y < 2 → P x y
 by_bits P none second first both zero zero hx hy = none
 by_bits P none second first both zero (suc zero) hx hy = second
-by_bits P none second first both zero (suc (suc y)) hx hy = absurd (omega arith)
 by_bits P none second first both (suc zero) zero hx hy = first
 by_bits P none second first both (suc zero) (suc zero) hx hy = both
-by_bits P none second first both (suc zero) (suc (suc y)) hx hy = absurd (omega arith)
-by_bits P none second first both (suc (suc x)) y hx hy = absurd (omega arith)
+by_bits P none second first both _ _ hx hy = absurd (omega arith)
 
 test_max : (x y : ℕ) → x < 2 → y < 2 → (max x y == 1) ≡ ((x == 1) || (y == 1))
 test_max = by_bits (λ x y. (max x y == 1) ≡ ((x == 1) || (y == 1))) refl refl refl refl
@@ -64,8 +62,7 @@ not_in_part some all k part none = false_from_ne_true (some k) (λ is. false≢t
 
 -- where nothing of the one is left without the other, what is in the one is in the other
 pub in_the_other : (x y : Bool) → x ≡ true → (x && not y) ≡ false → y ≡ true
-in_the_other true y is none = not-false y none
-in_the_other false y is none = absurd (false≢true is)
+in_the_other x y is none = grind (arith, common_steps)
 
 -- the bit of a column that is there, and of one that isn't
 pub bit_at-there : (n c : ℕ) → has_bit n c ≡ true → bit_at n c ≡ 1
@@ -82,9 +79,7 @@ pub column_below : (k a c : ℕ) → a < 2 ^ k → has_bit a c ≡ true → c < 
 column_below k a c low is = grind (arith, common_steps, bit_at_above)
 
 min_one : (x : ℕ) → x < 2 → min x 1 ≡ x
-min_one zero h = refl
-min_one (suc zero) h = refl
-min_one (suc (suc x)) h = absurd (omega arith)
+min_one x h = grind arith
 
 -- the low bits stay where the others are cut off
 pub bit_at-mod : (n k i : ℕ) → i < k → bit_at (n % 2 ^ k) i ≡ bit_at n i

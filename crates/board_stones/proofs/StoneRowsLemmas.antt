@@ -24,8 +24,7 @@ use Rattle.board_stones.proofs.GroupLemmas.{grid_of-cells, same_colours}
 -- what stands on a point by its bits, and its bits by what stands there
 stone_is : (c : Cell) → cond (same_cell c Black) Black (cond (same_cell c White) White Empty) ≡ c
 stone_is Black = refl
-stone_is White = refl
-stone_is Empty = refl
+stone_is _ = refl
 
 black_is : (b w : Bool) → b ≡ same_cell (cond b Black (cond w White Empty)) Black
 black_is true w = refl

@@ -203,9 +203,8 @@ named-with_child node false x = refl
 
 named-with_other : (node : Node) (s t : Bool) (x : ℕ) → s ≢ t → named (with_child node s x) t ≡ named node t
 named-with_other node true true x apart = absurd (apart refl)
-named-with_other node true false x apart = refl
-named-with_other node false true x apart = refl
 named-with_other node false false x apart = absurd (apart refl)
+named-with_other node _ _ x apart = refl
 
 with_child-back : (node : Node) (s : Bool) (x : ℕ) → with_child (with_child node s x) s (named node s) ≡ node
 with_child-back node true x = refl

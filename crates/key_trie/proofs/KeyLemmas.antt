@@ -18,11 +18,9 @@ same_bit a b i e =
 one_bit : (x y : ℕ) → x < 2 → y < 2 → (x == 1) ≡ (y == 1) → x ≡ y
 one_bit zero zero h g e = refl
 one_bit zero (suc zero) h g e = absurd (false≢true e)
-one_bit zero (suc (suc y)) h g e = absurd (omega (arith, g))
 one_bit (suc zero) zero h g e = absurd (false≢true (sym e))
 one_bit (suc zero) (suc zero) h g e = refl
-one_bit (suc zero) (suc (suc y)) h g e = absurd (omega (arith, g))
-one_bit (suc (suc x)) y h g e = absurd (omega (arith, h))
+one_bit _ _ h g e = absurd (omega arith)
 
 pub other_bits : (a b i : ℕ) → bit_at (bit_xor a b) i ≡ 1 → (bit_at a i == 1) ≢ (bit_at b i == 1)
 other_bits a b i e same =

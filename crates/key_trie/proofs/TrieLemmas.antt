@@ -31,9 +31,8 @@ agree_more {x} {y} {end} more few a e = record {
 
 pub other_bit : (x y : Bool) → x ≢ y → x ≡ not y
 other_bit true true apart = absurd (apart refl)
-other_bit true false apart = refl
-other_bit false true apart = refl
 other_bit false false apart = absurd (apart refl)
+other_bit _ _ apart = refl
 
 pub not_itself : (x : Bool) → x ≡ not x → ⊥
 not_itself true e = true≢false e
