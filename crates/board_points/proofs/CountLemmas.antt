@@ -19,9 +19,7 @@ use Rattle.board_points.proofs.WordLemmas.{has_bit-and, has_bit-without, bit_at-
 
 ones_of_bit : (n : ℕ) → n < 2 → count_ones n ≡ cond (n == 1) 1 0
 unfolding ones
-ones_of_bit zero h = refl
-ones_of_bit (suc zero) h = refl
-ones_of_bit (suc (suc n)) h = absurd (omega arith)
+ones_of_bit n h = grind (arith, common_steps)
 
 -- one column more
 ones_more : (n c : ℕ) → count_ones (n % 2 ^ (1 + c)) ≡ count_ones (n % 2 ^ c) + cond (has_bit n c) 1 0

@@ -49,10 +49,7 @@ next_row own others middle i r at below = record {
 -- a row next to a row, where the board ends
 pub no_next_row : (own others : List ℕ) (middle i : ℕ) → length own < 64 → ((p : Point) → p.row + 2 ≡ middle + i → is_set others p ≡ true → ⊥)
     → IsNextRow own others middle i (record { own = 2 ^ 64 - 1; others = 0 })
-no_next_row own others middle i few none = record {
-  has_others = λ p there is. absurd (none p there is);
-  is_free = λ col low not_own. absurd (false≢true (sym not_own ∙ has_bit-full col (omega (arith, low, few))));
-}
+no_next_row own others middle i few none = grind (arith, common_steps, false≢true, has_bit-full)
 
 -- no point is free in no column
 pub none_free : (own others : List ℕ) (p : Point) (i : ℕ) → AreFree own others p i 0

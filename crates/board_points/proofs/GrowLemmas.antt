@@ -43,9 +43,7 @@ Grows-none region rows within = grind (arith, common_steps)
 
 -- what a row above has in a column
 pub above_at : (rows : List ℕ) (r col : ℕ) (q : Point) → q.row + 1 ≡ r → q.col ≡ col → is_set rows q ≡ true → has_bit (row_above rows r) col ≡ true
-above_at rows zero col q next at is = absurd (omega arith)
-above_at rows (suc r) col q next at is =
-    let below : r ≡ q.row = omega arith in ap (λ k. has_bit (get_or rows k 0) col) below ∙ ap (has_bit (get_or rows q.row 0)) (sym at) ∙ is
+above_at rows r col q next at is = grind (arith, common_steps)
 
 -- what a row may grow from: its own bits and those around it, where there is region
 abbrev pub seed_of : List ℕ → List ℕ → ℕ → ℕ → ℕ

@@ -195,10 +195,7 @@ ones_by_halves word =
 
 -- all columns but those of a word
 pub others_of_all : (side columns word : ℕ) → AreAllColumns side columns → columns < 2 ^ 64 → word < 2 ^ 64 → AreOthers side word (bit_and columns (bit_not w64 word))
-others_of_all side columns word all fits low = (
-  λ c below. has_bit-less columns word c fits low ∙ ap (λ b. b && not (has_bit word c)) (all.within c below),
-  λ c is. all.off c (and_parts _ _ (sym (has_bit-less columns word c fits low) ∙ is)).0,
-)
+others_of_all side columns word all fits low = grind (arith, common_steps, and_parts, has_bit-less)
 
 -- the words of two sets, row by row
 abbrev pub IsPair : List ℕ → List ℕ → ℕ → ℕ → Type 0
@@ -210,21 +207,10 @@ IsPairOfOthers side black white row word =
 
 -- half a word of a row, where it is the row of a set up to the last row
 half_row : (f : ℕ → ℕ) (rows set : List ℕ) → f 0 ≡ 0 → length rows ≡ length set → ((r : ℕ) → r < length rows → f (slice_index rows r) ≡ slice_index set r) → (r : ℕ) → f (slice_index rows r) ≡ slice_index set r
-half_row f rows set none long each r =
-    elim (cases_lt r (length rows)) [
-      | inl below ↦ each r below
-      | inr above ↦ ap f (get_or_past rows r 0 above) ∙ none ∙ sym (get_or_past set r 0 (omega (arith, above, long)))
-    ]
+half_row f rows other none long each r = grind (arith, common_steps, cases_lt, get_or_past)
 
 pub paired_all : (black white rows : List ℕ) → length rows ≡ length black → length rows ≡ length white → ((r : ℕ) → r < length rows → IsPair black white r (slice_index rows r)) → ArePaired black white rows
-paired_all black white rows long_black long_white each = record {
-  low = λ p.
-      ap (λ w. has_bit w p.col)
-      (get_or-map (λ w. w % 2 ^ 32) rows p.row 0 ∙ half_row (λ w. w % 2 ^ 32) rows black refl long_black (λ r below. (each r below).0) p.row);
-  high = λ p.
-      ap (λ w. has_bit w p.col)
-      (get_or-map (λ w. w / 2 ^ 32) rows p.row 0 ∙ half_row (λ w. w / 2 ^ 32) rows white refl long_white (λ r below. (each r below).1) p.row);
-}
+paired_all black white rows long_black long_white each = grind (arith, common_steps, get_or-map, half_row)
 
 pub others_paired_all : (black white rows : List ℕ) → length rows ≡ length black → length rows ≡ length white → ((r : ℕ) → r < length rows → IsPairOfOthers (length black) black white r (slice_index rows r)) → AreOthersPaired black white rows
 others_paired_all black white rows long_black long_white each = record {

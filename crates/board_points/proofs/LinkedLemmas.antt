@@ -73,12 +73,7 @@ HasFree own others row i free =
     (p : Point) → p.row + 2 ≡ row + i → IsOn (length own) p → is_set own p ≡ false → is_set others p ≡ false → has_bit free p.col ≡ true
 
 pub liberty_beside : (own others : List ℕ) (row above here below : ℕ) → HasFree own others row 1 above → HasFree own others row 2 here → HasFree own others row 3 below → (p q : Point) → q.row ≡ row → IsOn (length own) p → AreAdjacent p q → is_set own p ≡ false → is_set others p ≡ false → IsInOrBeside above here below q.col
-liberty_beside own others row above here below is_above is_here is_below p q at on (inl (cols, inl up)) not_own not_other =
-    inl (ap (has_bit above) (sym cols) ∙ is_above p (omega (arith, up, at)) on not_own not_other)
-liberty_beside own others row above here below is_above is_here is_below p q at on (inl (cols, inr down)) not_own not_other =
-    inr (inl (ap (has_bit below) (sym cols) ∙ is_below p (omega (arith, down, at)) on not_own not_other))
-liberty_beside own others row above here below is_above is_here is_below p q at on (inr (rows, differ)) not_own not_other =
-    inr (inr (p.col, DifferByOne-sym p.col q.col differ, is_here p (omega (arith, rows, at)) on not_own not_other))
+liberty_beside own others row above here below is_above is_here is_below p q at on adjacent not_own not_other = grind (arith, common_steps, DifferByOne-sym)
 
 -- at first the group is some stones of one row, and has all stones of its row beside them
 module _ (own old : List ℕ) (row word : ℕ) (none : (p : Point) → is_set old p ≡ false) (within_row : row < length old) where
@@ -92,8 +87,7 @@ module _ (own old : List ℕ) (row word : ℕ) (none : (p : Point) → is_set ol
   in_first p is = grind (arith, common_steps, set_elsewhere, set_there)
 
   pub first_within : IsPart (has_bit word) (has_bit (slice_index own row)) → IsAmong (is_set first) (is_set own)
-  first_within part p is =
-      let w = in_first p is in ap (λ r. has_bit (slice_index own r) p.col) w.0 ∙ part p.col w.1
+  first_within part p is = grind (arith, common_steps, in_first)
 
 -- a word has the stones of a row that have a liberty
 pub record HaveLibertyInRow (own others : List ℕ) (row found : ℕ) : Type 0 where
@@ -127,12 +121,7 @@ module _ (region : Point → Bool) (a b : Point) (there : region a ≡ true) (li
 
   others_closed : IsClosed region others_of
   unfolding others_of
-  others_closed p q adjacent is other =
-      let parts = and_parts (region q) (not (set q)) other in
-      elim (cases_Bool (set p)) as (λ _. (region p && not (set p)) ≡ true) [
-        | inl in_set ↦ absurd (false≢true (sym (ap (λ x. not x) (closed q p (AreAdjacent-sym p q adjacent) parts.0 in_set)) ∙ parts.1))
-        | inr out ↦ and_from _ _ is (ap (λ x. not x) out)
-      ]
+  others_closed p q adjacent is other = grind (arith, common_steps, AreAdjacent-sym, and_from, and_parts, cases_Bool, false≢true)
 
   linked_set : set a ≡ true
   unfolding others_of

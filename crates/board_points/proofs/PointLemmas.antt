@@ -33,8 +33,7 @@ index_of-injective side p q hp hq e =
     sym (point_at-index_of side p hp) ∙ ap (point_at side) e ∙ point_at-index_of side q hq
 
 pub above_zero : (side i : ℕ) → i < side * side → 0 < side
-above_zero zero i h = absurd (omega arith)
-above_zero (suc n) i h = omega arith
+above_zero n i h = grind (arith, common_steps)
 
 -- each index below the square of the side is that of a point of the grid
 pub IsOn-point_at : (side i : ℕ) → i < side * side → IsOn side (point_at side i)
@@ -120,11 +119,9 @@ pub record IsAt (side index : ℕ) (p : Point) : Type 0 where
   pub in_columns : index < side * side → p.col < side
 
 pub DifferByOne-sym : (a b : ℕ) → DifferByOne a b → DifferByOne b a
-DifferByOne-sym a b (inl e) = inr e
-DifferByOne-sym a b (inr e) = inl e
+DifferByOne-sym a b differ = grind (arith, common_steps)
 
 pub AreAdjacent-sym : (p q : Point) → AreAdjacent p q → AreAdjacent q p
-AreAdjacent-sym p q (inl (e, d)) = inl (sym e, DifferByOne-sym _ _ d)
-AreAdjacent-sym p q (inr (e, d)) = inr (sym e, DifferByOne-sym _ _ d)
+AreAdjacent-sym p q adjacent = grind (arith, common_steps, DifferByOne-sym)
 
 pub ruleset index_and_back = (index_of-point_at)

@@ -46,8 +46,7 @@ module _ (s : Searched) (p : Point) (sound : IsSound s) (on : IsOn s.marking.sid
   marked = get_or-set_same s.marking.marks (index_of s.marking.side p) true false below
 
   counted : marked_count next.marking ≡ marked_count s.marking + 1
-  counted =
-      omega (arith, sum_by-set (λ b. cond b 1 0) s.marking.marks (index_of s.marking.side p) true false below, ap (λ b. cond {A = ℕ} b 1 0) not_yet)
+  counted = grind (arith, common_steps, below, sum_by-set)
 
   pub IsSound-next : IsSound next
   IsSound-next = grind (arith, common_steps, counted, length-set, length_push, marked, set_keeps)
