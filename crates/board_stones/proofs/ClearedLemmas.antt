@@ -28,8 +28,7 @@ use Rattle.board_stones.proofs.LibertyLemmas.{Reaches-liberty, IsWithoutLiberty-
 use Rattle.board_stones.proofs.SettledLemmas.{reaches_or_not, clear-AllReach, AllReach-settled}
 
 opponent_differs : (k : Colour) → stone_of k ≢ stone_of (opponent k)
-opponent_differs Black = λ e. cc
-opponent_differs White = λ e. cc
+opponent_differs k = grind (arith, common_steps)
 
 -- with no point there is no group
 pub IsWithoutLiberty-none : (g : Grid) (k : Colour) (test : Point → Bool) → ((p : Point) → test p ≡ false) → IsWithoutLiberty g k test

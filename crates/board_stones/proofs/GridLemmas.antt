@@ -14,17 +14,11 @@ use Rattle.board_stones.specs.Grid.{Grid, cell_at, with_cell, grid_of}
 use Rattle.board_points.proofs.PointLemmas.{index_below, index_of-injective, length-points, get_or-map-points}
 
 pub Decides-same_cell : (a b : Cell) → Decides (same_cell a b) (a ≡ b)
-Decides-same_cell Black Black = (λ _. refl, λ _. refl)
-Decides-same_cell White White = (λ _. refl, λ _. refl)
-Decides-same_cell Empty Empty = (λ _. refl, λ _. refl)
-Decides-same_cell _ _ = (λ h. cc, λ h. cc)
+Decides-same_cell a b = grind (arith, common_steps)
 
 -- cells that are alike for both colours are one
 pub same_stones : (a b : Cell) → same_cell a Black ≡ same_cell b Black → same_cell a White ≡ same_cell b White → a ≡ b
-same_stones Black Black black white = refl
-same_stones White White black white = refl
-same_stones Empty Empty black white = refl
-same_stones _ _ black white = cc
+same_stones a b black white = grind (arith, common_steps)
 
 -- what `==` says of two cells
 pub Decides-cell_eq : (a b : Cell) → Decides (sameb the_type a b) (a ≡ b)

@@ -20,16 +20,11 @@ pub coloured_or_not : (a b : Cell) → (a ≡ b) ⊎ (a ≢ b)
 coloured_or_not a b = grind (arith, common_steps, Decides-same_cell, not_from_Decides)
 
 pub stone_of≢Empty : (k : Colour) → stone_of k ≢ Empty
-stone_of≢Empty Black = λ e. cc
-stone_of≢Empty White = λ e. cc
+stone_of≢Empty k = grind (arith, common_steps)
 
 -- a cell with neither player's stone is empty
 pub neither_stone : (k : Colour) (c : Cell) → same_cell c (stone_of k) ≡ false → same_cell c (stone_of (opponent k)) ≡ false → c ≡ Empty
-neither_stone k Empty own other = refl
-neither_stone Black BlackStone own other = absurd (true≢false own)
-neither_stone Black WhiteStone own other = absurd (true≢false other)
-neither_stone White BlackStone own other = absurd (true≢false other)
-neither_stone White WhiteStone own other = absurd (true≢false own)
+neither_stone k c own other = grind (arith, common_steps, true≢false)
 
 -- where a path leads from a point, the point reaches its end
 pub Reaches-Leads : (g : Grid) (own k : Cell) (p : Point) (path : List Point) → Leads g own k p path → Reaches g k p

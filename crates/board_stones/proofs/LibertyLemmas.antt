@@ -156,14 +156,7 @@ module _ (g : Grid) (k : Colour) (rows others first : List ℕ) (small : g.side 
           along p way.0 own (subst (λ c. Leads g c Empty p way.0) (stone_there p own) way.1))
 
       pub shut_left : AreRowsOf g.side (is_shut g k) left
-      shut_left = record {
-        on = λ p on.
-            is_left.on p (omega (arith, on.1, all)) (omega (arith, on.0, small))
-            ∙ ap (λ b. b && not (is_set reached p)) (is_own.on p on)
-            ∙ ap (λ b. same_cell (cell_at g p) (stone_of k) && not b) (reached_is p on)
-            ∙ of_own (same_cell (cell_at g p) (stone_of k)) (reaches g Empty p);
-        off = λ p is. is_own.off p (is_left.off p is);
-      }
+      shut_left = grind (arith, common_steps, of_own, reached_is)
 
     -- where all stones are there, the set is closed
     pub IsClosed-full : ((p : Point) → is_set left p ≡ false) → IsClosed (is_set rows) (is_set reached)

@@ -105,13 +105,11 @@ module _ (g : Grid) (k : Cell) where
 
   side_after : (n : ℕ) → (reaching_within g k n).side ≡ g.side
   unfolding reaching_within spread
-  side_after zero = refl
-  side_after (suc n) = refl
+  side_after n = grind (arith, common_steps)
 
   length-marks_after : (n : ℕ) → length (marks_after n) ≡ g.side * g.side
   unfolding marks_after reaching_within spread
-  length-marks_after zero = length-marking_of g.side _
-  length-marks_after (suc n) = length-marking_of g.side _
+  length-marks_after n = grind (arith, common_steps, length-marking_of)
 
   at_index : (n i : ℕ) → i < g.side * g.side → is_marked (reaching_within g k n) (point_at g.side i) ≡ get_or (marks_after n) i false
   unfolding marks_after

@@ -20,9 +20,7 @@ use Rattle.board_stones.proofs.ReachingLemmas.{Decides-reaches, path_by_step}
 
 -- the cells that aren't the other player's
 not_other : (k : Colour) (c : Cell) → not (same_cell c (stone_of (opponent k))) ≡ is_either c Empty (stone_of k)
-not_other BlackPlayer Black = refl
-not_other WhitePlayer Black = refl
-not_other _ _ = refl
+not_other k c = grind (arith, common_steps)
 
 either_is : (c one other : Cell) → is_either c one other ≡ true → (c ≡ one) ⊎ (c ≡ other)
 either_is c one other is = grind (arith, common_steps, Decides-same_cell, or_cases)

@@ -34,8 +34,7 @@ emptied_by : (a b : Bool) (c : Cell) → a ≡ true → b ≡ false → cond (a 
 emptied_by a b c e f = rw (e, f)
 
 kept_by_second : (a b : Bool) (c : Cell) → b ≡ true → cond (a && not b) Empty c ≡ c
-kept_by_second true b c f = rw f
-kept_by_second false b c f = refl
+kept_by_second a b c f = grind (arith, common_steps)
 
 kept_by_first : (a b : Bool) (c : Cell) → a ≡ false → cond (a && not b) Empty c ≡ c
 kept_by_first a b c e = rw e

@@ -23,18 +23,13 @@ use Rattle.board_stones.proofs.GroupLemmas.{grid_of-cells, same_colours}
 
 -- what stands on a point by its bits, and its bits by what stands there
 stone_is : (c : Cell) → cond (same_cell c Black) Black (cond (same_cell c White) White Empty) ≡ c
-stone_is Black = refl
-stone_is _ = refl
+stone_is c = grind (arith, common_steps)
 
 black_is : (b w : Bool) → b ≡ same_cell (cond b Black (cond w White Empty)) Black
-black_is true w = refl
-black_is false true = refl
-black_is false false = refl
+black_is b w = grind (arith, common_steps)
 
 white_is : (b w : Bool) → (b ≡ true → w ≡ false) → w ≡ same_cell (cond b Black (cond w White Empty)) White
-white_is true w apart = apart refl
-white_is false true apart = refl
-white_is false false apart = refl
+white_is b w apart = grind (arith, common_steps)
 
 bit_in : (side : ℕ) (words : List ℕ) (p : Point) → p.row < side → is_set (take side words) p ≡ is_set words p
 bit_in side words p below = ap (λ w. has_bit w p.col) (get_or-take side words p.row 0 below)
@@ -107,8 +102,7 @@ is_set-coloured : (words : List ℕ) (row columns word : ℕ) (c k : Cell) → r
 is_set-coloured words row columns word c k within is q = grind (arith, common_steps, Decides-eqb, is_set-row)
 
 chosen : (t : Bool) (c : Cell) (b w : Bool) → cond (cond t (same_cell c Black) b) Black (cond (cond t (same_cell c White) w) White Empty) ≡ cond t c (cond b Black (cond w White Empty))
-chosen true c b w = stone_is c
-chosen false c b w = refl
+chosen t c b w = grind (arith, common_steps, stone_is)
 
 -- a board after points of a row were coloured
 module _ (side : ℕ) (black white : List ℕ) (row columns : ℕ) (c : Cell) (b w : ℕ) (are : AreStones side black white) (below : row < side) (within : (col : ℕ) → has_bit columns col ≡ true → col < side) (in_black : (col : ℕ) → has_bit b col ≡ cond (has_bit columns col) (same_cell c Black) (has_bit (get_or black row 0) col)) (in_white : (col : ℕ) → has_bit w col ≡ cond (has_bit columns col) (same_cell c White) (has_bit (get_or white row 0) col)) where
@@ -177,11 +171,7 @@ module _ (side : ℕ) (black white : List ℕ) (p : Point) (columns : ℕ) (are 
 
   -- the word of the other colour
   kept : (word : ℕ) → has_bit word p.col ≡ false → (col : ℕ) → has_bit word col ≡ cond (has_bit columns col) false (has_bit word col)
-  kept word none col =
-      elim (cases_Bool (has_bit columns col)) [
-        | inl is ↦ rw is (ap (has_bit word) (one_column col is) ∙ none)
-        | inr not_one ↦ rw not_one refl
-      ]
+  kept word none col = grind (arith, common_steps, cases_Bool, one_column)
 
   within : (col : ℕ) → has_bit columns col ≡ true → col < side
   within col is = rw (one_column col is) on.0

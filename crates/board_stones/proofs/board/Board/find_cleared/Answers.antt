@@ -24,7 +24,9 @@ pub set_settled-requires : goal.set_settled-requires
 set_settled-requires c = λ _. ap has_unreaching (as_before c) ∙ c.requires.stone.settled
 
 pub returns-clause-unchanged : goal.returns-clause-unchanged
-returns-clause-unchanged c = c.set_settled.ensures ∙ as_before (goal.at.returns-clause-unchanged c).After-set_settled-arg-1
+returns-clause-unchanged c =
+    c.set_settled.ensures ∙ c.set.ensures ∙ ap (λ h. with_cell h c.args.point Empty) c.add.ensures
+    ∙ cleared_away c.args.self.now c.args.point (stone_of c.args.colour) c.requires.stone.on_board c.has_all_cells.ensures.all c.requires.stone.empty
 
 pub returns-clause-cleared : goal.returns-clause-cleared
 returns-clause-cleared c = λ is.
