@@ -61,23 +61,13 @@ after-append g (x ∷ xs) more = ap (λ (h : Grid). with_change h x) (after-appe
 
 -- a row of a colouring, put back, has what stood there
 stone_back : (c : Cell) → stone_of_bits (same_cell c Black) (same_cell c White) ≡ c
-stone_back Black = refl
-stone_back White = refl
-stone_back Empty = refl
+stone_back c = grind arith
 
 row_back : (old g : Grid) (c : Change) → g.side ≡ old.side → IsRowOf old c → (p : Point) → IsOn old.side p → c.row ≡ p.row → cell_at (with_change g c) p ≡ cell_at old p
-row_back old g c side is p on at =
-    let here : ◌≡◌ {A = Point} (record { col = p.col; row = c.row }) p = ap (λ n. record { col = p.col; row = n }) at in
-    cell_at-changed g c p (subst (λ n. IsOn n p) (sym side) on)
-    ∙ ap (λ b. cond b (stone_of_bits (has_bit c.black p.col) (has_bit c.white p.col)) (cell_at g p)) ((Decides-eqb p.row c.row).1 (sym at))
-    ∙ ap (λ b. stone_of_bits b (has_bit c.white p.col)) (is.black p.col on.0 ∙ ap (λ (q : Point). same_cell (cell_at old q) Black) here)
-    ∙ ap (λ b. stone_of_bits (same_cell (cell_at old p) Black) b) (is.white p.col on.0 ∙ ap (λ (q : Point). same_cell (cell_at old q) White) here)
-    ∙ stone_back (cell_at old p)
+row_back old g c side is p on at = grind (arith, Decides-eqb, cell_at-changed, stone_back)
 
 other_row : (g : Grid) (c : Change) (p : Point) → IsOn g.side p → c.row ≢ p.row → cell_at (with_change g c) p ≡ cell_at g p
-other_row g c p on other =
-    cell_at-changed g c p on
-    ∙ ap (λ b. cond b (stone_of_bits (has_bit c.black p.col) (has_bit c.white p.col)) (cell_at g p)) (false_from_Decides (p.row == c.row) (Decides-eqb p.row c.row) (λ e. other (sym e)))
+other_row g c p on other = grind (arith, Decides-eqb, cell_at-changed, false_from_Decides)
 
 -- a point has what stood there once a row of its own is put back, or if it had it before
 all_back : (old g : Grid) (cs : List Change) → g.side ≡ old.side → All (IsRowOf old) cs → (p : Point) → IsOn old.side p → HasRow p.row cs ⊎ (cell_at g p ≡ cell_at old p) → cell_at (after_changes g cs) p ≡ cell_at old p
@@ -97,12 +87,7 @@ all_back old g (c ∷ cs) side are p on h =
     ]
 
 same_row : (g h : Grid) (c : Change) (p : Point) → IsOn g.side p → IsOn h.side p → c.row ≡ p.row → cell_at (with_change g c) p ≡ cell_at (with_change h c) p
-same_row g h c p on_g on_h at =
-    let is : (p.row == c.row) ≡ true = (Decides-eqb p.row c.row).1 (sym at) in
-    cell_at-changed g c p on_g
-    ∙ ap (λ b. cond b (stone_of_bits (has_bit c.black p.col) (has_bit c.white p.col)) (cell_at g p)) is
-    ∙ ap (λ b. cond b (stone_of_bits (has_bit c.black p.col) (has_bit c.white p.col)) (cell_at h p)) (sym is)
-    ∙ sym (cell_at-changed h c p on_h)
+same_row g h c p on_g on_h at = grind (arith, Decides-eqb, cell_at-changed)
 
 either_first : (g : Grid) (c d : Change) → c.row ≢ d.row → with_change (with_change g c) d ≡ with_change (with_change g d) c
 either_first g c d apart =
@@ -168,14 +153,7 @@ module _ (g : Grid) (cells : length g.cells ≡ g.side * g.side) (cs : List Chan
       ∙ same_front (after_changes g more) side (after-length g more cells ∙ ap (λ n. n * n) (sym side)) (λ p on. inl (come p.row on.1))
 
   one_come : (c : Change) → HasRow c.row cs → after_changes g (cs ++ c ∷ []) ≡ after_changes g cs
-  one_come c come =
-      after-append g cs (c ∷ [])
-      ∙ same_front (with_change g c) (side-changed g c) (length-changed g c ∙ ap (λ n. n * n) (sym (side-changed g c)))
-      (λ p on.
-      elim (cases_eq c.row p.row) [
-        | inl at ↦ inl (subst (λ row. HasRow row cs) at come)
-        | inr other ↦ inr (other_row g c p on other)
-      ])
+  one_come c come = grind (arith, after-append, cases_eq, length-changed, other_row, same_front, side-changed)
 
 -- a change of another row can be made before the others
 one_more : (g : Grid) (cs : List Change) (c : Change) → (HasRow c.row cs → ⊥) → after_changes g (cs ++ c ∷ []) ≡ with_change (after_changes g cs) c
@@ -244,8 +222,7 @@ row_kept g k p cleared row move low other none = λ col left.
     ∙ cell_at-with_cell_elsewhere g p q (stone_of k) move.on_board (left, low) (λ same. other (ap (λ (x : Point). x.row) same)))
 
 pub play_cells : (g : Grid) (k : Colour) (p : Point) (cleared : List ℕ) → length g.cells ≡ g.side * g.side → Clears g k p cleared → length (play g k p).cells ≡ (play g k p).side * (play g k p).side
-play_cells g k p cleared all takes =
-    takes.played.all ∙ length-set g.cells (index_of g.side p) (stone_of k) ∙ all ∙ ap (λ n. n * n) (sym takes.played.same_side)
+play_cells g k p cleared all takes = grind (arith, length-set)
 
 -- a stone that clears nothing, removed again
 pub alone_back : (g : Grid) (k : Colour) (p : Point) (cleared : List ℕ) → length g.cells ≡ g.side * g.side → IsMove g k p cleared → length cleared ≡ 0 → with_cell (play g k p) p Empty ≡ g

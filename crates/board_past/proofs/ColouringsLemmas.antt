@@ -431,8 +431,7 @@ written-all held older prints at all none written =
 
 -- the number of colourings
 pub count-all : (g : Grid) (start : ℕ) (older : List Older) (changes : List Change) (past : PastColourings) → past_held g start (reverse older) changes ≡ past → length (all_of past) ≡ length older + 1
-count-all g start older changes past same =
-    sym (ap (λ (p : PastColourings). length (all_of p)) same) ∙ omega (arith, length-held g (reverse older) changes, length-reverse older)
+count-all g start older changes past same = grind (arith, length-held, length-reverse)
 
 -- Starts of stretches.
 

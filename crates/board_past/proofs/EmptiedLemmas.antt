@@ -52,8 +52,7 @@ history_next rows (last ∷ log) newest older has all =
     (all, omega (arith, has.1), subst (λ (hs : List Held). HasHistory (slice_set rows last.row last.word) log hs) (sym (oldest-same last.number newest older has.1)) has.2)
 
 emptied_tail : (set : Point → Bool) (newest : Held) (older : List Held) → HasAllEmptied set (newest ∷ older) → HasAllEmptied set older
-emptied_tail set newest [] all = tt
-emptied_tail set newest (x ∷ xs) all = all.1
+emptied_tail set newest older all = grind arith
 
 history_tail : (rows : List ℕ) (log : List OldRow) (newest : Held) (older : List Held) → IsBelow log (length older + 1) → HasHistory rows log (newest ∷ older) → HasHistory rows log older
 history_tail rows [] newest older below has = emptied_tail (is_set rows) newest older has

@@ -7,9 +7,7 @@ use Rattle.board_points.specs.Rows.{has_bit}
 use Rattle.board_points.proofs.WordLemmas.{bit_at-gone}
 
 digit_is : (n : ℕ) → n < 2 → (if n == 1 then 1 else 0) ≡ n
-digit_is zero low = refl
-digit_is (suc zero) low = refl
-digit_is (suc (suc n)) low = absurd (omega (arith, low))
+digit_is n low = grind arith
 
 -- a number with exactly these bits
 pub number_is : (n word : ℕ) (bit : ℕ → Bool) → ((i : ℕ) → i < n → has_bit word i ≡ bit i) → ((i : ℕ) → has_bit word i ≡ true → i < n) → word ≡ number_of n bit

@@ -16,10 +16,7 @@ use Rattle.board_stones.proofs.StoneRowsLemmas.{bit_same}
 -- The front of a key: the print, and the start of the stretch.
 
 key_at : (start print hash : ℕ) (grid : Grid) (index col : ℕ) → col < 64 → key_bits start print hash grid (64 * index + col) ≡ key_bit start print hash grid index col
-key_at start print hash grid index col low =
-    let word : (64 * index + col) / 64 ≡ index = omega (arith, low) in
-    let position : (64 * index + col) % 64 ≡ col = omega (arith, low) in
-    ap (λ n. key_bit start print hash grid n ((64 * index + col) % 64)) word ∙ ap (λ n. key_bit start print hash grid index n) position
+key_at start print hash grid index col low = grind arith
 
 -- the bit at a position, by the word that it is in
 key_in : (start print hash : ℕ) (grid : Grid) (index position : ℕ) → 64 * index ≤ position → position < 64 * index + 64 → key_bits start print hash grid position ≡ key_bit start print hash grid index (position - 64 * index)
@@ -64,9 +61,7 @@ head_agrees start print hash grid grid' = record {
 -- The whole of a key.
 
 stone-on : (grid : Grid) (stone : Cell) (row col : ℕ) → row < grid.side → col < grid.side → has_stone grid stone row col ≡ same_cell (cell_at grid (record { col = col; row = row })) stone
-stone-on grid stone row col low left =
-    ap (λ t. (t && nat_lt col grid.side) && same_cell (cell_at grid (record { col = col; row = row })) stone) (lt-ltb row grid.side low)
-    ∙ ap (λ t. t && same_cell (cell_at grid (record { col = col; row = row })) stone) (lt-ltb col grid.side left)
+stone-on grid stone row col low left = grind (arith, lt-ltb)
 
 -- the word of a row for Black, and the one for White
 stone_at : (start print hash : ℕ) (grid : Grid) (row col white : ℕ) → col < 64 → white < 2 → key_bits start print hash grid (64 * (2 * row + 3 + white) + col) ≡ has_stone grid (if white == 0 then Black else White) row col

@@ -7,8 +7,7 @@ use Rattle.board_past.specs.Past.{Held, stretch_of}
 
 -- a list has its first element, what the rest has, and nothing else
 Contains-cases : (x y : Grid) (xs : List Grid) → Contains (x ∷ xs) y → (x ≡ y) ⊎ Contains xs y
-Contains-cases x y xs (zero, h, e) = inl e
-Contains-cases x y xs (suc k, h, e) = inr (k, omega (arith, h), e)
+Contains-cases x y xs given = grind arith
 
 -- a stretch goes on after its first colouring only if that doesn't begin it
 pub going_on : (x y : Grid) (b : Bool) (xs : List Grid) → b ≡ false → Contains xs y → Contains (x ∷ cond b [] xs) y
@@ -16,9 +15,7 @@ going_on x y false xs e h = Contains-append_right (x ∷ []) xs y h
 going_on x y true xs e h = absurd (cc)
 
 pub only_later : (x y : Grid) (b : Bool) (xs : List Grid) → x ≢ y → Contains (x ∷ cond b [] xs) y → (b ≡ false) × Contains xs y
-only_later x y false xs other h = elim (Contains-cases x y xs h) [ inl e ↦ absurd (other e) | inr l ↦ (refl, l) ]
-only_later x y true xs other h =
-    elim (Contains-cases x y [] h) [ inl e ↦ absurd (other e) | inr l ↦ absurd (omega (arith, l.1)) ]
+only_later x y b xs other h = grind (arith, Contains-cases)
 
 module _ (all : List Held) (g : Grid) where
   -- the stretch of the first n colourings has it

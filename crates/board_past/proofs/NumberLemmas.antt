@@ -24,12 +24,7 @@ at-older {number} x xs low at = ap first_grid (since-older number x xs low) ∙ 
 -- a number is the newest one, or one of the others
 pub cases-number : (x : Held) (xs : List Held) (number : ℕ) (g : Grid) → number < suc (length xs) → IsNumber (x ∷ xs) number g
     → ((number ≡ length xs) × (x.colouring ≡ g)) ⊎ ((number < length xs) × IsNumber xs number g)
-cases-number x xs number g low at = elim (cases_lt number (length xs)) [
-  | inr newest ↦
-      let e : number ≡ length xs = omega (arith, low, newest) in
-      inl (e, same_Some x.colouring g (sym (at-newest x xs) ∙ sym (ap (λ n. first_grid (since n (x ∷ xs))) e) ∙ at))
-  | inl older ↦ inr (older, sym (ap first_grid (since-older number x xs older)) ∙ at)
-]
+cases-number x xs number g low at = grind (arith, at-newest, cases_lt, same_Some, since-older)
 
 -- each number has a colouring
 pub number_there : (held : List Held) (number : ℕ) → number < length held → (g : Grid) × IsNumber held number g

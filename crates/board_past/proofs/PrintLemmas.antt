@@ -162,9 +162,7 @@ cell_removed g p on all print removed is small removes =
 -- The numbers of words.
 
 code_by_bits : (c : Cell) (black white col : ℕ) → has_bit black col ≡ same_cell c Black → has_bit white col ≡ same_cell c White → code c ≡ bit_at black col + 2 * bit_at white col
-code_by_bits Empty black white col b w = omega (arith, bit_at-gone black col b, bit_at-gone white col w)
-code_by_bits Black black white col b w = omega (arith, bit_at-there black col b, bit_at-gone white col w)
-code_by_bits White black white col b w = omega (arith, bit_at-gone black col b, bit_at-there white col w)
+code_by_bits c black white col b w = grind (arith, bit_at-gone, bit_at-there)
 
 in_base-both : (n : ℕ) (d a b : ℕ → ℕ) → ((i : ℕ) → i < n → d i ≡ a i + 2 * b i) → in_base 31 n d ≡ in_base 31 n a + 2 * in_base 31 n b
 in_base-both zero d a b is = refl
@@ -186,8 +184,7 @@ row_by_words g row side black white is b w =
 
 -- the number of those cells of a row that a word has
 same_within : (word in_word : Bool) (c wanted : Cell) → same_cell Empty wanted ≡ false → word ≡ same_cell c wanted → (word && in_word) ≡ same_cell (cond in_word c Empty) wanted
-same_within word true c wanted stone is = and-true word ∙ is
-same_within word false c wanted stone is = and-false word ∙ sym stone
+same_within word in_word c wanted stone is = grind (arith, and-false, and-true)
 
 pub row_within_words : (g : Grid) (row columns side black white : ℕ) → g.side ≡ side
     → ((col : ℕ) → col < side → has_bit black col ≡ same_cell (cell_at g (record { col = col; row = row })) Black)
@@ -219,13 +216,7 @@ in_base-split base (suc n) d a b is =
 -- a print without the stones that are cleared
 module _ (g full left : Grid) (cleared : List ℕ) (full_side : full.side ≡ g.side) (left_side : left.side ≡ g.side) (gone : (p : Point) → IsOn g.side p → is_set cleared p ≡ true → (cell_at left p ≡ Empty) × (cell_at full p ≡ cell_at g p)) (stays : (p : Point) → IsOn g.side p → is_set cleared p ≡ false → cell_at full p ≡ cell_at left p) where
   cell_left : (p : Point) → IsOn g.side p → code (cell_at full p) ≡ code (cell_at left p) + code (cond (is_set cleared p) (cell_at g p) Empty)
-  cell_left p on =
-      elim (cases_Bool (is_set cleared p)) [
-        | inl is ↦
-            let both = gone p on is in
-            omega (arith, ap code both.0, ap code both.1, ap (λ b. code (cond b (cell_at g p) Empty)) is)
-        | inr none ↦ omega (arith, ap code (stays p on none), ap (λ b. code (cond b (cell_at g p) Empty)) none)
-      ]
+  cell_left p on = grind (arith, cases_Bool)
 
   number_left : in_base (31 ^ g.side) g.side (row_number full) ≡ in_base (31 ^ g.side) g.side (row_number left) + number_within g cleared
   number_left =

@@ -32,8 +32,7 @@ emptied-if_back point made newest (earlier ∷ others) none stone (suc k, h, e) 
 
 -- among the colourings of a stretch, as far as the second one
 stretch_goes_on : (b : Bool) (point : Point) (later : Grid) (rest : List Grid) → WasEmptied point (later ∷ cond b [] rest) → (b ≡ false) × WasEmptied point (later ∷ rest)
-stretch_goes_on true point later rest was = absurd was
-stretch_goes_on false point later rest was = (refl, was)
+stretch_goes_on b point later rest was = grind arith
 
 -- a point that was emptied in the present stretch is in a set that has all that were
 pub was_in_set : (set : Point → Bool) (side : ℕ) (point : Point) → IsOn side point → (held : List Held) → AllHaveSide side held → HasAllEmptied set held → WasEmptied point (stretch_of held) → set point ≡ true
@@ -55,16 +54,7 @@ HasAllEmptied-more a b (later ∷ (earlier ∷ others)) among all =
 
 -- a stone empties what it clears, and no other point
 pub emptied_by_play : (g : Grid) (k : Colour) (p : Point) (rows : List ℕ) → IsMove g k p rows → HasEmptied (is_set rows) g (play g k p)
-emptied_by_play g k p rows move = λ q at stone free.
-    elim (cases_Bool (is_set rows q)) [
-      | inl cleared ↦ cleared
-      | inr left ↦
-          absurd (elim (same_or_not q p) [
-            | inl same ↦ stone (ap (cell_at g) same ∙ move.empty)
-            | inr other ↦
-                stone (sym (cell_at-with_cell_elsewhere g p q (stone_of k) move.on_board at other) ∙ sym (move.cleared.played.kept q at (λ cleared. false≢true (sym left ∙ cleared))) ∙ free)
-          ])
-    ]
+emptied_by_play g k p rows move = grind (arith, cases_Bool, cell_at-with_cell_elsewhere, false≢true, same_or_not)
 
 -- What a stone leaves on the grid that it makes, if it isn't cleared at once: itself, and each stone that it doesn't clear.
 module _ (g : Grid) (k : Colour) (p : Point) (rows : List ℕ) (all : length g.cells ≡ g.side * g.side) (move : IsMove g k p rows) where
@@ -73,9 +63,7 @@ module _ (g : Grid) (k : Colour) (p : Point) (rows : List ℕ) (all : length g.c
       stone_of≢Empty k (sym (move.cleared.played.kept p move.on_board (λ cleared. false≢true (sym stays ∙ cleared)) ∙ cell_at-with_cell g p (stone_of k) move.on_board all) ∙ e)
 
   pub stone_left : (q : Point) → IsOn g.side q → cell_at g q ≢ Empty → is_set rows q ≡ false → cell_at (play g k p) q ≢ Empty
-  stone_left q on there stays =
-      let other : q ≢ p = λ same. there (ap (cell_at g) same ∙ move.empty) in
-      λ free. there (sym (cell_at-with_cell_elsewhere g p q (stone_of k) move.on_board on other) ∙ sym (move.cleared.played.kept q on (λ cleared. false≢true (sym stays ∙ cleared))) ∙ free)
+  stone_left q on there stays = grind (arith, cell_at-with_cell_elsewhere, false≢true)
 
 -- A stone that stays on a point that isn't in the set: no colouring of the present stretch has a stone there.
 module _ (past : PastColourings) (k : Colour) (p : Point) (rows emptied : List ℕ) (all : length (newest_grid past).cells ≡ (newest_grid past).side * (newest_grid past).side) (sides : HaveSide (newest_grid past).side past) (kept : HasAllEmptied (is_set emptied) (all_of past)) (move : IsMove (newest_grid past) k p rows) (fresh : is_set emptied p ≡ false) (stays : is_set rows p ≡ false) where
@@ -106,5 +94,4 @@ module _ {E : Type 0} (k : Colour) (p : Point) (old new : PastColourings) where
   played_new never made = record { known = (λ t. absurd (false≢true (sym t)), λ has. absurd (never has)); ok = made; refused = tt; err = tt }
 
   pub played_refused : (r : Result Bool E) → IsErr r → (Contains (present_stretch old) (play (newest_grid old) k p) → ⊥) → new ≡ old → IsPlayed k p old new r
-  played_refused (Ok b) is never same = absurd (false≢true is)
-  played_refused (Err e) is never same = record { known = tt; ok = tt; refused = never; err = same }
+  played_refused r is never same = grind (arith, false≢true)
