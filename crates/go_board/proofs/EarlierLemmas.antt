@@ -33,32 +33,15 @@ abbrev IsOneSided : ℕ → ℕ → PastColourings → Type 0
 IsOneSided side n past = ((newest_grid past).side ≡ side) × HaveSide side past × (n ≤ length past.older)
 
 older_sided : (side n : ℕ) (past : PastColourings) (older : List Held) → AllHaveSide side older → suc n ≤ length older → IsOneSided side n (past_of_older past older)
-older_sided side n past [] sides few = absurd (omega (arith, few))
-older_sided side n past (first ∷ others) sides few = (sides.0, sides, omega (arith, few))
+older_sided side n past older sides few = grind arith
 
 before_sided : (side n : ℕ) (past : PastColourings) (grew : Bool) → HaveSide side past → cond grew 1 0 + n ≤ length past.older → IsOneSided side n (cond grew (past_of_older past past.older) past)
-before_sided side n past true sides few = older_sided side n past past.older sides.1 (omega (arith, few))
-before_sided side n past false sides few = (sides.0, sides, omega (arith, few))
+before_sided side n past grew sides few = grind (arith, older_sided)
 
 -- what a referee keeps once its newest call is taken back
 pub IsRefereeKept-back : (past now : PastColourings) (player : Option Colour) (passes turns : ℕ) (earlier less : List Earlier) (kept : Earlier) → earlier ≡ less ++ kept ∷ [] → now ≡ past_before past kept → IsRefereeKept past player passes turns (reverse earlier)
     → IsRefereeKept now (player_of kept.mover) kept.passes (turns_before turns kept) (reverse less)
-IsRefereeKept-back past now player passes turns earlier less kept parts is whole =
-    let newest : reverse earlier ≡ kept ∷ reverse less = ap reverse parts ∙ reverse-append less (kept ∷ []) in
-    let all : IsRefereeKept past player passes turns (kept ∷ reverse less) = subst (λ (es : List Earlier). IsRefereeKept past player passes turns es) newest whole in
-    let side : ℕ = (newest_grid past).side in
-    let one : IsOneSided side (grown (reverse less)) (past_before past kept) = before_sided side (grown (reverse less)) past (grew kept.call) all.one_side all.enough in
-    let counted : turn_count (reverse less) ≡ turns - from_bool (turned kept.call) = omega (arith, all.counted) in
-    subst (λ (p : PastColourings). IsRefereeKept p (player_of kept.mover) kept.passes (turns_before turns kept) (reverse less)) (sym is)
-    (record {
-      one_side = subst (λ n. HaveSide n (past_before past kept)) (sym one.0) one.1;
-      enough = one.2;
-      few_passes = all.bounded.0;
-      few_turns = omega (arith, counted, turns_at_most (reverse less));
-      counted = counted;
-      bounded = all.bounded.1;
-      from_start = all.from_start ∙ ap starting (sym one.0);
-    })
+IsRefereeKept-back past now player passes turns earlier less kept parts is whole = grind (arith, before_sided, reverse-append, turns_at_most)
 
 -- once the past grew by a colouring, and what was had of the state before is kept
 module _ (past : PastColourings) (player : Option Colour) (passes turns : ℕ) (earlier : List Earlier) (saved : Earlier) (is_turn : Bool) (same_player : player_of saved.mover ≡ player) (same_passes : saved.passes ≡ passes) (grown_by : grew saved.call ≡ true) (same_turn : turned saved.call ≡ is_turn) (turns' : ℕ) (more : turns' ≡ from_bool is_turn + turns) where

@@ -27,9 +27,7 @@ use Rattle.board_stones.proofs.SettledLemmas.{side_play}
 use Rattle.board_stones.proofs.RectangleLemmas.{side-with_rectangles}
 
 pub Decides-grids : (g h : Grid) → Decides (same_grid g h) (g ≡ h)
-Decides-grids g h =
-    Decides-like _ (λ e. one_grid g h e.0 e.1) (λ e. (ap (λ (f : Grid). f.side) e, ap (λ (f : Grid). f.cells) e))
-    (Decides-and _ _ (Decides-eqb _ _) (slice_eq-Decides Decides-same_cell _ _ _ refl))
+Decides-grids g h = grind (arith, Decides-and, Decides-eqb, Decides-like, Decides-same_cell, one_grid, slice_eq-Decides)
 
 -- a stone repeats a colouring that was seen
 pub Decides-is_repeat : (s : State) (k : Colour) (p : Point) → Decides (is_repeat s k (Stone p)) (Contains s.seen (play s.colouring k p))
@@ -65,26 +63,17 @@ reason_of-new s k p seen made same_seen same_made left never =
 -- The law of reasons: for any facts that four tests decide, the first test that passes names the first fact that holds.
 
 Decides-must_move : (player : Option Colour) (k : Colour) → Decides (must_move player k) (player ≡ Some k)
-Decides-must_move None k = (λ t. absurd (false≢true t), λ e. absurd (cc))
-Decides-must_move (Some Black) Black = (λ _. refl, λ _. refl)
-Decides-must_move (Some White) White = (λ _. refl, λ _. refl)
-Decides-must_move _ _ = (λ h. absurd (false≢true h), λ h. absurd (cc))
+Decides-must_move player k = grind (arith, false≢true)
 
 Decides-occupied : (s : State) (k : Colour) (x : Play) → Decides (is_occupied s x) (Forbids s k x Occupied)
-Decides-occupied s k Pass = (λ t. absurd (false≢true t), λ h. absurd h)
-Decides-occupied s k (Stone p) = Decides-not _ (Decides-same_cell (cell_at s.colouring p) Empty)
+Decides-occupied s k x = grind (arith, Decides-not, Decides-same_cell, false≢true)
 
 Decides-repeat : (s : State) (k : Colour) (x : Play) → Decides (is_repeat s k x) (Forbids s k x Repeat)
-Decides-repeat s k Pass = (λ t. absurd (false≢true t), λ h. absurd h)
-Decides-repeat s k (Stone p) = Decides-is_repeat s k p
+Decides-repeat s k x = grind (arith, Decides-is_repeat, false≢true)
 
 -- no other reason holds of a turn
 never_before : (s : State) (k : Colour) (x : Play) (q : Reason) → rank_of q < 4 → ¬ Forbids s k x q
-never_before s k x Mixed h f = f
-never_before s k x TwoMoves h f = f
-never_before s k x BadSetup h f = f
-never_before s k x BadPoint h f = f
-never_before s k x _ h f = absurd (omega arith)
+never_before s k x q h f = grind arith
 
 -- the reason of a rank
 abbrev reason_at : ℕ → Reason
@@ -92,21 +81,14 @@ reason_at n =
     slice_index_or (Mixed ∷ TwoMoves ∷ BadSetup ∷ BadPoint ∷ Over ∷ Turn ∷ Occupied ∷ Repeat ∷ []) n Mixed
 
 at_its_rank : (q : Reason) → reason_at (rank_of q) ≡ q
-at_its_rank Mixed = refl
-at_its_rank _ = refl
+at_its_rank q = grind arith
 
 rank_below : (q : Reason) → rank_of q < 8
-rank_below Mixed = omega arith
-rank_below _ = omega arith
+rank_below q = grind arith
 
 module _ (s : State) (k : Colour) (x : Play) where
   none_up_to : (n : ℕ) → (¬ Forbids s k x (reason_at n)) → ((q : Reason) → rank_of q < n → ¬ Forbids s k x q) → (q : Reason) → rank_of q < n + 1 → ¬ Forbids s k x q
-  none_up_to n here before q h f =
-      elim (cases_lt (rank_of q) n) [
-        | inl less ↦ before q less f
-        | inr more ↦ (let at_n : rank_of q ≡ n = omega arith in
-            here (subst (Forbids s k x) (sym (at_its_rank q) ∙ ap reason_at at_n) f))
-      ]
+  none_up_to n here before q h f = grind (arith, at_its_rank, cases_lt)
 
   module _ (b1 b2 b3 b4 : Bool) (over : Decides b1 (Forbids s k x Over)) (turn : Decides b2 (Forbids s k x Turn)) (occupied : Decides b3 (Forbids s k x Occupied)) (repeat : Decides b4 (Forbids s k x Repeat)) where
     none_before_turn : b1 ≡ false → (q : Reason) → rank_of q < 5 → ¬ Forbids s k x q
@@ -154,8 +136,7 @@ module _ (s : State) (k : Colour) (x : Play) where
         none_is_some h = absurd (cc)
 
     all_false : (c1 c2 c3 c4 : Bool) → cond c1 (Some Over) (cond c2 (Some Turn) (cond c3 (Some Occupied) (cond c4 (Some Repeat) None))) ≡ None → (c1 ≡ false) × (c2 ≡ false) × (c3 ≡ false) × (c4 ≡ false)
-    all_false false false false false e = (refl, refl, refl, refl)
-    all_false _ _ _ _ e = absurd (cc)
+    all_false c1 c2 c3 c4 e = grind arith
 
     none_by_tests : cond b1 (Some Over) (cond b2 (Some Turn) (cond b3 (Some Occupied) (cond b4 (Some Repeat) None))) ≡ None ↔ ((q : Reason) → ¬ Forbids s k x q)
     none_by_tests = (
@@ -186,5 +167,4 @@ side-set_up s [] player = refl
 side-set_up s (op ∷ ops) player = side-with_rectangles s.colouring (op ∷ ops)
 
 pub side-turned : (s : State) (k : Colour) (x : Play) → (turned s k x).colouring.side ≡ s.colouring.side
-side-turned s k Pass = refl
-side-turned s k (Stone p) = side_play s.colouring k p
+side-turned s k x = grind (arith, side_play)

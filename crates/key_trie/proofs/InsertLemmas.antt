@@ -14,13 +14,7 @@ use Rattle.key_trie.proofs.TrieLemmas.{agree_back, agree_less, agree_more, agree
 
 -- a slot that keeps what it names
 grown : {w n : ℕ} {b : ℕ → ℕ → Bool} {d : ℕ → ℕ} {o r : ℕ} {t : Bool} (child : IsChild w n b d o t r) → (IsUnder b d o t n → Agree (b n) (b r) child.reach) → IsChild w (n + 1) b d o t r
-grown {w} {n} {b} {d} {o} {r} {t} child new = record {
-  there = omega (arith, child.there);
-  under = child.under;
-  reach = child.reach;
-  far = child.far;
-  alike = below_more (λ x. IsUnder b d o t x → Agree (b x) (b r) child.reach) n child.alike new;
-}
+grown {w} {n} {b} {d} {o} {r} {t} child new = grind arith
 
 -- Item `n` parts from item `l` at position `p`, and from no item later. The slot is where the descent by its bits ends before that
 -- position.
@@ -29,9 +23,7 @@ module _ {w n : ℕ} {b : ℕ → ℕ → Bool} {d : ℕ → ℕ} {k : ℕ → B
   near = stop_reach p (tree.children i s slot).far stop (omega (arith, within))
 
   front : (j : ℕ) → j < n → IsUnder b d i s j → Agree (b j) (b n) p
-  front j h u =
-      let child = tree.children i s slot in
-      agree_on (agree_less p near (agree_on (child.alike j h u) (agree_back (child.alike l part.there under)))) part.same
+  front j h u = grind (arith, agree_back, agree_less, agree_on, near)
 
   -- no node is at that position behind the same bits
   no_node_there : (o : ℕ) → o < n → d o ≡ p + 1 → Agree (b o) (b n) p → ⊥
@@ -52,18 +44,10 @@ module _ {w n : ℕ} {b : ℕ → ℕ → Bool} {d : ℕ → ℕ} {k : ℕ → B
       absurd (no_node_there o before at (agree_less p (omega (arith, at)) a))
 
   deep : d i < d (k i s) → p + 1 < d (k i s)
-  deep inner =
-      let child = tree.children i s slot in
-      elim (cases_lt (p + 1) (d (k i s))) [
-        | inl below ↦ below
-        | inr high ↦ absurd (no_node_there (k i s) child.there (omega (arith, high, stop inner)) (front (k i s) child.there child.under))
-      ]
+  deep inner = grind (arith, cases_lt, front, no_node_there)
 
   turned : b (k i s) p ≡ not (b n p)
-  turned =
-      let child = tree.children i s slot in
-      let past : p < child.reach = elim child.far [ inl is ↦ omega (arith, deep is.0, is.1) | inr is ↦ omega (arith, within, is.1) ] in
-      sym ((child.alike l part.there under).each p past) ∙ other_bit (b l p) (b n p) part.differ
+  turned = grind (arith, deep, other_bit)
 
   -- another slot over the new item
   elsewhere : (o : ℕ) (t : Bool) (other : IsSlot n d o t) → (i ≡ o → s ≢ t) → IsUnder b d o t n → Agree (b n) (b (k o t)) (tree.children o t other).reach
@@ -194,31 +178,20 @@ first_tree w b d k depth named = record {
 }
 
 depth-with_child : (node : Node) (s : Bool) (x : ℕ) → (with_child node s x).depth ≡ node.depth
-depth-with_child node true x = refl
-depth-with_child node false x = refl
+depth-with_child node s x = grind arith
 
 named-with_child : (node : Node) (s : Bool) (x : ℕ) → named (with_child node s x) s ≡ x
-named-with_child node true x = refl
-named-with_child node false x = refl
+named-with_child node s x = grind arith
 
 named-with_other : (node : Node) (s t : Bool) (x : ℕ) → s ≢ t → named (with_child node s x) t ≡ named node t
-named-with_other node true true x apart = absurd (apart refl)
-named-with_other node false false x apart = absurd (apart refl)
-named-with_other node _ _ x apart = refl
+named-with_other node s t x apart = grind arith
 
 with_child-back : (node : Node) (s : Bool) (x : ℕ) → with_child (with_child node s x) s (named node s) ≡ node
-with_child-back node true x = refl
-with_child-back node false x = refl
+with_child-back node s x = grind arith
 
 -- what a slot named, named again
 named-back : (nodes : List Node) (i : ℕ) (s : Bool) (x : ℕ) → i < length nodes → with_named (with_named nodes i s x) i s (child_of nodes i s) ≡ nodes
-named-back nodes i s x h =
-    let node = node_at nodes i in
-    let changed : node_at (with_named nodes i s x) i ≡ with_child node s x = get_or-set_same nodes i (with_child node s x) no_node h in
-    ap (λ (one : Node). slice_set (with_named nodes i s x) i (with_child one s (child_of nodes i s))) changed
-    ∙ ap (λ (one : Node). slice_set (with_named nodes i s x) i one) (with_child-back node s x)
-    ∙ set-set nodes i (with_child node s x) node
-    ∙ set-get_or nodes i no_node
+named-back nodes i s x h = grind (arith, get_or-set_same, set-get_or, set-set, with_child-back)
 
 abbrev undone : ℕ → Node → List Node → List Node
 undone number newest front = if newest.up == number then front else with_named front newest.up newest.up_side (displaced number newest)
@@ -243,10 +216,7 @@ pub record IsParted (nodes : List Node) (key : ℕ → Bool) (position i : ℕ) 
   pub rest : named node (not (key position)) ≡ child_of nodes i s
 
 displaced-parted : (node : Node) (side : Bool) (n r : ℕ) → named node side ≡ n → named node (not side) ≡ r → r < n → displaced n node ≡ r
-displaced-parted node true n r own rest less =
-    ap (λ (t : Bool). if t then node.on else node.off) (ne_eqb node.off n (λ e. omega (arith, e, rest, less))) ∙ rest
-displaced-parted node false n r own rest less =
-    ap (λ (t : Bool). if t then node.on else node.off) (eq-eqb node.off n own) ∙ rest
+displaced-parted node side n r own rest less = grind (arith, eq-eqb, ne_eqb)
 
 module _ {w : ℕ} (keys : ℕ → ℕ → Bool) (before : Trie) (trie : IsTrie w keys before) (some : 0 < item_count before) where
   pub trie_parted : {p : ℕ} {slot : Slot} (node : Node) → IsOpening keys before (keys (item_count before)) slot p → p < w → IsParted (nodes_of before) (keys (item_count before)) p slot.node slot.side node

@@ -8,26 +8,13 @@ use Rattle.key_trie.specs.Key.{Agree}
 -- Words that differ.
 
 pub same_bit : (a b i : ℕ) → bit_at (bit_xor a b) i ≡ 0 → (bit_at a i == 1) ≡ (bit_at b i == 1)
-same_bit a b i e =
-    let parts : (bit_at a i + bit_at b i) % 2 ≡ 0 = sym (bit_at_xor a b i) ∙ e in
-    let low : bit_at a i < 2 = bit_at-lt a i in
-    let high : bit_at b i < 2 = bit_at-lt b i in
-    let same : bit_at a i ≡ bit_at b i = grind arith in
-    ap (λ n. n == 1) same
+same_bit a b i e = grind (arith, bit_at-lt, bit_at_xor)
 
 one_bit : (x y : ℕ) → x < 2 → y < 2 → (x == 1) ≡ (y == 1) → x ≡ y
-one_bit zero zero h g e = refl
-one_bit zero (suc zero) h g e = absurd (false≢true e)
-one_bit (suc zero) zero h g e = absurd (false≢true (sym e))
-one_bit (suc zero) (suc zero) h g e = refl
-one_bit _ _ h g e = absurd (omega arith)
+one_bit x y h g e = grind (arith, false≢true)
 
 pub other_bits : (a b i : ℕ) → bit_at (bit_xor a b) i ≡ 1 → (bit_at a i == 1) ≢ (bit_at b i == 1)
-other_bits a b i e same =
-    let parts : (bit_at a i + bit_at b i) % 2 ≡ 1 = sym (bit_at_xor a b i) ∙ e in
-    let one : bit_at a i ≡ bit_at b i = one_bit (bit_at a i) (bit_at b i) (bit_at-lt a i) (bit_at-lt b i) same in
-    let low : bit_at a i < 2 = bit_at-lt a i in
-    grind arith
+other_bits a b i e same = grind (arith, bit_at-lt, bit_at_xor, one_bit)
 
 -- one word more of two keys
 module _ (x y : ℕ → Bool) (a b index : ℕ) (is_a : (col : ℕ) → col < 64 → (bit_at a col == 1) ≡ x (64 * index + col)) (is_b : (col : ℕ) → col < 64 → (bit_at b col == 1) ≡ y (64 * index + col)) (before : Agree x y (64 * index)) where

@@ -22,77 +22,41 @@ pub agree_less : {x y : ℕ → Bool} {end : ℕ} (less : ℕ) → less ≤ end 
 agree_less less few a = record { each = λ p h. a.each p (omega (arith, h, few)) }
 
 pub agree_more : {x y : ℕ → Bool} {end : ℕ} (more : ℕ) → more ≤ end + 1 → Agree x y end → x end ≡ y end → Agree x y more
-agree_more {x} {y} {end} more few a e = record {
-  each = λ p h. elim (cases_lt p end) [
-    | inl low ↦ a.each p low
-    | inr high ↦ let at : p ≡ end = omega (arith, high, h, few) in subst (λ m. x m ≡ y m) (sym at) e
-  ];
-}
+agree_more {x} {y} {end} more few a e = grind (arith, cases_lt)
 
 pub other_bit : (x y : Bool) → x ≢ y → x ≡ not y
-other_bit true true apart = absurd (apart refl)
-other_bit false false apart = absurd (apart refl)
-other_bit _ _ apart = refl
+other_bit x y apart = grind arith
 
 pub not_itself : (x : Bool) → x ≡ not x → ⊥
-not_itself true e = true≢false e
-not_itself false e = false≢true e
+not_itself x e = grind (arith, false≢true, true≢false)
 
 pub cases_same : (x y : Bool) → (x ≡ y) ⊎ (x ≢ y)
-cases_same true true = inl refl
-cases_same true false = inr true≢false
-cases_same false true = inr false≢true
-cases_same false false = inl refl
+cases_same x y = grind (arith, false≢true, true≢false)
 
 pub inner_reach : {w above below reach : ℕ} → IsReach w above below reach → above < below → reach ≡ below - 1
 inner_reach {w} {above} {below} {reach} far inner = elim far [ inl is ↦ is.1 | inr other ↦ absurd (omega (arith, other.0, inner)) ]
 
 -- a descent that stops before a position ends where all items under the slot are alike up to it
 pub stop_reach : {w above below reach : ℕ} (end : ℕ) → IsReach w above below reach → (above < below → end < below) → end ≤ w → end ≤ reach
-stop_reach {w} {above} {below} {reach} end far stop within = elim far [
-  | inl is ↦ omega (arith, stop is.0, is.0, is.1)
-  | inr is ↦ omega (arith, is.1, within)
-]
+stop_reach {w} {above} {below} {reach} end far stop within = grind arith
 
 -- Items under one slot.
 
 module _ {b : ℕ → ℕ → Bool} {d : ℕ → ℕ} {i : ℕ} {s : Bool} where
   -- what is like an item under a slot as far as the node goes is under it
   pub under_as : {l : ℕ} (j : ℕ) → IsUnder b d i s l → Agree (b j) (b l) (d i) → IsUnder b d i s j
-  under_as {l} j u a = record {
-    path = record { each = λ p h. a.each p (omega (arith, h)) ∙ u.path.each p h };
-    turn = λ some. a.each (d i - 1) (omega (arith, some)) ∙ u.turn some;
-  }
+  under_as {l} j u a = grind arith
 
   -- two items under a slot are alike as far as the node goes
   pub under_both : {j l : ℕ} → IsUnder b d i s j → IsUnder b d i s l → Agree (b j) (b l) (d i)
-  under_both {j} {l} u v = record {
-    each = λ p h. elim (cases_lt p (d i - 1)) [
-      | inl low ↦ u.path.each p low ∙ sym (v.path.each p low)
-      | inr high ↦
-          let some : 0 < d i = omega (arith, h) in
-          let at : p ≡ d i - 1 = omega (arith, high, h) in
-          subst (λ m. b j m ≡ b l m) (sym at) (u.turn some ∙ sym (v.turn some))
-    ];
-  }
+  under_both {j} {l} u v = grind (arith, cases_lt)
 
 -- What a trie tells.
 module _ {w n : ℕ} {b : ℕ → ℕ → Bool} {d : ℕ → ℕ} {k : ℕ → Bool → ℕ} (tree : IsTree w n b d k) where
   -- The descent.
 
   pub way_begins : (key : ℕ → Bool) (end : ℕ) → 0 < n → IsOnWay n b d key end 0 false
-  way_begins key end some =
-      let root = tree.root some in
-      let under : (j : ℕ) → IsUnder b d 0 false j = λ j. record {
-        path = record { each = λ p h. absurd (omega (arith, h, root)) };
-        turn = λ h. absurd (omega (arith, h, root));
-      } in
-      record {
-        slot = record { there = some; real = λ h. absurd (omega (arith, h)); one = λ e. refl };
-        low = omega (arith, root);
-        all = λ j h a. under j;
-        best = λ j p h a. inl (under j);
-      }
+  way_begins key end some = grind (arith, tree)
 
   pub way_goes_on : {key : ℕ → Bool} {end i : ℕ} {s : Bool} (below : ℕ) (side : Bool) → IsOnWay n b d key end i s
       → below ≡ k i s → d i < d below → d below ≤ end → side ≡ key (d below - 1) → IsOnWay n b d key end below side
@@ -129,24 +93,12 @@ module _ {w n : ℕ} {b : ℕ → ℕ → Bool} {d : ℕ → ℕ} {k : ℕ → B
   -- where a descent ends, an item that is as the key is as what the slot names
   pub way_equal : {key : ℕ → Bool} {end i : ℕ} {s : Bool} → IsOnWay n b d key end i s → (d i < d (k i s) → end < d (k i s)) → end ≤ w
       → (j : ℕ) → j < n → Agree (b j) key end → Agree (b (k i s)) key end
-  way_equal {key} {end} {i} {s} way stop within j h a =
-      let child = tree.children i s way.slot in
-      agree_on (agree_less end (stop_reach end child.far stop within) (agree_back (child.alike j h (way.all j h a)))) a
+  way_equal {key} {end} {i} {s} way stop within j h a = grind (arith, agree_back, agree_less, agree_on, stop_reach, tree)
 
   -- and if what the slot names parts from the key, no item is as the key any farther
   pub way_parts : {key : ℕ → Bool} {end i : ℕ} {s : Bool} (position : ℕ) → IsOnWay n b d key end i s → (d i < d (k i s) → end < d (k i s)) → end ≤ w
       → position < end → Agree (b (k i s)) key position → b (k i s) position ≢ key position → IsParting n b key (k i s) position
-  way_parts {key} {end} {i} {s} position way stop within low same differ =
-      let child = tree.children i s way.slot in
-      record {
-        there = child.there;
-        same = same;
-        differ = differ;
-        best = λ j h a. elim (way.best j (position + 1) h a) [
-          | inl under ↦ differ (sym ((child.alike j h under).each position (omega (arith, low, stop_reach end child.far stop within))) ∙ a.each position (omega arith))
-          | inr other ↦ differ ((other (k i s) child.there child.under).each position (omega arith))
-        ];
-      }
+  way_parts {key} {end} {i} {s} position way stop within low same differ = grind (arith, stop_reach, tree)
 
   -- Two slots over one item.
 
@@ -174,23 +126,11 @@ module _ {w n : ℕ} {b : ℕ → ℕ → Bool} {d : ℕ → ℕ} {k : ℕ → B
       ]
 
   first_node : {i : ℕ} {s : Bool} → IsSlot n d i s → d i ≤ 0 → i ≡ 0
-  first_node {i} slot none = elim (cases_lt 0 i) [
-    | inl some ↦ absurd (omega (arith, slot.real some, none))
-    | inr first ↦ omega (arith, first)
-  ]
+  first_node {i} slot none = grind (arith, cases_lt)
 
   -- at nodes of one depth they are one slot
   same_slot : {i o l : ℕ} {s t : Bool} → IsSlot n d i s → IsSlot n d o t → IsUnder b d i s l → IsUnder b d o t l → d i ≡ d o → (i ≡ o) × (s ≡ t)
-  same_slot {i} {o} {l} {s} {t} slot other u v same = elim (cases_lt 0 (d i)) [
-    | inl some ↦ (
-      tree.alone i o slot.there other.there some same (agree_on (agree_back u.path) (subst (λ m. Agree (b l) (b o) (m - 1)) (sym same) v.path)),
-      sym (u.turn some) ∙ ap (λ m. b l (m - 1)) same ∙ v.turn (omega (arith, some, same)),
-    )
-    | inr none ↦ (
-      first_node slot none ∙ sym (first_node other (omega (arith, none, same))),
-      slot.one (omega (arith, none)) ∙ sym (other.one (omega (arith, none, same))),
-    )
-  ]
+  same_slot {i} {o} {l} {s} {t} slot other u v same = grind (arith, agree_back, agree_on, cases_lt, first_node, tree)
 
   pub two_slots : {i o l : ℕ} {s t : Bool} → IsSlot n d i s → IsSlot n d o t → IsUnder b d i s l → IsUnder b d o t l → (i ≡ o → s ≢ t)
       → ((d i < d o) × (d i < d (k i s)) × (d (k i s) ≤ d o)) ⊎ ((d o < d i) × (d o < d (k o t)) × (d (k o t) ≤ d i))
@@ -206,31 +146,11 @@ module _ {w n : ℕ} {b : ℕ → ℕ → Bool} {d : ℕ → ℕ} {k : ℕ → B
 
 module _ {b b' : ℕ → ℕ → Bool} {d d' : ℕ → ℕ} {i : ℕ} {s : Bool} where
   pub under_same : {j : ℕ} → b j ≡ b' j → b i ≡ b' i → d i ≡ d' i → IsUnder b d i s j → IsUnder b' d' i s j
-  under_same {j} item node depth u = record {
-    path = record { each = λ p h. ap (λ (x : ℕ → Bool). x p) (sym item) ∙ u.path.each p (omega (arith, h, depth)) ∙ ap (λ (x : ℕ → Bool). x p) node };
-    turn = λ some. ap (λ (x : ℕ → Bool). x (d' i - 1)) (sym item) ∙ ap (λ m. b j (m - 1)) (sym depth) ∙ u.turn (omega (arith, some, depth));
-  }
+  under_same {j} item node depth u = grind arith
 
 pub same_tree : {w n : ℕ} {b b' : ℕ → ℕ → Bool} {d d' : ℕ → ℕ} {k : ℕ → Bool → ℕ} → IsTree w n b d k
     → ((i : ℕ) → i < n → b i ≡ b' i) → ((i : ℕ) → i < n → d i ≡ d' i) → IsTree w n b' d' k
-same_tree {w} {n} {b} {b'} {d} {d'} {k} tree keys depths = record {
-  root = λ some. sym (depths 0 some) ∙ tree.root some;
-  within = λ o h. subst (λ m. m ≤ w) (depths o h) (tree.within o h);
-  children = λ o t slot.
-      let depth = depths o slot.there in
-      let child = tree.children o t (record { there = slot.there; real = λ some. omega (arith, slot.real some, depth); one = λ e. slot.one (omega (arith, e, depth)) }) in
-      let r = k o t in
-      record {
-        there = child.there;
-        under = under_same (keys r child.there) (keys o slot.there) depth child.under;
-        reach = child.reach;
-        far = subst (λ m. IsReach w (d' o) m child.reach) (depths r child.there) (subst (λ m. IsReach w m (d r) child.reach) depth child.far);
-        alike = λ j h u. subst (λ x. Agree x (b' r) child.reach) (keys j h) (subst (λ x. Agree (b j) x child.reach) (keys r child.there)
-            (child.alike j h (under_same (sym (keys j h)) (sym (keys o slot.there)) (sym depth) u)));
-      };
-  alone = λ one other h g some same a. tree.alone one other h g (omega (arith, some, depths one h)) (depths one h ∙ same ∙ sym (depths other g))
-      (subst (λ x. Agree x (b other) (d one - 1)) (sym (keys one h)) (subst (λ x. Agree (b' one) x (d one - 1)) (sym (keys other g)) (subst (λ m. Agree (b' one) (b' other) (m - 1)) (sym (depths one h)) a)));
-}
+same_tree {w} {n} {b} {b'} {d} {d'} {k} tree keys depths = grind (arith, under_same)
 
 -- The nodes as they are kept.
 
@@ -240,17 +160,12 @@ trie_tree {w} zero keys nodes trie some = absurd (omega (arith, some))
 trie_tree {w} (suc n) keys nodes trie some = trie.1
 
 pub trie_length : (w n : ℕ) (keys : ℕ → ℕ → Bool) (nodes : List Node) → IsTrieOf w n keys nodes → length nodes ≡ n
-trie_length w zero keys nodes none = ap (λ (xs : List Node). length xs) none
-trie_length w (suc n) keys nodes trie = trie.0
+trie_length w n keys nodes trie = grind arith
 
 -- without the newest item
 pub trie_back : (w : ℕ) (keys : ℕ → ℕ → Bool) (nodes : List Node) → 0 < length nodes → IsTrieOf w (length nodes) keys nodes
     → IsTrieOf w (length (without_newest nodes)) keys (without_newest nodes)
-trie_back w keys nodes some trie =
-    let next : length nodes ≡ suc (length nodes - 1) = omega (arith, some) in
-    let whole : IsTrieOf w (suc (length nodes - 1)) keys nodes = subst (λ m. IsTrieOf w m keys nodes) next trie in
-    let count = trie_length w (length nodes - 1) keys (without_newest nodes) whole.3 in
-    subst (λ m. IsTrieOf w m keys (without_newest nodes)) (sym count) whole.3
+trie_back w keys nodes some trie = grind (arith, trie_length)
 
 -- other keys of which those items have the same
 pub trie_same : (w n : ℕ) (keys others : ℕ → ℕ → Bool) (nodes : List Node) → ((i : ℕ) → i < n → keys i ≡ others i) → IsTrieOf w n keys nodes → IsTrieOf w n others nodes
@@ -261,14 +176,7 @@ trie_same w (suc n) keys others nodes same trie =
 -- where a descent by the bits of an item ends before the position where the item parts, it comes in
 pub way_opens : {keys : ℕ → ℕ → Bool} {trie : Trie} {key bits : ℕ → Bool} {item : ℕ} (slot : Slot) (position : ℕ) → IsWayTo keys trie key position slot
     → Agree key bits (position + 1) → IsParting (item_count trie) keys bits item position → IsOpening keys trie bits slot position
-way_opens {keys} {trie} {key} {bits} {item} slot position descent same part = record {
-  item = item;
-  there = descent.way.slot;
-  low = descent.way.low;
-  under = descent.way.all item part.there (agree_on part.same (agree_back (agree_less position (omega arith) same)));
-  stop = descent.stop;
-  part = part;
-}
+way_opens {keys} {trie} {key} {bits} {item} slot position descent same part = grind (arith, agree_back, agree_less, agree_on)
 
 module _ (w : ℕ) (keys : ℕ → ℕ → Bool) (trie : Trie) (is : IsTrie w keys trie) {key : ℕ → Bool} {end : ℕ} (slot : Slot) (descent : IsWayTo keys trie key end slot) where
   tree : IsTree w (item_count trie) keys (depth_of (nodes_of trie)) (child_of (nodes_of trie))
@@ -276,22 +184,11 @@ module _ (w : ℕ) (keys : ℕ → ℕ → Bool) (trie : Trie) (is : IsTrie w ke
 
   -- and so does an item that parts behind the last node of the descent
   pub end_opens : {bits : ℕ → Bool} (position : ℕ) → position < end → depth_of (nodes_of trie) slot.node ≤ position → IsParting (item_count trie) keys bits (child_at trie slot) position → IsOpening keys trie bits slot position
-  end_opens {bits} position before low part = record {
-    item = child_at trie slot;
-    there = descent.way.slot;
-    low = low;
-    under = (tree.children slot.node slot.side descent.way.slot).under;
-    stop = λ inner. omega (arith, descent.stop inner, before);
-    part = part;
-  }
+  end_opens {bits} position before low part = grind (arith, tree)
 
   -- what the slot at its end names is as the key at least as far as any other item is
   pub way_nearest : end ≤ w → IsNearest keys trie key end (child_at trie slot)
-  way_nearest within = record {
-    there = way_names tree descent.way;
-    equal = λ j h a. way_equal tree descent.way descent.stop within j h a;
-    parts = λ position low same differ. way_parts tree position descent.way descent.stop within low same differ;
-  }
+  way_nearest within = grind (arith, tree, way_equal, way_names, way_parts)
 
 -- Where an item parts, of whose bits and of the nearest item's only those before the end are known.
 pub parts_as : {keys : ℕ → ℕ → Bool} {trie : Trie} {key : ℕ → Bool} {end near : ℕ} → IsNearest keys trie key end near → (bits other : ℕ → Bool) (position : ℕ) → position < end → Agree key bits end → Agree other (keys near) end
@@ -310,11 +207,4 @@ parts_as {keys} {trie} {key} {end} {near} n bits other position low as_bits as_n
 
 -- with the same nodes, an item comes in at the same slot
 pub opening_same : {keys : ℕ → ℕ → Bool} {bits : ℕ → Bool} {slot : Slot} {position : ℕ} {one other : Trie} → nodes_of other ≡ nodes_of one → IsOpening keys one bits slot position → IsOpening keys other bits slot position
-opening_same same opening = record {
-  item = opening.item;
-  there = rw same opening.there;
-  low = rw same opening.low;
-  under = rw same opening.under;
-  stop = rw same opening.stop;
-  part = rw same opening.part;
-}
+opening_same same opening = grind arith
