@@ -39,11 +39,7 @@ given_but : (d : Direction) (region rows : List ℕ) (flags : ℕ) → HaveGiven
 given_but d region rows flags given r n is free col there has = inl (given r n is free col there has)
 
 given_all : (d : Direction) (region rows : List ℕ) (flags : ℕ) → HaveGivenBut d region rows flags 0 0 → HaveGiven d region rows flags
-given_all d region rows flags given r n is free col there has =
-    elim (given r n is free col there has) [
-      | inl taken ↦ taken
-      | inr (_, none) ↦ absurd (false≢true (sym (has_bit-zero col) ∙ none))
-    ]
+given_all d region rows flags given r n is free col there has = grind (arith, false≢true, has_bit-zero)
 
 -- once a direction has no flagged rows left, the other one's turn comes
 pub turned : (d : Direction) (region first rows : List ℕ) (back : ℕ) → IsFilledBut region first rows d 0 back 0 0 → IsFilledBut region first rows (opposite d) back 0 0 0
@@ -113,12 +109,7 @@ IsFilledBut-last d region first rows flags back row given was taken = record {
 
 -- the columns of a row are beside the rows next to it
 given_beside : (rows : List ℕ) (row next given : ℕ) → IsPart (has_bit given) (has_bit (slice_index rows row)) → (d : Direction) → IsNext d row next → IsPart (has_bit given) (has_bit (bit_or (row_above rows next) (slice_index rows (next + 1))))
-given_beside rows row next given given_in Up at col is =
-    has_bit-or (row_above rows next) (slice_index rows (next + 1)) col
-    ∙ or_right _ _ (ap (λ r. has_bit (slice_index rows r) col) at ∙ given_in col is)
-given_beside rows row next given given_in Down at col is =
-    has_bit-or (row_above rows next) (slice_index rows (next + 1)) col
-    ∙ or_left _ _ (above_at rows next col (record { col = col; row = row }) at refl (given_in col is))
+given_beside rows row next given given_in d at col is = grind (arith, above_at, has_bit-or, or_left, or_right)
 
 -- A row gives columns to the next row: `here` has those that the next row lacks, and it takes `taken` of them.
 module _ (d : Direction) (region first rows : List ℕ) (flags back row next given here taken : ℕ) (was : IsFilledBut region first rows d flags back row given) (is_next : IsNext d row next) (below : next < length rows) (given_in : IsPart (has_bit given) (has_bit (slice_index rows row))) (here_is : (col : ℕ) → has_bit here col ≡ (has_bit (slice_index region next) col && not (has_bit (slice_index rows next) col))) (in_here : IsPart (has_bit taken) (has_bit here)) (kept : IsPart (has_bit (bit_and here given)) (has_bit taken)) (closed : HasBeside (has_bit here) (has_bit taken)) (least : (set : ℕ → Bool) → HasBeside (has_bit here) set → IsPart (has_bit (bit_and here given)) set → IsPart (has_bit taken) set) where
@@ -145,11 +136,7 @@ module _ (d : Direction) (region first rows : List ℕ) (flags back row next giv
 
   -- what the row gives is there afterwards
   gave : (col : ℕ) → has_bit (slice_index region next) col ≡ true → has_bit given col ≡ true → has_bit word col ≡ true
-  gave col there is =
-      elim (cases_Bool (has_bit (slice_index rows next) col)) [
-        | inl own ↦ had col own
-        | inr gone ↦ took col (kept col (has_bit-and here given col ∙ and_from _ _ (lacked col there gone) is))
-      ]
+  gave col there is = grind (arith, and_from, cases_Bool, had, has_bit-and, lacked, took)
 
   in_room : IsPart (has_bit word) (has_bit (slice_index region next))
   in_room col is =
@@ -159,12 +146,7 @@ module _ (d : Direction) (region first rows : List ℕ) (flags back row next giv
       ]
 
   from_seed : IsPart (has_bit (seed_of rows region next given)) (has_bit word)
-  from_seed col is =
-      let both = and_parts _ _ (sym (has_bit-and _ _ col) ∙ is) in
-      elim (or_cases _ _ (sym (has_bit-or (slice_index rows next) given col) ∙ both.0)) [
-        | inl own ↦ had col own
-        | inr near ↦ gave col both.1 near
-      ]
+  from_seed col is = grind (arith, and_parts, gave, had, has_bit-and, has_bit-or, or_cases)
 
   shut : HasBeside (has_bit (slice_index region next)) (has_bit word)
   shut col beside differ there is =
@@ -336,35 +318,21 @@ IsFilledBut-swept region first rows ups count was all_rows only_rows = record {
 
 -- more points twice
 pub HaveMore-twice : (a b c : List ℕ) (first second third : ℕ) → HaveMore a b first second → HaveMore b c second third → HaveMore a c first third
-HaveMore-twice a b c first second third (inl (rows, flags)) (inl (more_rows, more_flags)) = inl (more_rows ∙ rows, more_flags ∙ flags)
-HaveMore-twice a b c first second third (inl (rows, flags)) (inr less) = inr (subst (λ l. lacking c < lacking l) rows less)
-HaveMore-twice a b c first second third (inr less) (inl (rows, flags)) = inr (subst (λ l. lacking l < lacking a) (sym rows) less)
-HaveMore-twice a b c first second third (inr less) (inr least) = inr (omega (arith, less, least))
+HaveMore-twice a b c first second third one other = grind arith
 
 HaveMore-sum : (a b c : List ℕ) (downs next : ℕ) → HaveMore a b 0 downs → HaveMore b c 0 next → HaveMore a c 0 next
-HaveMore-sum a b c downs next up (inl (rows, flags)) =
-    elim up [
-      | inl (same, _) ↦ inl (rows ∙ same, flags)
-      | inr less ↦ inr (subst (λ l. lacking l < lacking a) (sym rows) less)
-    ]
-HaveMore-sum a b c downs next (inl (same, _)) (inr less) = inr (subst (λ l. lacking c < lacking l) same less)
-HaveMore-sum a b c downs next (inr less) (inr least) = inr (omega (arith, less, least))
+HaveMore-sum a b c downs next up down = grind arith
 
 -- where two rounds change nothing, no row is flagged
 pub fewer_flags : (a b c : List ℕ) (ups downs next : ℕ) → ups ≢ 0 → next < 2 ^ 64 → HaveMore a b 0 downs → HaveMore b c 0 next → lacking c * 2 ^ 64 + next < lacking a * 2 ^ 64 + ups
-fewer_flags a b c ups downs next some low up down =
-    elim (HaveMore-sum a b c downs next up down) [
-      | inl (rows, none) ↦ let same : lacking c ≡ lacking a = ap lacking rows in omega (arith, same, none, some)
-      | inr less ↦ omega (arith, less, low)
-    ]
+fewer_flags a b c ups downs next some low up down = grind (arith, HaveMore-sum)
 
 -- what the row that was widened last lacks
 pub after_sweep : (region rows : List ℕ) (r row word left : ℕ) → r ≡ row → slice_index rows row ≡ word → ((col : ℕ) → has_bit left col ≡ (has_bit (slice_index region row) col && not (has_bit word col))) → (col : ℕ) → has_bit left col ≡ (has_bit (slice_index region r) col && not (has_bit (slice_index rows r) col))
 after_sweep region rows r row word left same is left_is col = cc (left_is col)
 
 without_both : (a b c : Bool) → ((a && not b) && not c) ≡ (a && not (b || c))
-without_both true true c = refl
-without_both _ _ c = refl
+without_both a b c = grind arith
 
 -- A row that takes columns: `here` has those that it lacks, and `taken` has some of these.
 module _ (region rows : List ℕ) (next given here taken : ℕ) (below : next < length rows) (within : IsAmong (is_set rows) (is_set region)) (here_is : (col : ℕ) → has_bit here col ≡ (has_bit (slice_index region next) col && not (has_bit (slice_index rows next) col))) (in_here : IsPart (has_bit taken) (has_bit here)) where
@@ -389,11 +357,7 @@ module _ (region rows : List ℕ) (next given here taken : ℕ) (below : next < 
   taken-there col is = now_there col ∙ has_bit-or (slice_index rows next) taken col ∙ or_right _ _ is
 
   pub left-there : (left : ℕ) → ((col : ℕ) → has_bit left col ≡ (has_bit here col && not (has_bit taken col))) → (col : ℕ) → has_bit left col ≡ (has_bit (slice_index region next) col && not (has_bit (slice_index (set rows next grown) next) col))
-  left-there left left_is col =
-      left_is col
-      ∙ ap (λ b. b && not (has_bit taken col)) (here_is col)
-      ∙ without_both (has_bit (slice_index region next) col) (has_bit (slice_index rows next) col) (has_bit taken col)
-      ∙ ap (λ b. has_bit (slice_index region next) col && not b) (sym (now_there col ∙ has_bit-or (slice_index rows next) taken col))
+  left-there left left_is col = grind (arith, has_bit-or, now_there, without_both)
 
   pub lacking-taken : bit_and here given ≢ 0 → here < 2 ^ 64 → slice_index region next < 2 ^ 64 → IsPart (has_bit (bit_and here given)) (has_bit taken) → lacking (set rows next grown) < lacking rows
   lacking-taken some low room kept =
@@ -421,19 +385,10 @@ module _ (d : Direction) (region rows : List ℕ) (row next given taken : ℕ) (
       ∙ and_from _ _ (has_bit-or (slice_index rows next) given col ∙ or_left _ _ is) (within (record { col = col; row = next }) is)
 
   of_given : (col : ℕ) → has_bit (bit_and (slice_index region next) given) col ≡ true → has_bit (seed_of rows region next given) col ≡ true
-  of_given col is =
-      let parts = and_parts _ _ (sym (has_bit-and (slice_index region next) given col) ∙ is) in
-      has_bit-and (bit_or (slice_index rows next) given) (slice_index region next) col
-      ∙ and_from _ _ (has_bit-or (slice_index rows next) given col ∙ or_right _ _ parts.1) parts.0
+  of_given col is = grind (arith, and_from, and_parts, has_bit-and, has_bit-or, or_right)
 
   in_both : IsPart (has_bit (seed_of rows region next given)) (has_bit both_words)
-  in_both col is =
-      let parts = and_parts _ _ (sym (has_bit-and _ _ col) ∙ is) in
-      has_bit-or (slice_index rows next) taken col
-      ∙ elim (or_cases _ _ (sym (has_bit-or (slice_index rows next) given col) ∙ parts.0)) [
-        | inl own ↦ or_left _ _ own
-        | inr near ↦ or_right _ _ (kept col (has_bit-and (slice_index region next) given col ∙ and_from _ _ parts.1 near))
-      ]
+  in_both col is = grind (arith, and_from, and_parts, has_bit-and, has_bit-or, or_cases, or_left, or_right)
 
   pub Grows-take : Grows (is_set region) (is_set rows) (is_set (set rows next both_words))
   Grows-take = Grows-row rows region next given both_words below within (given_beside rows row next given given_in d is_next)
