@@ -50,10 +50,7 @@ after-length g [] all = all
 after-length g (x ∷ xs) all = length-changed (after_changes g xs) x ∙ ap (λ n. n * n) (after-side g xs)
 
 pub step-side : (g : Grid) (o : Older) (cs : List Change) → (step_back g o cs).side ≡ g.side
-step-side g o cs = elim (cases_Bool o.alone) [
-  | inl is ↦ rw is refl
-  | inr not_so ↦ rw not_so (after-side g cs)
-]
+step-side g o cs = grind (arith, after-side, cases_Bool)
 
 pub after-append : (g : Grid) (cs more : List Change) → after_changes g (cs ++ more) ≡ after_changes (after_changes g more) cs
 after-append g [] more = refl
@@ -90,28 +87,7 @@ same_row : (g h : Grid) (c : Change) (p : Point) → IsOn g.side p → IsOn h.si
 same_row g h c p on_g on_h at = grind (arith, Decides-eqb, cell_at-changed)
 
 either_first : (g : Grid) (c d : Change) → c.row ≢ d.row → with_change (with_change g c) d ≡ with_change (with_change g d) c
-either_first g c d apart =
-    let gc = with_change g c in
-    let gd = with_change g d in
-    let side_c = side-changed g c in
-    let side_d = side-changed g d in
-    let side_cd : (with_change gc d).side ≡ g.side = side-changed gc d ∙ side_c in
-    one_colouring (with_change gc d) (with_change gd c) (side_cd ∙ sym (side-changed gd c ∙ side_d))
-    (length-changed gc d ∙ ap (λ n. n * n) (sym (side-changed gc d)))
-    (length-changed gd c ∙ ap (λ n. n * n) (sym (side-changed gd c)))
-    (λ p at.
-    let on : IsOn g.side p = subst (λ n. IsOn n p) side_cd at in
-    let on_c : IsOn gc.side p = subst (λ n. IsOn n p) (sym side_c) on in
-    let on_d : IsOn gd.side p = subst (λ n. IsOn n p) (sym side_d) on in
-    elim (cases_eq c.row p.row) [
-      | inl here ↦
-          other_row gc d p on_c (λ there. apart (here ∙ sym there)) ∙ same_row g gd c p on on_d here
-      | inr other ↦
-          elim (cases_eq d.row p.row) [
-            | inl there ↦ same_row gc g d p on_c on there ∙ sym (other_row gd c p on_d other)
-            | inr neither ↦ other_row gc d p on_c neither ∙ other_row g c p on other ∙ sym (other_row gd c p on_d other ∙ other_row g d p on neither)
-          ]
-    ])
+either_first g c d apart = grind (arith, cases_eq, length-changed, one_colouring, other_row, same_row, side-changed)
 
 -- changes make the same of two grids on each point of a row of their own, and on each point on which the grids agree
 same_after : (g h : Grid) (cs : List Change) → g.side ≡ h.side → (p : Point) → IsOn g.side p → HasRow p.row cs ⊎ (cell_at g p ≡ cell_at h p) → cell_at (after_changes g cs) p ≡ cell_at (after_changes h cs) p
@@ -147,10 +123,7 @@ module _ (g : Grid) (cells : length g.cells ≡ g.side * g.side) (cs : List Chan
 
   -- changes of rows that have come count for nothing
   all_come : (more : List Change) → ((row : ℕ) → row < g.side → HasRow row cs) → after_changes g (cs ++ more) ≡ after_changes g cs
-  all_come more come =
-      let side = after-side g more in
-      after-append g cs more
-      ∙ same_front (after_changes g more) side (after-length g more cells ∙ ap (λ n. n * n) (sym side)) (λ p on. inl (come p.row on.1))
+  all_come more come = grind (arith, after-append, after-length, after-side, same_front)
 
   one_come : (c : Change) → HasRow c.row cs → after_changes g (cs ++ c ∷ []) ≡ after_changes g cs
   one_come c come = grind (arith, after-append, cases_eq, length-changed, other_row, same_front, side-changed)
@@ -226,21 +199,7 @@ play_cells g k p cleared all takes = grind (arith, length-set)
 
 -- a stone that clears nothing, removed again
 pub alone_back : (g : Grid) (k : Colour) (p : Point) (cleared : List ℕ) → length g.cells ≡ g.side * g.side → IsMove g k p cleared → length cleared ≡ 0 → with_cell (play g k p) p Empty ≡ g
-alone_back g k p cleared cells move none =
-    let made = play g k p in
-    let side : made.side ≡ g.side = move.cleared.played.same_side in
-    let all : length made.cells ≡ made.side * made.side = play_cells g k p cleared cells move.cleared in
-    let on : IsOn made.side p = subst (λ n. IsOn n p) (sym side) move.on_board in
-    one_colouring (with_cell made p Empty) g side (length-set made.cells (index_of made.side p) Empty ∙ all) cells
-    (λ q at.
-    let here : IsOn g.side q = subst (λ n. IsOn n q) side at in
-    elim (same_or_not q p) [
-      | inl same ↦ ap (cell_at (with_cell made p Empty)) same ∙ cell_at-with_cell made p Empty on all ∙ sym move.empty ∙ ap (cell_at g) (sym same)
-      | inr other ↦
-          cell_at-with_cell_elsewhere made p q Empty on at other
-          ∙ move.cleared.played.kept q here (λ gone. absurd (omega (arith, none, row_below cleared q gone)))
-          ∙ cell_at-with_cell_elsewhere g p q (stone_of k) move.on_board here other
-    ])
+alone_back g k p cleared cells move none = grind (arith, cell_at-with_cell, cell_at-with_cell_elsewhere, length-set, one_colouring, play_cells, row_below, same_or_not)
 
 -- the rows kept lead back to the colouring, from the one that they are kept for, and if all are kept, from any
 module _ {old new : Grid} {all : Bool} {a b : List Change} (cells : length old.cells ≡ old.side * old.side) (h : KeepRows old new all old.side a b) where

@@ -55,9 +55,7 @@ past-pop g start older older' o changes parts past =
 
 -- a step that is alone has no changes
 pub none_kept : (g : Grid) (start : ℕ) (older older' : List Older) (o : Older) (changes : List Change) → older ≡ older' ++ o ∷ [] → IsPast g start older changes → o.alone ≡ true → changes_before o changes ≡ changes
-none_kept g start older older' o changes parts past alone =
-    let kept = subst (λ (os : List Older). AreKept g os changes) (ap reverse parts ∙ reverse-append older' (o ∷ [])) past.kept in
-    take_all o.start changes (omega (arith, (kept.1 alone).1))
+none_kept g start older older' o changes parts past alone = grind (arith, reverse-append, take_all)
 
 -- One colouring more. The step back from it is known, and its changes are those that were added.
 module _ (g h : Grid) (stretch next : ℕ) (older : List Older) (o : Older) (changes all : List Change) (begins : Bool) (follows : next ≡ cond begins (length older + 1) stretch) (same : o.stretch_start ≡ stretch) (rest_is : changes_before o all ≡ changes) (before_is : before h o all ≡ g) where
@@ -167,9 +165,7 @@ module _ (held : List Held) (older : List Older) (changes : List Change) (number
   newest_changes = slice_range changes one.start end
 
   taken : take number older ≡ front ++ one ∷ []
-  taken =
-      let next : number ≡ number - 1 + 1 = omega (arith, some) in
-      ap (λ m. take m older) next ∙ take_more older (number - 1) one (omega (arith, some, high)) ∙ ap (λ (o : Older). front ++ o ∷ []) (sym is_one)
+  taken = grind (arith, high, take_more)
 
   turned_back : reverse (take number older) ≡ one ∷ reverse front
   turned_back = ap reverse taken ∙ reverse-append front (one ∷ [])

@@ -20,15 +20,11 @@ key_at start print hash grid index col low = grind arith
 
 -- the bit at a position, by the word that it is in
 key_in : (start print hash : ℕ) (grid : Grid) (index position : ℕ) → 64 * index ≤ position → position < 64 * index + 64 → key_bits start print hash grid position ≡ key_bit start print hash grid index (position - 64 * index)
-key_in start print hash grid index position from before =
-    let at : position ≡ 64 * index + (position - 64 * index) = omega (arith, from) in
-    ap (key_bits start print hash grid) at ∙ key_at start print hash grid index (position - 64 * index) (omega (arith, from, before))
+key_in start print hash grid index position from before = grind (arith, key_at)
 
 -- the first bits of a key are those of its print
 pub print_bit : (start print hash : ℕ) (grid : Grid) (position : ℕ) → position < 64 → key_bits start print hash grid position ≡ has_bit print position
-print_bit start print hash grid position low =
-    let at : 64 * 0 + position ≡ position = omega arith in
-    ap (λ n. key_bits start print hash grid n) (sym at) ∙ key_at start print hash grid 0 position low
+print_bit start print hash grid position low = grind (arith, key_at)
 
 module _ (start start' print print' hash hash' : ℕ) (grid grid' : Grid) where
   pub front_same : start < 2 ^ 64 → start' < 2 ^ 64 → print < 2 ^ 64 → print' < 2 ^ 64 → Agree (key_bits start print hash grid) (key_bits start' print' hash' grid') 128 → (start ≡ start') × (print ≡ print')
@@ -42,21 +38,11 @@ module _ (start start' print print' hash hash' : ℕ) (grid grid' : Grid) where
   )
 
   pub front_agrees : start ≡ start' → print ≡ print' → Agree (key_bits start print hash grid) (key_bits start' print' hash' grid') 128
-  front_agrees e f = record {
-    each = λ p h. elim (cases_lt p 64) [
-      | inl low ↦ key_in start print hash grid 0 p (omega arith) (omega (arith, low)) ∙ ap (λ n. has_bit n (p - 64 * 0)) f ∙ sym (key_in start' print' hash' grid' 0 p (omega arith) (omega (arith, low)))
-      | inr high ↦ key_in start print hash grid 1 p (omega (arith, high)) (omega (arith, h)) ∙ ap (λ n. has_bit n (p - 64 * 1)) e ∙ sym (key_in start' print' hash' grid' 1 p (omega (arith, high)) (omega (arith, h)))
-    ];
-  }
+  front_agrees e f = grind (arith, cases_lt, key_in)
 
 -- the words before those of the board
 pub head_agrees : (start print hash : ℕ) (grid grid' : Grid) → Agree (key_bits start print hash grid) (key_bits start print hash grid') 192
-head_agrees start print hash grid grid' = record {
-  each = λ p h. elim (cases_lt p 128) [
-    | inl low ↦ (front_agrees start start print print hash hash grid grid' refl refl).each p low
-    | inr high ↦ key_in start print hash grid 2 p (omega (arith, high)) (omega (arith, h)) ∙ sym (key_in start print hash grid' 2 p (omega (arith, high)) (omega (arith, h)))
-  ];
-}
+head_agrees start print hash grid grid' = grind (arith, cases_lt, front_agrees, key_in)
 
 -- The whole of a key.
 
@@ -65,14 +51,7 @@ stone-on grid stone row col low left = grind (arith, lt-ltb)
 
 -- the word of a row for Black, and the one for White
 stone_at : (start print hash : ℕ) (grid : Grid) (row col white : ℕ) → col < 64 → white < 2 → key_bits start print hash grid (64 * (2 * row + 3 + white) + col) ≡ has_stone grid (if white == 0 then Black else White) row col
-stone_at start print hash grid row col white left few =
-    let index : 2 * row + 3 + white ≡ suc (suc (suc (2 * row + white))) = omega arith in
-    let side : (2 * row + white) % 2 ≡ white = omega (arith, few) in
-    let half : (2 * row + white) / 2 ≡ row = omega (arith, few) in
-    key_at start print hash grid (2 * row + 3 + white) col left
-    ∙ ap (λ n. key_bit start print hash grid n col) index
-    ∙ ap (λ n. has_stone grid (if n == 0 then Black else White) ((2 * row + white) / 2) col) side
-    ∙ ap (λ n. has_stone grid (if white == 0 then Black else White) n col) half
+stone_at start print hash grid row col white left few = grind (arith, key_at)
 
 pub whole_same : (start start' print print' hash hash' : ℕ) (grid grid' : Grid) → grid.side ≡ grid'.side → grid.side ≤ 52 → length grid.cells ≡ grid.side * grid.side → length grid'.cells ≡ grid'.side * grid'.side
     → Agree (key_bits start print hash grid) (key_bits start' print' hash' grid') 6848 → grid ≡ grid'

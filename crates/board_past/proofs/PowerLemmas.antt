@@ -25,11 +25,4 @@ high_power : (times : ℕ) → times < 64 → get_or HIGH times 0 ≡ 31 ^ (64 *
 high_power times few = ap (λ (l : List ℕ). get_or l times 0) all_high ∙ get_or-map-range_with_len high 0 64 times times 0 few (omega arith)
 
 pub any_power : (exponent : ℕ) → exponent < 2704 → (get_or LOW (exponent % 64) 0 * get_or HIGH (exponent / 64) 0) % 2 ^ 64 ≡ 31 ^ exponent % 2 ^ 64
-any_power exponent few =
-    let rest = exponent % 64 in
-    let times = exponent / 64 in
-    ap (λ n. (n * get_or HIGH times 0) % 2 ^ 64) (low_power rest (omega arith))
-    ∙ ap (λ n. (31 ^ rest % 2 ^ 64 * n) % 2 ^ 64) (high_power times (omega (arith, few)))
-    ∙ sym (mul-mod (31 ^ rest) (31 ^ (64 * times)) (2 ^ 64))
-    ∙ ap (λ n. n % 2 ^ 64) (sym (pow-add 31 rest (64 * times)))
-    ∙ ap (λ n. 31 ^ n % 2 ^ 64) (mod-add-div exponent 64)
+any_power exponent few = grind (arith, high_power, low_power, mod-add-div, mul-mod, pow-add)

@@ -170,8 +170,7 @@ in_base-both (suc n) d a b is = omega (arith, in_base-both n d a b (λ i low. is
 
 -- the number of cells by the words of the stones
 pub cells_by_words : (side black white : ℕ) (cell : ℕ → Cell) → ((col : ℕ) → col < side → has_bit black col ≡ same_cell (cell col) Black) → ((col : ℕ) → col < side → has_bit white col ≡ same_cell (cell col) White) → in_base 31 side (λ col. code (cell col)) ≡ word_number side black + 2 * word_number side white
-cells_by_words side black white cell b w =
-    in_base-both side (λ col. code (cell col)) (bit_at black) (bit_at white) (λ col low. code_by_bits (cell col) black white col (b col low) (w col low))
+cells_by_words side black white cell b w = grind (arith, code_by_bits, in_base-both)
 
 -- the number of a row
 pub row_by_words : (g : Grid) (row side black white : ℕ) → g.side ≡ side
@@ -299,9 +298,7 @@ sum_of_both black white m =
 -- what comes after a point
 module _ (side row col : ℕ) (in_row : col < side) (in_column : row < side) where
   rows_left : (side - row) * side + row * side ≡ side * side
-  rows_left =
-      let split : side - row + row ≡ side = omega (arith, in_column) in
-      sym (add-mul (side - row) row side) ∙ ap (λ n. n * side) split
+  rows_left = grind (arith, add-mul)
 
   pub points_left : (side - row) * side - 1 - col ≡ side * side - 1 - (row * side + col)
   points_left = omega (arith, rows_left)

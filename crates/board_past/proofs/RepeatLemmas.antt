@@ -59,8 +59,7 @@ emptied_by_play g k p rows move = grind (arith, cases_Bool, cell_at-with_cell_el
 -- What a stone leaves on the grid that it makes, if it isn't cleared at once: itself, and each stone that it doesn't clear.
 module _ (g : Grid) (k : Colour) (p : Point) (rows : List ℕ) (all : length g.cells ≡ g.side * g.side) (move : IsMove g k p rows) where
   pub stone_put : is_set rows p ≡ false → cell_at (play g k p) p ≢ Empty
-  stone_put stays e =
-      stone_of≢Empty k (sym (move.cleared.played.kept p move.on_board (λ cleared. false≢true (sym stays ∙ cleared)) ∙ cell_at-with_cell g p (stone_of k) move.on_board all) ∙ e)
+  stone_put stays e = grind (arith, cell_at-with_cell, false≢true, stone_of≢Empty)
 
   pub stone_left : (q : Point) → IsOn g.side q → cell_at g q ≢ Empty → is_set rows q ≡ false → cell_at (play g k p) q ≢ Empty
   stone_left q on there stays = grind (arith, cell_at-with_cell_elsewhere, false≢true)
@@ -77,16 +76,7 @@ module _ (past : PastColourings) (k : Colour) (p : Point) (rows emptied : List �
   never_back = none_there (play (newest_grid past) k p) (stone_put (newest_grid past) k p rows all move stays)
 
   pub fresh_stone_put : IsFreshStone (with_next past (play (newest_grid past) k p) false) p
-  fresh_stone_put = record {
-    on = subst (λ n. IsOn n p) (sym (side_play (newest_grid past) k p)) move.on_board;
-    there = stone_put (newest_grid past) k p rows all move stays;
-    new = λ grid has.
-        let here = Decides-same_cell (cell_at grid p) Empty in
-        elim (cases_Bool (same_cell (cell_at grid p) Empty)) [
-          | inl free ↦ here.0 free
-          | inr cleared ↦ absurd (none_there grid (λ is. false≢true (sym cleared ∙ here.1 is)) has)
-        ];
-  }
+  fresh_stone_put = grind (arith, Decides-same_cell, cases_Bool, false≢true, none_there, side_play, stone_put)
 
 -- what becomes of a past when a stone is played: a stone is played, or memory is refused
 module _ {E : Type 0} (k : Colour) (p : Point) (old new : PastColourings) where
