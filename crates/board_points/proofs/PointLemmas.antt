@@ -1,5 +1,5 @@
 -- Points, their indices in a list that goes row by row, and tests on the points of a grid.
-use Rattle.std.proofs.Common.{◌≡◌, ◌≢◌, ◌↔◌, Some, slice_get, subst, ℕ, zero, suc, ◌+◌, ◌*◌, ◌<◌, ◌⊎◌, Bool, true, List, [], ◌∷◌, map, take, length, get_or, refl, sym, ap, ◌∙◌, arith, Decides, inl, inr}
+use Rattle.std.proofs.Common.{◌≡◌, ◌≢◌, ◌↔◌, Some, slice_get, subst, ℕ, ◌+◌, ◌*◌, ◌<◌, ◌⊎◌, Bool, true, List, [], ◌∷◌, map, take, length, get_or, refl, sym, ap, ◌∙◌, arith, Decides, inl, inr}
 use Rattle.std.proofs.lemmas.Grind.{common_steps}
 use Rattle.std.specs.List.{list_any, Contains}
 use Rattle.std.proofs.lemmas.Nat.{mul-add-lt, mod-mul-add, div-mul-add, rows}

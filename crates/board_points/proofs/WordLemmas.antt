@@ -3,7 +3,7 @@ use Rattle.std.proofs.Common.{◌≡◌, inl, inr, ℕ, zero, suc, ◌+◌, ◌-
 use Rattle.std.proofs.lemmas.Grind.{common_steps}
 use Rattle.std.specs.Int.{bit_at, bit_not}
 use Rattle.std.specs.Int.Bits.{bit_xor}
-use Rattle.std.proofs.lemmas.Bool.{not-false, false_from_ne_true, false≢true, cases_lt, eqb-true, eqb-false}
+use Rattle.std.proofs.lemmas.Bool.{false_from_ne_true, false≢true, cases_lt, eqb-true, eqb-false}
 use Rattle.std.proofs.lemmas.Nat.{le_or_l, and_mask, mod_below, pow_pos}
 use Rattle.std.proofs.lemmas.Nat.Bits.{bit_at_and, bit_at_or, bit_at_not, bit_at_xor, bit_at-lt, bit_at-suc, bit_at-zero, bit_at_above, bit_at_ones, bit_at_cat_high, bit_at_cat_low, same_from_bits}
 use Rattle.board_points.specs.Rows.{has_bit}

@@ -1,4 +1,4 @@
-use Rattle.std.proofs.Common.{◌/◌, ◌<◌, ◌^◌, bit_and, sym, ◌∙◌, rules}
+use Rattle.std.proofs.Common.{◌/◌, ◌^◌, bit_and, sym, ◌∙◌, rules}
 use Rattle.std.proofs.lemmas.Bool.{and_parts}
 use Rattle.board_points.proofs.CarryLemmas.{IsWidened-before, in_before, HasBeside-none, AreLeft-before, fewer_left}
 use Rattle.board_points.proofs.fill.widened.Goals as goal
