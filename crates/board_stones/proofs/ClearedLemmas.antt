@@ -16,7 +16,6 @@ use Rattle.board_points.specs.Rows.{is_set, IsAmong, AreRowsOf}
 use Rattle.board_points.specs.Linked.{AddsIfShut}
 use Rattle.board_stones.specs.inner.Groups.{AddsGroup, AddsShut, AreShutGroups, IsClearedOrReaches, AllLive, IsWithoutLiberty, AllReach, ReachBeside, AreClearedOrReachBeside, IsAsked}
 use Rattle.board_stones.specs.Move.{IsWithout, Clears}
-use Rattle.board_stones.specs.declared.stones.Colour.TheVariants.{Black, White}
 use Rattle.board_stones.specs.Reaching.{Leads, Reaches}
 use Rattle.board_points.proofs.PointLemmas.{same_or_not, AreAdjacent-sym}
 use Rattle.board_stones.proofs.GridLemmas.{cell_at-with_cell, cell_at-with_cell_elsewhere}

@@ -4,9 +4,8 @@ use Rattle.std.proofs.lemmas.Grind.{common_steps}
 use Rattle.std.proofs.lemmas.Bool.{true≢false}
 use Rattle.std.proofs.lemmas.Bool.Decides.{not_from_Decides}
 use Rattle.board_stones.specs.declared.stones.Cell.{Cell}
-use Rattle.board_stones.specs.declared.stones.Cell.TheVariants.{Black as BlackStone, White as WhiteStone, Empty}
+use Rattle.board_stones.specs.declared.stones.Cell.TheVariants.{Empty}
 use Rattle.board_stones.specs.declared.stones.Colour.{Colour}
-use Rattle.board_stones.specs.declared.stones.Colour.TheVariants.{Black, White}
 use Rattle.board_points.specs.declared.points.Point.{Point}
 use Rattle.board_stones.specs.Colour.{opponent, stone_of, same_cell}
 use Rattle.board_points.specs.Point.{IsOn, point_at}

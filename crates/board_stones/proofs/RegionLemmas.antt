@@ -1,12 +1,11 @@
 -- Rows of words that have the points of a grid with certain cells, and those that reach a colour through them.
-use Rattle.std.proofs.Common.{◌≡◌, ◌⊎◌, inl, inr, ℕ, ◌&&◌, true, not, List, [], ◌∷◌, length, refl, sym, ◌∙◌, arith}
+use Rattle.std.proofs.Common.{◌≡◌, ◌⊎◌, inl, inr, ℕ, ◌&&◌, true, not, List, [], ◌∷◌, length, sym, ◌∙◌, arith}
 use Rattle.std.proofs.lemmas.Grind.{common_steps}
 use Rattle.std.proofs.lemmas.Bool.{or_cases, or_left, or_right, and_parts, and_from}
 use Rattle.board_stones.specs.declared.stones.Cell.{Cell}
-use Rattle.board_stones.specs.declared.stones.Cell.TheVariants.{Black, Empty}
+use Rattle.board_stones.specs.declared.stones.Cell.TheVariants.{Empty}
 use Rattle.board_points.specs.declared.points.Point.{Point}
 use Rattle.board_stones.specs.declared.stones.Colour.{Colour}
-use Rattle.board_stones.specs.declared.stones.Colour.TheVariants.{Black as BlackPlayer, White as WhitePlayer}
 use Rattle.board_stones.specs.Colour.{opponent, stone_of, same_cell}
 use Rattle.board_points.specs.Point.{IsOn, AreAdjacent}
 use Rattle.board_stones.specs.Grid.{Grid, cell_at}
