@@ -89,7 +89,7 @@ impl Past for PrintPast {
     }
 
     fn holds(&self, board: &Board) -> bool {
-        self.table.has(&self.colourings, board, print_of(board))
+        self.colourings.holds(board)
     }
 
     fn newest(&self) -> &Board {
@@ -97,12 +97,12 @@ impl Past for PrintPast {
     }
 
     fn push(&mut self, board: &Board) -> Result<(), MemoryFault> {
-        self.add(board, None, false)
+        self.add(board, false)
     }
 
     fn restart(&mut self, board: &Board) -> Result<(), MemoryFault> {
         self.link_stretch();
-        self.add(board, None, true)
+        self.add(board, true)
     }
 
     /// Finds captures and suicide near the stone (`find_cleared`), unless a glance shows that there are none. If `play_at_once` would have
@@ -176,15 +176,14 @@ impl PrintPast {
         }
     }
 
-    /// Adds a colouring, which begins a stretch or continues the present one. `print` is its print, if that is known.
-    fn add(&mut self, board: &Board, print: Option<u64>, begins: bool) -> Result<(), MemoryFault>
-        requires side { HaveSide board.now.side self.old }
-        requires print { IfSome print (λ number. number ≡ print_of board.now) }
+    /// Adds a colouring, which begins a stretch or continues the present one.
+    fn add(&mut self, board: &Board, begins: bool) -> Result<(), MemoryFault>
+        requires { HaveSide board.now.side self.old }
         ensures ok { OnOk result (self.new ≡ with_next self.old board.now begins) }
         ensures err { OnErr result (self.new ≡ self.old) }
     {
         let print = if self.table.is_awake() {
-            Some(print_if_unknown(print, board))
+            Some(print_of(board))
         } else {
             None
         };
@@ -376,7 +375,8 @@ impl PrintPast {
         Ok(true)
     }
 
-    /// The same as `play`, the plain way (`Board::place`) on a copy of the newest board. It is for boards that aren't settled.
+    /// The same as `play`, the plain way (`Board::place`) on a copy of the newest board. It is for boards that aren't settled. Only a setup
+    /// makes these, so one colouring is compared.
     #[inline(never)]
     fn play_on_copy(&mut self, colour: Colour, point: Point) -> Result<bool, MemoryFault>
         requires one_side { HaveSide (newest_grid self.old).side self.old }
@@ -387,24 +387,11 @@ impl PrintPast {
         let mut made = self.newest().copy();
         made.place(colour, point);
         made.set_settled(true);
-        let print = print_of(&made);
-        self.table.wake(&self.colourings);
-        let Some(_gap) = self.table.gap_of(&self.colourings, &made, print) else {
+        if self.holds(&made) {
             return Ok(false);
-        };
-        self.add(&made, Some(print), false)?;
+        }
+        self.add(&made, false)?;
         Ok(true)
-    }
-}
-
-/// The print of a board, which is worked out if it isn't known.
-fn print_if_unknown(known: Option<u64>, board: &Board) -> u64
-    requires { IfSome known (λ number. number ≡ print_of board.now) }
-    ensures { result ≡ print_of board.now }
-{
-    match known {
-        Some(print) => print,
-        None => print_of(board),
     }
 }
 
@@ -489,11 +476,15 @@ fn gap_of_stone(
         (with_next colourings.now (play (newest_grid colourings.now) colour point) false).newest) }
     ensures has { IfNone result (Contains (present_stretch colourings.now) (play (newest_grid colourings.now) colour point)) }
 {
-    if let Some(gap) = table.gap(colourings, print) {
-        return Some(gap);
-    }
+    let near = match table.gap(colourings, print) {
+        Ok(gap) => return Some(gap),
+        Err(near) => near,
+    };
     let mut made = colourings.newest().copy();
     made.place_and_clear(colour, point, cleared);
+    if colourings.has_near(near, &made) {
+        return None;
+    }
     table.gap_by_board(colourings, &made, print)
 }
 

@@ -141,6 +141,30 @@ impl Colourings {
         board.same(&self.board_at(number))
     }
 
+    /// Whether the present stretch has this colouring. All are compared one by one: this is the plain way.
+    pub(crate) fn holds(&self, board: &Board) -> bool
+        ensures { IsTrue result ↔ Contains (present_stretch self.now) board.now }
+    {
+        let start = self.stretch_start();
+        'each: for number in (start..self.len()).rev() {
+            if self.is_at(number, board) {
+                return true;
+            }
+        }
+        false
+    }
+
+    /// Whether the colouring with this number is of the present stretch, one of the newest, and the same as the board's. False says nothing.
+    pub(crate) fn has_near(&self, number: usize, board: &Board) -> bool
+        requires { number < length (all_of self.now) }
+        ensures { IsTrue result → Contains (present_stretch self.now) board.now }
+    {
+        if number < self.stretch_start() || self.len() - number > LOOK_BACK {
+            return false;
+        }
+        self.is_at(number, board)
+    }
+
     /// The board of the colouring with this number. It is worked out in at most `FULL` steps.
     pub(crate) fn board_at(&self, number: usize) -> Board
         requires { number < length (all_of self.now) }

@@ -1,9 +1,10 @@
 //! The table by which colourings are looked up.
 //!
 //! A look-up descends a trie of keys (see `key`, and the crate `key_trie`) by the bits of the colouring that is looked up. It ends at one
-//! past colouring, and compares with that one alone: first by the print (`gap`). Only if a past colouring has the print, another descent
-//! goes on by the start of the stretch and the rows, and the two keys are compared to their ends (`gap_by_board`). So a look-up costs at
-//! most four descents, and one past colouring worked out, whatever was played before. It also tells where the new colouring comes in.
+//! past colouring, and compares with that one alone: first by the print (`gap`). If that colouring has the print and is one of the newest, the
+//! boards are compared, which answers a ko at once (`Colourings::has_near`). If this doesn't tell, another descent goes on by the start of
+//! the stretch and the rows, and the two keys are compared to their ends (`gap_by_board`). So a look-up costs at most four descents, and two
+//! past colourings worked out, whatever was played before. It also tells where the new colouring comes in.
 //! To put a colouring into the trie that wasn't looked up costs at most two colourings worked out, its own and that at the end of its
 //! descent, and this only if they have the same print and the same stretch. To take one out is one step.
 //!
@@ -18,13 +19,13 @@
 //! With hashes, a look-up that goes on by the rows works out two hashes more at most: that of its own colouring, and that of the past one, if
 //! it isn't kept (`hashes`). For this hash the past colouring is worked out once more. To put a colouring in costs as much for each of the two.
 //!
-//! This is so once `link` has put all colourings into the trie. `gap` calls it first. `has` asks no trie: it compares one by one.
+//! This is so once `link` has put all colourings into the trie. `gap` calls it first.
 //!
 //! In most games the newest colourings answer all that is asked (`Colourings::look_back`). So the table sleeps at first: it has no prints,
 //! and a stone costs no more here than the test that there is room. `wake` works the prints out, once a game, one for each colouring; from
 //! then on the table has those of all colourings.
 
-ghost use Rattle.std.specs.Prelude.{◌≡◌, ◌↔◌, ◌+◌, ◌*◌, ◌^◌, ◌<◌, ◌≤◌, [], ◌∷◌, List, ℕ, length, false, slice_index, IsTrue, IsFalse, IfNone, IfSome, IfOk, OnOk, Contains};
+ghost use Rattle.std.specs.Prelude.{◌≡◌, ◌↔◌, ◌+◌, ◌*◌, ◌^◌, ◌<◌, ◌≤◌, [], ◌∷◌, List, ℕ, length, false, slice_index, IsTrue, IsFalse, IfNone, IfSome, IfOk, IfErr, OnOk, Contains};
 ghost use Rattle.board_stones.specs.Grid.{Grid};
 ghost use Rattle.board_past.specs.Past.{Held, all_of, present_stretch, stretch_of, with_next, HaveSide};
 ghost use Rattle.board_past.specs.inner.Changes.{IsNumber};
@@ -224,23 +225,26 @@ impl Table {
         self.room_asleep = room_of_both(&self.prints, &self.trie);
     }
 
-    /// Where a colouring with this print comes in, if none has this print; None otherwise. Puts all colourings into the trie first.
-    pub(crate) fn gap(&mut self, colourings: &Colourings, print: u64) -> Option<Gap>
+    /// Where a colouring with this print comes in, if none has this print; the number of one that has it otherwise. Puts all colourings into
+    /// the trie first.
+    pub(crate) fn gap(&mut self, colourings: &Colourings, print: u64) -> Result<Gap, usize>
         requires { IsAwakeTable (all_of colourings.now) self.old }
         ensures table { IsAwakeTable (all_of colourings.now) self.new }
         ensures all { item_count self.new.trie ≡ length self.new.prints.items }
-        ensures gap { IfSome result (λ gap. (next : Held) → print_of next.colouring ≡ print
+        ensures gap { IfOk result (λ gap. (next : Held) → print_of next.colouring ≡ print
             → IsGap (all_of colourings.now) self.new next gap) }
+        ensures near { IfErr result (λ near. near < length (all_of colourings.now)) }
     {
         self.link(colourings);
         let key = ColouringKey::new(0, print, 0, colourings.newest());
         let from = self.trie.descend(&key, WORD);
-        let apart = print ^ self.prints[self.trie.child(from) as usize];
+        let near = self.trie.child(from) as usize;
+        let apart = print ^ self.prints[near];
         if apart == 0 {
-            return None;
+            return Err(near);
         }
         let position = apart.trailing_zeros();
-        Some(Gap {
+        Ok(Gap {
             slot: self.trie.opening(&key, from, position),
             position,
             bit: key.bit(position),
@@ -248,28 +252,8 @@ impl Table {
         })
     }
 
-    /// Where a colouring comes in that goes on with the present stretch; None if the stretch has it. `print` is its print. Puts all
-    /// colourings into the trie first.
-    pub(crate) fn gap_of(
-        &mut self,
-        colourings: &Colourings,
-        board: &Board,
-        print: u64,
-    ) -> Option<Gap>
-        requires table { IsAwakeTable (all_of colourings.now) self.old }
-        requires side { HaveSide board.now.side colourings.now }
-        requires print { print ≡ print_of board.now }
-        ensures table { IsAwakeTable (all_of colourings.now) self.new }
-        ensures gap { IfSome result (IsGap (all_of colourings.now) self.new (with_next colourings.now board.now false).newest) }
-        ensures has { IfNone result (Contains (present_stretch colourings.now) board.now) }
-    {
-        if let Some(gap) = self.gap(colourings, print) {
-            return Some(gap);
-        }
-        self.gap_by_board(colourings, board, print)
-    }
-
-    /// The same, by all bits of the key. The trie must have all colourings. A run asks this last, if nothing before decides positional superko.
+    /// Where a colouring comes in that goes on with the present stretch, by all bits of its key; None if the stretch has it. `print` is its
+    /// print. The trie must have all colourings. A run asks this last, if nothing before decides positional superko.
     pub(crate) fn gap_by_board(
         &mut self,
         colourings: &Colourings,
@@ -388,30 +372,6 @@ impl Table {
         ensures { result ≡ hash_in_key self.now.hashed board.now }
     {
         if self.hashed { hash_of(board) } else { 0 }
-    }
-
-    /// Whether the present stretch has this colouring; `print` is its print. All that may have the print are compared one by one: this
-    /// is the plain way.
-    pub(crate) fn has(&self, colourings: &Colourings, board: &Board, print: u64) -> bool
-        requires table { IsTable (all_of colourings.now) self.now }
-        requires print { print ≡ print_of board.now }
-        ensures { IsTrue result ↔ Contains (present_stretch colourings.now) board.now }
-    {
-        let start = colourings.stretch_start();
-        'each: for number in (start..colourings.len()).rev() {
-            if self.may_be(number, print) && colourings.is_at(number, board) {
-                return true;
-            }
-        }
-        false
-    }
-
-    /// Whether the colouring with this number may have this print. While the table sleeps, each may.
-    fn may_be(&self, number: usize, print: u64) -> bool
-        ensures { (held : List Held) (grid : Grid) → IsTable held self.now → IsNumber held number grid → number < length held
-            → print ≡ print_of grid → IsTrue result }
-    {
-        number >= self.prints.len() || self.prints[number] == print
     }
 
     /// The front of the key of the colouring with this number, and for its rest a hash and the bits of a board.

@@ -6,10 +6,10 @@ use Rattle.board_past.specs.inner.Table.{IsGap}
 use Rattle.board_past.proofs.past.print_past.gap_of_stone.Goals as goal
 use Rattle.board_past.proofs.past.print_past.gap_of_stone.Goals.{After-gap_by_board}
 
-pub returns-in-Some-clause-gap : goal.returns-in-Some-clause-gap
-returns-in-Some-clause-gap c =
+pub returns-in-Ok-clause-gap : goal.returns-in-Ok-clause-gap
+returns-in-Ok-clause-gap c =
     let was = c.args.colourings.now in
-    c.in-Some.ensures.gap (with_next was (play (newest_grid was) c.args.colour c.args.point) false).newest (sym c.requires.stone.print)
+    c.in-Ok.ensures.gap (with_next was (play (newest_grid was) c.args.colour c.args.point) false).newest (sym c.requires.stone.print)
 
 made : (c : After-gap_by_board) → c.place_and_clear.new.self ≡ play (newest_grid c.args.colourings.now) c.args.colour c.args.point
 made c = c.place_and_clear.ensures ∙ ap (λ (g : Grid). play g c.args.colour c.args.point) (c.copy-made.ensures ∙ c.newest.ensures)
@@ -22,3 +22,7 @@ returns-clause-gap c =
 pub returns-clause-has : goal.returns-clause-has
 returns-clause-has c =
     subst (λ (g : Grid). IfNone c.gap_by_board.result (Contains (present_stretch c.args.colourings.now) g)) (made (goal.at.returns-clause-has c).After-gap_by_board) c.gap_by_board.ensures.has
+
+pub returns-then-has_near-clause-has : goal.returns-then-has_near-clause-has
+returns-then-has_near-clause-has c =
+    subst (λ (g : Grid). Contains (present_stretch c.args.colourings.now) g) (c.place_and_clear.ensures ∙ ap (λ (g : Grid). play g c.args.colour c.args.point) (c.copy-made.ensures ∙ c.newest.ensures)) (c.has_near.ensures c.if-has_near.true)

@@ -19,7 +19,7 @@ given : (c : After-add_stones) → IsPrintOfNext (all_of c.self.inside.colouring
 given c =
     let was = c.self.inside.colourings in
     elim c.if-is_awake.branch [
-      | then-is_awake w ↦ rw w.print-is (record { awake = (c.is_awake.ensures.awake was.newest was.older c.self.invariant.tabled w.if-is_awake.true, w.print_if_unknown.ensures); asleep = tt })
+      | then-is_awake w ↦ rw w.print-is (record { awake = (c.is_awake.ensures.awake was.newest was.older c.self.invariant.tabled w.if-is_awake.true, w.print_of.ensures); asleep = tt })
       | else-is_awake w ↦ rw w.print-is (record { awake = tt; asleep = c.is_awake.ensures.asleep (all_of was) c.self.invariant.tabled w.if-is_awake.false })
     ]
 

@@ -28,7 +28,7 @@ returns-clause-gap c =
     let found : (next : Held) → IsNearest (keys_of t.hashed (next ∷ held)) trie key 64 near = λ next. way_nearest WIDTH (keys_of t.hashed (next ∷ held)) trie (linked next) from (descent next) (omega arith) in
     let low : near < item_count trie = (found (record { colouring = c.newest.result.now; begins = false })).there in
     let there = number_there held near (omega (arith, low, count)) in
-    let item : c.child.result ≡ near = c.child.ensures in
+    let item : c.child-near.result ≡ near = c.child-near.ensures in
     let print : c.index.result.now ≡ get_or t.prints.items near 0 =
     c.index.ensures ∙ ap (λ n. get_or t.prints.items n c.index.result.now) item ∙ get_or_default_zero t.prints.items near c.index.result.now (omega (arith, low, is.few)) in
     let near_fits : c.index.result.now < 2 ^ 64 = subst (λ n. n < 2 ^ 64) (sym (print ∙ print_there held t is near there.0 (omega (arith, low, count)) there.1)) (print_small there.0) in
@@ -57,4 +57,4 @@ index-requires c =
     let keys = keys_of c.link.new.self.hashed (all_of c.args.colourings.now) in
     let linked = c.link.ensures.table.linked in
     let near = way_nearest WIDTH keys c.link.new.self.trie linked c.descend-from.result (c.descend-from.ensures.way WIDTH keys linked) (omega arith) in
-    omega (arith, c.child.ensures, c.link.ensures.all, near.there)
+    omega (arith, c.child-near.ensures, c.link.ensures.all, near.there)

@@ -3,37 +3,30 @@ use Rattle.std.proofs.lemmas.Bool.{cases_eq, false≢true}
 use Rattle.board_past.specs.Past.{all_of}
 use Rattle.board_past.specs.inner.Changes.{IsNumber}
 use Rattle.board_past.proofs.NumberLemmas.{has_number, has_colouring}
-use Rattle.board_past.proofs.past.print_past.table.Table.has.Goals as goal
-use Rattle.board_past.proofs.past.print_past.table.Table.has.Goals.{else-may_be-via-then-may_be+else-is_at, else-may_be-via-else-may_be}
+use Rattle.board_past.proofs.past.print_past.colourings.Colourings.holds.Goals as goal
 
 pub returns-then-is_at : goal.returns-then-is_at
 returns-then-is_at c =
-    let held = all_of c.args.colourings.now in
+    let held = all_of c.args.self.now in
     let here = c.each.number - 1 in
     let low : here < length held = omega (arith, c.each.invariant.within, c.each-test.true) in
     (λ _. has_colouring held here c.args.board.now (omega (arith, c.stretch_start-start.ensures.start, c.each-test.true)) low (c.is_at.ensures.0 c.if-is_at.true), λ _. refl)
 
 pub each-preserved : goal.each-preserved
 each-preserved c =
-    let t = c.args.self.now in
-    let held = all_of c.args.colourings.now in
+    let held = all_of c.args.self.now in
     let here = c.each.number - 1 in
-    let within : here < length held = omega (arith, c.each.invariant.within, c.each-test.true) in
-    let not_here : IsNumber held here c.args.board.now → ⊥ = λ at. elim c.else-may_be.branch [
-      | else-may_be-via-then-may_be+else-is_at w ↦ false≢true (sym w.if-is_at.false ∙ w.is_at.ensures.1 at)
-      | else-may_be-via-else-may_be w ↦ false≢true (sym w.if-may_be.false ∙ c.may_be.ensures held c.args.board.now c.requires.table at within c.requires.print)
-    ] in
     record {
       within = omega (arith, c.each.invariant.within);
       none = λ y low high at. elim (cases_eq y here) [
         | inr other ↦ c.each.invariant.none y (omega (arith, low, other)) high at
-        | inl same ↦ not_here (subst (λ n. IsNumber held n c.args.board.now) same at)
+        | inl same ↦ false≢true (sym c.if-is_at.false ∙ c.is_at.ensures.1 (subst (λ n. IsNumber held n c.args.board.now) same at))
       ];
     }
 
 pub returns : goal.returns
 returns c =
-    let held = all_of c.args.colourings.now in
+    let held = all_of c.args.self.now in
     let start = c.stretch_start-start.ensures.start in (
       λ is. absurd (false≢true is),
       λ has.

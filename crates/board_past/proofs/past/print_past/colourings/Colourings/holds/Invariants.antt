@@ -2,10 +2,10 @@
 use Rattle.std.proofs.Common.{ℕ, ◌<◌, ◌≤◌, length}
 use Rattle.board_past.specs.Past.{all_of}
 use Rattle.board_past.specs.inner.Changes.{IsNumber}
-use Rattle.board_past.proofs.past.print_past.table.Table.has.Given as goal
+use Rattle.board_past.proofs.past.print_past.colourings.Colourings.holds.Given as goal
 
 abbrev pub invariant-each : goal.invariant-each
 invariant-each l = record {
-  within : l.number ≤ length (all_of l.colourings);
-  none : (y : ℕ) → l.number ≤ y → y < length (all_of l.colourings) → IsNumber (all_of l.colourings) y l.board → ⊥;
+  within : l.number ≤ length (all_of l.self);
+  none : (y : ℕ) → l.number ≤ y → y < length (all_of l.self) → IsNumber (all_of l.self) y l.board → ⊥;
 }
