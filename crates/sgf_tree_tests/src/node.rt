@@ -1,7 +1,8 @@
 //! Which nodes `NodeRef::front` and `SequenceNodes::next` recognize (no clause says that), and how the sgf form writes a node.
 
-use sgf_tree::{Collection, NextNode, NodeRef, Properties, read};
+use sgf_tree::{Collection, NextNode, NodeRef, Outline, Properties, read};
 use std::alloc::Global;
+use std::process::Abort;
 
 /// Whether `front` returns the first property, how many properties are left after it, and what the sgf form writes for the node.
 type Look = (bool, usize, &'static str);
@@ -18,11 +19,13 @@ fn count(left: Properties<'_, '_>) -> usize {
 /// Whether the node is as wanted.
 fn looks(alloc: Global, node: &NodeRef<'_, '_>, want: Look) -> bool {
     let (told, left) = node.front();
+    told.is_some() == want.0 && count(left) == want.1 && writes(alloc, node, want.2)
+}
+
+/// Whether the sgf form writes this for the node.
+fn writes(alloc: Global, node: &NodeRef<'_, '_>, want: &str) -> bool {
     let mut text = Vec::new(alloc);
-    told.is_some() == want.0
-        && count(left) == want.1
-        && node.push_to(&mut text).is_ok()
-        && text.as_slice() == want.2.as_bytes()
+    node.push_to(&mut text).is_ok() && text.as_slice() == want.as_bytes()
 }
 
 /// Whether the text's first node is as wanted.
@@ -33,45 +36,75 @@ fn gives(alloc: Global, text: &str, want: Look) -> bool {
     }
 }
 
+/// Texts whose first node has a recognized move alone, and what the sgf form writes for it.
+const MOVES_ALONE: [(&str, &str); 4] = [
+    ("(;B[pd])", ";B[pd]"),
+    ("(;B[pd];)", ";B[pd]"),
+    ("(;B[pd] \n;)", ";B[pd]"),
+    ("(;W[[:](;))", ";W[[:]"),
+];
+
+/// Texts whose first node has a recognized move and one more property, and what the sgf form writes for it.
+const MOVES_BEFORE_ONE: [(&str, &str); 5] = [
+    ("(;B[pd]BL[60])", ";B[pd]BL[60]"),
+    ("(;B[pd]Cc [x])", ";B[pd]C[x]"),
+    ("(;B[pd]C[x])", ";B[pd]C[x]"),
+    ("(;B[pd] C[x])", ";B[pd]C[x]"),
+    ("(;B[aa]AB[a] [b])", ";B[aa]AB[a][b]"),
+];
+
+/// Texts whose first node has a recognized move and two more properties, and what the sgf form writes for it.
+const MOVES_BEFORE_TWO: [(&str, &str); 2] = [
+    ("(;W[[:]C[x]C[y];)", ";W[[:]C[x]C[y]"),
+    ("(;B[aa]C[x\\]][y] W[bb])", ";B[aa]C[x\\]][y]W[bb]"),
+];
+
+/// Texts whose first node has one property, not recognized, and what the sgf form writes for it.
+const OTHERS: [(&str, &str); 10] = [
+    ("(;B[pd][dp])", ";B[pd][dp]"),
+    ("(;B[pd] [dp])", ";B[pd][dp]"),
+    ("(;B[])", ";B[]"),
+    ("(;B[p])", ";B[p]"),
+    ("(;B[pdq])", ";B[pdq]"),
+    ("(;B[\\d])", ";B[\\d]"),
+    ("(;B[p\\]])", ";B[p\\]]"),
+    ("(;AB[pd])", ";AB[pd]"),
+    ("(; B[pd])", ";B[pd]"),
+    ("(;B [pd])", ";B[pd]"),
+];
+
+/// Texts whose first node has two properties, the first not recognized, and what the sgf form writes for it.
+const OTHER_PAIRS: [(&str, &str); 7] = [
+    ("(;B[pd][dp]C[x])", ";B[pd][dp]C[x]"),
+    ("(;B[pdq]C[x])", ";B[pdq]C[x]"),
+    ("(;B[\\d]C[x])", ";B[\\d]C[x]"),
+    ("(;AB[pd]C[x])", ";AB[pd]C[x]"),
+    ("(; B[pd]C[x])", ";B[pd]C[x]"),
+    ("(;GaMe[1]B[aa])", ";GM[1]B[aa]"),
+    ("(;\nB[aa]PL[W]\n)", ";B[aa]PL[W]"),
+];
+
+/// For the first node of each text, `front` must return a property if `told` is true, and leave so many.
+fn look_so(
+    rt: &impl Abort,
+    alloc: Global,
+    nodes: &[(&'static str, &'static str)],
+    told: bool,
+    left: usize,
+) {
+    for &(text, form) in nodes {
+        assert!(rt; gives(alloc, text, (told, left, form)), "of {text:?}");
+    }
+}
+
 #[test]
 fn nodes_at_a_glance(rt: HostRuntime) {
-    const NODES: [(&str, Look); 29] = [
-        ("(;B[pd])", (true, 0, ";B[pd]")),
-        ("(;B[pd];)", (true, 0, ";B[pd]")),
-        ("(;B[pd] \n;)", (true, 0, ";B[pd]")),
-        ("(;W[[:](;))", (true, 0, ";W[[:]")),
-        ("(;B[pd]BL[60])", (true, 1, ";B[pd]BL[60]")),
-        ("(;W[[:]C[x]C[y];)", (true, 2, ";W[[:]C[x]C[y]")),
-        ("(;B[pd]Cc [x])", (true, 1, ";B[pd]C[x]")),
-        ("(;B[pd]C[x])", (true, 1, ";B[pd]C[x]")),
-        ("(;B[pd] C[x])", (true, 1, ";B[pd]C[x]")),
-        ("(;B[pd][dp])", (false, 1, ";B[pd][dp]")),
-        ("(;B[pd] [dp])", (false, 1, ";B[pd][dp]")),
-        ("(;B[pd][dp]C[x])", (false, 2, ";B[pd][dp]C[x]")),
-        ("(;)", (false, 0, ";")),
-        ("(;B[])", (false, 1, ";B[]")),
-        ("(;B[p])", (false, 1, ";B[p]")),
-        ("(;B[pdq])", (false, 1, ";B[pdq]")),
-        ("(;B[pdq]C[x])", (false, 2, ";B[pdq]C[x]")),
-        ("(;B[\\d])", (false, 1, ";B[\\d]")),
-        ("(;B[\\d]C[x])", (false, 2, ";B[\\d]C[x]")),
-        ("(;B[p\\]])", (false, 1, ";B[p\\]]")),
-        ("(;AB[pd])", (false, 1, ";AB[pd]")),
-        ("(;AB[pd]C[x])", (false, 2, ";AB[pd]C[x]")),
-        ("(; B[pd])", (false, 1, ";B[pd]")),
-        ("(; B[pd]C[x])", (false, 2, ";B[pd]C[x]")),
-        ("(;B [pd])", (false, 1, ";B[pd]")),
-        ("(;GaMe[1]B[aa])", (false, 2, ";GM[1]B[aa]")),
-        (
-            "(;B[aa]C[x\\]][y] W[bb])",
-            (true, 2, ";B[aa]C[x\\]][y]W[bb]"),
-        ),
-        ("(;B[aa]AB[a] [b])", (true, 1, ";B[aa]AB[a][b]")),
-        ("(;\nB[aa]PL[W]\n)", (false, 2, ";B[aa]PL[W]")),
-    ];
-    for &(text, want) in &NODES {
-        assert!(rt; gives(rt.alloc(), text, want), "of {text:?}");
-    }
+    look_so(&rt, rt.alloc(), &MOVES_ALONE, true, 0);
+    look_so(&rt, rt.alloc(), &MOVES_BEFORE_ONE, true, 1);
+    look_so(&rt, rt.alloc(), &MOVES_BEFORE_TWO, true, 2);
+    look_so(&rt, rt.alloc(), &OTHERS, false, 1);
+    look_so(&rt, rt.alloc(), &OTHER_PAIRS, false, 2);
+    look_so(&rt, rt.alloc(), &[("(;)", ";")], false, 0);
 }
 
 /// The number of the root's properties, the number of their values, and the number of bytes of these values.
@@ -106,22 +139,23 @@ fn properties_one_after_another(rt: HostRuntime) {
 /// properties must then be the wanted ones.
 fn leads(alloc: Global, text: &str, names: &[[u8; 2]], want: Option<&str>) -> bool {
     match read(alloc, text.as_bytes()) {
-        Ok(collection) => {
-            let outline = collection.outline();
-            if outline.sequences() == 0 {
-                return false;
-            }
-            let mut nodes = outline.sequence_nodes(0);
-            let node = outline.first_node(0);
-            match (want, nodes.next(names)) {
-                (None, Some(NextNode::Unread { front, .. })) => front == node.front().0,
-                (Some(others), Some(NextNode::Led { letter, value, .. })) => {
-                    node.front().0 == Some((letter, value)) && are_named(&node, others.as_bytes())
-                }
-                _ => false,
-            }
-        }
+        Ok(collection) => is_led(collection.outline(), names, want),
         Err(_) => false,
+    }
+}
+
+/// Whether that holds of the first node of an outline.
+fn is_led(outline: &Outline<'_>, names: &[[u8; 2]], want: Option<&str>) -> bool {
+    if outline.sequences() == 0 {
+        return false;
+    }
+    let node = outline.first_node(0);
+    match (want, outline.sequence_nodes(0).next(names)) {
+        (None, Some(NextNode::Unread { front, .. })) => front == node.front().0,
+        (Some(others), Some(NextNode::Led { letter, value, .. })) => {
+            node.front().0 == Some((letter, value)) && are_named(&node, others.as_bytes())
+        }
+        _ => false,
     }
 }
 
@@ -141,73 +175,95 @@ fn are_named(node: &NodeRef<'_, '_>, names: &[u8]) -> bool {
     left.next().is_none()
 }
 
+/// The names of the properties that setups have.
+const SETUP: [[u8; 2]; 4] = [*b"AB", *b"AW", *b"AE", *b"PL"];
+
+/// Texts whose first node comes as recognized, and the names of its properties after the first.
+const LED: [(&str, &str); 15] = [
+    // a move alone, and what isn't a move of two bytes
+    ("(;B[pd];C[0123456789])", ""),
+    ("(;W[[:](;C[0123456789]))", ""),
+    ("(;C[ab])(;C[0123456789])", ""),
+    ("(;Z[  ];C[01234])", ""),
+    // other properties
+    ("(;B[pd]BL[921.325];C[012345678901234567])", "BL"),
+    ("(;W[dp]WL[30]OW[3];C[012345678901234567])", "WLOW"),
+    ("(;C[ab]TE[1](;C[012345678901234567]))", "TE"),
+    ("(;B[pd]BL[])(;C[012345678901234567])", "BL"),
+    // each of the names, and names like them
+    ("(;B[pd]AR[aa:bb];C[012345678901234567])", "AR"),
+    ("(;B[pd]BA[1]LP[2]PB[3];C[012345678901234567])", "BALPPB"),
+    // the length of the value, and a backslash in it
+    ("(;B[pd]BL[012345678901];C[012345678901234567])", "BL"),
+    // further values, and white space
+    ("(;B[pd] \n;C[012345678901234567])", ""),
+    ("(;B[pd]BL[1]\r\n;C[012345678901234567])", "BL"),
+    // the end of the text
+    ("(;B[pd]BL[1];C[0123456])", "BL"),
+    ("(;B[pd] ;C[0123])", ""),
+];
+
+/// Texts whose first node comes as unread.
+const UNREAD: [&str; 35] = [
+    // a move alone, and what isn't a move of two bytes
+    "(;Z[  ];C[0123])",
+    "(;B[pd][dp];C[012345678901234567])",
+    "(;B[];C[012345678901234567])",
+    "(;B[p];C[012345678901234567])",
+    "(;B[p\\]];C[012345678901234567])",
+    "(;B[\\d];C[012345678901234567])",
+    "(; B[pd];C[012345678901234567])",
+    "(;AB[pd];C[012345678901234567])",
+    // other properties
+    "(;B[pd]C[x];C[012345678901234567])",
+    "(;B[pd]V[1];C[012345678901234567])",
+    "(;B[pd]BLX[1];C[012345678901234567])",
+    "(;B[pd]Bl[1];C[012345678901234567])",
+    "(;B[pd]BLx[1];C[012345678901234567])",
+    // each of the names, and names like them
+    "(;B[pd]AB[aa];C[012345678901234567])",
+    "(;B[pd]AW[aa];C[012345678901234567])",
+    "(;B[pd]AE[aa];C[012345678901234567])",
+    "(;B[pd]PL[W];C[012345678901234567])",
+    "(;B[pd]BL[1]WL[2]AE[aa];C[012345678901234567])",
+    // the length of the value, and a backslash in it
+    "(;B[pd]BL[0123456789012];C[012345678901234567])",
+    "(;B[pd]BL[\\1];C[012345678901234567])",
+    "(;B[pd]BL[1\\\\2];C[012345678901234567])",
+    "(;B[pd]BL[\\\\];C[012345678901234567])",
+    "(;B[pd]BL[1\\\\];C[012345678901234567])",
+    "(;B[pd]BL[1\\]2];C[012345678901234567])",
+    "(;B[pd]BL[1\\]];C[012345678901234567])",
+    // further values, and white space
+    "(;B[pd]BL[1][2];C[012345678901234567])",
+    "(;B[pd]BL[1] [2];C[012345678901234567])",
+    "(;B[pd]BL[1]WL[2][3];C[012345678901234567])",
+    "(;B[pd] BL[1];C[012345678901234567])",
+    "(;B[pd]BL [1];C[012345678901234567])",
+    "(;B[pd]BL[1] WL[2];C[012345678901234567])",
+    // the end of the text
+    "(;B[pd]BL[1];C[012345])",
+    "(;B[pd] ;C[012])",
+    "(;B[pd]BL[1])",
+    "(;B[pd])",
+];
+
 #[test]
 fn nodes_led(rt: HostRuntime) {
-    const SETUP: [[u8; 2]; 4] = [*b"AB", *b"AW", *b"AE", *b"PL"];
-    const NODES: [(&str, Option<&str>); 50] = [
-        // a move alone, and what isn't a move of two bytes
-        ("(;B[pd];C[0123456789])", Some("")),
-        ("(;W[[:](;C[0123456789]))", Some("")),
-        ("(;C[ab])(;C[0123456789])", Some("")),
-        ("(;Z[  ];C[0123])", None),
-        ("(;Z[  ];C[01234])", Some("")),
-        ("(;B[pd][dp];C[012345678901234567])", None),
-        ("(;B[];C[012345678901234567])", None),
-        ("(;B[p];C[012345678901234567])", None),
-        ("(;B[p\\]];C[012345678901234567])", None),
-        ("(;B[\\d];C[012345678901234567])", None),
-        ("(; B[pd];C[012345678901234567])", None),
-        ("(;AB[pd];C[012345678901234567])", None),
-        // other properties
-        ("(;B[pd]BL[921.325];C[012345678901234567])", Some("BL")),
-        ("(;W[dp]WL[30]OW[3];C[012345678901234567])", Some("WLOW")),
-        ("(;C[ab]TE[1](;C[012345678901234567]))", Some("TE")),
-        ("(;B[pd]BL[])(;C[012345678901234567])", Some("BL")),
-        ("(;B[pd]C[x];C[012345678901234567])", None),
-        ("(;B[pd]V[1];C[012345678901234567])", None),
-        ("(;B[pd]BLX[1];C[012345678901234567])", None),
-        ("(;B[pd]Bl[1];C[012345678901234567])", None),
-        ("(;B[pd]BLx[1];C[012345678901234567])", None),
-        // each of the names, and names like them
-        ("(;B[pd]AB[aa];C[012345678901234567])", None),
-        ("(;B[pd]AW[aa];C[012345678901234567])", None),
-        ("(;B[pd]AE[aa];C[012345678901234567])", None),
-        ("(;B[pd]PL[W];C[012345678901234567])", None),
-        ("(;B[pd]BL[1]WL[2]AE[aa];C[012345678901234567])", None),
-        ("(;B[pd]AR[aa:bb];C[012345678901234567])", Some("AR")),
-        (
-            "(;B[pd]BA[1]LP[2]PB[3];C[012345678901234567])",
-            Some("BALPPB"),
-        ),
-        // the length of the value, and a backslash in it
-        ("(;B[pd]BL[012345678901];C[012345678901234567])", Some("BL")),
-        ("(;B[pd]BL[0123456789012];C[012345678901234567])", None),
-        ("(;B[pd]BL[\\1];C[012345678901234567])", None),
-        ("(;B[pd]BL[1\\\\2];C[012345678901234567])", None),
-        ("(;B[pd]BL[\\\\];C[012345678901234567])", None),
-        ("(;B[pd]BL[1\\\\];C[012345678901234567])", None),
-        ("(;B[pd]BL[1\\]2];C[012345678901234567])", None),
-        ("(;B[pd]BL[1\\]];C[012345678901234567])", None),
-        // further values, and white space
-        ("(;B[pd]BL[1][2];C[012345678901234567])", None),
-        ("(;B[pd]BL[1] [2];C[012345678901234567])", None),
-        ("(;B[pd]BL[1]WL[2][3];C[012345678901234567])", None),
-        ("(;B[pd] BL[1];C[012345678901234567])", None),
-        ("(;B[pd]BL [1];C[012345678901234567])", None),
-        ("(;B[pd]BL[1] WL[2];C[012345678901234567])", None),
-        ("(;B[pd] \n;C[012345678901234567])", Some("")),
-        ("(;B[pd]BL[1]\r\n;C[012345678901234567])", Some("BL")),
-        // the end of the text
-        ("(;B[pd]BL[1];C[012345])", None),
-        ("(;B[pd]BL[1];C[0123456])", Some("BL")),
-        ("(;B[pd] ;C[012])", None),
-        ("(;B[pd] ;C[0123])", Some("")),
-        ("(;B[pd]BL[1])", None),
-        ("(;B[pd])", None),
-    ];
-    for &(text, want) in &NODES {
-        assert!(rt; leads(rt.alloc(), text, &SETUP, want), "of {text:?}");
+    for &(text, names) in &LED {
+        assert!(rt; leads(rt.alloc(), text, &SETUP, Some(names)), "of {text:?}");
     }
+}
+
+#[test]
+fn nodes_unread(rt: HostRuntime) {
+    for &text in &UNREAD {
+        assert!(rt; leads(rt.alloc(), text, &SETUP, None), "of {text:?}");
+    }
+}
+
+#[test]
+fn nodes_led_beside_other_names(rt: HostRuntime) {
     let setup = "(;B[pd]AB[aa]PL[W];C[012345678901234567])";
     assert!(rt; leads(rt.alloc(), setup, &[], Some("ABPL")));
     assert!(rt; leads(rt.alloc(), setup, &[*b"AW"], Some("ABPL")));
@@ -217,16 +273,18 @@ fn nodes_led(rt: HostRuntime) {
 /// Whether the text's first node comes as one without properties.
 fn comes_empty(alloc: Global, text: &str) -> bool {
     match read(alloc, text.as_bytes()) {
-        Ok(collection) => {
-            let outline = collection.outline();
-            if outline.sequences() == 0 {
-                return false;
-            }
-            let mut nodes = outline.sequence_nodes(0);
-            matches!(nodes.next(&[]), Some(NextNode::Empty { place: 1 }))
-        }
+        Ok(collection) => is_empty(collection.outline()),
         Err(_) => false,
     }
+}
+
+/// Whether the first node of an outline comes so.
+fn is_empty(outline: &Outline<'_>) -> bool {
+    outline.sequences() > 0
+        && matches!(
+            outline.sequence_nodes(0).next(&[]),
+            Some(NextNode::Empty { place: 1 })
+        )
 }
 
 #[test]
