@@ -16,15 +16,10 @@ pub(crate) struct Asked {
 impl Asked {
     /// The job that the words of a command line ask for.
     pub(crate) fn new(alloc: Global, words: &[&str]) -> Result<Asked, AllocError> {
-        let mut given: Vec<String> = Vec::new(alloc);
-        given.push(String::from_str(alloc, "sgfsplit")?)?;
-        for word in words {
-            given.push(String::from_str(alloc, word)?)?;
-        }
-        match job(alloc, &given) {
-            Ok(job) => Ok(Asked { job: Some(job) }),
-            Err(_) => Ok(Asked { job: None }),
-        }
+        let given = strings(alloc, words)?;
+        Ok(Asked {
+            job: job(alloc, &given).ok(),
+        })
     }
 
     /// Does the job on a text in memory, and adds to the digest what was written and the status.
@@ -68,4 +63,14 @@ impl Asked {
         digest.add(faults.into_inner().value());
         Ok(())
     }
+}
+
+/// The name of the program and these words, as strings.
+fn strings(alloc: Global, words: &[&str]) -> Result<Vec<String>, AllocError> {
+    let mut strings: Vec<String> = Vec::new(alloc);
+    strings.push(String::from_str(alloc, "sgfsplit")?)?;
+    for word in words {
+        strings.push(String::from_str(alloc, word)?)?;
+    }
+    Ok(strings)
 }

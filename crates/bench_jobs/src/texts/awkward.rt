@@ -47,10 +47,7 @@ fn add_fight(
         }
         if forbidden != PASS || i % 8 == 7 {
             let other = if forbidden != PASS { forbidden } else { before };
-            fights.add(Part::Open)?;
-            fights.add_move(player, other)?;
-            fights.add(Part::Close)?;
-            fights.add(Part::Open)?;
+            branch_off(fights, player, other)?;
             open = open.saturating_add(1);
         }
         fights.add_move(player, point)?;
@@ -58,10 +55,23 @@ fn add_fight(
         before = last;
         last = point;
     }
+    close(fights, open)
+}
+
+/// Ends so many variations.
+fn close(fights: &mut Lists, open: usize) -> Result<(), AllocError> {
     for _ in 0..open {
         fights.add(Part::Close)?;
     }
     Ok(())
+}
+
+/// Adds a variation of one move, and opens the one in which the fight goes on.
+fn branch_off(fights: &mut Lists, player: Player, point: usize) -> Result<(), AllocError> {
+    fights.add(Part::Open)?;
+    fights.add_move(player, point)?;
+    fights.add(Part::Close)?;
+    fights.add(Part::Open)
 }
 
 /// Adds a fight as a game.
@@ -95,6 +105,20 @@ pub(crate) fn add_wide(
 ) -> Result<(), AllocError> {
     goban.clear(19);
     text.add_root(19)?;
+    let player = add_moves(text, goban, moves, chance)?;
+    for _ in 0..variations {
+        add_variation(text, player, goban.anywhere(chance))?;
+    }
+    text.add(b")\n")
+}
+
+/// Adds so many moves from an empty board. Returns the player of the next one.
+fn add_moves(
+    text: &mut Text,
+    goban: &mut Goban,
+    moves: usize,
+    chance: &mut Chance,
+) -> Result<Player, AllocError> {
     let mut player = Player::Black;
     let mut last = PASS;
     for _ in 0..moves {
@@ -105,13 +129,14 @@ pub(crate) fn add_wide(
         player = player.other();
         last = point;
     }
-    for _ in 0..variations {
-        let point = goban.anywhere(chance);
-        text.add(b"(")?;
-        text.add_move(player, point, 19, 0)?;
-        text.add(b")")?;
-    }
-    text.add(b")\n")
+    Ok(player)
+}
+
+/// Adds a variation of one move.
+fn add_variation(text: &mut Text, player: Player, point: usize) -> Result<(), AllocError> {
+    text.add(b"(")?;
+    text.add_move(player, point, 19, 0)?;
+    text.add(b")")
 }
 
 /// Adds a game with a comment of pages at each of so many moves.

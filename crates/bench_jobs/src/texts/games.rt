@@ -183,23 +183,45 @@ fn make_games(
     for number in 0..count {
         let length = (moves / 2).saturating_add(chance.below(moves / 2));
         play_game(&mut goban, &mut line, length, chance)?;
-        let branch = if number % 10 == 9 {
-            chance.below(line.len())
-        } else {
-            line.len()
-        };
-        add_line(&mut games, &line, 0, branch)?;
-        if branch < line.len() {
-            games.add(Part::Open)?;
-            add_line(&mut games, &line, branch, line.len())?;
-            games.add(Part::Close)?;
-            games.add(Part::Open)?;
-            add_variation(&mut games, &mut goban, &line, branch, chance)?;
-            games.add(Part::Close)?;
-        }
-        games.end()?;
+        add_game(&mut games, &mut goban, &line, number % 10 == 9, chance)?;
     }
     Ok(games)
+}
+
+/// Adds a game with the moves of a line. If `branches` is true, it has a variation.
+fn add_game(
+    games: &mut Lists,
+    goban: &mut Goban,
+    line: &[u16],
+    branches: bool,
+    chance: &mut Chance,
+) -> Result<(), AllocError> {
+    let branch = if branches {
+        chance.below(line.len())
+    } else {
+        line.len()
+    };
+    add_line(games, line, 0, branch)?;
+    if branch < line.len() {
+        add_branches(games, goban, line, branch, chance)?;
+    }
+    games.end()
+}
+
+/// Adds the rest of a line, and then a variation of it.
+fn add_branches(
+    games: &mut Lists,
+    goban: &mut Goban,
+    line: &[u16],
+    branch: usize,
+    chance: &mut Chance,
+) -> Result<(), AllocError> {
+    games.add(Part::Open)?;
+    add_line(games, line, branch, line.len())?;
+    games.add(Part::Close)?;
+    games.add(Part::Open)?;
+    add_variation(games, goban, line, branch, chance)?;
+    games.add(Part::Close)
 }
 
 /// Plays a game from an empty board.
@@ -270,13 +292,18 @@ pub(crate) fn player_at(depth: usize) -> Player {
     }
 }
 
+/// What stands before each number in the rest of a root.
+const HEADER: [&[u8]; 3] = [
+    b"CA[UTF-8]KM[6.5]RU[Japanese]\nPB[Player ",
+    b"]PW[Player ",
+    b"]BR[5d]WR[4d]DT[2010-06-18]EV[Round ",
+];
+
 /// Adds the rest of a root.
 fn add_header(text: &mut Text, chance: &mut Chance) -> Result<(), AllocError> {
-    text.add(b"CA[UTF-8]KM[6.5]RU[Japanese]\nPB[Player ")?;
-    text.add_number(chance.below(1000))?;
-    text.add(b"]PW[Player ")?;
-    text.add_number(chance.below(1000))?;
-    text.add(b"]BR[5d]WR[4d]DT[2010-06-18]EV[Round ")?;
-    text.add_number(chance.below(1000))?;
+    for words in HEADER {
+        text.add(words)?;
+        text.add_number(chance.below(1000))?;
+    }
     text.add(b"]RE[B+R]TM[2700]\n")
 }

@@ -16,43 +16,83 @@ struct Branch {
     depth: usize,
 }
 
-/// One list of about `parts` parts. Branches have one to four moves, and two to four variations after them.
-fn make_tree(alloc: Global, parts: usize, chance: &mut Chance) -> Result<Lists, AllocError> {
-    let mut tree = Lists::new(alloc);
-    let mut line: Vec<u16> = Vec::new(alloc);
-    let mut open: Vec<Branch> = Vec::new(alloc);
-    let mut goban = Goban::new(12);
-    open.push(Branch {
-        left: 1 << 30,
-        depth: 0,
-    })?;
-    for _ in 0..parts {
-        let Some(branch) = open.pop() else {
-            break;
-        };
-        if branch.left == 0 || tree.parts() >= parts {
-            if !open.is_empty() {
-                tree.add(Part::Close)?;
-            }
-            continue;
-        }
+/// A tree that grows.
+#[derive(Drop)]
+struct Growth {
+    goban: Goban,
+    /// The moves from the root up to where the tree grows.
+    line: Vec<u16>,
+    /// The branches on the way there, the root first.
+    open: Vec<Branch>,
+}
+
+impl Growth {
+    /// A tree that is a root alone.
+    fn new(alloc: Global) -> Result<Growth, AllocError> {
+        let mut open = Vec::new(alloc);
         open.push(Branch {
+            left: 1 << 30,
+            depth: 0,
+        })?;
+        Ok(Growth {
+            goban: Goban::new(12),
+            line: Vec::new(alloc),
+            open,
+        })
+    }
+
+    /// Adds the end of the newest branch, if it isn't the root.
+    fn close(&self, tree: &mut Lists) -> Result<(), AllocError> {
+        if self.open.is_empty() {
+            return Ok(());
+        }
+        tree.add(Part::Close)
+    }
+
+    /// Adds a variation that begins where a branch ends. The branch stays open.
+    fn go_on(
+        &mut self,
+        tree: &mut Lists,
+        branch: Branch,
+        chance: &mut Chance,
+    ) -> Result<(), AllocError> {
+        self.open.push(Branch {
             left: branch.left.saturating_sub(1),
             depth: branch.depth,
         })?;
-        set_line(&mut goban, &mut line, branch.depth);
+        set_line(&mut self.goban, &mut self.line, branch.depth);
         tree.add(Part::Open)?;
         let moves = 1 + chance.below(4).min(3);
-        add_branch(&mut tree, &mut goban, &mut line, moves, chance)?;
-        let left = if line.len() < 40 {
-            2 + chance.below(3).min(2)
-        } else {
-            0
+        add_branch(tree, &mut self.goban, &mut self.line, moves, chance)?;
+        let newest = newest_branch(self.line.len(), chance);
+        self.open.push(newest)?;
+        Ok(())
+    }
+}
+
+/// The branch that ends after so many moves.
+fn newest_branch(depth: usize, chance: &mut Chance) -> Branch {
+    let left = if depth < 40 {
+        2 + chance.below(3).min(2)
+    } else {
+        0
+    };
+    Branch { left, depth }
+}
+
+/// One list of about `parts` parts. Branches have one to four moves, and two to four variations after them.
+fn make_tree(alloc: Global, parts: usize, chance: &mut Chance) -> Result<Lists, AllocError> {
+    let mut tree = Lists::new(alloc);
+    let mut growth = Growth::new(alloc)?;
+    for _ in 0..parts {
+        let Some(branch) = growth.open.pop() else {
+            break;
         };
-        open.push(Branch {
-            left,
-            depth: line.len(),
-        })?;
+        if branch.left == 0 || tree.parts() >= parts {
+            growth.close(&mut tree)?;
+        } else {
+            growth.go_on(&mut tree, branch, chance)?;
+        }
     }
     tree.end()?;
     Ok(tree)

@@ -111,32 +111,59 @@ pub(crate) fn add_parts(
     let mut last = text.len();
     let mut until = chance.below(manner.comments);
     for part in parts {
-        match *part {
-            Part::Move(player, point) => {
-                last = text.len();
-                text.add_move(player, usize::from(point), manner.side, manner.turned)?;
-                if manner.timed {
-                    text.add(&[player.letter(), b'L', b'[', b'1'])?;
-                    text.add_number(last)?;
-                    text.add(b".5]")?;
-                }
-                if until == 0 {
-                    words.add_comment(text, manner.words, chance)?;
-                    text.add(b"\n")?;
-                    until = chance.below(2 * manner.comments.min(4096));
-                }
-                until = until.saturating_sub(1);
+        if let Part::Move(player, point) = *part {
+            last = text.len();
+            add_timed_move(text, player, usize::from(point), manner)?;
+            if until == 0 {
+                until = add_comment(text, words, manner, chance)?;
             }
-            Part::Open => text.add(b"(")?,
-            Part::Close => text.add(b")\n")?,
-            Part::Stones(Player::Black) => text.add(b"AB")?,
-            Part::Stones(Player::White) => text.add(b"AW")?,
-            Part::Stone(point) => {
-                text.add_stone(usize::from(point), manner.side, manner.turned)?
-            }
-            Part::Asked => text.add(b"PL[B]C[Black to play and live.]\n")?,
-            Part::Right => text.add(b"C[RIGHT]")?,
+            until = until.saturating_sub(1);
+        } else {
+            add_other(text, *part, manner)?;
         }
     }
     Ok(last)
+}
+
+/// Adds a comment. Returns how many moves there are from this one to the next one with a comment.
+fn add_comment(
+    text: &mut Text,
+    words: &Words,
+    manner: Manner,
+    chance: &mut Chance,
+) -> Result<usize, AllocError> {
+    words.add_comment(text, manner.words, chance)?;
+    text.add(b"\n")?;
+    Ok(chance.below(2 * manner.comments.min(4096)))
+}
+
+/// Adds a node with a move, and perhaps with the time left.
+fn add_timed_move(
+    text: &mut Text,
+    player: Player,
+    point: usize,
+    manner: Manner,
+) -> Result<(), AllocError> {
+    let place = text.len();
+    text.add_move(player, point, manner.side, manner.turned)?;
+    if manner.timed {
+        text.add(&[player.letter(), b'L', b'[', b'1'])?;
+        text.add_number(place)?;
+        text.add(b".5]")?;
+    }
+    Ok(())
+}
+
+/// Adds a part that isn't a move.
+fn add_other(text: &mut Text, part: Part, manner: Manner) -> Result<(), AllocError> {
+    match part {
+        Part::Move(_, _) => Ok(()),
+        Part::Open => text.add(b"("),
+        Part::Close => text.add(b")\n"),
+        Part::Stones(Player::Black) => text.add(b"AB"),
+        Part::Stones(Player::White) => text.add(b"AW"),
+        Part::Stone(point) => text.add_stone(usize::from(point), manner.side, manner.turned),
+        Part::Asked => text.add(b"PL[B]C[Black to play and live.]\n"),
+        Part::Right => text.add(b"C[RIGHT]"),
+    }
 }

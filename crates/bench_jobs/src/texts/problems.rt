@@ -19,21 +19,36 @@ pub(crate) fn make_problems(
     for _ in 0..count {
         let most = chance.below(30).saturating_add(10);
         set_stones(&mut goban, &mut stones, most, chance)?;
-        problems.add(Part::Stones(Player::Black))?;
-        add_stones(&mut problems, &stones, 0)?;
-        problems.add(Part::Stones(Player::White))?;
-        add_stones(&mut problems, &stones, 1)?;
-        problems.add(Part::Asked)?;
-        for _ in 0..chance.below(9).saturating_add(2) {
-            goban.clear(9);
-            for (i, point) in stones.iter().enumerate() {
-                goban.put(player_at(i), usize::from(*point));
-            }
-            add_answer(&mut problems, &mut goban, chance)?;
-        }
-        problems.end()?;
+        add_problem(&mut problems, &mut goban, &stones, chance)?;
     }
     Ok(problems)
+}
+
+/// Adds a problem with these stones, which are black and white by turns.
+fn add_problem(
+    problems: &mut Lists,
+    goban: &mut Goban,
+    stones: &[u16],
+    chance: &mut Chance,
+) -> Result<(), AllocError> {
+    problems.add(Part::Stones(Player::Black))?;
+    add_stones(problems, stones, 0)?;
+    problems.add(Part::Stones(Player::White))?;
+    add_stones(problems, stones, 1)?;
+    problems.add(Part::Asked)?;
+    for _ in 0..chance.below(9).saturating_add(2) {
+        put_stones(goban, stones);
+        add_answer(problems, goban, chance)?;
+    }
+    problems.end()
+}
+
+/// Puts these stones on an empty board.
+fn put_stones(goban: &mut Goban, stones: &[u16]) {
+    goban.clear(9);
+    for (i, point) in stones.iter().enumerate() {
+        goban.put(player_at(i), usize::from(*point));
+    }
 }
 
 /// Puts stones of both players near one another.
