@@ -11,7 +11,7 @@ use Rattle.board_past.specs.declared.past.print_past.changes.Change.{Change}
 use Rattle.board_past.specs.declared.past.print_past.changes.Older.{Older}
 use Rattle.board_stones.specs.declared.stones.Colour.{Colour}
 use Rattle.board_stones.specs.Colour.{same_cell, stone_of}
-use Rattle.board_points.specs.Point.{IsOn, index_of}
+use Rattle.board_points.specs.Point.{IsOn}
 use Rattle.board_stones.specs.Grid.{Grid, cell_at, with_cell, with_row}
 use Rattle.board_stones.specs.Clearing.{play}
 use Rattle.board_stones.specs.Move.{IsMove, Clears}

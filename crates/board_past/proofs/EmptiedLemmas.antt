@@ -1,8 +1,8 @@
 -- The points that were emptied, and the rows that lead back to earlier sets of them.
-use Rattle.std.proofs.Common.{◌≡◌, ℕ, suc, ◌+◌, ◌-◌, ◌<◌, ◌≤◌, Bool, List, [], ◌∷◌, ◌++◌, length, length-append, reverse, drop, get_or, slice_index, slice_set, bit_or, inl, inr, sym, ap, subst, ◌∙◌, arith}
+use Rattle.std.proofs.Common.{◌≡◌, ℕ, suc, ◌+◌, ◌-◌, ◌<◌, ◌≤◌, Bool, List, [], ◌∷◌, ◌++◌, length, length-append, reverse, drop, get_or, slice_set, bit_or, sym, ap, subst, ◌∙◌, arith}
 use Rattle.std.specs.Vec.{vec_capacity}
-use Rattle.std.proofs.lemmas.Bool.{cases_eq, or_left}
-use Rattle.std.proofs.lemmas.List.{get_or_append_left, get_or-set_same, get_or-set_other, length-set, set-get_or, reverse-append, set-set}
+use Rattle.std.proofs.lemmas.Bool.{or_left}
+use Rattle.std.proofs.lemmas.List.{get_or_append_left, length-set, set-get_or, reverse-append, set-set}
 use Rattle.std.proofs.lemmas.List.Elements.{All-push}
 use Rattle.board_past.specs.declared.past.print_past.emptied.Emptied.{Emptied}
 use Rattle.board_past.specs.declared.past.print_past.emptied.OldRow.{OldRow}
