@@ -10,7 +10,7 @@ use Rattle.board_stones.specs.declared.stones.Colour.TheVariants.{Black}
 use Rattle.board_stones.specs.Grid.{Grid, empty_grid}
 use Rattle.board_past.specs.Past.{Held, PastColourings, newest_grid, only, with_next, AllHaveSide, HaveSide}
 use Rattle.go_board.specs.State.{State, HadSameBoardSince, begun, starting}
-use Rattle.go_board.specs.inner.Earlier.{grew, turned, player_of, past_before, past_of_older, states_before, turns_before, grown, turn_count, state_of, states_of, IsRefereeKept}
+use Rattle.go_board.specs.inner.Earlier.{grew, turned, player_of, past_before, past_of_older, states_before, turns_before, turn_count, state_of, states_of, IsRefereeKept}
 
 length-states_before : (past : PastColourings) (turns : ℕ) (es : List Earlier) → length (states_before past turns es) ≡ length es
 length-states_before past turns [] = refl
