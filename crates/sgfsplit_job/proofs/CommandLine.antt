@@ -1,5 +1,5 @@
 -- How clap reads the words that ask for a job.
-use Rattle.std.proofs.Common.{Bool, ◌≡◌, true, List, [], ◌∷◌, ◌++◌, codes, refl, false, ◌&&◌, Option, Some, None, ap, sym, ◌∙◌}
+use Rattle.std.proofs.Common.{Bool, ◌≡◌, true, List, [], ◌∷◌, ◌++◌, codes, refl, false, ◌&&◌, Option, Some, None, ap, sym, ◌∙◌, rules}
 use Rattle.std.proofs.Math.Bool.{and-false}
 use Rattle.std.proofs.lemmas.Bool.{and_from}
 use Rattle.std.specs.Prelude.{unwrap_or, find, fold, IfSome, is_some}
@@ -293,32 +293,18 @@ module _ (names : FormNames) (form after limit file : Option Text) (a : AreAccep
   end_held = held (rows_4 names form after limit file) (pending_4 names form after limit file)
 
   split_walk : (walk (split_rules names) [] nothing_held (words_after form after limit file)).held ≡ end_held
-  split_walk =
-      ap (λ (w : Walk). w.held)
-      (form_walked names form a.form_plain [] None _
-      ∙ after_walked names after a.after_plain (rows_1 names form) (pending_1 names form) _
-      ∙ limit_walked names limit a.limit_plain (rows_2 names form after) (pending_2 names form after) (file_words file))
-      ∙ file_held names file a.file_plain (rows_3 names form after limit) (pending_3 names form after limit)
+  split_walk = search (rules, held, form_walked, after_walked, rows_1, pending_1, limit_walked, rows_2, pending_2, file_held, rows_3, pending_3)
 
   split_passes : walk_passes (split_shape names) [] (walk_from nothing_held) (words_after form after limit file) ≡ true
   split_passes =
-      form_passes names form a.form_plain [] None _ refl
-      ∙ after_passes names after a.after_plain (rows_1 names form) (pending_1 names form) _ (settles_1 names form a.form_accepted)
-      ∙ limit_passes names limit a.limit_plain (rows_2 names form after) (pending_2 names form after) (file_words file) (settles_2 names form after a.form_accepted a.after_accepted)
-      ∙ file_passes names file a.file_plain (rows_3 names form after limit) (pending_3 names form after limit)
-      (settles_3 names form after limit a.form_accepted a.after_accepted a.limit_accepted)
+      search (rules, form_passes, after_passes, rows_1, pending_1, settles_1, limit_passes, rows_2, pending_2, settles_2, file_passes, rows_3, pending_3, settles_3)
 
   defaults_pass : (h : Held) → (list_all default_passes (split_rules names) && is_valid (split_shape names) (finished (split_rules names) h) false) ≡ true
   unfolding clap_on_literals
   defaults_pass h = let list = a.list in rw list refl
 
   pub split_level : level_passes (split_shape names) [] nothing_held (words_after form after limit file) false ≡ true
-  split_level =
-      and_from _ _ split_passes
-      (and_from _ _
-      (ap (settle_passes (split_rules names) false) split_walk
-      ∙ settles_4 names form after limit file a.form_accepted a.after_accepted a.limit_accepted)
-      (defaults_pass (walk (split_rules names) [] nothing_held (words_after form after limit file)).held))
+  split_level = search (rules, and_from, split_passes, split_rules, split_walk, settles_4, defaults_pass, words_after, held)
 
 -- ---- `count`
 

@@ -1,5 +1,5 @@
 -- How clap reads plain words, and what that says of the job.
-use Rattle.std.proofs.Common.{◌≡◌, ◌∙◌, ◌<◌, ◌≤◌, ◌^◌, ◌==◌, inl, inr, ℕ, Bool, true, false, cond, List, [], ◌∷◌, map, drop, refl, sym, ap, subst, arith, codes, Option, Some, None, Result, Ok, Err}
+use Rattle.std.proofs.Common.{◌≡◌, ◌∙◌, ◌<◌, ◌≤◌, ◌^◌, ◌==◌, inl, inr, ℕ, Bool, true, false, cond, List, [], ◌∷◌, map, drop, refl, sym, ap, subst, arith, codes, Option, Some, None, Result, Ok, rules}
 use Rattle.std.specs.Prelude.{IfSome, option_map, unwrap_or}
 use Rattle.std.specs.Borrow.{Bor}
 use Rattle.std.specs.List.{list_any}
@@ -89,12 +89,7 @@ pub number_read : (E : Type 0) (G : List ℕ → Result ℕ E → Type 0) (word 
 number_read E G word (Some v) read only h =
     let parsed = only word (Ok v) read in
     ap Some (parsed.1 ∙ ap (digits_value 10) (no_plus word h))
-number_read E G word None read only h =
-    let same = no_plus word h in
-    let small = number_small word h in
-    let numeral : IsNumeral 10 (without_leading_plus word) = rw same (h.0, h.2) in
-    let fits : digits_value 10 (without_leading_plus word) < 2 ^ 64 = rw same (omega arith) in
-    absurd (only word (Err read.0) read.1 (numeral, fits))
+number_read E G word None read only h = search (rules, no_plus, number_small)
 
 -- ---- whole command lines
 

@@ -1,4 +1,4 @@
-use Rattle.std.proofs.Common.{◌≡◌, Some, sym, ◌∙◌, arith}
+use Rattle.std.proofs.Common.{◌≡◌, arith, rules}
 use Rattle.sgf_lines.specs.declared.fault.RunFault.{RunFault}
 use Rattle.sgf_lines.specs.declared.fault.RunFault.TheVariants.{Read, TooLong, NotSgf, NoSuchLine, Write, Memory}
 use Rattle.sgfsplit_job.specs.Fault.{status_of}
@@ -20,13 +20,4 @@ flush_after-requires g c = λ lines is.
     omega (arith, same, c.requires.output_counts)
 
 pub returns-in-Err : goal.returns-in-Err
-returns-in-Err g c = record {
-  fault = Some c.in-Err.fault;
-  written = g.T.Sink.state c.do_job.new.output;
-  does = c.in-Err.ensures.does;
-  reads = c.in-Err.ensures.reads;
-  writes = c.in-Err.ensures.writes;
-  flushes = c.flush_after.ensures;
-  tells = c.tell.ensures;
-  delivers = λ zero. absurd (not_zero c.in-Err.fault (sym c.tell.ensures.status_is ∙ zero));
-}
+returns-in-Err g c = search (rules, not_zero)

@@ -1,5 +1,5 @@
 -- The word that clap found for FILE.
-use Rattle.std.proofs.Common.{Bool, None, Some, ◌≡◌, ◌∙◌, ap, codes, false, refl, sym, true}
+use Rattle.std.proofs.Common.{Bool, ◌≡◌, ◌∙◌, ap, codes, false, refl, sym, true, rules}
 use Rattle.std.specs.Str.{bytes_eq}
 use Rattle.std.proofs.lemmas.Slice.Eq.{bytes_eq-Decides}
 use Rattle.clap.specs.Matches.{found_of}
@@ -21,15 +21,7 @@ returns-in-None c =
     ap file_of (sym (nothing_given _ _ (c.get_str.ensures ∙ first_value-rows (found_of c.args.found.now) (codes "file")) c.in-None.is))
 
 pub returns-in-Some-text : goal.returns-in-Some-text
-returns-in-Some-text c =
-    let word = word_given _ _ _ (c.get_str.ensures ∙ first_value-rows (found_of c.args.found.now) (codes "file")) c.in-Some-text.is in
-    let hyphen : bytes_eq c.in-Some-text.field-0.now (codes "-") ≡ true = ap (λ (w : Word). bytes_eq w (codes "-")) c.in-Some-text.is-text in
-    let none : None ≡ file_of (Some c.in-Some-text.field-0.now) = rw hyphen refl in
-    none ∙ ap file_of (sym word)
+returns-in-Some-text c = search (rules, word_given, first_value-rows)
 
 pub returns-in_ok-from_str-in-Some : goal.returns-in_ok-from_str-in-Some
-returns-in_ok-from_str-in-Some c =
-    let word = word_given _ _ _ (c.get_str.ensures ∙ first_value-rows (found_of c.args.found.now) (codes "file")) c.in-Some.is in
-    let other : bytes_eq c.in-Some.word.now (codes "-") ≡ false = other_word c.in-Some.word.now c.in-Some.not-text in
-    let named : Some c.in-Some.word.now ≡ file_of (Some c.in-Some.word.now) = rw other refl in
-    ap Some c.in_ok-from_str-in-Some.ensures.ok ∙ (named ∙ ap file_of (sym word))
+returns-in_ok-from_str-in-Some c = search (rules, word_given, first_value-rows, other_word)

@@ -1,5 +1,5 @@
 -- clap entered the command with this name, and found what the words after it give.
-use Rattle.std.proofs.Common.{◌≡◌, ◌∙◌, ap, codes, false, subst, sym, true}
+use Rattle.std.proofs.Common.{◌≡◌, ◌∙◌, ap, codes, false, subst, sym, true, rules}
 use Rattle.std.proofs.Math.Bool.{true≢false}
 use Rattle.clap.specs.Walk.{first_of}
 use Rattle.sgfsplit_job.specs.PlainWords.{file_of}
@@ -21,11 +21,7 @@ returns-clause-count c = λ rows sub.
     absurd (true≢false clash)
 
 pub returns-then-eq-clause-split : goal.returns-then-eq-clause-split
-returns-then-eq-clause-split c = λ words rows plain sub hold.
-    let name = same_name _ _ _ _ c.subcommand.ensures.name c.in-Some.is (entered_name c.args.found.now (codes "split") rows sub) in
-    let count = sym c.eq.ensures ∙ c.if-eq.true in
-    let clash : false ≡ true = rw name at count in
-    absurd (true≢false (sym clash))
+returns-then-eq-clause-split c = search (rules, same_name, entered_name, true≢false)
 
 pub returns-then-eq-clause-count : goal.returns-then-eq-clause-count
 returns-then-eq-clause-count c = λ rows sub.
