@@ -1,22 +1,7 @@
 -- Changes that lead back from a colouring to the one before it.
-use Rattle.std.proofs.Common.{◌≡◌, ◌≢◌, ◌⊎◌, ◌==◌, ℕ, ◌+◌, ◌*◌, ◌<◌, ◌≤◌, inl, inr, Bool, true, false, cond, List, [], ◌∷◌, ◌++◌, length, take, drop, refl, sym, ap, subst, ◌∙◌, append_assoc, length-append, All, slice_index, arith, below_more}
-use Rattle.std.proofs.lemmas.Bool.{cases_lt, cases_Bool, cases_eq, false≢true}
+use Rattle.std.proofs.Common.{◌≡◌, ◌≢◌, ◌⊎◌, ◌==◌, ℕ, ◌+◌, ◌*◌, ◌<◌, ◌≤◌, inl, inr, Bool, true, false, cond, List, [], ◌∷◌, ◌++◌, length, take, drop, refl, sym, ap, subst, ◌∙◌, append_assoc, length-append, All, slice_index, arith, below_more, append-nil, take-append-drop, length-set}
+use Rattle.board_past.proofs.Common.{cases_lt, cases_Bool, cases_eq, false≢true, All-nil, All-push, All-head, All-tail, All-weaker, Point, IsOn, has_bit, Cell, Black, White, Empty, Colour, play, same_cell, stone_of, Grid, cell_at, with_cell, with_row, IsMove, Clears, Change, Older, with_change, after_changes, AddsRow, AreOn, IsChangeOn, IsRowOf, IsSameRow, HasRow, KeepRows, MakeOne, step_back}
 use Rattle.std.proofs.lemmas.Bool.Decides.{Decides-eqb}
-use Rattle.std.proofs.lemmas.List.{append-nil, take-append-drop, length-set}
-use Rattle.std.proofs.lemmas.List.Elements.{All-nil, All-push, All-head, All-tail, All-weaker}
-use Rattle.board_stones.specs.declared.stones.Cell.{Cell}
-use Rattle.board_stones.specs.declared.stones.Cell.TheVariants.{Black, White, Empty}
-use Rattle.board_points.specs.declared.points.Point.{Point}
-use Rattle.board_past.specs.declared.past.print_past.changes.Change.{Change}
-use Rattle.board_past.specs.declared.past.print_past.changes.Older.{Older}
-use Rattle.board_stones.specs.declared.stones.Colour.{Colour}
-use Rattle.board_stones.specs.Colour.{same_cell, stone_of}
-use Rattle.board_points.specs.Point.{IsOn}
-use Rattle.board_stones.specs.Grid.{Grid, cell_at, with_cell, with_row}
-use Rattle.board_stones.specs.Clearing.{play}
-use Rattle.board_stones.specs.Move.{IsMove, Clears}
-use Rattle.board_points.specs.Rows.{has_bit}
-use Rattle.board_past.specs.inner.Changes.{with_change, after_changes, AddsRow, AreOn, IsChangeOn, IsRowOf, IsSameRow, HasRow, KeepRows, MakeOne, step_back}
 use Rattle.board_stones.proofs.RuleLemmas.{false_from_Decides}
 use Rattle.board_stones.proofs.GridLemmas.{cell_at-grid_of, length-grid_of, cell_at-with_cell, cell_at-with_cell_elsewhere}
 use Rattle.board_stones.proofs.GroupLemmas.{one_colouring}

@@ -1,16 +1,6 @@
 -- The points that were emptied, and the rows that lead back to earlier sets of them.
-use Rattle.std.proofs.Common.{◌≡◌, ℕ, suc, ◌+◌, ◌-◌, ◌<◌, ◌≤◌, Bool, List, [], ◌∷◌, ◌++◌, length, length-append, reverse, drop, get_or, slice_set, bit_or, sym, ap, subst, ◌∙◌, arith}
-use Rattle.std.specs.Vec.{vec_capacity}
-use Rattle.std.proofs.lemmas.Bool.{or_left}
-use Rattle.std.proofs.lemmas.List.{get_or_append_left, length-set, set-get_or, reverse-append, set-set}
-use Rattle.std.proofs.lemmas.List.Elements.{All-push}
-use Rattle.board_past.specs.declared.past.print_past.emptied.Emptied.{Emptied}
-use Rattle.board_past.specs.declared.past.print_past.emptied.OldRow.{OldRow}
-use Rattle.board_points.specs.declared.points.Point.{Point}
-use Rattle.board_past.specs.Past.{Held}
-use Rattle.board_past.specs.inner.Emptied.{HasAllEmptied, HasHistory, HasRowsBelow, IsBelow, IsEmptied, IsLogged}
-use Rattle.board_past.specs.inner.Key.{oldest}
-use Rattle.board_points.specs.Rows.{has_bit, is_set, IsAmong}
+use Rattle.std.proofs.Common.{◌≡◌, ℕ, suc, ◌+◌, ◌-◌, ◌<◌, ◌≤◌, Bool, List, [], ◌∷◌, ◌++◌, length, length-append, reverse, drop, get_or, slice_set, bit_or, sym, ap, subst, ◌∙◌, arith, vec_capacity, length-set, set-set}
+use Rattle.board_past.proofs.Common.{or_left, get_or_append_left, set-get_or, reverse-append, All-push, Point, has_bit, is_set, IsAmong, Emptied, OldRow, Held, HasAllEmptied, HasHistory, HasRowsBelow, IsBelow, IsEmptied, IsLogged, oldest}
 use Rattle.board_past.proofs.RepeatLemmas.{HasAllEmptied-more}
 use Rattle.board_points.proofs.RowLemmas.{AddedBelow}
 use Rattle.board_points.proofs.GrowLemmas.{each_row}

@@ -1,14 +1,6 @@
 -- Keys of colourings: their words, and what keys that agree tell.
-use Rattle.std.proofs.Common.{◌≡◌, ℕ, ◌+◌, ◌-◌, ◌*◌, ◌^◌, ◌<◌, ◌≤◌, ◌==◌, if◌then◌else◌, length, sym, ◌∙◌, arith}
-use Rattle.std.proofs.lemmas.Bool.{cases_lt, lt-ltb}
-use Rattle.std.proofs.lemmas.Nat.Bits.{same_from_bits_below}
-use Rattle.board_stones.specs.declared.stones.Cell.{Cell}
-use Rattle.board_stones.specs.declared.stones.Cell.TheVariants.{Black, White}
-use Rattle.board_stones.specs.Colour.{same_cell}
-use Rattle.board_stones.specs.Grid.{Grid, cell_at}
-use Rattle.board_past.specs.inner.Key.{has_stone, key_bit, key_bits}
-use Rattle.board_points.specs.Rows.{has_bit}
-use Rattle.key_trie.specs.Key.{Agree}
+use Rattle.std.proofs.Common.{◌≡◌, ℕ, ◌+◌, ◌-◌, ◌*◌, ◌^◌, ◌<◌, ◌≤◌, ◌==◌, if◌then◌else◌, length, sym, ◌∙◌, arith, lt-ltb}
+use Rattle.board_past.proofs.Common.{cases_lt, same_from_bits_below, has_bit, Agree, Cell, Black, White, same_cell, Grid, cell_at, has_stone, key_bit, key_bits}
 use Rattle.board_stones.proofs.GridLemmas.{same_stones}
 use Rattle.board_stones.proofs.GroupLemmas.{one_colouring}
 use Rattle.board_stones.proofs.StoneRowsLemmas.{bit_same}

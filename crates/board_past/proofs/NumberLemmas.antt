@@ -1,11 +1,6 @@
 -- Numbers of past colourings, and starts of stretches.
 use Rattle.std.proofs.Common.{◌≡◌, ◌⊎◌, ℕ, zero, suc, ◌-◌, ◌<◌, ◌≤◌, Bool, true, false, if◌then◌else◌, List, [], ◌∷◌, Some, length, get_or, drop, Contains, inl, inr, sym, ap, subst, ◌∙◌, arith}
-use Rattle.std.proofs.lemmas.Bool.{cases_lt, cases_Bool}
-use Rattle.std.proofs.lemmas.Option.{same_Some}
-use Rattle.board_stones.specs.Grid.{Grid}
-use Rattle.board_past.specs.Past.{Held, stretch_of, AllHaveSide}
-use Rattle.board_past.specs.inner.Changes.{first_grid, IsNumber, HasNumber}
-use Rattle.board_past.specs.inner.Key.{start_of, since}
+use Rattle.board_past.proofs.Common.{cases_lt, cases_Bool, same_Some, Grid, Held, stretch_of, AllHaveSide, first_grid, IsNumber, HasNumber, start_of, since}
 
 -- The newest colouring is at its number, and so are the others.
 

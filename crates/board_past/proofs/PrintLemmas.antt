@@ -1,22 +1,10 @@
 -- The print of a colouring as a number in base 31: the numbers of its rows, and of the words of its stones.
-use Rattle.std.proofs.Common.{◌≡◌, ◌≢◌, inl, inr, ℕ, zero, suc, ◌+◌, ◌-◌, ◌*◌, ◌/◌, ◌%◌, ◌^◌, ◌<◌, ◌≤◌, ◌&&◌, Bool, true, false, cond, bit_and, List, slice_index, length, get_or, set, take, refl, sym, subst, ap, ◌∙◌, arith}
-use Rattle.std.specs.Int.{bit_at}
-use Rattle.std.specs.List.{fold}
-use Rattle.std.proofs.Math.Nat.{mod-add-mod, add-mod-mod, add-mul-mod_self_left, mod-add-div, add-mul, mul-add, pow-succ', zero-mod, suc-mul}
+use Rattle.std.proofs.Common.{◌≡◌, ◌≢◌, inl, inr, ℕ, zero, suc, ◌+◌, ◌-◌, ◌*◌, ◌/◌, ◌%◌, ◌^◌, ◌<◌, ◌≤◌, ◌&&◌, Bool, true, false, cond, bit_and, List, slice_index, length, get_or, set, take, refl, sym, subst, ap, ◌∙◌, arith, fold, add-mul, mul-add, suc-mul, pow_pos, take_all, get_or-set_same, get_or-set_other, length-set, set-set}
+use Rattle.board_past.proofs.Common.{bit_at, cases_Bool, cases_eq, set-get_or, bit_at-zero, bit_at_cat_high, bit_at_cat_low, Point, IsOn, index_of, has_bit, is_set, Cell, Black, White, Empty, same_cell, Grid, cell_at, with_cell, code, print_of, in_base, row_number, word_number, row_within, number_within}
+use Rattle.std.proofs.Math.Nat.{mod-add-mod, add-mod-mod, add-mul-mod_self_left, mod-add-div, pow-succ', zero-mod}
 use Rattle.std.proofs.Math.Bool.{and-true, and-false}
-use Rattle.std.proofs.lemmas.Bool.{cases_Bool, cases_eq}
-use Rattle.std.proofs.lemmas.Nat.{mod_below, mul-mod, mul-mod_second, pow_pos, shr_split}
-use Rattle.std.proofs.lemmas.Nat.Bits.{bit_at-zero, bit_at_cat_high, bit_at_cat_low}
-use Rattle.std.proofs.lemmas.List.{take_all, get_or-set_same, get_or-set_other, length-set, set-get_or, set-set}
+use Rattle.std.proofs.lemmas.Nat.{mod_below, mul-mod, mul-mod_second, shr_split}
 use Rattle.std.proofs.lemmas.List.Sums.{fold_more}
-use Rattle.board_stones.specs.declared.stones.Cell.{Cell}
-use Rattle.board_stones.specs.declared.stones.Cell.TheVariants.{Black, White, Empty}
-use Rattle.board_points.specs.declared.points.Point.{Point}
-use Rattle.board_stones.specs.Colour.{same_cell}
-use Rattle.board_points.specs.Point.{IsOn, index_of}
-use Rattle.board_stones.specs.Grid.{Grid, cell_at, with_cell}
-use Rattle.board_past.specs.inner.Print.{code, print_of, in_base, row_number, word_number, row_within, number_within}
-use Rattle.board_points.specs.Rows.{has_bit, is_set}
 use Rattle.board_points.proofs.PointLemmas.{index_below}
 use Rattle.board_stones.proofs.GridLemmas.{cell_at-with_cell}
 use Rattle.board_stones.proofs.StoneRowsLemmas.{bit_same}

@@ -1,11 +1,6 @@
 -- The prints of past colourings.
 use Rattle.std.proofs.Common.{◌≡◌, ℕ, zero, suc, ◌-◌, ◌<◌, List, [], ◌∷◌, Some, length, get_or, drop, reverse, sym, ap, ◌∙◌, arith}
-use Rattle.std.proofs.lemmas.List.{get_or-reverse, length-reverse, length-map}
-use Rattle.std.proofs.lemmas.Option.{same_Some}
-use Rattle.board_stones.specs.Grid.{Grid}
-use Rattle.board_past.specs.Past.{Held}
-use Rattle.board_past.specs.inner.Changes.{first_grid, IsNumber}
-use Rattle.board_past.specs.inner.Print.{print_of, prints_of}
+use Rattle.board_past.proofs.Common.{get_or-reverse, length-reverse, length-map, same_Some, Grid, Held, first_grid, IsNumber, print_of, prints_of}
 
 -- the colouring at an index of the list, newest first
 abbrev pub IsAt : List Held → ℕ → Grid → Type 0

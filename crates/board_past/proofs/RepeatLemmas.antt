@@ -1,19 +1,6 @@
 -- A stone that stays can repeat a colouring of the stretch only on a point that was emptied.
-use Rattle.std.proofs.Common.{◌≡◌, ◌≢◌, ◌*◌, zero, suc, inl, inr, ℕ, Bool, true, false, cond, List, [], ◌∷◌, length, Contains, Result, Ok, ap, sym, subst, ◌∙◌, arith}
-use Rattle.std.specs.Result.{IsErr}
-use Rattle.std.proofs.lemmas.Bool.{cases_Bool, false≢true}
-use Rattle.board_stones.specs.declared.stones.Cell.TheVariants.{Empty}
-use Rattle.board_stones.specs.declared.stones.Colour.{Colour}
-use Rattle.board_points.specs.declared.points.Point.{Point}
-use Rattle.board_stones.specs.Colour.{same_cell}
-use Rattle.board_points.specs.Point.{IsOn}
-use Rattle.board_stones.specs.Grid.{Grid, cell_at}
-use Rattle.board_stones.specs.Clearing.{play}
-use Rattle.board_past.specs.Past.{Held, PastColourings, all_of, newest_grid, with_next, stretch_of, present_stretch, AllHaveSide, HaveSide, IsPlayed, WasEmptied}
-use Rattle.board_past.specs.inner.Changes.{IsFreshStone}
-use Rattle.board_past.specs.inner.Emptied.{HasEmptied, HasAllEmptied}
-use Rattle.board_stones.specs.Move.{IsMove}
-use Rattle.board_points.specs.Rows.{is_set, IsAmong}
+use Rattle.std.proofs.Common.{◌≡◌, ◌≢◌, ◌*◌, zero, suc, inl, inr, ℕ, Bool, true, false, cond, List, [], ◌∷◌, length, Contains, Result, Ok, ap, sym, subst, ◌∙◌, arith, IsErr}
+use Rattle.board_past.proofs.Common.{cases_Bool, false≢true, Point, IsOn, is_set, IsAmong, Empty, Colour, play, same_cell, Grid, cell_at, IsMove, Held, PastColourings, all_of, newest_grid, with_next, stretch_of, present_stretch, AllHaveSide, HaveSide, IsPlayed, WasEmptied, IsFreshStone, HasEmptied, HasAllEmptied}
 use Rattle.board_points.proofs.PointLemmas.{same_or_not}
 use Rattle.board_stones.proofs.GridLemmas.{Decides-same_cell, cell_at-with_cell, cell_at-with_cell_elsewhere}
 use Rattle.board_stones.proofs.GroupLemmas.{stone_of≢Empty}

@@ -1,27 +1,8 @@
 -- The table by which colourings are looked up.
-use Rattle.std.proofs.Common.{◌≡◌, ℕ, ◌+◌, ◌*◌, ◌<◌, ◌≤◌, ◌^◌, bit_xor, Bool, true, false, if◌then◌else◌, List, [], ◌∷◌, ◌++◌, Option, None, Some, IfSome, length, length-append, get_or, reverse, Contains, inl, inr, refl, sym, ap, subst, ◌∙◌, arith}
-use Rattle.std.specs.Int.{bit_at}
-use Rattle.std.proofs.lemmas.Bool.{cases_Bool, eq-eqb, ne_eqb}
-use Rattle.std.proofs.lemmas.List.{reverse-append}
-use Rattle.std.proofs.lemmas.Option.{same_Some}
-use Rattle.board_past.specs.declared.past.print_past.key.TheConstants.{WIDTH}
+use Rattle.std.proofs.Common.{◌≡◌, ℕ, ◌+◌, ◌*◌, ◌<◌, ◌≤◌, ◌^◌, bit_xor, Bool, true, false, if◌then◌else◌, List, [], ◌∷◌, ◌++◌, Option, None, Some, IfSome, length, length-append, get_or, reverse, Contains, inl, inr, refl, sym, ap, subst, ◌∙◌, arith, eq-eqb, ne_eqb}
+use Rattle.board_past.proofs.Common.{bit_at, cases_Bool, reverse-append, same_Some, Point, has_bit, Trie, Agree, nodes_of, item_count, capacity_of, IsTrie, IsNearest, IsOpening, IsParting, Colour, play, Grid, WIDTH, Table, Held, PastColourings, all_of, newest_grid, present_stretch, stretch_of, with_next, IsNumber, hash_of, HasHashes, hash_in_key, key_bits, start_of, since, keys_of, print_of, prints_of, HasRoomForNext, IsAsleepTable, IsAwakeTable, IsGap, IsPrintOfNext, IsTable, LinksNext, SameButHashes, most_to_link}
 use Rattle.board_past.specs.declared.past.print_past.table.Gap.{Gap}
-use Rattle.board_past.specs.declared.past.print_past.table.Table.{Table}
-use Rattle.board_stones.specs.Grid.{Grid}
-use Rattle.board_stones.specs.declared.stones.Colour.{Colour}
-use Rattle.board_points.specs.declared.points.Point.{Point}
-use Rattle.board_stones.specs.Clearing.{play}
-use Rattle.board_past.specs.Past.{Held, PastColourings, all_of, newest_grid, present_stretch, stretch_of, with_next}
-use Rattle.board_past.specs.inner.Changes.{IsNumber}
 use Rattle.board_past.specs.declared.past.print_past.hashes.Hashes.{Hashes}
-use Rattle.board_past.specs.inner.Hash.{hash_of, HasHashes}
-use Rattle.board_past.specs.inner.Key.{hash_in_key, key_bits, start_of, since, keys_of}
-use Rattle.board_past.specs.inner.Print.{print_of, prints_of}
-use Rattle.board_points.specs.Rows.{has_bit}
-use Rattle.board_past.specs.inner.Table.{HasRoomForNext, IsAsleepTable, IsAwakeTable, IsGap, IsPrintOfNext, IsTable, LinksNext, SameButHashes, most_to_link}
-use Rattle.key_trie.specs.declared.trie.Trie.{Trie}
-use Rattle.key_trie.specs.Key.{Agree}
-use Rattle.key_trie.specs.Trie.{nodes_of, item_count, capacity_of, IsTrie, IsNearest, IsOpening, IsParting}
 use Rattle.board_past.proofs.NumberLemmas.{since-newest, since-older, at-newest, at-older, cases-number, start-since, start-before}
 pub use Rattle.board_past.proofs.NumberLemmas.{number_there, side-number, has_number, has_colouring}
 use Rattle.board_past.proofs.KeyLemmas.{print_bit, front_same, front_agrees, head_agrees, whole_same}

@@ -1,15 +1,8 @@
 -- Words as sets of columns: the columns of a row, those between two of them, and a word with a column added or taken.
-use Rattle.std.proofs.Common.{◌≡◌, ◌≢◌, inl, inr, ℕ, ◌+◌, ◌-◌, ◌*◌, ◌^◌, ◌%◌, ◌<◌, ◌==◌, ◌||◌, ◌&&◌, Bool, true, false, not, bit_and, bit_or, w64, refl, sym, ap, ◌∙◌, arith, ◌≤◌, nat_le}
-use Rattle.std.proofs.lemmas.Grind.{common_steps}
-use Rattle.std.proofs.lemmas.Bool.{or_right, and_parts, and_from, false≢true, cases_eq, cases_lt, leb-true, le-leb}
-use Rattle.std.specs.Int.{bit_at, bit_not, trailing_zeros, leading_zeros}
-use Rattle.std.proofs.Math.Nat.{mod-eq_of_lt, two-pow-succ}
-use Rattle.std.proofs.lemmas.Nat.{pow_below, mod_below, pow_pos, leading_top}
-use Rattle.std.proofs.lemmas.Nat.Bits.{bit_at_set_same, bit_at_set_other, bit_at_mask_inside, bit_at_mask_above, bit_at_mask_below, bit_at-trailing_zeros, bit_at_cat_high}
-use Rattle.board_points.specs.Rows.{has_bit}
-use Rattle.board_points.specs.inner.Columns.{IsPart}
+use Rattle.std.proofs.Common.{◌≡◌, ◌≢◌, inl, inr, ℕ, ◌+◌, ◌-◌, ◌*◌, ◌^◌, ◌%◌, ◌<◌, ◌==◌, ◌||◌, ◌&&◌, Bool, true, false, not, bit_and, bit_or, w64, refl, sym, ap, ◌∙◌, arith, ◌≤◌, nat_le, leb-true, le-leb, mod-eq_of_lt, pow_pos}
+use Rattle.board_points.proofs.Common.{bit_at, bit_not, trailing_zeros, leading_zeros, or-true, and-true, and-false, or_right, and_parts, and_from, false≢true, cases_eq, cases_lt, common_steps, pow_below, mod_below, leading_top, bit_at_set_same, bit_at_set_other, bit_at_mask_inside, bit_at_mask_above, bit_at_mask_below, bit_at-trailing_zeros, bit_at_cat_high, has_bit, IsPart}
+use Rattle.std.proofs.Math.Nat.{two-pow-succ}
 use Rattle.board_points.proofs.WordLemmas.{has_bit-and, has_bit-without, has_bit-zero, has_bit-less, same_bools, le_from_part}
-use Rattle.std.proofs.Math.Bool.{or-true, and-true, and-false}
 
 -- a word with one bit set
 pub set_bit_there : (word col : ℕ) (b : Bool) → b ≡ true → col < 64 → has_bit (bit_or word (1 * 2 ^ col % 2 ^ 64)) col ≡ (has_bit word col || b)

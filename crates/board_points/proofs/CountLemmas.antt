@@ -1,19 +1,7 @@
 -- Counting points by the bits of words.
-use Rattle.std.proofs.Common.{◌≡◌, inl, inr, ℕ, zero, suc, ◌+◌, ◌*◌, ◌^◌, ◌%◌, ◌<◌, ◌≤◌, ◌==◌, ◌&&◌, Bool, true, not, cond, IsTrue, List, map, get_or, bit_and, count_ones, count_by, sum, sum_by, refl, sym, ap, ◌∙◌, arith, w64}
-use Rattle.std.proofs.lemmas.Grind.{common_steps}
-use Rattle.std.specs.Int.{bit_not}
-use Rattle.std.specs.List.{range_with_len}
+use Rattle.std.proofs.Common.{◌≡◌, inl, inr, ℕ, zero, suc, ◌+◌, ◌*◌, ◌^◌, ◌%◌, ◌<◌, ◌≤◌, ◌==◌, ◌&&◌, Bool, true, not, cond, IsTrue, List, map, get_or, bit_and, count_ones, count_by, sum, sum_by, refl, sym, ap, ◌∙◌, arith, w64, add_assoc, pow_pos}
+use Rattle.board_points.proofs.Common.{bit_not, range_with_len, and_parts, cases_lt, false_from_ne_true, common_steps, length-map, sum_by-map-range_with_len_more, sum-map, and_le_l, ones-le, ones_cat, mod-pow-add, mod_below, bit_at-lt, bit_at_above, same_from_bits, Point, IsOn, point_at, points, has_bit, is_set, count_apart}
 use lib.Count.{ones}
-use Rattle.std.proofs.lemmas.Bool.{and_parts, cases_lt, false_from_ne_true}
-use Rattle.std.proofs.Math.Nat.{add_assoc}
-use Rattle.std.proofs.lemmas.Nat.{and_le_l, ones-le, ones_cat, mod-pow-add, mod_below, pow_pos}
-use Rattle.std.proofs.lemmas.Nat.Bits.{bit_at-lt, bit_at_above, same_from_bits}
-use Rattle.std.proofs.lemmas.List.{length-map}
-use Rattle.std.proofs.lemmas.List.Sums.{sum-map}
-use Rattle.std.proofs.lemmas.List.FromFn.{sum_by-map-range_with_len_more}
-use Rattle.board_points.specs.declared.points.Point.{Point}
-use Rattle.board_points.specs.Point.{IsOn, point_at, points}
-use Rattle.board_points.specs.Rows.{has_bit, is_set, count_apart}
 use Rattle.board_points.proofs.PointLemmas.{point_at-index_of, is_map-points, length-points, IsOn-point_at, index_of-point_at, get_or-map-points}
 use Rattle.board_points.proofs.WordLemmas.{has_bit-and, has_bit-without, bit_at-gone, bit_at-mod}
 

@@ -1,7 +1,6 @@
 -- The definitions, computed on worked examples: texts that name points, and vertices.
 use Rattle.std.proofs.Common.{◌≡◌, [], ◌∷◌, refl, Some, None}
-use Rattle.board_points.specs.Values.{point_value, rect_value}
-use Rattle.board_points.specs.Vertex.{vertex_of}
+use Rattle.board_points.proofs.Common.{point_value, rect_value, vertex_of}
 
 -- `ZZ`, `Aa`, `aA`
 ZZ_on_52 : point_value (90 ∷ 90 ∷ []) 52 ≡ Some (record { col = 51; row = 51 })

@@ -1,16 +1,6 @@
 -- What the words of bits around a point tell of a stone on it.
 use Rattle.std.proofs.Common.{◌≡◌, ◌≢◌, inl, inr, ℕ, ◌+◌, ◌-◌, ◌^◌, ◌<◌, ◌==◌, ◌||◌, Bool, true, false, not, List, length, get_or, bit_and, bit_or, w64, refl, sym, ap, ◌∙◌, arith, subst, rules}
-use Rattle.std.proofs.lemmas.Grind.{common_steps}
-use Rattle.std.specs.Int.{bit_not}
-use Rattle.std.proofs.lemmas.Bool.{or_parts, and_parts, not-true, false≢true, false_from_ne_true}
-use Rattle.std.proofs.lemmas.Nat.Bits.{bit_at_ones}
-use Rattle.board_points.specs.declared.points.Point.{Point}
-use Rattle.board_points.specs.declared.liberty.RowStones.{RowStones}
-use Rattle.board_points.specs.Point.{IsOn, DifferByOne, AreAdjacent}
-use Rattle.board_points.specs.inner.Look.{IsInRowAround, IsRowAt, IsNextRow, AreFree, IsLookedAt}
-use Rattle.board_points.specs.Glance.{KeepsLiberty, Lives}
-use Rattle.board_points.specs.Rows.{has_bit, is_set}
-use Rattle.board_points.specs.inner.Columns.{IsInOrBeside}
+use Rattle.board_points.proofs.Common.{bit_not, or_parts, and_parts, not-true, false≢true, false_from_ne_true, common_steps, bit_at_ones, RowStones, Point, KeepsLiberty, Lives, IsOn, DifferByOne, AreAdjacent, has_bit, is_set, IsInOrBeside, IsInRowAround, IsRowAt, IsNextRow, AreFree, IsLookedAt}
 use Rattle.board_points.proofs.WordLemmas.{in_the_other, has_bit-or, has_bit-and, has_bit-without, has_bit-zero, column_below}
 
 -- a word of all bits has each column

@@ -1,18 +1,7 @@
 -- Sets of points in the halves of words.
-use Rattle.std.proofs.Common.{◌≡◌, ◌≢◌, inl, inr, ℕ, ◌+◌, ◌-◌, ◌*◌, ◌/◌, ◌%◌, ◌^◌, ◌<◌, ◌≤◌, ◌==◌, ◌&&◌, true, false, not, nat_lt, max, bit_and, count_ones, w64, List, slice_index, sym, ap, ◌∙◌, arith, length, subst}
-use Rattle.std.proofs.lemmas.Grind.{common_steps}
-use Rattle.std.proofs.lemmas.Bool.{and_parts, and_from, cases_lt}
-use Rattle.std.proofs.lemmas.Bool.Decides.{Decides-ltb}
+use Rattle.std.proofs.Common.{◌≡◌, ◌≢◌, inl, inr, ℕ, ◌+◌, ◌-◌, ◌*◌, ◌/◌, ◌%◌, ◌^◌, ◌<◌, ◌≤◌, ◌==◌, ◌&&◌, true, false, not, nat_lt, max, bit_and, count_ones, w64, List, slice_index, sym, ap, ◌∙◌, arith, length, subst, pow_pos}
+use Rattle.board_points.proofs.Common.{bit_at, bit_not, rotate_left, and_parts, and_from, cases_lt, Decides-ltb, common_steps, length-map, get_or_past, mod_below, ones_cat, bit_at_above, bit_at_cat_high, bit_at_cat_low, bit_at_or, bit_at-zero, same_from_bits, Point, low_halves, high_halves, ArePaired, AreOthersPaired, AreAdjacent, has_bit, is_set, AreAllColumns, IsAmong, IsClosed, IsPart}
 use Rattle.std.proofs.Math.ListN.{get_or-map}
-use Rattle.std.proofs.lemmas.Nat.{mod_below, ones_cat, pow_pos}
-use Rattle.std.proofs.lemmas.Nat.Bits.{bit_at_above, bit_at_cat_high, bit_at_cat_low, bit_at_or, bit_at-zero, same_from_bits}
-use Rattle.std.specs.Int.{bit_at, bit_not, rotate_left}
-use Rattle.std.proofs.lemmas.List.{length-map, get_or_past}
-use Rattle.board_points.specs.declared.points.Point.{Point}
-use Rattle.board_points.specs.Point.{AreAdjacent}
-use Rattle.board_points.specs.Rows.{has_bit, is_set, AreAllColumns, IsAmong, IsClosed}
-use Rattle.board_points.specs.inner.Columns.{IsPart}
-use Rattle.board_points.specs.Halves.{low_halves, high_halves, ArePaired, AreOthersPaired}
 use Rattle.board_points.proofs.WordLemmas.{same_bools, bit_at-mod, column_below, has_bit-less, not_in_part, same_word}
 use Rattle.board_points.proofs.ColumnLemmas.{AreOthers}
 use Rattle.board_points.proofs.RowLemmas.{AreRowsOf-others}

@@ -1,3 +1,4 @@
+mod Common
 mod Examples
 pub mod PointLemmas
 pub mod MarkingLemmas

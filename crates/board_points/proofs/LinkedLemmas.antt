@@ -1,16 +1,6 @@
 -- The group of a stone, and the points beside it.
 use Rattle.std.proofs.Common.{◌≡◌, ◌≢◌, inl, inr, ℕ, zero, suc, ◌+◌, ◌*◌, ◌/◌, ◌%◌, ◌^◌, ◌<◌, subst, Bool, not, ◌&&◌, ◌||◌, true, false, w64, List, length, set, take, replicate, bit_and, bit_or, slice_index, refl, sym, ap, ◌∙◌, arith, rules}
-use Rattle.std.proofs.lemmas.Grind.{common_steps}
-use Rattle.std.proofs.lemmas.Bool.{or_cases, or_left, or_right, or_parts, and_parts, and_from, false≢true, cases_Bool}
-use Rattle.std.specs.Int.{trailing_zeros}
-use Rattle.board_points.specs.declared.points.Point.{Point}
-use Rattle.board_points.specs.declared.liberty.RowStones.{RowStones}
-use Rattle.board_points.specs.Point.{IsOn, DifferByOne, AreAdjacent}
-use Rattle.board_points.specs.Rows.{has_bit, is_set, IsAmong, IsClosed, Grows}
-use Rattle.board_points.specs.inner.Columns.{IsPart, IsInOrBeside}
-use Rattle.board_points.specs.Linked.{HasLiberty, HaveLiberty, IsLinked, IsLiberty}
-use Rattle.board_points.specs.inner.Joined.{HasOneAlive}
-use Rattle.board_points.specs.inner.Look.{IsRowAt}
+use Rattle.board_points.proofs.Common.{trailing_zeros, or_cases, or_left, or_right, or_parts, and_parts, and_from, false≢true, cases_Bool, common_steps, RowStones, Point, HasLiberty, HaveLiberty, IsLinked, IsLiberty, IsOn, DifferByOne, AreAdjacent, has_bit, is_set, IsAmong, IsClosed, Grows, IsPart, IsInOrBeside, HasOneAlive, IsRowAt}
 use Rattle.board_points.proofs.PointLemmas.{AreAdjacent-sym, DifferByOne-sym}
 use Rattle.board_points.proofs.GrowLemmas.{set_there, set_elsewhere, row_below}
 use Rattle.board_points.proofs.WordLemmas.{has_bit-or, has_bit-and, has_bit-left, from_left, has_bit-right, has_bit-zero, column_below}

@@ -1,16 +1,9 @@
 -- Points, their indices in a list that goes row by row, and tests on the points of a grid.
-use Rattle.std.proofs.Common.{◌≡◌, ◌≢◌, ◌↔◌, Some, slice_get, subst, ℕ, ◌+◌, ◌*◌, ◌<◌, ◌⊎◌, Bool, true, List, [], ◌∷◌, map, take, length, get_or, refl, sym, ap, ◌∙◌, arith, Decides, inl, inr}
-use Rattle.std.proofs.lemmas.Grind.{common_steps}
-use Rattle.std.specs.List.{list_any, Contains}
-use Rattle.std.proofs.lemmas.Nat.{mul-add-lt, mod-mul-add, div-mul-add, rows}
-use Rattle.std.proofs.lemmas.List.{get_or-map, ext_get_or, length-map, take_more}
-use Rattle.std.proofs.lemmas.List.Elements.{Contains-append_left, Contains-push, Contains-push_cases}
+use Rattle.std.proofs.Common.{◌≡◌, ◌≢◌, ◌↔◌, Some, slice_get, subst, ℕ, ◌+◌, ◌*◌, ◌<◌, ◌⊎◌, Bool, true, List, [], ◌∷◌, map, take, length, get_or, refl, sym, ap, ◌∙◌, arith, Decides, inl, inr, Contains, ext_get_or}
+use Rattle.board_points.proofs.Common.{list_any, Decides-eqb, Decides-and, Decides-or, Decides-by_or, common_steps, length-map, take_more, Contains-append_left, Contains-push, Contains-push_cases, length-map-range_with_len, get_or-map-range_with_len, mul-add-lt, mod-mul-add, div-mul-add, rows, Point, IsOn, AreAdjacent, are_adjacent, index_of, point_at, points, DifferByOne}
+use Rattle.std.proofs.lemmas.List.{get_or-map}
 use Rattle.std.proofs.lemmas.Option.{slice_get-get_or, get_or_from_slice_get, slice_get_within}
-use Rattle.std.proofs.lemmas.List.FromFn.{length-map-range_with_len, get_or-map-range_with_len}
 use Rattle.std.proofs.lemmas.List.Folds.{list_any_at}
-use Rattle.std.proofs.lemmas.Bool.Decides.{Decides-eqb, Decides-and, Decides-or, Decides-by_or}
-use Rattle.board_points.specs.declared.points.Point.{Point}
-use Rattle.board_points.specs.Point.{IsOn, AreAdjacent, are_adjacent, index_of, point_at, points, DifferByOne}
 
 -- the upper left corner
 abbrev pub origin : Point

@@ -1,16 +1,8 @@
 -- Sets of points as rows of words that are written one by one.
-use Rattle.std.proofs.Common.{◌≡◌, ℕ, ◌+◌, ◌^◌, ◌<◌, ◌||◌, Bool, false, not, List, length, get_or, set, slice_index, bit_and, bit_or, w64, sym, ap, ◌∙◌, arith, ◌≤◌, slice_set}
-use Rattle.std.proofs.lemmas.Grind.{common_steps}
-use Rattle.std.proofs.lemmas.Bool.{and_parts}
-use Rattle.std.specs.Int.{bit_not}
-use Rattle.std.proofs.lemmas.List.{get_or-set_same, get_or-set_other, get_or_past}
-use Rattle.std.proofs.lemmas.Nat.Bits.{bit_at-zero, same_from_bits}
-use Rattle.board_points.specs.declared.points.Point.{Point}
-use Rattle.board_points.specs.Point.{IsOn}
-use Rattle.board_points.specs.Rows.{is_set, AreRowsOf, IsDifference}
+use Rattle.std.proofs.Common.{◌≡◌, ℕ, ◌+◌, ◌^◌, ◌<◌, ◌||◌, Bool, false, not, List, length, get_or, set, slice_index, bit_and, bit_or, w64, sym, ap, ◌∙◌, arith, ◌≤◌, slice_set, get_or-set_same, get_or-set_other}
+use Rattle.board_points.proofs.Common.{bit_not, or-false, and_parts, common_steps, get_or_past, bit_at-zero, same_from_bits, Point, IsOn, is_set, AreRowsOf, IsDifference}
 use Rattle.board_points.proofs.GrowLemmas.{row_below}
 use Rattle.board_points.proofs.WordLemmas.{has_bit-and, has_bit-without, bit_at-gone, has_bit-or, has_bit-zero}
-use Rattle.std.proofs.Math.Bool.{or-false}
 use Rattle.board_points.proofs.ColumnLemmas.{AreOthers}
 
 -- what holds of each row that is written, once one more is

@@ -1,13 +1,7 @@
 -- Different points have different vertices.
 use Rattle.std.proofs.Common.{◌≡◌, ℕ, ◌-◌, ◌<◌, ◌≤◌, map, refl, sym, ap, ◌∙◌, arith, nat_lt, if◌then◌else◌, slice_index}
-use Rattle.std.proofs.lemmas.Grind.{common_steps}
-use Rattle.std.specs.List.{range_with_len}
+use Rattle.board_points.proofs.Common.{range_with_len, common_steps, get_or-range_with_len, Point, Vertex, IsOn, column_letters, vertex_of}
 use Rattle.std.proofs.lemmas.List.{get_or-map}
-use Rattle.std.proofs.lemmas.List.FromFn.{get_or-range_with_len}
-use Rattle.board_points.specs.declared.points.Point.{Point}
-use Rattle.board_points.specs.declared.vertices.Vertex.{Vertex}
-use Rattle.board_points.specs.Point.{IsOn}
-use Rattle.board_points.specs.Vertex.{column_letters, vertex_of}
 
 -- the column of a letter
 column_of : ℕ → ℕ

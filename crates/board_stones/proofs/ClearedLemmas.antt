@@ -1,22 +1,8 @@
 -- A move on a grid where every stone reaches empty: clearing the groups without a liberty beside the stone, or else its own where that
 -- has none, is the whole move. What is cleared, as rows.
-use Rattle.std.proofs.Common.{◌≡◌, ◌⊎◌, inl, inr, ◌*◌, ◌≤◌, ◌||◌, true, false, ℕ, List, [], length, take, Contains, ◌↔◌, refl, sym, ap, subst, ◌∙◌, arith, ◌≢◌, Bool, ◌∷◌, IsTrue, rules}
-use Rattle.std.proofs.lemmas.Grind.{common_steps}
-use Rattle.std.proofs.lemmas.Bool.{cases_Bool, or_cases, or_parts, or_left, or_right, false≢true}
-use Rattle.std.proofs.lemmas.List.{length-set, get_or_past, take_all}
-use Rattle.board_stones.specs.declared.stones.Cell.{Cell}
+use Rattle.std.proofs.Common.{◌≡◌, ◌⊎◌, inl, inr, ◌*◌, ◌≤◌, ◌||◌, true, false, ℕ, List, [], length, take, Contains, ◌↔◌, refl, sym, ap, subst, ◌∙◌, arith, ◌≢◌, Bool, ◌∷◌, IsTrue, rules, length-set, take_all}
+use Rattle.board_stones.proofs.Common.{cases_Bool, or_cases, or_parts, or_left, or_right, false≢true, common_steps, get_or_past, Point, AddsIfShut, IsOn, index_of, AreAdjacent, is_set, IsAmong, AreRowsOf, Cell, Colour, play, has_unreaching, clear, stone_of, same_cell, opponent, Grid, cell_at, with_cell, IsWithout, Clears, Leads, Reaches, AddsGroup, AddsShut, AreShutGroups, IsClearedOrReaches, AllLive, IsWithoutLiberty, AllReach, ReachBeside, AreClearedOrReachBeside, IsAsked}
 use Rattle.board_stones.specs.declared.stones.Cell.TheVariants.{Empty}
-use Rattle.board_stones.specs.declared.stones.Colour.{Colour}
-use Rattle.board_points.specs.declared.points.Point.{Point}
-use Rattle.board_stones.specs.Colour.{stone_of, same_cell, opponent}
-use Rattle.board_points.specs.Point.{IsOn, index_of, AreAdjacent}
-use Rattle.board_stones.specs.Grid.{Grid, cell_at, with_cell}
-use Rattle.board_stones.specs.Clearing.{play, has_unreaching, clear}
-use Rattle.board_points.specs.Rows.{is_set, IsAmong, AreRowsOf}
-use Rattle.board_points.specs.Linked.{AddsIfShut}
-use Rattle.board_stones.specs.inner.Groups.{AddsGroup, AddsShut, AreShutGroups, IsClearedOrReaches, AllLive, IsWithoutLiberty, AllReach, ReachBeside, AreClearedOrReachBeside, IsAsked}
-use Rattle.board_stones.specs.Move.{IsWithout, Clears}
-use Rattle.board_stones.specs.Reaching.{Leads, Reaches}
 use Rattle.board_points.proofs.PointLemmas.{same_or_not, AreAdjacent-sym}
 use Rattle.board_stones.proofs.GridLemmas.{cell_at-with_cell, cell_at-with_cell_elsewhere}
 use Rattle.board_points.proofs.WordLemmas.{has_bit-zero}

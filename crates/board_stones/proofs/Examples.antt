@@ -2,11 +2,7 @@
 use Rattle.std.proofs.Common.{◌≡◌, true, false, [], ◌∷◌, refl}
 use Rattle.board_stones.specs.declared.stones.Cell.TheVariants.{Black as B, White as W, Empty as E}
 use Rattle.board_stones.specs.declared.stones.Colour.TheVariants.{Black, White}
-use Rattle.board_points.specs.Point.{points}
-use Rattle.board_stones.specs.Grid.{Grid, empty_grid}
-use Rattle.board_stones.specs.Reaching.{reaches, reaching_within, spread}
-use Rattle.board_stones.specs.Clearing.{clear, play, cleared_cell, has_unreaching}
-use Rattle.board_stones.specs.Score.{score_of, counts_for}
+use Rattle.board_stones.proofs.Common.{points, clear, play, cleared_cell, has_unreaching, Grid, empty_grid, reaches, reaching_within, spread, score_of, counts_for}
 
 -- a black stone in the corner between two white ones
 corner : Grid

@@ -1,15 +1,7 @@
 -- Once no point of a flood waits, exactly what reaches the colour is marked.
-use Rattle.std.proofs.Common.{◌≡◌, ◌⊎◌, inl, inr, List, [], ◌∷◌, ◌++◌, length, sym, ap, ◌∙◌, subst, arith, IsTrue}
+use Rattle.std.proofs.Common.{◌≡◌, ◌⊎◌, inl, inr, List, [], ◌∷◌, ◌++◌, length, sym, ap, ◌∙◌, subst, arith, IsTrue, Contains}
 use Rattle.std.proofs.lemmas.List.Elements.{Contains-push_cases}
-use Rattle.std.specs.List.{Contains}
-use Rattle.board_points.specs.declared.points.Point.{Point}
-use Rattle.board_points.specs.Point.{IsOn}
-use Rattle.board_points.specs.Marking.{is_marked}
-use Rattle.board_points.specs.Search.{Searched, Finds}
-use Rattle.board_stones.specs.declared.stones.Cell.{Cell}
-use Rattle.board_stones.specs.Grid.{Grid}
-use Rattle.board_stones.specs.Reaching.{Leads, Reaches}
-use Rattle.board_stones.specs.inner.Flood.{ReachesThrough, IsUnderWay}
+use Rattle.board_stones.proofs.Common.{Point, is_marked, IsOn, Searched, Finds, Cell, Grid, Leads, Reaches, ReachesThrough, IsUnderWay}
 use Rattle.board_points.proofs.PointLemmas.{AreAdjacent-sym}
 use Rattle.board_stones.proofs.ReachingLemmas.{Leads-on, step_kind, path_by_step}
 

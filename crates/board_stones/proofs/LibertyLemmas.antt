@@ -1,20 +1,8 @@
 -- What the rows of words tell of a grid: whether a stone reaches empty, or its group has no liberty, and which stones of a colour don't reach empty.
 use Rattle.std.proofs.Common.{◌≡◌, Decides, inl, inr, ℕ, ◌≤◌, ◌&&◌, Bool, true, false, not, List, [], ◌∷◌, length, refl, sym, ap, ◌∙◌, arith, subst, ◌<◌, slice_index}
-use Rattle.std.proofs.lemmas.Grind.{common_steps}
-use Rattle.std.proofs.lemmas.Bool.{and_parts, and_from, false≢true, cases_Bool}
-use Rattle.board_stones.specs.declared.stones.Cell.{Cell}
+use Rattle.board_stones.proofs.Common.{and_parts, and_from, false≢true, cases_Bool, common_steps, Point, HaveLiberty, IsFree, HasLiberty, IsLiberty, IsShutIn, IsOn, is_set, IsAmong, IsClosed, Grows, has_bit, AreRowsOf, IsDifference, Cell, Colour, has_unreaching, opponent, stone_of, same_cell, Grid, cell_at, Leads, reaches, Reaches, AllReach, is_shut, IsWithoutLiberty}
 use Rattle.board_stones.specs.declared.stones.Cell.TheVariants.{Empty}
-use Rattle.board_stones.specs.declared.stones.Colour.{Colour}
 use Rattle.board_stones.specs.declared.stones.Colour.TheVariants.{Black, White}
-use Rattle.board_points.specs.declared.points.Point.{Point}
-use Rattle.board_stones.specs.Colour.{opponent, stone_of, same_cell}
-use Rattle.board_points.specs.Point.{IsOn}
-use Rattle.board_stones.specs.Grid.{Grid, cell_at}
-use Rattle.board_stones.specs.inner.Groups.{AllReach, is_shut, IsWithoutLiberty}
-use Rattle.board_points.specs.Rows.{is_set, IsAmong, IsClosed, Grows, has_bit, AreRowsOf, IsDifference}
-use Rattle.board_points.specs.Linked.{HaveLiberty, IsFree, HasLiberty, IsLiberty, IsShutIn}
-use Rattle.board_stones.specs.Reaching.{Leads, reaches, Reaches}
-use Rattle.board_stones.specs.Clearing.{has_unreaching}
 use Rattle.board_stones.proofs.GridLemmas.{Decides-same_cell}
 use Rattle.board_stones.proofs.SettledLemmas.{both_reach, AllReach-settled}
 use Rattle.board_stones.proofs.ReachingLemmas.{Decides-reaches, path_by_step}

@@ -1,15 +1,6 @@
 -- The function `reaches` and the paths: they agree at each point of the grid.
 use Rattle.std.proofs.Common.{◌≡◌, ◌⊎◌, inl, inr, ℕ, zero, suc, ◌+◌, ◌*◌, ◌<◌, Bool, true, false, List, [], ◌∷◌, length, get_or, refl, sym, ap, subst, ◌∙◌, arith, Decides, count_by, cond}
-use Rattle.std.proofs.lemmas.Grind.{common_steps}
-use Rattle.std.proofs.lemmas.List.Sums.{count_by-le-length, sum_by-cons}
-use Rattle.std.proofs.lemmas.Bool.Decides.{Decides-and, Decides-or, Decides-at, Decides-like}
-use Rattle.board_stones.specs.declared.stones.Cell.{Cell}
-use Rattle.board_points.specs.declared.points.Point.{Point}
-use Rattle.board_stones.specs.Colour.{same_cell}
-use Rattle.board_points.specs.Point.{IsOn, AreAdjacent, point_at}
-use Rattle.board_stones.specs.Grid.{Grid, cell_at}
-use Rattle.board_points.specs.Marking.{Marking, is_marked}
-use Rattle.board_stones.specs.Reaching.{Leads, Reaches, leads_on, spread, reaching_within, reaches}
+use Rattle.board_stones.proofs.Common.{Decides-and, Decides-or, Decides-at, Decides-like, common_steps, count_by-le-length, sum_by-cons, Point, Marking, is_marked, IsOn, AreAdjacent, point_at, Cell, same_cell, Grid, cell_at, Leads, Reaches, leads_on, spread, reaching_within, reaches}
 use Rattle.board_points.proofs.PointLemmas.{Decides-some_point, Decides-are_adjacent, index_of-point_at, IsOn-point_at}
 use Rattle.board_stones.proofs.GridLemmas.{Decides-same_cell}
 use Rattle.board_points.proofs.MarkingLemmas.{is_marked-marking_of, length-marking_of}

@@ -1,15 +1,8 @@
 -- A rectangle coloured row by row.
-use Rattle.std.proofs.Common.{◌≡◌, ℕ, ◌+◌, ◌<◌, ◌≤◌, ◌&&◌, true, nat_le, List, [], ◌∷◌, fold, length, get_or, take, refl, ◌∙◌, arith}
-use Rattle.std.proofs.lemmas.Grind.{common_steps}
-use Rattle.std.proofs.Math.Bool.{and-true}
-use Rattle.std.proofs.lemmas.List.Sums.{fold_more}
-use Rattle.std.proofs.lemmas.Bool.{leb-true, le-leb, and_from, and_parts}
-use Rattle.board_points.specs.declared.points.Point.{Point}
+use Rattle.std.proofs.Common.{◌≡◌, ℕ, ◌+◌, ◌<◌, ◌≤◌, ◌&&◌, true, nat_le, List, [], ◌∷◌, fold, length, get_or, take, refl, ◌∙◌, arith, leb-true, le-leb}
+use Rattle.board_stones.proofs.Common.{and-true, and_from, and_parts, common_steps, fold_more, Point, has_bit, Grid, is_in, with_rectangle}
 use Rattle.board_points.specs.declared.points.Rect.{Rect}
 use Rattle.board_stones.specs.declared.setup_op.SetupOp.{SetupOp}
-use Rattle.board_stones.specs.Grid.{Grid}
-use Rattle.board_stones.specs.Rectangle.{is_in, with_rectangle}
-use Rattle.board_points.specs.Rows.{has_bit}
 
 -- in the rows of a rectangle the columns between its sides are its points
 pub rectangle_columns : (area : Rect) (columns : ℕ) (p : Point) → ((k : ℕ) → has_bit columns k ≡ (nat_le area.first.col k && nat_le k area.last.col)) → area.first.row ≤ p.row → p.row ≤ area.last.row → has_bit columns p.col ≡ is_in area p

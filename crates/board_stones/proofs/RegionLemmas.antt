@@ -1,17 +1,7 @@
 -- Rows of words that have the points of a grid with certain cells, and those that reach a colour through them.
 use Rattle.std.proofs.Common.{◌≡◌, ◌⊎◌, inl, inr, ℕ, ◌&&◌, true, not, List, [], ◌∷◌, length, sym, ◌∙◌, arith}
-use Rattle.std.proofs.lemmas.Grind.{common_steps}
-use Rattle.std.proofs.lemmas.Bool.{or_cases, or_left, or_right, and_parts, and_from}
-use Rattle.board_stones.specs.declared.stones.Cell.{Cell}
+use Rattle.board_stones.proofs.Common.{or_cases, or_left, or_right, and_parts, and_from, common_steps, Point, IsOn, AreAdjacent, is_set, IsAmong, IsClosed, Grows, AreRowsOf, Cell, Colour, opponent, stone_of, same_cell, Grid, cell_at, Leads, reaches, is_either, reaches_through_own}
 use Rattle.board_stones.specs.declared.stones.Cell.TheVariants.{Empty}
-use Rattle.board_points.specs.declared.points.Point.{Point}
-use Rattle.board_stones.specs.declared.stones.Colour.{Colour}
-use Rattle.board_stones.specs.Colour.{opponent, stone_of, same_cell}
-use Rattle.board_points.specs.Point.{IsOn, AreAdjacent}
-use Rattle.board_stones.specs.Grid.{Grid, cell_at}
-use Rattle.board_stones.specs.Reaching.{Leads, reaches}
-use Rattle.board_points.specs.Rows.{is_set, IsAmong, IsClosed, Grows, AreRowsOf}
-use Rattle.board_stones.specs.inner.Regions.{is_either, reaches_through_own}
 use Rattle.board_points.proofs.RowLemmas.{AreRowsOf-same}
 use Rattle.board_points.proofs.WordLemmas.{same_bools}
 use Rattle.board_stones.proofs.GridLemmas.{Decides-same_cell}

@@ -1,18 +1,7 @@
 -- Clearing, stones that don't reach empty, and the points that count for a player, by paths.
 use Rattle.std.proofs.Common.{◌≡◌, ◌≢◌, ◌*◌, Bool, true, false, not, ◌&&◌, cond, length, refl, Decides, arith}
-use Rattle.std.proofs.lemmas.Grind.{common_steps}
-use Rattle.std.proofs.lemmas.Bool.{false_from_ne_true}
-use Rattle.std.proofs.lemmas.Bool.Decides.{Decides-and, Decides-or, Decides-not, Decides-like}
-use Rattle.board_stones.specs.declared.stones.Cell.{Cell}
+use Rattle.board_stones.proofs.Common.{false_from_ne_true, Decides-and, Decides-or, Decides-not, Decides-like, common_steps, Point, IsOn, Cell, Colour, cleared_cell, clear, HasUnreaching, has_unreaching, stone_of, Grid, cell_at, Reaches, CountsFor, counts_for}
 use Rattle.board_stones.specs.declared.stones.Cell.TheVariants.{Empty}
-use Rattle.board_stones.specs.declared.stones.Colour.{Colour}
-use Rattle.board_points.specs.declared.points.Point.{Point}
-use Rattle.board_stones.specs.Colour.{stone_of}
-use Rattle.board_points.specs.Point.{IsOn}
-use Rattle.board_stones.specs.Grid.{Grid, cell_at}
-use Rattle.board_stones.specs.Reaching.{Reaches}
-use Rattle.board_stones.specs.Clearing.{cleared_cell, clear, HasUnreaching, has_unreaching}
-use Rattle.board_stones.specs.Score.{CountsFor, counts_for}
 use Rattle.board_points.proofs.PointLemmas.{Decides-some_point}
 use Rattle.board_stones.proofs.GridLemmas.{Decides-same_cell, cell_at-grid_of, length-grid_of}
 use Rattle.board_stones.proofs.ReachingLemmas.{Decides-reaches}

@@ -1,16 +1,8 @@
 -- A score by rows of words: a colour's area without the points of the other's.
 use Rattle.std.proofs.Common.{◌≡◌, ℕ, ◌||◌, ◌&&◌, Bool, true, not, List, [], ap, ◌∙◌, arith}
-use Rattle.std.proofs.lemmas.Grind.{common_steps}
-use Rattle.board_stones.specs.declared.stones.Cell.{Cell}
+use Rattle.board_stones.proofs.Common.{common_steps, is_set, AreRowsOf, count_apart, Cell, Colour, opponent, stone_of, same_cell, Grid, cell_at, reaches, score_of, counts_for, is_either, reaches_through_own}
 use Rattle.board_stones.specs.declared.stones.Cell.TheVariants.{Empty}
-use Rattle.board_stones.specs.declared.stones.Colour.{Colour}
-use Rattle.board_stones.specs.Colour.{opponent, stone_of, same_cell}
-use Rattle.board_stones.specs.Grid.{Grid, cell_at}
-use Rattle.board_stones.specs.Reaching.{reaches}
-use Rattle.board_stones.specs.Score.{score_of, counts_for}
 use Rattle.board_stones.proofs.ReachingLemmas.{Decides-reaches}
-use Rattle.board_points.specs.Rows.{is_set, AreRowsOf, count_apart}
-use Rattle.board_stones.specs.inner.Regions.{is_either, reaches_through_own}
 use Rattle.board_points.proofs.CountLemmas.{count_alike}
 
 -- the points of the player's colour or reaching it, and not reaching the other's

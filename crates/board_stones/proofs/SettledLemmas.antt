@@ -1,18 +1,7 @@
 -- Grids on which stones reach empty: clearing them changes nothing, and after a move all do.
-use Rattle.std.proofs.Common.{◌≡◌, ◌≢◌, ◌⊎◌, inl, inr, ◌*◌, false, List, [], ◌∷◌, length, sym, ◌∙◌, ℕ, arith}
-use Rattle.std.proofs.lemmas.Grind.{common_steps}
-use Rattle.std.proofs.lemmas.Bool.{cases_Bool, true≢false}
-use Rattle.std.proofs.lemmas.Bool.Decides.{not_from_Decides}
-use Rattle.board_stones.specs.declared.stones.Cell.{Cell}
+use Rattle.std.proofs.Common.{◌≡◌, ◌≢◌, ◌⊎◌, inl, inr, ◌*◌, false, List, [], ◌∷◌, length, sym, ◌∙◌, ℕ, arith, true≢false}
+use Rattle.board_stones.proofs.Common.{cases_Bool, not_from_Decides, common_steps, Point, IsOn, Cell, Colour, cleared_cell, clear, play, has_unreaching, opponent, stone_of, Grid, cell_at, with_cell, empty_grid, Leads, Reaches, reaches, AllReach}
 use Rattle.board_stones.specs.declared.stones.Cell.TheVariants.{Empty}
-use Rattle.board_stones.specs.declared.stones.Colour.{Colour}
-use Rattle.board_points.specs.declared.points.Point.{Point}
-use Rattle.board_stones.specs.Colour.{opponent, stone_of}
-use Rattle.board_points.specs.Point.{IsOn}
-use Rattle.board_stones.specs.Grid.{Grid, cell_at, with_cell, empty_grid}
-use Rattle.board_stones.specs.Reaching.{Leads, Reaches, reaches}
-use Rattle.board_stones.specs.Clearing.{cleared_cell, clear, play, has_unreaching}
-use Rattle.board_stones.specs.inner.Groups.{AllReach}
 use Rattle.board_points.proofs.MarkingLemmas.{get_or-replicate_default}
 use Rattle.board_stones.proofs.ReachingLemmas.{Decides-reaches}
 use Rattle.board_stones.proofs.RuleLemmas.{side-clear, cell_at-clear, emptied, kept, others_kept, Decides-has_unreaching}

@@ -1,19 +1,9 @@
 -- The rows of the stones of a board: the grid that they make, and points of a row coloured anew.
-use Rattle.std.proofs.Common.{◌≡◌, ◌≢◌, ◌↔◌, inl, inr, ℕ, ◌*◌, ◌<◌, ◌≤◌, ◌^◌, ◌==◌, ◌&&◌, Bool, true, false, not, cond, List, length, get_or, set, take, replicate, bit_and, bit_or, w64, refl, sym, ap, ◌∙◌, arith, subst, rules}
-use Rattle.std.proofs.lemmas.Grind.{common_steps}
+use Rattle.std.proofs.Common.{◌≡◌, ◌≢◌, ◌↔◌, inl, inr, ℕ, ◌*◌, ◌<◌, ◌≤◌, ◌^◌, ◌==◌, ◌&&◌, Bool, true, false, not, cond, List, length, get_or, set, take, replicate, bit_and, bit_or, w64, refl, sym, ap, ◌∙◌, arith, subst, rules, ext_get_or, get_or-take, length-set, length-take-le}
+use Rattle.board_stones.proofs.Common.{cases_Bool, cases_eq, false≢true, Decides-eqb, common_steps, length-replicate, set-get_or, Point, IsOn, index_of, has_bit, is_set, AreRowsOf, Cell, same_cell, Grid, cell_at, with_cell, empty_grid, with_row, AreStones, grid_with, stone_in, with_columns}
 use Rattle.std.specs.Int.{bit_at, bit_not}
-use Rattle.std.proofs.lemmas.Bool.{cases_Bool, cases_eq, false≢true}
-use Rattle.std.proofs.lemmas.Bool.Decides.{Decides-eqb}
 use Rattle.std.proofs.lemmas.Nat.Bits.{same_from_bits}
-use Rattle.std.proofs.lemmas.List.{ext_get_or, get_or-take, length-set, length-take-le, length-replicate, set-get_or}
-use Rattle.board_stones.specs.declared.stones.Cell.{Cell}
 use Rattle.board_stones.specs.declared.stones.Cell.TheVariants.{Black, White, Empty}
-use Rattle.board_points.specs.declared.points.Point.{Point}
-use Rattle.board_stones.specs.Colour.{same_cell}
-use Rattle.board_points.specs.Point.{IsOn, index_of}
-use Rattle.board_stones.specs.Grid.{Grid, cell_at, with_cell, empty_grid, with_row}
-use Rattle.board_points.specs.Rows.{has_bit, is_set, AreRowsOf}
-use Rattle.board_stones.specs.inner.Regions.{AreStones, grid_with, stone_in, with_columns}
 use Rattle.board_points.proofs.WordLemmas.{has_bit-or, has_bit-less, bit_at-there, bit_at-gone, same_bools}
 use Rattle.board_points.proofs.GrowLemmas.{row_below, set_there, set_elsewhere}
 use Rattle.board_points.proofs.MarkingLemmas.{is_set-none, get_or-replicate_default}

@@ -1,20 +1,7 @@
 -- Grids coloured row by row, and cleared ones.
-use Rattle.std.proofs.Common.{◌≡◌, ℕ, ◌+◌, ◌*◌, ◌<◌, ◌≤◌, ◌==◌, ◌&&◌, Bool, cond, true, false, nat_lt, List, length, refl, sym, ap, subst, ◌∙◌, arith, IsTrue, rules}
-use Rattle.std.proofs.lemmas.Grind.{common_steps}
-use Rattle.std.proofs.Math.Bool.{and-false}
-use Rattle.std.proofs.lemmas.Bool.{and_parts, and_from, true≢false, false_from_ne_true}
-use Rattle.std.proofs.lemmas.Bool.Decides.{Decides-eqb, Decides-ltb, nat_tests}
-use Rattle.board_stones.specs.declared.stones.Cell.{Cell}
+use Rattle.std.proofs.Common.{◌≡◌, ℕ, ◌+◌, ◌*◌, ◌<◌, ◌≤◌, ◌==◌, ◌&&◌, Bool, cond, true, false, nat_lt, List, length, refl, sym, ap, subst, ◌∙◌, arith, IsTrue, rules, true≢false}
+use Rattle.board_stones.proofs.Common.{and-false, and_parts, and_from, false_from_ne_true, Decides-eqb, Decides-ltb, nat_tests, common_steps, Point, IsOn, has_bit, is_set, AreRowsOf, Cell, Colour, cleared_cell, clear, Grid, cell_at, grid_of, IsWithout, is_shut, with_columns}
 use Rattle.board_stones.specs.declared.stones.Cell.TheVariants.{Empty}
-use Rattle.board_stones.specs.declared.stones.Colour.{Colour}
-use Rattle.board_points.specs.declared.points.Point.{Point}
-use Rattle.board_points.specs.Point.{IsOn}
-use Rattle.board_stones.specs.Grid.{Grid, cell_at, grid_of}
-use Rattle.board_stones.specs.Clearing.{cleared_cell, clear}
-use Rattle.board_stones.specs.inner.Groups.{is_shut}
-use Rattle.board_stones.specs.Move.{IsWithout}
-use Rattle.board_points.specs.Rows.{has_bit, is_set, AreRowsOf}
-use Rattle.board_stones.specs.inner.Regions.{with_columns}
 use Rattle.board_stones.proofs.GridLemmas.{cell_at-grid_of, length-grid_of}
 use Rattle.board_stones.proofs.GroupLemmas.{grid_of-cells, same_colours}
 use Rattle.board_points.proofs.WordLemmas.{same_bools, has_bit-zero}

@@ -1,11 +1,9 @@
 -- What a source over a slice gives, and what calls for all of some bytes hand on.
-use Rattle.std.proofs.Common.{◌≡◌, ℕ, ◌+◌, ◌-◌, ◌<◌, ◌≤◌, List, ◌++◌, length, take, drop, Option, Some, refl, sym, ap, ◌∙◌, arith, length-append, rules, [], append-nil}
+use Rattle.std.proofs.Common.{◌≡◌, ℕ, ◌+◌, ◌-◌, ◌<◌, ◌≤◌, List, ◌++◌, length, take, drop, Option, Some, refl, sym, ap, ◌∙◌, arith, length-append, rules, [], append-nil, min, take-add, take-append-drop, length-take-le, length-drop, drop-drop, take_all}
 use Rattle.std.proofs.lemmas.Grind.{common_steps}
-use Rattle.std.specs.Prelude.{min}
 use Rattle.std.specs.Io.KnownBytes.{Appends, Keeps, append_known}
 use Rattle.std.proofs.KnownBytes.{Appends-trans, append_known-moved}
-use Rattle.std.proofs.Math.Seq.{take-add}
-use Rattle.std.proofs.lemmas.List.{nil_from_length, take-append-drop, length-take-le, length-drop, drop-drop, take-append-le, take_all, drop_all}
+use Rattle.std.proofs.lemmas.List.{nil_from_length, take-append-le, drop_all}
 use Rattle.byte_streams.specs.Streams.{SourceState, Gives, SinkState, Takes}
 
 -- how a source over a slice stands that has given g bytes

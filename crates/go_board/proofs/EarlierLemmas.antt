@@ -1,16 +1,11 @@
 -- A referee has as many earlier states as it keeps something of.
 use Rattle.std.proofs.Common.{◌≡◌, ℕ, suc, ◌+◌, ◌-◌, ◌<◌, ◌≤◌, get_or, Bool, true, false, cond, Option, Some, List, [], ◌∷◌, ◌++◌, length, length-append, reverse, refl, sym, ap, subst, ◌∙◌, arith}
 use Rattle.std.specs.Int.{from_bool}
-use Rattle.std.proofs.lemmas.List.{get_or-reverse, length-reverse, reverse-append}
+use Rattle.go_board.proofs.Common.{get_or-reverse, length-reverse, reverse-append, Colour, Grid, empty_grid, Held, PastColourings, newest_grid, only, with_next, AllHaveSide, HaveSide, Earlier, State, HadSameBoardSince, begun, starting, grew, player_of, past_before, past_of_older, states_before, turns_before, turn_count, state_of, states_of, IsRefereeKept}
 use Rattle.go_board.specs.declared.referee.Call.TheVariants.{Stay}
 use Rattle.go_board.specs.declared.referee.Mover.{Mover}
-use Rattle.go_board.specs.declared.referee.Earlier.{Earlier}
-use Rattle.board_stones.specs.declared.stones.Colour.{Colour}
 use Rattle.board_stones.specs.declared.stones.Colour.TheVariants.{Black}
-use Rattle.board_stones.specs.Grid.{Grid, empty_grid}
-use Rattle.board_past.specs.Past.{Held, PastColourings, newest_grid, only, with_next, AllHaveSide, HaveSide}
-use Rattle.go_board.specs.State.{State, HadSameBoardSince, begun, starting}
-use Rattle.go_board.specs.inner.Earlier.{grew, turned, player_of, past_before, past_of_older, states_before, turns_before, turn_count, state_of, states_of, IsRefereeKept}
+use Rattle.go_board.specs.inner.Earlier.{turned}
 
 length-states_before : (past : PastColourings) (turns : ℕ) (es : List Earlier) → length (states_before past turns es) ≡ length es
 length-states_before past turns [] = refl

@@ -5,20 +5,12 @@ use Rattle.std.proofs.lemmas.Bool.{false≢true, cases_lt, cases_Bool}
 use Rattle.std.proofs.lemmas.Bool.Decides.{Decides-by_or, Decides-and, Decides-not, Decides-like, Decides-eqb, same_from_decides, not_from_Decides}
 use Rattle.std.proofs.lemmas.List.Elements.{Decides-contains}
 use Rattle.std.proofs.lemmas.Slice.Eq.{slice_eq-Decides}
-use Rattle.board_stones.specs.declared.stones.Colour.{Colour}
+use Rattle.go_board.proofs.Common.{Colour, play, Grid, Illegal, Reason, Mixed, TwoMoves, BadSetup, BadPoint, Over, Turn, Occupied, Repeat, Stone, must_move, is_occupied, is_repeat, same_grid, reason_of, Forbids, IsFirstReason, rank_of, State, is_over, set_up, MayOnlyRepeat}
 use Rattle.board_points.specs.declared.points.Point.{Point}
 use Rattle.go_board.specs.declared.referee.plays.Play.{Play}
 use Rattle.board_stones.specs.declared.setup_op.SetupOp.{SetupOp}
-use Rattle.go_board.specs.declared.referee.plays.Play.TheVariants.{Stone}
-use Rattle.go_board.specs.declared.fault.TurnFault.TheVariants.{Illegal}
-use Rattle.go_board.specs.declared.reason.Reason.{Reason}
-use Rattle.go_board.specs.declared.reason.Reason.TheVariants.{Mixed, TwoMoves, BadSetup, BadPoint, Over, Turn, Occupied, Repeat}
 use Rattle.board_stones.specs.Colour.{opponent}
-use Rattle.board_stones.specs.Grid.{Grid}
-use Rattle.board_stones.specs.Clearing.{play}
-use Rattle.go_board.specs.State.{State, is_over, set_up, turned}
-use Rattle.go_board.specs.Reason.{must_move, is_occupied, is_repeat, same_grid, reason_of, Forbids, IsFirstReason, rank_of}
-use Rattle.go_board.specs.inner.Earlier.{MayOnlyRepeat}
+use Rattle.go_board.specs.State.{turned}
 use Rattle.board_stones.proofs.GridLemmas.{one_grid, Decides-same_cell}
 use Rattle.board_stones.proofs.RuleLemmas.{false_from_Decides}
 use Rattle.board_stones.proofs.SettledLemmas.{side_play}

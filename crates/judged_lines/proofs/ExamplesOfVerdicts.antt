@@ -1,18 +1,11 @@
 -- The verdicts of small lines, and their judged nodes, computed.
-use Rattle.std.proofs.Common.{◌≡◌, ℕ, List, [], ◌∷◌, map, refl, true, false}
-use Rattle.std.specs.Prelude.{codes}
-use Rattle.sgf_outline.specs.Tree.{Property, Node}
+use Rattle.std.proofs.Common.{◌≡◌, ℕ, List, [], ◌∷◌, map, refl, true, false, codes}
+use Rattle.judged_lines.proofs.Common.{Property, Node, Line, points, point_value, rect_value, score_of, counts_for, Verdict, verdict_of, judged_nodes}
 use Rattle.go_board.specs.declared.reason.Reason.TheVariants.{Mixed, TwoMoves, BadSetup, BadPoint, Over, Turn, Occupied, Repeat}
-use Rattle.board_points.specs.Point.{points}
 use Rattle.board_stones.specs.Reaching.{reaches, reaching_within, spread}
 use Rattle.board_stones.specs.Clearing.{clear, play, cleared_cell}
-use Rattle.board_stones.specs.Score.{score_of, counts_for}
 use Rattle.board_stones.specs.Rectangle.{with_rectangle}
-use Rattle.board_points.specs.Values.{point_value, rect_value}
-use Rattle.judged_lines.specs.declared.verdict.Verdict.{Verdict}
 use Rattle.judged_lines.specs.declared.verdict.Verdict.TheVariants.{Score, Illegal, NotGo, BadSize}
-use Rattle.tree_lines.specs.Lines.{Line}
-use Rattle.judged_lines.specs.Verdict.{verdict_of, judged_nodes}
 
 abbrev pub props : List ℕ → List ℕ → List (List ℕ) → Property
 props name value more = record { name = name; first = value; more = more }

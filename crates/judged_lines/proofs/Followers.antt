@@ -1,21 +1,7 @@
 -- A follower goes on by a line: the verdict that it gives, and the nodes that it plays for the lines of its streak.
-use Rattle.std.proofs.Common.{◌≡◌, ℕ, ◌+◌, ◌-◌, ◌<◌, ◌≤◌, length, take, drop, slice_get, Some, refl, sym, ap, subst, ◌∙◌, arith, rules}
-use Rattle.std.proofs.lemmas.Grind.{common_steps}
-use Rattle.std.specs.Prelude.{option_map}
-use Rattle.std.proofs.lemmas.List.{take-take}
-use Rattle.std.proofs.lemmas.Option.{slice_get_within}
-use Rattle.sgf_outline.specs.Tree.{node_count}
-use Rattle.sgf_outline.specs.FileOrder.{PlacesRise}
-use Rattle.tree_lines.specs.Lines.{lines}
-use Rattle.judged_lines.specs.Verdict.{verdict, verdict_of, judged_nodes}
-use Rattle.judged_lines.specs.Plays.{all_judged_places}
-use Rattle.tree_lines.specs.Cursor.{CursorState, advanced}
-use Rattle.judged_lines.specs.Follower.{FollowerState}
-use Rattle.judged_lines.specs.declared.over_lines.Before.{Before}
-use Rattle.judged_lines.specs.declared.over_lines.Before.TheVariants.{Unheld, Held, Refused}
-use Rattle.judged_lines.specs.declared.verdict.Verdict.{Verdict}
-use Rattle.tree_lines.specs.Following.{nodes_of, line_before, nodes_before}
-use Rattle.judged_lines.specs.GoingOn.{AreHeld, HasPlays, StandsBy, index_by, next_by}
+use Rattle.std.proofs.Common.{◌≡◌, ℕ, ◌+◌, ◌-◌, ◌<◌, ◌≤◌, length, take, drop, slice_get, Some, refl, sym, ap, subst, ◌∙◌, arith, rules, option_map, take-take}
+use Rattle.judged_lines.proofs.Common.{common_steps, slice_get_within, PlacesRise, node_count, CursorState, advanced, nodes_of, line_before, nodes_before, lines, Before, Unheld, Held, Refused, Verdict, FollowerState, AreHeld, HasPlays, StandsBy, index_by, all_judged_places, verdict, verdict_of, judged_nodes}
+use Rattle.judged_lines.specs.GoingOn.{next_by}
 use Rattle.judged_lines.specs.inner.Followers.{state_by, IsStreak, Follows}
 use Rattle.judged_lines.proofs.Keeping.{line_next}
 use Rattle.tree_lines.proofs.LeafLines.{lines_within}

@@ -1,36 +1,19 @@
 -- What properties hold, gathered one after the other.
-use Rattle.std.proofs.Common.{◌≡◌, ◌<◌, ℕ, Bor, Bool, Option, Some, None, List, [], ◌∷◌, ◌++◌, map, length, All, refl, sym, ap, subst, ◌∙◌, append_assoc, inl, arith, append-nil, length-append, rules}
-use Rattle.std.proofs.lemmas.Grind.{common_steps}
-use Rattle.std.specs.Prelude.{option_map, option_and_then, option_copied, codes}
+use Rattle.std.proofs.Common.{◌≡◌, ◌<◌, ℕ, Bor, Bool, Option, Some, None, List, [], ◌∷◌, ◌++◌, map, length, All, refl, sym, ap, subst, ◌∙◌, append_assoc, inl, arith, append-nil, length-append, rules, option_map, option_and_then, option_copied, codes, flat_map}
+use Rattle.judged_lines.proofs.Common.{cases_Bool, false_from_ne_true, common_steps, flat_map-append, map-append, All-nil, All-head, All-tail, All-weaker, NextNode, IsTakenOff, Property, Node, values, lone_property, told_property, IsRectOn, rect_value, SetupOp, Colour, Several, Faulty, moves_in, moves_by, stones_in, stones_of, players_in, first_value, player_value, operations, last_player, kind_of, AreMoves, IsSetup, setup_with_stones, setup_with_player, AddsRectangles, HoldsAlone, IsGathered, ComesAs}
 use Rattle.std.specs.Option.{option_or}
-use Rattle.std.specs.List.{flat_map}
-use Rattle.std.proofs.lemmas.Grind.{flat_map-append}
-use Rattle.std.proofs.lemmas.List.{map-append}
 use Rattle.std.proofs.lemmas.List.Folds.{find-append}
-use Rattle.std.proofs.lemmas.Bool.{cases_Bool, false_from_ne_true}
 use Rattle.std.proofs.lemmas.Slice.Eq.{bytes_eq-Decides}
-use Rattle.std.proofs.lemmas.List.Elements.{All-nil, All-head, All-tail, All-weaker}
-use Rattle.sgf_outline.specs.Tree.{Property, Node, values, lone_property, told_property}
-use Rattle.sgf_outline.specs.declared.traversal.NextNode.{NextNode}
 use Rattle.sgf_outline.specs.declared.traversal.NextNode.TheVariants.{Led, Empty as EmptyNode, Unread}
 use Rattle.sgf_outline.specs.Lead.{IsOtherName, IsLedBy}
-use Rattle.sgf_outline.specs.Traversal.{IsTakenOff}
-use Rattle.board_stones.specs.declared.stones.Colour.{Colour}
 use Rattle.board_stones.specs.declared.stones.Cell.{Cell}
 use Rattle.board_points.specs.declared.points.Rect.{Rect}
-use Rattle.board_stones.specs.declared.setup_op.SetupOp.{SetupOp}
-use Rattle.board_points.specs.Point.{IsRectOn}
-use Rattle.board_points.specs.Values.{rect_value}
 use Rattle.judged_lines.specs.declared.judging.contents.Moves.{Moves}
-use Rattle.judged_lines.specs.declared.judging.contents.Moves.TheVariants.{Several}
 use Rattle.judged_lines.specs.declared.judging.contents.Setup.{Setup}
-use Rattle.judged_lines.specs.declared.judging.contents.Setup.TheVariants.{Faulty}
 use Rattle.judged_lines.specs.declared.judging.contents.Contents.{Contents}
 use Rattle.judged_lines.specs.declared.judging.contents.Kind.{Kind}
 use Rattle.judged_lines.specs.declared.judging.contents.Kind.TheVariants.{Move as move_kind, Stones as stones_kind, Player as player_kind, Comment as comment_kind}
-use Rattle.judged_lines.specs.NodeContents.{Move, Stones, moves_in, moves_by, stones_in, stones_of, players_in, first_value}
-use Rattle.judged_lines.specs.NodeValues.{player_value, operations, last_player}
-use Rattle.judged_lines.specs.inner.Gathered.{kind_of, AreMoves, IsSetup, setup_with_stones, setup_with_player, AddsRectangles, HoldsAlone, IsGathered, ComesAs}
+use Rattle.judged_lines.specs.NodeContents.{Move, Stones}
 
 -- one operation before others, and all of two lists, where each is there
 abbrev before_all : Option SetupOp → Option (List SetupOp) → Option (List SetupOp)

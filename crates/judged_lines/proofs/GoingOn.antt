@@ -1,17 +1,7 @@
 -- The cursor went on to the next line, and so many nodes are played for that line.
-use Rattle.std.proofs.Common.{◌≡◌, ◌≢◌, ℕ, ◌-◌, ◌<◌, length, Result, Ok, Err, OnErr, inr, ap, refl, subst, arith, rules}
-use Rattle.std.proofs.lemmas.Grind.{common_steps}
-use Rattle.std.specs.Prelude.{Bool}
-use Rattle.std.specs.Result.{IsErr}
-use Rattle.tree_lines.specs.Cursor.{CursorState}
-use Rattle.tree_lines.specs.declared.sequence_cursor.Front.{Front}
-use Rattle.judged_lines.specs.declared.over_lines.Before.{Before}
-use Rattle.judged_lines.specs.declared.over_lines.Before.TheVariants.{Unheld, Held, Refused}
-use Rattle.tree_lines.specs.Following.{nodes_before, path_before, Continues}
-use Rattle.judged_lines.specs.GoingOn.{AreHeld, HasPlays, PlaysLine, StandsBy, index_by, next_by}
-use Rattle.judged_lines.specs.inner.GoingOn.{GoesOnBy}
-use Rattle.judged_lines.specs.Keeping.{PlaysUpTo, fresh_plays}
-use Rattle.tree_lines.specs.Sequences.{SequencesState}
+use Rattle.std.proofs.Common.{◌≡◌, ◌≢◌, ℕ, ◌-◌, ◌<◌, length, Result, Ok, Err, OnErr, inr, ap, refl, subst, arith, rules, Bool, IsErr}
+use Rattle.judged_lines.proofs.Common.{common_steps, Front, CursorState, nodes_before, path_before, Continues, SequencesState, Before, Unheld, Held, Refused, AreHeld, HasPlays, PlaysLine, StandsBy, index_by, PlaysUpTo, fresh_plays, GoesOnBy}
+use Rattle.judged_lines.specs.GoingOn.{next_by}
 use Rattle.judged_lines.proofs.Keeping.{some_node}
 use Rattle.tree_lines.proofs.LineNodes.{line_is, some_before}
 use Rattle.judged_lines.proofs.LineVerdicts.{some_line}

@@ -1,17 +1,7 @@
 -- A judge goes on by the nodes of a line, and how many of them are judged.
-use Rattle.std.proofs.Common.{◌≡◌, ℕ, ◌+◌, ◌≤◌, List, [], ◌∷◌, length, min, take, drop, ◌++◌, refl, slice_get, Some, None, Result, Ok, Err, OnOk, sym, ap, subst, ◌∙◌, arith, length-append, append-nil, append_assoc, rules}
+use Rattle.std.proofs.Common.{◌≡◌, ℕ, ◌+◌, ◌≤◌, List, [], ◌∷◌, length, min, take, drop, ◌++◌, refl, slice_get, Some, None, Result, Ok, Err, OnOk, sym, ap, subst, ◌∙◌, arith, length-append, append-nil, append_assoc, rules, length-take, length-take-le, take-append-drop, IsErr}
 use Rattle.std.proofs.Math.Seq.{take-append_seam}
-use Rattle.std.proofs.lemmas.List.{length-take, length-take-le, take-append-drop}
-use Rattle.std.specs.Result.{IsErr}
-use Rattle.sgf_outline.specs.Tree.{Node}
-use Rattle.board_stones.specs.Grid.{Grid}
-use Rattle.judged_lines.specs.declared.judging.step.LegalStep.{LegalStep}
-use Rattle.judged_lines.specs.JudgedGames.{GameKind, game_kind, root_properties}
-use Rattle.judged_lines.specs.Walk.{LegalNode, legal_on}
-use Rattle.judged_lines.specs.Verdict.{judged_on}
-use Rattle.judged_lines.specs.inner.Judging.{Judging, IsDecided, IsStepFrom, IsUndecided, state_after}
-use Rattle.judged_lines.specs.Judgement.{IsLegalStep, after, begun_game, board_in}
-use Rattle.judged_lines.specs.Keeping.{HasJudged, PlaysUpTo, fresh_plays}
+use Rattle.judged_lines.proofs.Common.{Node, Grid, LegalStep, GameKind, game_kind, root_properties, IsLegalStep, after, begun_game, board_in, HasJudged, PlaysUpTo, fresh_plays, judged_on, LegalNode, legal_on, Judging, IsDecided, IsStepFrom, IsUndecided, state_after}
 use Rattle.judged_lines.specs.inner.Keeping.{WentOn, plays_for}
 use Rattle.judged_lines.proofs.Judgements.{judging_more, plays_one, decided_all, decided_by}
 use Rattle.judged_lines.proofs.Keeping.{judging_front}

@@ -1,21 +1,7 @@
 -- What is held of a line is kept of the next one, as far as it begins alike.
-use Rattle.std.proofs.Common.{◌≡◌, ℕ, suc, ◌+◌, ◌<◌, ◌≤◌, List, [], ◌∷◌, length, take, map, slice_get, Option, Some, refl, sym, ap, inl, inr, ◌∙◌, arith, add-one, length-append, rules}
-use Rattle.std.proofs.lemmas.Grind.{common_steps}
-use Rattle.std.proofs.lemmas.List.{take-map, length-take-le}
+use Rattle.std.proofs.Common.{◌≡◌, ℕ, suc, ◌+◌, ◌<◌, ◌≤◌, List, [], ◌∷◌, length, take, map, slice_get, Option, Some, refl, sym, ap, inl, inr, ◌∙◌, arith, add-one, length-append, rules, length-take-le}
+use Rattle.judged_lines.proofs.Common.{common_steps, take-map, node_at, Node, Front, CursorState, advanced, Continues, line_in, line_before, nodes_before, path_before, lines, SequencesState, SharesFront, HasFront, IsHeldOf, GameKind, game_kind, root_properties, Judgement, judging, HoldsLine, LegalNode, legal_on, back}
 use Rattle.std.proofs.lemmas.List.FromFn.{length-range_with_len}
-use Rattle.sgf_outline.specs.Tree.{Node}
-use Rattle.sgf_outline.specs.FileOrder.{node_at}
-use Rattle.tree_lines.specs.Lines.{lines}
-use Rattle.tree_lines.specs.Cursor.{CursorState, advanced}
-use Rattle.judged_lines.specs.JudgedGames.{GameKind, game_kind, root_properties}
-use Rattle.judged_lines.specs.Walk.{LegalNode, legal_on}
-use Rattle.tree_lines.specs.declared.sequence_cursor.Front.{Front}
-use Rattle.judged_lines.specs.Judgement.{Judgement, judging}
-use Rattle.judged_lines.specs.inner.Judging.{back}
-use Rattle.tree_lines.specs.Following.{Continues, line_in, line_before, nodes_before, path_before}
-use Rattle.judged_lines.specs.Keeping.{HoldsLine}
-use Rattle.tree_lines.specs.Sequences.{SequencesState, SharesFront}
-use Rattle.judged_lines.specs.GoingOn.{HasFront, IsHeldOf}
 use Rattle.judged_lines.proofs.Along.{same_root}
 use Rattle.tree_lines.proofs.Fronts.{front_kept}
 use Rattle.judged_lines.proofs.Judgements.{judging_back, taken_cut}

@@ -1,17 +1,8 @@
 -- While no node changes the board, its score stays.
-use Rattle.std.proofs.Common.{◌≡◌, ◌⊎◌, ℕ, ◌+◌, ◌<◌, ◌≤◌, min, inl, inr, List, [], ◌∷◌, ◌++◌, length, refl, sym, ap, ◌∙◌, subst, Option, Some, None, Err, arith, rules}
-use Rattle.std.proofs.lemmas.Bool.{cases_lt}
-use Rattle.std.specs.Prelude.{Result, Ok, IfSome}
-use Rattle.sgf_outline.specs.Tree.{Node}
-use Rattle.go_board.specs.declared.reason.Reason.{Reason}
-use Rattle.go_board.specs.declared.fault.TurnFault.{TurnFault}
+use Rattle.std.proofs.Common.{◌≡◌, ◌⊎◌, ℕ, ◌+◌, ◌<◌, ◌≤◌, min, inl, inr, List, [], ◌∷◌, ◌++◌, length, refl, sym, ap, ◌∙◌, subst, Option, Some, None, Err, arith, rules, Result, Ok, IfSome}
+use Rattle.judged_lines.proofs.Common.{cases_lt, Node, Grid, score_of, TurnFault, Reason, State, States, HadSameBoardSince, step, IsScoreAt, IsScoreOf, IsStepped, back_from, back_to}
 use Rattle.go_board.specs.declared.fault.TurnFault.TheVariants.{Illegal, Memory}
 use Rattle.board_stones.specs.declared.stones.Colour.TheVariants.{Black, White}
-use Rattle.board_stones.specs.Grid.{Grid}
-use Rattle.board_stones.specs.Score.{score_of}
-use Rattle.go_board.specs.State.{State, States, HadSameBoardSince}
-use Rattle.judged_lines.specs.Step.{step}
-use Rattle.judged_lines.specs.inner.Judging.{IsScoreAt, IsScoreOf, IsStepped, back_from, back_to}
 use Rattle.judged_lines.proofs.Judgements.{back_none, back_one, back_undone}
 
 -- the board on the way back, if it stayed since

@@ -1,17 +1,9 @@
 -- Taken nodes are told one by one, and those of a line's front are kept for the next line.
-use Rattle.std.proofs.Common.{◌≡◌, ℕ, zero, suc, ◌<◌, List, [], ◌∷◌, ◌++◌, take, Some, None, Result, Ok, Err, refl, sym, ap, subst, ◌∙◌, append-nil, append_assoc, rules}
-use Rattle.std.specs.Prelude.{fold}
-use Rattle.sgf_outline.specs.Tree.{Node}
-use Rattle.go_board.specs.declared.reason.Reason.{Reason}
-use Rattle.board_stones.specs.Grid.{Grid}
-use Rattle.go_board.specs.State.{State}
-use Rattle.judged_lines.specs.declared.judging.step.LegalStep.{LegalStep}
+use Rattle.std.proofs.Common.{◌≡◌, ℕ, zero, suc, ◌<◌, List, [], ◌∷◌, ◌++◌, take, Some, None, Result, Ok, Err, refl, sym, ap, subst, ◌∙◌, append-nil, append_assoc, rules, fold}
+use Rattle.judged_lines.proofs.Common.{Node, Grid, Reason, State, LegalStep, GameKind, not_go, bad_size, board, game_kind, root_properties, Judgement, unjudged, judged, judging, begun_game, after, board_in, IsLegalStep, step, LegalNode, legal_on, IsDecided, state_after, legal_by, IsStepFrom}
 use Rattle.judged_lines.specs.declared.verdict.Verdict.TheVariants.{NotGo, BadSize}
-use Rattle.judged_lines.specs.JudgedGames.{GameKind, not_go, bad_size, board, game_kind, root_properties}
-use Rattle.judged_lines.specs.Step.{step}
-use Rattle.judged_lines.specs.Walk.{LegalNode, legal_on}
-use Rattle.judged_lines.specs.Judgement.{Judgement, unjudged, judged, judging, begun_game, after, stepped, board_in, IsLegalStep}
-use Rattle.judged_lines.specs.inner.Judging.{IsDecided, side_in, state_after, legal_by, IsStepFrom}
+use Rattle.judged_lines.specs.Judgement.{stepped}
+use Rattle.judged_lines.specs.inner.Judging.{side_in}
 use Rattle.judged_lines.proofs.Steps.{side-step}
 use Rattle.judged_lines.proofs.Keeping.{KeepsTaken, judging_front, taken_front}
 use Rattle.judged_lines.proofs.Judgements.{judging_more, decided_none, decided_more, unjudged_stays, taken_more, taken_only, board_after}

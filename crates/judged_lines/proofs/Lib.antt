@@ -1,3 +1,4 @@
+mod Common
 pub mod ExamplesOfVerdicts
 pub mod Walking
 pub mod Joins

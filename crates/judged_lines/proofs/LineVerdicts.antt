@@ -1,20 +1,7 @@
 -- The verdict of the line before a cursor, of the line that ends in a leaf, and of the line that has a place.
-use Rattle.std.proofs.Common.{◌≡◌, ℕ, ◌<◌, List, length, Option, Some, ap, ◌∙◌, arith, rules, ◌+◌}
-use Rattle.std.proofs.lemmas.Grind.{common_steps}
-use Rattle.std.specs.Prelude.{option_map, Result, Ok, Err, IfOk}
-use Rattle.sgf_outline.specs.Tree.{Node, Games, node_count}
-use Rattle.tree_lines.specs.Lines.{Line}
-use Rattle.judged_lines.specs.Verdict.{verdict_of, verdict, IsVerdictAt, IsVerdictOf}
-use Rattle.tree_lines.specs.Cursor.{CursorState, IsAfterPlace}
-use Rattle.judged_lines.specs.JudgedGames.{game_kind, root_properties}
-use Rattle.judged_lines.specs.declared.verdict.Verdict.{Verdict}
-use Rattle.tree_lines.specs.Following.{nodes_of, line_before, nodes_before}
-use Rattle.judged_lines.specs.Judgement.{Judgement, judging}
-use Rattle.judged_lines.specs.inner.Judging.{verdict_in}
+use Rattle.std.proofs.Common.{◌≡◌, ℕ, ◌<◌, List, length, Option, Some, ap, ◌∙◌, arith, rules, ◌+◌, option_map, Result, Ok, Err, IfOk}
+use Rattle.judged_lines.proofs.Common.{common_steps, MemoryFault, IsLeaf, Node, Games, node_count, CursorState, IsAfterPlace, nodes_of, line_before, nodes_before, Line, Path, Verdict, game_kind, root_properties, Judgement, judging, verdict_of, verdict, IsVerdictAt, IsVerdictOf, verdict_in}
 use Rattle.judged_lines.proofs.Judgements.{judging_verdict}
-use Rattle.sgf_outline.specs.FileOrder.{IsLeaf}
-use Rattle.sgf_properties.specs.declared.fault.MemoryFault.{MemoryFault}
-use Rattle.tree_lines.specs.Paths.{Path}
 use Rattle.tree_lines.proofs.CursorStates.{IsNextLine, next_line, before}
 use Rattle.tree_lines.proofs.Named.{line_at}
 

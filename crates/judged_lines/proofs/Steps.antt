@@ -1,24 +1,11 @@
 -- A node's step by what is gathered of it.
-use Rattle.std.proofs.Common.{◌≡◌, ◌⊎◌, ◌<◌, ℕ, Option, Some, None, List, [], ◌∷◌, length, Ok, Err, refl, sym, ap, ◌∙◌, inl, inr, arith, rules, Result}
-use Rattle.std.proofs.lemmas.Grind.{common_steps}
-use Rattle.std.specs.Prelude.{option_map, option_and_then, IsSome, IsErrOf, ◌↔◌}
-use Rattle.board_stones.specs.declared.stones.Colour.{Colour}
+use Rattle.std.proofs.Common.{◌≡◌, ◌⊎◌, ◌<◌, ℕ, Option, Some, None, List, [], ◌∷◌, length, Ok, Err, refl, sym, ap, ◌∙◌, inl, inr, arith, rules, Result, option_map, option_and_then, IsSome, IsErrOf, ◌↔◌}
+use Rattle.judged_lines.proofs.Common.{common_steps, Node, SetupOp, Colour, TurnFault, Reason, States, turned, followed_by, State, Nothing, Meant, IsEffectBy, moves, stones, players, player_value, operation, operations, last_player, turn_step, move_step, setup_step, step_by, step, AreMoves, IsSetup, IsStepped, setup_effect}
 use Rattle.go_board.specs.declared.referee.plays.Play.{Play}
-use Rattle.board_stones.specs.declared.setup_op.SetupOp.{SetupOp}
-use Rattle.go_board.specs.declared.reason.Reason.{Reason}
-use Rattle.go_board.specs.declared.fault.TurnFault.{TurnFault}
 use Rattle.go_board.specs.declared.fault.TurnFault.TheVariants.{Illegal, Memory}
-use Rattle.go_board.specs.State.{States, turned, followed_by, State}
 use Rattle.go_board.specs.Reason.{reason_of}
-use Rattle.judged_lines.specs.NodeContents.{Move, Stones, moves, stones, players}
-use Rattle.judged_lines.specs.NodeValues.{player_value, operation, operations, last_player}
-use Rattle.judged_lines.specs.Step.{turn_step, side_in, move_step, setup_step, step_by, step}
-use Rattle.judged_lines.specs.declared.judging.contents.Moves.TheVariants.{Nothing}
-use Rattle.judged_lines.specs.declared.judging.contents.Setup.TheVariants.{Meant}
-use Rattle.judged_lines.specs.inner.Gathered.{AreMoves, IsSetup}
-use Rattle.judged_lines.specs.inner.Judging.{IsStepped, setup_effect}
-use Rattle.judged_lines.specs.Judgement.{IsEffectBy}
-use Rattle.sgf_outline.specs.Tree.{Node}
+use Rattle.judged_lines.specs.NodeContents.{Move, Stones}
+use Rattle.judged_lines.specs.Step.{side_in}
 use Rattle.go_board.proofs.TurnLemmas.{side-set_up, side-turned}
 
 -- stones are as many as their operations

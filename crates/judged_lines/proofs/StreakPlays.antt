@@ -1,19 +1,8 @@
 -- How many nodes are judged on lines that follow each other: a line adds those of its judged nodes that it doesn't share with the line before.
-use Rattle.std.proofs.lemmas.Grind.{common_steps}
-use Rattle.std.proofs.Common.{◌≡◌, ℕ, zero, suc, ◌+◌, ◌<◌, ◌≤◌, List, length, take, refl, arith, ◌-◌, drop, slice_get, Some, length-append, add-one, append_assoc}
-use Rattle.sgf_outline.specs.Tree.{Games, node_count}
-use Rattle.sgf_outline.specs.FileOrder.{PlacesRise}
-use Rattle.tree_lines.specs.Lines.{Line, lines}
+use Rattle.judged_lines.proofs.Common.{common_steps, length-map, slice_get_within, PlacesRise, Games, node_count, CursorState, Line, lines, Before, Unheld, Held, AreHeld, all_judged_places, judged_places, judged_nodes}
+use Rattle.std.proofs.Common.{◌≡◌, ℕ, zero, suc, ◌+◌, ◌<◌, ◌≤◌, List, length, take, refl, arith, ◌-◌, drop, slice_get, Some, length-append, add-one, append_assoc, take-append-drop, length-drop, length-take}
 use Rattle.judged_lines.proofs.Touched.{SharesAfter, adds_fresh, judged_first, judged_shared, judged_few}
-use Rattle.std.proofs.lemmas.List.{take-append-drop, length-map, length-drop, length-take}
-use Rattle.std.proofs.lemmas.Option.{slice_get_within}
-use Rattle.judged_lines.specs.Verdict.{judged_nodes}
-use Rattle.judged_lines.specs.Plays.{all_judged_places, judged_places}
-use Rattle.tree_lines.specs.Cursor.{CursorState}
 use Rattle.judged_lines.proofs.Lists.{get_dropped, get_taken}
-use Rattle.judged_lines.specs.GoingOn.{AreHeld}
-use Rattle.judged_lines.specs.declared.over_lines.Before.{Before}
-use Rattle.judged_lines.specs.declared.over_lines.Before.TheVariants.{Unheld, Held}
 
 -- at most `limit` of the lines from the index `first` on
 abbrev pub page_from : Games → ℕ → ℕ → List Line

@@ -1,31 +1,18 @@
 -- The places of nodes on lines, each once. A line adds the places that it doesn't share with the line before it, since these rise from that of the first node
 -- after that line. So the places on all lines are those of all nodes, and no more nodes are judged than there are.
-use Rattle.std.proofs.Common.{◌≡◌, ℕ, ◌+◌, ◌-◌, ◌<◌, ◌≤◌, Bool, true, false, List, [], ◌∷◌, ◌++◌, inl, inr, refl, sym, ap, ◌∙◌, arith, zero, suc, length, map, slice_get, Some, None, unwrap_or, append_assoc, append-nil, length-append, take, drop, rules}
-use Rattle.std.specs.Prelude.{filter, ◌||◌, if◌then◌else◌}
-use Rattle.std.specs.List.{flat_map, range_with_len, IsDistinct, drop-map}
+use Rattle.std.proofs.Common.{◌≡◌, ℕ, ◌+◌, ◌-◌, ◌<◌, ◌≤◌, Bool, true, false, List, [], ◌∷◌, ◌++◌, inl, inr, refl, sym, ap, ◌∙◌, arith, zero, suc, length, map, slice_get, Some, None, unwrap_or, append_assoc, append-nil, length-append, take, drop, rules, filter, ◌||◌, if◌then◌else◌, flat_map, eqb, ne_eqb, eqb-true, eq-eqb, take-append-drop, length-take-le, take_all}
+use Rattle.std.specs.List.{range_with_len, IsDistinct, drop-map}
 use Rattle.std.specs.Set.{is_member}
-use Rattle.std.proofs.Math.Dec.{eqb}
 use Rattle.std.proofs.Math.Bool.{or-true}
 use Rattle.std.proofs.lemmas.Cmp.{nat_eq_equiv}
-use Rattle.std.proofs.lemmas.Bool.{ne_eqb, eqb-true, eq-eqb, cases_Bool, cases_lt, cases_eq}
+use Rattle.judged_lines.proofs.Common.{cases_Bool, cases_lt, cases_eq, flat_map-append, common_steps, map-append, take-map, length-map, filter-append, filter_passes, All-filter, All-from_recursion, recursion_from_All, slice_get_within, OrderedNode, ordered_nodes, node_at, place_at, PlacesRise, Node, Games, node_count, first_after, Continues, numbers_before, nodes_of, Line, lines, last_number, paths, game_kind, root_properties, differ, different, places_of, node_places, touched_places, judged_places, all_judged_places}
 use Rattle.std.proofs.lemmas.List.Folds.{list_any-append}
-use Rattle.std.proofs.lemmas.List.Elements.{filter-append, filter_passes, All-filter, All-from_recursion, recursion_from_All}
 use Rattle.std.proofs.lemmas.Map.Made.{All-is_member, is_member-filter, length-le_from_is_member}
 use Rattle.std.proofs.lemmas.Map.Keys.{IsDistinct-cons, IsDistinct-head, IsDistinct-tail}
-use Rattle.std.proofs.lemmas.Grind.{flat_map-append, common_steps}
-use Rattle.std.proofs.lemmas.List.{map-append, take-map, length-map, take-append-drop, length-take-le, take_all}
-use Rattle.std.proofs.lemmas.Option.{slice_get_within}
 use Rattle.std.proofs.Math.Seq.{drop-append_seam}
-use Rattle.sgf_outline.specs.Tree.{Node, Games, node_count}
-use Rattle.sgf_outline.specs.FileOrder.{OrderedNode, ordered_nodes, node_at, place_at, PlacesRise}
 use Rattle.sgf_outline.proofs.Lists.{slice_get-right}
 use Rattle.sgf_outline.proofs.OrderedNodes.{length-nodes_from, length-ordered_nodes}
 use Rattle.sgf_outline.proofs.Rises.{Rises, rises-ends}
-use Rattle.tree_lines.specs.Lines.{Line, lines, last_number}
-use Rattle.tree_lines.specs.Paths.{paths}
-use Rattle.judged_lines.specs.Plays.{differ, different, places_of, node_places, touched_places, judged_places, all_judged_places}
-use Rattle.judged_lines.specs.JudgedGames.{game_kind, root_properties}
-use Rattle.tree_lines.specs.Following.{first_after, Continues, numbers_before, nodes_of}
 use Rattle.tree_lines.proofs.Lists.{Each, each_weaker, each_append, each_take, element, range_append}
 use Rattle.tree_lines.proofs.Named.{place_of_node, length-paths}
 use Rattle.tree_lines.proofs.Visits.{way_within, way_rises, rises_parts, leads, after_way, last_number-append, continues, goes_on_there, last_end}

@@ -1,9 +1,8 @@
 -- Words and their bits: where two keys differ.
 use Rattle.std.proofs.Common.{◌≡◌, ◌≢◌, ℕ, ◌+◌, ◌-◌, ◌*◌, ◌<◌, ◌≤◌, ◌==◌, Bool, bit_xor, inl, inr, sym, subst, ◌∙◌, arith}
 use Rattle.std.specs.Int.{bit_at}
-use Rattle.std.proofs.lemmas.Bool.{cases_lt, false≢true}
+use Rattle.key_trie.proofs.Common.{cases_lt, false≢true, Agree}
 use Rattle.std.proofs.lemmas.Nat.Bits.{bit_at_xor, bit_at-lt}
-use Rattle.key_trie.specs.Key.{Agree}
 
 -- Words that differ.
 

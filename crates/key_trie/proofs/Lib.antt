@@ -1,3 +1,4 @@
+mod Common
 pub mod KeyLemmas
 pub mod TrieLemmas
 pub mod InsertLemmas

@@ -1,24 +1,9 @@
 -- The sgf output of a collection is itself a text of the grammar, with the same sgf output and the same verdicts.
-use Rattle.std.proofs.lemmas.Grind.{common_steps}
-use Rattle.std.proofs.Common.{◌≡◌, ℕ, suc, ◌+◌, List, [], ◌∷◌, ◌++◌, fold, slice_get, Some, None, Result, Ok, Err, refl, sym, ap, ◌∙◌, subst, ◌≢◌, length, map, arith, append_assoc, length-append, rules}
-use Rattle.std.specs.List.{flat_map, AllZip}
-use Rattle.sgf_outline.specs.Tree.{Property, Node, Games, no_games, game}
-use Rattle.go_board.specs.declared.reason.Reason.{Reason}
-use Rattle.go_board.specs.State.{State, starting}
+use Rattle.sgf_lines.proofs.Common.{AllZip, common_steps, WhiteSpace, no_white_space, white_space, Letters, no_letter, upper, lower, IsPropValue, prop_value, ArePropValues, no_value, value, IsProperty, property, AreProperties, no_property, properties, IsNode, node, AreNodes, no_node, nodes, AreGames, no_game, games, no_byte_order_mark, Spells, spells, Property, Node, Games, no_games, game, Line, through, node_lines, lines_from, lines, Reason, State, starting, GameKind, not_go, bad_size, board, root_properties, moves_in, stones_in, players_in, step_by, step, score_in, verdict_with, verdict_at, verdict_by, verdict_of, LegalNode, IllegalNode, Walk, stepped, next, walk, Options, page, value_text, property_text, node_text, sgf_record, output, HaveSame, SaysSame, scored, illegal_at, another_game, another_size, IsKept}
+use Rattle.std.proofs.Common.{◌≡◌, ℕ, suc, ◌+◌, List, [], ◌∷◌, ◌++◌, fold, slice_get, Some, None, Result, Ok, Err, refl, sym, ap, ◌∙◌, subst, ◌≢◌, length, map, arith, append_assoc, length-append, rules, flat_map}
 use Rattle.judged_lines.specs.declared.verdict.Verdict.TheVariants.{Illegal}
-use Rattle.judged_lines.specs.NodeContents.{moves_in, stones_in, players_in}
-use Rattle.judged_lines.specs.JudgedGames.{GameKind, not_go, bad_size, board, root_properties}
-use Rattle.judged_lines.specs.Step.{step_by, step}
-use Rattle.judged_lines.specs.Walk.{LegalNode, IllegalNode, Walk, stepped, next, walk}
-use Rattle.judged_lines.specs.Verdict.{score_in, verdict_with, verdict_at, verdict_by, verdict_of}
 use Rattle.judged_lines.proofs.Walking.{after_illegal}
-use Rattle.sgf_lines.specs.SplitAgain.{HaveSame, SaysSame, scored, illegal_at, another_game, another_size, IsKept}
 use Rattle.sgf_properties.specs.RawValue.{IsValue, no_unit, ordinary, escaped}
-use Rattle.sgf_outline.specs.Spelling.{WhiteSpace, no_white_space, white_space, Letters, no_letter, upper, lower, IsPropValue, prop_value, ArePropValues, no_value, value, IsProperty, property, AreProperties, no_property, properties, IsNode, node, AreNodes, no_node, nodes, AreGames, no_game, games, no_byte_order_mark, Spells, spells}
-use Rattle.tree_lines.specs.Lines.{Line, through, node_lines, lines_from, lines}
-use Rattle.sgf_lines.specs.Record.{value_text, property_text, node_text, sgf_record, output}
-use Rattle.sgf_lines.specs.Page.{page}
-use Rattle.sgf_lines.specs.declared.options.Options.{Options}
 use Rattle.sgf_lines.specs.declared.options.Form.TheVariants.{Sgf as sgf_form}
 use Rattle.sgf_lines.proofs.Pages.{on_page}
 use Rattle.tree_lines.proofs.Lists.{Each, each_append, each_parts, each_map, each_through}

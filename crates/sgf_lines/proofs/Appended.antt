@@ -1,19 +1,10 @@
 -- The lines of games after others are those of the others and then theirs, and what stands further on is judged alike.
-use Rattle.std.proofs.lemmas.Grind.{common_steps, flat_map-append}
-use Rattle.std.proofs.Common.{◌≡◌, ◌≢◌, ℕ, ◌+◌, List, [], ◌∷◌, ◌++◌, map, refl, ap, arith, append_assoc}
-use Rattle.std.specs.List.{flat_map, AllZip}
-use Rattle.std.proofs.lemmas.Option.{slice_get-map}
-use Rattle.std.proofs.lemmas.List.{map-append, length-map}
-use Rattle.sgf_outline.specs.Tree.{Node, Games, no_games, game, game_count, joined}
+use Rattle.sgf_lines.proofs.Common.{AllZip, common_steps, flat_map-append, map-append, length-map, slice_get-map, Node, Games, no_games, game, game_count, joined, Line, node_lines, lines_of_game, lines_from, lines, last_number, Verdict, verdict_of, record_of, HaveSame, SaysSame, scored, illegal_at, another_game, another_size}
+use Rattle.std.proofs.Common.{◌≡◌, ◌≢◌, ℕ, ◌+◌, List, [], ◌∷◌, ◌++◌, map, refl, ap, arith, append_assoc, flat_map}
 use Rattle.sgf_tree.specs.Appending.{raised_node, raised}
 use Rattle.sgf_lines.specs.declared.options.Form.TheVariants.{List as list_form}
-use Rattle.judged_lines.specs.declared.verdict.Verdict.{Verdict}
-use Rattle.tree_lines.specs.Lines.{Line, node_lines, lines_of_game, lines_from, lines, last_number}
-use Rattle.judged_lines.specs.Verdict.{verdict_of}
-use Rattle.sgf_lines.specs.Record.{record_of}
 use Rattle.sgf_lines.specs.Appending.{raised_verdict, raised_record}
 use Rattle.tree_lines.specs.Paths.{Path, paths, IsPathOf}
-use Rattle.sgf_lines.specs.SplitAgain.{HaveSame, SaysSame, scored, illegal_at, another_game, another_size}
 use Rattle.sgf_lines.proofs.Again.{says_same}
 use Rattle.tree_lines.proofs.Lists.{Each, map-through}
 use Rattle.tree_lines.proofs.LineNodes.{as_many}

@@ -1,20 +1,7 @@
 -- A text that is cut where a test passes, by the first byte where it does.
-use Rattle.std.proofs.Common.{◌≡◌, ℕ, ◌<◌, ◌+◌, ◌-◌, ◌++◌, Option, Some, None, Bool, true, false, List, [], ◌∷◌, zero, suc, length, take, drop, get_or, refl, sym, ap, ◌∙◌, arith, length-append, rules, append_assoc, Result, Ok, Err}
-use Rattle.std.proofs.lemmas.Grind.{common_steps}
-use Rattle.std.specs.Prelude.{◌==◌, is_some, filter, OnOk}
-use Rattle.std.specs.List.{flat_map, slice_split}
-use Rattle.std.proofs.Math.Seq.{drop-append_seam}
-use Rattle.std.proofs.lemmas.Bool.{false_from_ne_true}
-use Rattle.std.proofs.lemmas.List.{take_all, length-drop, append-nil, append_assoc}
+use Rattle.std.proofs.Common.{◌≡◌, ℕ, ◌<◌, ◌+◌, ◌-◌, ◌++◌, Option, Some, None, Bool, true, false, List, [], ◌∷◌, zero, suc, length, take, drop, get_or, refl, sym, ap, ◌∙◌, arith, length-append, rules, append_assoc, Result, Ok, Err, ◌==◌, is_some, filter, OnOk, flat_map, take_all, length-drop, append-nil}
+use Rattle.sgf_lines.proofs.Common.{slice_split, drop-append_seam, false_from_ne_true, common_steps, Point, points, Colour, stone_of, same_cell, Grid, cell_at, Stone, text_rows, comment_row, play_command, stone_commands, commands_at}
 use Rattle.memchr.specs.Find.{IsFirstByte}
-use Rattle.sgf_lines.specs.Script.{text_rows, comment_row, play_command, stone_commands}
-use Rattle.board_stones.specs.declared.stones.Colour.{Colour}
-use Rattle.board_points.specs.declared.points.Point.{Point}
-use Rattle.go_board.specs.declared.referee.plays.Play.TheVariants.{Stone}
-use Rattle.board_stones.specs.Colour.{stone_of, same_cell}
-use Rattle.board_points.specs.Point.{points}
-use Rattle.board_stones.specs.Grid.{Grid, cell_at}
-use Rattle.sgf_lines.specs.inner.Cutting.{commands_at}
 
 module _ (test : ℕ → Bool) where
   -- no byte before `end` passes

@@ -1,11 +1,8 @@
 -- The output of small collections, in sgf form.
-use Rattle.std.proofs.Common.{◌≡◌, [], ◌∷◌, refl}
-use Rattle.std.specs.Prelude.{codes}
-use Rattle.sgf_outline.specs.Tree.{no_games, game}
+use Rattle.std.proofs.Common.{◌≡◌, [], ◌∷◌, refl, codes}
+use Rattle.sgf_lines.proofs.Common.{no_games, game, lines, output}
 use Rattle.tree_lines.proofs.Examples.{node_with, variations, two_games}
 use Rattle.sgf_lines.specs.declared.options.Form.TheVariants.{Sgf as sgf_form}
-use Rattle.tree_lines.specs.Lines.{lines}
-use Rattle.sgf_lines.specs.Record.{output}
 
 variations-output : output sgf_form (lines variations) ≡ codes "(;SZ[3];B[aa])\n(;SZ[3];B[bb];W[aa])\n"
 variations-output = refl

@@ -1,18 +1,6 @@
 -- Which places small collections touch, and which are judged, computed.
-use Rattle.std.proofs.Common.{◌≡◌, ℕ, List, [], ◌∷◌, map, Option, Some, None, refl}
-use Rattle.std.specs.Prelude.{codes, option_map}
-use Rattle.sgf_outline.specs.Tree.{Node, Games, no_games, game}
-use Rattle.board_points.specs.Point.{points}
-use Rattle.board_stones.specs.Reaching.{reaches, reaching_within, spread}
-use Rattle.board_stones.specs.Clearing.{clear, play, cleared_cell}
-use Rattle.board_stones.specs.Score.{score_of, counts_for}
-use Rattle.board_stones.specs.Rectangle.{with_rectangle}
-use Rattle.board_points.specs.Values.{point_value, rect_value}
-use Rattle.tree_lines.specs.Lines.{lines}
-use Rattle.sgf_lines.specs.Page.{page}
-use Rattle.judged_lines.specs.Plays.{touched_places, all_judged_places}
-use Rattle.sgf_lines.specs.RunPlays.{plays_of}
-use Rattle.sgf_lines.specs.declared.options.Form.{Form}
+use Rattle.std.proofs.Common.{◌≡◌, ℕ, List, [], ◌∷◌, map, Option, Some, None, refl, codes, option_map}
+use Rattle.sgf_lines.proofs.Common.{Node, Games, no_games, game, lines, points, point_value, rect_value, clear, play, cleared_cell, reaches, reaching_within, spread, with_rectangle, score_of, counts_for, touched_places, all_judged_places, Form, page, plays_of}
 use Rattle.sgf_lines.specs.declared.options.Form.TheVariants.{List as list_form, Sgf as sgf_form, Gtp as gtp_form}
 
 abbrev node : ℕ → List ℕ → List ℕ → Node

@@ -1,18 +1,8 @@
 -- The records of small lines, computed.
-use Rattle.std.proofs.Common.{◌≡◌, ℕ, List, [], ◌∷◌, map, refl}
-use Rattle.std.specs.Prelude.{codes}
+use Rattle.std.proofs.Common.{◌≡◌, ℕ, List, [], ◌∷◌, map, refl, codes}
 use Rattle.std.specs.Fmt.{digits}
-use Rattle.sgf_outline.specs.Tree.{Node}
-use Rattle.board_points.specs.Point.{points}
-use Rattle.board_stones.specs.Reaching.{reaches, reaching_within, spread}
-use Rattle.board_stones.specs.Clearing.{clear, play, cleared_cell, has_unreaching}
-use Rattle.board_stones.specs.Score.{score_of, counts_for}
-use Rattle.board_stones.specs.Rectangle.{with_rectangle}
-use Rattle.board_points.specs.Values.{point_value, rect_value}
-use Rattle.board_points.specs.Vertex.{vertex_of}
-use Rattle.sgf_lines.specs.declared.options.Form.{Form}
+use Rattle.sgf_lines.proofs.Common.{Node, points, point_value, rect_value, vertex_of, clear, play, cleared_cell, has_unreaching, reaches, reaching_within, spread, with_rectangle, score_of, counts_for, Form, record_of}
 use Rattle.sgf_lines.specs.declared.options.Form.TheVariants.{List as list_form, Gtp as gtp_form}
-use Rattle.sgf_lines.specs.Record.{record_of}
 use Rattle.judged_lines.proofs.ExamplesOfVerdicts.{props, prop, at, black, white, size, in_game}
 
 -- forms and lines, and their records

@@ -1,14 +1,8 @@
 -- Small scripts, followed.
 use Rattle.std.proofs.Common.{◌≡◌, ℕ, List, [], ◌∷◌, map, codes, Option, Some, None, refl}
-use Rattle.board_points.specs.declared.points.Point.{Point}
-use Rattle.board_points.specs.declared.vertices.Vertex.{Vertex}
+use Rattle.sgf_lines.proofs.Common.{Point, Vertex, points, cleared_cell, clear, play, empty_grid, spread, reaching_within, reaches, Command, Engine, sets_size, plays_stone, does_nothing, words, command_of, point_of, sized, shows, refused, replayed}
 use Rattle.board_stones.specs.declared.stones.Cell.TheVariants.{Black, Empty}
 use Rattle.board_stones.specs.declared.stones.Colour.TheVariants.{Black as BlackPlayer}
-use Rattle.board_stones.specs.Grid.{empty_grid}
-use Rattle.board_points.specs.Point.{points}
-use Rattle.board_stones.specs.Reaching.{spread, reaching_within, reaches}
-use Rattle.board_stones.specs.Clearing.{cleared_cell, clear, play}
-use Rattle.sgf_lines.specs.Replay.{Command, Engine, sets_size, plays_stone, does_nothing, words, command_of, point_of, sized, shows, refused, replayed}
 
 -- rows, and their commands
 abbrev commands : List (List ℕ × Command)

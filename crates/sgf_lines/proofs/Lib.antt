@@ -1,3 +1,4 @@
+mod Common
 pub mod Examples
 pub mod ExamplesOfRecords
 pub mod ExamplesOfPlays

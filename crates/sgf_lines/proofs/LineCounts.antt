@@ -1,17 +1,6 @@
 -- The answer of a count, and a row that is put in two pieces.
-use Rattle.std.proofs.lemmas.Grind.{common_steps}
-use Rattle.std.proofs.Common.{◌≡◌, ℕ, ◌+◌, length, ap, ◌∙◌, arith, List, ◌++◌, take, Result, Ok, Err, length-append}
-use Rattle.std.specs.Result.{IsErr}
-use Rattle.std.proofs.lemmas.List.{take-append-le}
-use Rattle.sgf_outline.specs.Tree.{Games, game_count, node_count}
-use Rattle.tree_lines.specs.Lines.{lines}
-use Rattle.std.specs.Io.KnownBytes.{Appends}
-use Rattle.std.proofs.KnownBytes.{Appends-trans}
-use Rattle.std.proofs.Math.Seq.{take-append-add}
-use Rattle.sgf_outline.specs.Spelling.{Spells}
-use Rattle.byte_streams.specs.Streams.{SourceState, SinkState, PutsAll}
-use Rattle.sgf_lines.specs.Counts.{counts_of, IsCount}
-use Rattle.sgf_lines.specs.inner.Running.{HasReadAll}
+use Rattle.sgf_lines.proofs.Common.{Appends, Appends-trans, take-append-add, common_steps, take-append-le, Spells, Games, game_count, node_count, lines, SourceState, SinkState, PutsAll, counts_of, IsCount, HasReadAll}
+use Rattle.std.proofs.Common.{◌≡◌, ℕ, ◌+◌, length, ap, ◌∙◌, arith, List, ◌++◌, take, Result, Ok, Err, length-append, IsErr}
 use Rattle.sgf_lines.specs.declared.counting.Counts.{Counts}
 
 -- counts with the three numbers of a collection are its counts

@@ -1,20 +1,9 @@
 -- The lines of a page among all lines. Their places rise, so the line with a place is found, and pages join.
-use Rattle.std.proofs.lemmas.Grind.{common_steps}
-use Rattle.std.proofs.Common.{◌≡◌, ℕ, suc, length, map, slice_get, Some, option_map, sym, ap, ◌∙◌, slice_index, add-one, arith, ◌≢◌, zero, ◌+◌, ◌<◌, ◌≤◌, List, [], ◌∷◌, take, drop, Option, None, refl, ◌++◌, append_assoc, append-nil, Bool, true, false}
+use Rattle.sgf_lines.proofs.Common.{drop-append-add, common_steps, slice_get-map, slice_get_within, get_or_from_slice_get, PlacesRise, Games, CursorState, IsAfterPlace, Line, lines, place_of, Options, lines_after, lines_asked, limited, page}
+use Rattle.std.proofs.Common.{◌≡◌, ℕ, suc, length, map, slice_get, Some, option_map, sym, ap, ◌∙◌, slice_index, add-one, arith, ◌≢◌, zero, ◌+◌, ◌<◌, ◌≤◌, List, [], ◌∷◌, take, drop, Option, None, refl, ◌++◌, append_assoc, append-nil, Bool, true, false, take_all, take-append-drop, unwrap_or, ◌==◌, eq-eqb, ne_eqb}
 use Rattle.std.specs.List.Sorted.{IsStrictlyIncreasing}
-use Rattle.std.proofs.lemmas.List.{take_all, take-append-drop}
-use Rattle.std.proofs.lemmas.Option.{slice_get-map, slice_get_within, get_or_from_slice_get}
 use Rattle.std.proofs.lemmas.List.Kept.{AllPairs-from_increasing}
-use Rattle.sgf_outline.specs.Tree.{Games}
-use Rattle.sgf_outline.specs.FileOrder.{PlacesRise}
-use Rattle.tree_lines.specs.Lines.{Line, lines, place_of}
 use Rattle.tree_lines.proofs.LinePlaces.{lines_rise}
-use Rattle.std.specs.Prelude.{unwrap_or, ◌==◌}
-use Rattle.std.proofs.lemmas.Bool.{eq-eqb, ne_eqb}
-use Rattle.tree_lines.specs.Cursor.{CursorState, IsAfterPlace}
-use Rattle.sgf_lines.specs.Page.{lines_after, lines_asked, limited, page}
-use Rattle.std.proofs.Math.Seq.{drop-append-add}
-use Rattle.sgf_lines.specs.declared.options.Options.{Options}
 use Rattle.sgf_outline.proofs.Lists.{slice_get-right}
 
 -- the first line with a place is the one that it is looked for at, where no line before has it

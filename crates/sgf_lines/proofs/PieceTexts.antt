@@ -1,13 +1,7 @@
 -- A text in pieces is appended to, closed and cut back.
-use Rattle.std.proofs.Common.{◌≡◌, ℕ, zero, suc, ◌+◌, ◌-◌, List, [], ◌∷◌, ◌++◌, length, take, drop, slice_get, refl, sym, ap, ◌∙◌, arith, append_assoc, append-nil, rules}
-use Rattle.std.proofs.lemmas.Grind.{common_steps}
-use Rattle.std.specs.Prelude.{unwrap_or}
-use Rattle.std.specs.List.{concat}
-use Rattle.std.proofs.Math.Seq.{take-append_seam, drop-append_seam}
-use Rattle.std.proofs.lemmas.List.{take-append-drop, length-append}
-use Rattle.std.proofs.lemmas.List.Folds.{concat-append}
+use Rattle.std.proofs.Common.{◌≡◌, ℕ, zero, suc, ◌+◌, ◌-◌, List, [], ◌∷◌, ◌++◌, length, take, drop, slice_get, refl, sym, ap, ◌∙◌, arith, append_assoc, append-nil, rules, unwrap_or, take-append-drop, length-append}
+use Rattle.sgf_lines.proofs.Common.{concat, take-append_seam, drop-append_seam, common_steps, concat-append, PiecesState, pushed, closed, cut, pieces_from, rest_from, AreEnds}
 use Rattle.sgf_outline.specs.Written.{ends_from}
-use Rattle.sgf_lines.specs.inner.Pieces.{PiecesState, pushed, closed, cut, pieces_from, rest_from, AreEnds}
 
 -- ---- the ends of pieces
 

@@ -1,38 +1,15 @@
 -- How many nodes a run plays for its page: a line adds those of its judged nodes that it doesn't share with the line before it.
-use Rattle.std.proofs.lemmas.Grind.{common_steps, flat_map-append}
-use Rattle.std.proofs.Common.{◌≡◌, ℕ, zero, suc, ◌+◌, ◌<◌, ◌≤◌, List, length, take, inl, inr, refl, ap, ◌∙◌, arith, ◌-◌, drop, slice_get, Some, sym, Option, None, Result, Ok, Err, rules}
-use Rattle.std.proofs.lemmas.Bool.{cases_Bool}
-use Rattle.sgf_outline.specs.Tree.{Games, node_count}
-use Rattle.sgf_outline.specs.FileOrder.{PlacesRise}
-use Rattle.tree_lines.specs.Lines.{Line, lines}
+use Rattle.sgf_lines.proofs.Common.{Appends, Appends-trans, cases_Bool, common_steps, flat_map-append, slice_get_within, MemoryFault, PlacesRise, Games, node_count, CursorState, advanced, Line, lines, SinkState, TakesNothing, Unheld, Held, HasPlays, PlaysLine, index_by, all_judged_places, judged_nodes, RunFault, Form, IsCutShort, limited, record_of, output, plays_of, plays_in, ArePlaysFor, WritesLines}
+use Rattle.std.proofs.Common.{◌≡◌, ℕ, zero, suc, ◌+◌, ◌<◌, ◌≤◌, List, length, take, inl, inr, refl, ap, ◌∙◌, arith, ◌-◌, drop, slice_get, Some, sym, Option, None, Result, Ok, Err, rules, length-drop, take_all, length-take, take-add, true, unwrap_or}
 use Rattle.judged_lines.proofs.Touched.{fewer_in_front}
-use Rattle.std.proofs.lemmas.List.{length-drop, take_all, length-take}
-use Rattle.std.proofs.Math.Seq.{take-add}
-use Rattle.std.proofs.lemmas.Option.{slice_get_within}
-use Rattle.judged_lines.specs.Verdict.{judged_nodes}
-use Rattle.judged_lines.specs.Plays.{all_judged_places}
-use Rattle.std.specs.Prelude.{true, unwrap_or}
-use Rattle.std.specs.Io.KnownBytes.{Appends}
-use Rattle.std.proofs.KnownBytes.{Appends-trans}
-use Rattle.sgf_lines.specs.Page.{limited}
-use Rattle.sgf_lines.specs.Record.{record_of, output}
-use Rattle.byte_streams.specs.Streams.{SinkState, TakesNothing}
-use Rattle.tree_lines.specs.Cursor.{CursorState, advanced}
-use Rattle.sgf_lines.specs.Answer.{IsCutShort}
-use Rattle.sgf_lines.specs.RunPlays.{plays_of, plays_in, ArePlaysFor}
-use Rattle.sgf_lines.specs.inner.Running.{WritesLines}
-use Rattle.sgf_lines.specs.declared.options.Form.{Form}
-use Rattle.sgf_lines.specs.declared.fault.RunFault.{RunFault}
 use Rattle.judged_lines.proofs.Lists.{get_dropped, get_taken, get_none}
 use Rattle.sgf_lines.proofs.Pages.{limited_is}
 use Rattle.tree_lines.proofs.LeafLines.{lines_within}
 use Rattle.sgf_lines.proofs.Running.{one_more, cut_in, all_taken}
-use Rattle.sgf_properties.specs.declared.fault.MemoryFault.{MemoryFault}
 use Rattle.sgf_lines.specs.Form.{entry_of}
 use Rattle.sgf_lines.specs.declared.fault.RunFault.TheVariants.{Read, TooLong, NotSgf, NoSuchLine, Write, Memory}
-use Rattle.judged_lines.specs.GoingOn.{HasPlays, PlaysLine, index_by, next_by}
+use Rattle.judged_lines.specs.GoingOn.{next_by}
 use Rattle.judged_lines.specs.declared.over_lines.Before.{Before}
-use Rattle.judged_lines.specs.declared.over_lines.Before.TheVariants.{Unheld, Held}
 use Rattle.judged_lines.proofs.StreakPlays.{Shares, adds_judged, few_judged, page_from, shares_by}
 
 -- k lines of the page were written, and the cursor stands after them

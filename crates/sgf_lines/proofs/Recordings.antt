@@ -1,16 +1,7 @@
 -- A record in sgf form goes on by sequences, and back.
-use Rattle.std.proofs.Common.{◌≡◌, ℕ, suc, ◌+◌, ◌-◌, ◌<◌, List, [], ◌∷◌, ◌++◌, length, take, map, slice_get, Some, refl, sym, ap, ◌∙◌, add-one, arith, rules}
-use Rattle.std.specs.Prelude.{codes}
-use Rattle.std.specs.List.{concat, flat_map}
-use Rattle.std.proofs.lemmas.List.{take-map, map-append}
-use Rattle.sgf_outline.specs.Tree.{Node}
-use Rattle.sgf_lines.specs.Record.{node_text, sgf_record}
-use Rattle.sgf_lines.specs.inner.Pieces.{PiecesState, pushed, closed, cut}
-use Rattle.sgf_lines.specs.inner.Recording.{sequences_before, unclosed_record, whole_record}
+use Rattle.std.proofs.Common.{◌≡◌, ℕ, suc, ◌+◌, ◌-◌, ◌<◌, List, [], ◌∷◌, ◌++◌, length, take, map, slice_get, Some, refl, sym, ap, ◌∙◌, add-one, arith, rules, codes, flat_map}
+use Rattle.sgf_lines.proofs.Common.{concat, take-map, map-append, Node, nodes_before, RiseTo, SequencesState, sequences_of, IsHeldOf, node_text, sgf_record, PiecesState, pushed, closed, cut, sequences_before, unclosed_record, whole_record}
 use Rattle.tree_lines.specs.declared.sequence_cursor.Front.{Front}
-use Rattle.tree_lines.specs.Following.{nodes_before}
-use Rattle.tree_lines.specs.Sequences.{RiseTo, SequencesState, sequences_of}
-use Rattle.judged_lines.specs.GoingOn.{IsHeldOf}
 use Rattle.judged_lines.proofs.Keeping.{by_old, has_front, same_nodes}
 use Rattle.tree_lines.proofs.Fronts.{alike, end_of, parts_text}
 use Rattle.tree_lines.proofs.Lists.{front_more}

@@ -1,37 +1,13 @@
 -- A script that has commands leads to the colouring at the end of its line's walk.
-use Rattle.std.proofs.lemmas.Grind.{common_steps, flat_map-append}
-use Rattle.std.proofs.Common.{◌≡◌, ℕ, ◌*◌, ◌<◌, ◌≤◌, List, [], ◌∷◌, ◌++◌, length, map, fold, Option, Some, None, Bool, true, false, codes, refl, sym, ap, ◌∙◌, arith, subst, cond, append-nil, append_assoc, decimal, Result, Ok, Err, nat_lt, nat_le, ◌&&◌}
-use Rattle.std.proofs.lemmas.List.Folds.{list_any-append}
-use Rattle.std.specs.List.{flat_map, list_any}
-use Rattle.std.proofs.lemmas.List.{length-map, length-replicate}
-use Rattle.std.proofs.lemmas.Bool.{not-false, or_parts}
-use Rattle.std.proofs.lemmas.Bool.Decides.{nat_tests}
-use Rattle.sgf_outline.specs.Tree.{Property, Node}
-use Rattle.board_stones.specs.declared.stones.Cell.{Cell}
+use Rattle.sgf_lines.proofs.Common.{list_any, not-false, or_parts, nat_tests, common_steps, flat_map-append, length-map, length-replicate, list_any-append, Property, Node, Line, Point, IsOn, points, coordinate, point_value, Cell, Colour, play, has_unreaching, Grid, empty_grid, with_rectangle, Reason, Stone, reason_of, State, set_up, turned, board, side_of, game_kind, root_properties, Move, moves, stones, players, first_value, side_in, turn_step, move_step, setup_step, step_by, step, LegalNode, IllegalNode, Walk, before_root, stepped, next, walk, list_row, Engine, no_board, sized, shows, refused, after_command, after_row, after_text, replayed, comment_row, comment_text, play_command, setup_commands, move_commands, node_script, legal_script, leaves_unreaching_by, leaves_unreaching, has_no_commands, board_commands, commands_by, script}
+use Rattle.std.proofs.Common.{◌≡◌, ℕ, ◌*◌, ◌<◌, ◌≤◌, List, [], ◌∷◌, ◌++◌, length, map, fold, Option, Some, None, Bool, true, false, codes, refl, sym, ap, ◌∙◌, arith, subst, cond, append-nil, append_assoc, decimal, Result, Ok, Err, nat_lt, nat_le, ◌&&◌, flat_map}
 use Rattle.board_stones.specs.declared.stones.Cell.TheVariants.{Empty}
-use Rattle.board_stones.specs.declared.stones.Colour.{Colour}
-use Rattle.board_points.specs.declared.points.Point.{Point}
 use Rattle.board_points.specs.declared.vertices.TheConstants.{MAX_VERTEX_SIDE}
-use Rattle.go_board.specs.declared.reason.Reason.{Reason}
 use Rattle.go_board.specs.declared.referee.plays.Play.{Play}
-use Rattle.go_board.specs.declared.referee.plays.Play.TheVariants.{Stone}
 use Rattle.board_stones.specs.declared.setup_op.SetupOp.{SetupOp}
-use Rattle.board_points.specs.Point.{IsOn, points}
-use Rattle.board_stones.specs.Grid.{Grid, empty_grid}
-use Rattle.board_stones.specs.Clearing.{play, has_unreaching}
-use Rattle.board_points.specs.Values.{coordinate, point_value}
-use Rattle.go_board.specs.State.{State, set_up, turned}
-use Rattle.board_stones.specs.Rectangle.{with_rectangle}
-use Rattle.go_board.specs.Reason.{reason_of}
-use Rattle.tree_lines.specs.Lines.{Line}
-use Rattle.judged_lines.specs.NodeContents.{Move, Stones, moves, stones, players, first_value}
+use Rattle.judged_lines.specs.NodeContents.{Stones}
 use Rattle.judged_lines.specs.NodeValues.{move_value, operations, last_player}
-use Rattle.judged_lines.specs.JudgedGames.{board, side_of, game_kind, root_properties}
-use Rattle.judged_lines.specs.Step.{side_in, turn_step, move_step, setup_step, step_by, step}
-use Rattle.judged_lines.specs.Walk.{LegalNode, IllegalNode, Walk, before_root, stepped, next_by, next, walk}
-use Rattle.sgf_lines.specs.ListRow.{list_row}
-use Rattle.sgf_lines.specs.Script.{comment_row, comment_text, play_command, setup_commands, move_commands, node_script, legal_script, leaves_unreaching_by, leaves_unreaching, has_no_commands, board_commands, commands_by, script}
-use Rattle.sgf_lines.specs.Replay.{Engine, no_board, sized, shows, refused, after_command, after_row, after_text, replayed}
+use Rattle.judged_lines.specs.Walk.{next_by}
 use Rattle.tree_lines.proofs.Lists.{Each}
 use Rattle.sgf_lines.proofs.ScriptRows.{IsWithin, Carries, takes_row, takes_nothing, takes_both, takes_comment, takes_text_rows, row_within, decimal_within, within_both, size_reads}
 use Rattle.sgf_lines.proofs.Placing.{BoardLaws, is_same, takes_play, takes_board}

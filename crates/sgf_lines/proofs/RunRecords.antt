@@ -1,24 +1,7 @@
 -- The record that a form made is that of the line before the cursor.
-use Rattle.std.proofs.Common.{◌≡◌, ℕ, List, ◌++◌, length, Some, ap, ◌∙◌, append_assoc, rules}
-use Rattle.std.specs.Prelude.{option_map, codes}
-use Rattle.std.specs.List.{concat}
-use Rattle.tree_lines.specs.Lines.{Line}
-use Rattle.sgf_lines.specs.Record.{record_of, sgf_record}
-use Rattle.sgf_lines.specs.ListRow.{list_row}
-use Rattle.sgf_lines.specs.Script.{comment_row}
-use Rattle.judged_lines.specs.Verdict.{verdict_of}
-use Rattle.tree_lines.specs.Cursor.{CursorState}
-use Rattle.judged_lines.specs.JudgedGames.{game_kind, root_properties}
-use Rattle.judged_lines.specs.Walk.{legal_on}
-use Rattle.judged_lines.specs.declared.verdict.Verdict.{Verdict}
-use Rattle.sgf_lines.specs.declared.options.Form.{Form}
+use Rattle.std.proofs.Common.{◌≡◌, ℕ, List, ◌++◌, length, Some, ap, ◌∙◌, append_assoc, rules, option_map, codes}
+use Rattle.sgf_lines.proofs.Common.{concat, CursorState, nodes_of, line_before, nodes_before, Line, RiseTo, SequencesState, sequences_of, Verdict, game_kind, root_properties, verdict_of, legal_on, Form, list_row, record_of, sgf_record, comment_row, PiecesState, whole_record, IsRecord, ScriptState, script_of, script_text, row_of}
 use Rattle.sgf_lines.specs.declared.options.Form.TheVariants.{Sgf as sgf_form, Gtp as gtp_form}
-use Rattle.sgf_lines.specs.inner.Views.{row_of}
-use Rattle.tree_lines.specs.Following.{nodes_of, line_before, nodes_before}
-use Rattle.sgf_lines.specs.inner.Pieces.{PiecesState}
-use Rattle.sgf_lines.specs.inner.Recording.{whole_record, IsRecord}
-use Rattle.sgf_lines.specs.inner.Scripting.{ScriptState, script_of, script_text}
-use Rattle.tree_lines.specs.Sequences.{RiseTo, SequencesState, sequences_of}
 use Rattle.sgf_lines.proofs.Recordings.{record_text}
 use Rattle.sgf_lines.proofs.Scripts.{script_put}
 

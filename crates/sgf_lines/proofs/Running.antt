@@ -1,29 +1,11 @@
 -- What a run writes, and its answer for each way to end.
-use Rattle.std.proofs.Common.{◌≡◌, ℕ, ◌+◌, ◌<◌, List, ◌++◌, length, take, drop, slice_get, Some, Result, Ok, Err, sym, arith, add-one, append-nil, Option, Bor, ap, refl, inr, rules}
-use Rattle.std.proofs.lemmas.Grind.{common_steps}
-use Rattle.std.proofs.lemmas.Option.{slice_get_past, slice_get_within}
-use Rattle.std.specs.Io.KnownBytes.{Appends}
-use Rattle.std.proofs.KnownBytes.{Appends-trans}
-use Rattle.std.proofs.lemmas.List.{take_all, take-append-drop, length-drop}
-use Rattle.tree_lines.specs.Lines.{Line, lines}
-use Rattle.sgf_lines.specs.Record.{record_of, output}
-use Rattle.byte_streams.specs.Streams.{SinkState, SourceState, GivesRest, HasDelivered}
-use Rattle.sgf_lines.specs.Answer.{IsCutShort, read_failures, IsWhole, IsGood, Answers, write_failures, unread}
-use Rattle.sgf_lines.specs.inner.Running.{WritesLines, IsReading, HasReadAll, IsStart}
-use Rattle.sgf_lines.specs.declared.options.Form.{Form}
-use Rattle.sgf_lines.specs.declared.fault.RunFault.{RunFault}
+use Rattle.std.proofs.Common.{◌≡◌, ℕ, ◌+◌, ◌<◌, List, ◌++◌, length, take, drop, slice_get, Some, Result, Ok, Err, sym, arith, add-one, append-nil, Option, Bor, ap, refl, inr, rules, take_all, take-append-drop, length-drop, option_map, OnOk}
+use Rattle.sgf_lines.proofs.Common.{Appends, Appends-trans, common_steps, slice_get_past, slice_get_within, MAX_LENGTH, Spells, Games, Line, lines, SequencesState, SinkState, SourceState, GivesRest, HasDelivered, RunFault, Form, Options, IsCutShort, read_failures, IsWhole, IsGood, Answers, write_failures, unread, limited, record_of, output, AnswersPlays, IsRunWithPlays, WritesLines, IsReading, HasReadAll, IsStart}
 use Rattle.judged_lines.proofs.Joins.{more_texts}
-use Rattle.std.specs.Prelude.{option_map, OnOk, ⊤}
-use Rattle.sgf_outline.specs.declared.limit.TheConstants.{MAX_LENGTH}
-use Rattle.sgf_outline.specs.Tree.{Games}
-use Rattle.sgf_outline.specs.Spelling.{Spells}
+use Rattle.std.specs.Prelude.{⊤}
 use Rattle.sgf_tree.specs.Refusal.{IsFaultyWhereNotSgf}
 use Rattle.sgf_tree.specs.declared.fault.ReadFault.{ReadFault}
 use Rattle.sgf_tree.specs.declared.fault.ReadFault.TheVariants.{TooLong as TextTooLong, NotSgf as TextNotSgf, Memory as TextMemory}
-use Rattle.sgf_lines.specs.Page.{limited}
-use Rattle.tree_lines.specs.Sequences.{SequencesState}
-use Rattle.sgf_lines.specs.RunPlays.{AnswersPlays, IsRunWithPlays}
-use Rattle.sgf_lines.specs.declared.options.Options.{Options}
 
 pub no_read : (form : Form) (ls : List Line) (sink new_sink : SinkState) (plays : ℕ) (result : Result ℕ RunFault) → WritesLines form ls sink new_sink plays result → read_failures result ≡ 0
 no_read form ls sink new_sink plays result known = first_of (search rules, grind (arith, common_steps))

@@ -1,29 +1,13 @@
 -- The rows of a script: the words of each, and what a text of whole rows does to the board, whatever follows it.
-use Rattle.std.proofs.Common.{◌≡◌, ℕ, zero, suc, ◌≤◌, ◌/◌, ◌%◌, List, [], ◌∷◌, ◌++◌, Bool, true, false, codes, refl, ap, ◌∙◌, arith, append_assoc, decimal, cond, ◌==◌, ◌-◌, ◌<◌, filter, Option, Some, None, nat_lt, nat_le, ◌&&◌, slice_index, option_map, option_and_then, inl, inr, ◌+◌, rules}
-use Rattle.std.proofs.lemmas.Grind.{common_steps}
-use Rattle.std.specs.List.{flat_map, slice_split, onto_first, position}
+use Rattle.std.proofs.Common.{◌≡◌, ℕ, zero, suc, ◌≤◌, ◌/◌, ◌%◌, List, [], ◌∷◌, ◌++◌, Bool, true, false, codes, refl, ap, ◌∙◌, arith, append_assoc, decimal, cond, ◌==◌, ◌-◌, ◌<◌, filter, Option, Some, None, nat_lt, nat_le, ◌&&◌, slice_index, option_map, option_and_then, inl, inr, ◌+◌, rules, flat_map, position}
+use Rattle.sgf_lines.proofs.Common.{slice_split, onto_first, and_parts, cases_eq, nat_tests, common_steps, Line, Point, Vertex, IsOn, column_letters, vertex_of, Colour, Reason, word_of, Verdict, verdict_text, list_row, Engine, after_row, after_text, before_comment, is_word, words, capital, vertex_named, point_there, point_of, plays_stone, play_command_of, sets_size, size_command, command_of, comment_row, text_rows, colour_letter, vertex_text, stone_command}
 use Rattle.std.specs.Fmt.{digits, digits_onto, digit_glyph}
 use Rattle.std.proofs.lemmas.List.Splits.{slice_split_at, slice_split_none}
 use Rattle.std.proofs.lemmas.List.Elements.{All-from_recursion}
-use Rattle.go_board.specs.Reason.{word_of}
-use Rattle.go_board.specs.declared.reason.Reason.{Reason}
-use Rattle.judged_lines.specs.declared.verdict.Verdict.{Verdict}
-use Rattle.tree_lines.specs.Lines.{Line}
-use Rattle.sgf_lines.specs.ListRow.{verdict_text, list_row}
-use Rattle.sgf_lines.specs.Script.{comment_row, text_rows, colour_letter, vertex_text}
-use Rattle.sgf_lines.specs.Replay.{Engine, after_row, after_text, before_comment, is_word, words, capital, vertex_named, point_there, point_of, plays_stone, play_command_of, sets_size, size_command, command_of}
 use Rattle.tree_lines.proofs.Lists.{Each, each_append}
 use Rattle.sgf_properties.specs.Number.{magnitude_of}
-use Rattle.board_stones.specs.declared.stones.Colour.{Colour}
 use Rattle.board_stones.specs.declared.stones.Colour.TheVariants.{Black, White}
-use Rattle.board_points.specs.declared.points.Point.{Point}
-use Rattle.board_points.specs.Point.{IsOn}
-use Rattle.board_points.specs.declared.vertices.Vertex.{Vertex}
-use Rattle.board_points.specs.Vertex.{column_letters, vertex_of}
-use Rattle.std.proofs.lemmas.Bool.{and_parts, cases_eq}
-use Rattle.std.proofs.lemmas.Bool.Decides.{nat_tests}
 use Rattle.std.proofs.lemmas.Fmt.{decimal_digit, decimal_step}
-use Rattle.sgf_lines.specs.inner.Cutting.{stone_command}
 
 -- the byte doesn't end a row
 abbrev pub IsWithin : ℕ → Type 0

@@ -1,23 +1,11 @@
 -- A script goes on by a node, and back to the first ones; and what is put of it.
-use Rattle.std.proofs.Common.{◌≡◌, ℕ, zero, suc, min, List, [], ◌∷◌, ◌++◌, length, take, refl, sym, ap, subst, ◌∙◌, arith, add-one, append-nil, rules}
-use Rattle.std.proofs.lemmas.Grind.{common_steps}
-use Rattle.std.specs.Prelude.{nat_lt, option_copied}
-use Rattle.std.specs.List.{list_any, position_or_len}
-use Rattle.std.proofs.lemmas.Bool.{lt-ltb, le-ltb}
-use Rattle.std.proofs.lemmas.List.{map-append, take-map, length-map}
-use Rattle.std.proofs.lemmas.List.Folds.{position_or_len_push}
-use Rattle.sgf_outline.specs.Tree.{Node}
-use Rattle.board_stones.specs.Grid.{Grid}
-use Rattle.go_board.specs.State.{State}
+use Rattle.std.proofs.Common.{◌≡◌, ℕ, zero, suc, min, List, [], ◌∷◌, ◌++◌, length, take, refl, sym, ap, subst, ◌∙◌, arith, add-one, append-nil, rules, nat_lt, option_copied, lt-ltb, le-ltb}
+use Rattle.sgf_lines.proofs.Common.{list_any, position_or_len, common_steps, map-append, take-map, length-map, position_or_len_push, Node, Grid, State, GameKind, not_go, bad_size, board, Move, moves, stones, LegalNode, Walk, legal_on, comment_rows, setup_commands, move_commands, legal_script, text_rows, comment_text, leaves_unreaching, leaves_unreaching_by, commands_of, commands_by, effect_script, step_script, is_unreaching, no_script, said_on, script_back, script_text, script_along, script_of}
 use Rattle.judged_lines.specs.declared.judging.step.Effect.{Effect}
 use Rattle.judged_lines.specs.declared.judging.step.Effect.TheVariants.{Nothing, Stones as stones_set, Play as one_play}
 use Rattle.judged_lines.specs.declared.judging.step.LegalStep.{LegalStep}
-use Rattle.judged_lines.specs.JudgedGames.{GameKind, not_go, bad_size, board}
-use Rattle.judged_lines.specs.NodeContents.{Move, Stones, moves, stones}
-use Rattle.judged_lines.specs.Walk.{LegalNode, Walk, legal_on}
-use Rattle.sgf_lines.specs.Script.{comment_rows, setup_commands, move_commands, legal_script, text_rows, comment_text, leaves_unreaching, leaves_unreaching_by, commands_of, commands_by}
+use Rattle.judged_lines.specs.NodeContents.{Stones}
 use Rattle.judged_lines.specs.Judgement.{IsEffectBy, IsStepOf, IsLegalStep}
-use Rattle.sgf_lines.specs.inner.Scripting.{effect_script, step_script, is_unreaching, no_script, said_on, script_back, script_text, script_along, script_of}
 use Rattle.sgf_lines.proofs.Recordings.{joined}
 
 -- the pieces before those that can't be said

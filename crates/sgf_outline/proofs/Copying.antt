@@ -1,8 +1,6 @@
 -- What the sgf form copies of a text, as a reader tells it.
 use Rattle.std.proofs.Common.{◌≡◌, ℕ, ◌<◌, ◌≤◌, List, [], ◌++◌, length, slice_range, sym, ap, ◌∙◌, arith, append_assoc, append-nil, rules}
-use Rattle.sgf_outline.specs.Machine.{Stack}
-use Rattle.sgf_outline.specs.OwnNodes.{Coming, IsCopied, Copies}
-use Rattle.sgf_outline.specs.declared.layout.Segment.{Segment}
+use Rattle.sgf_outline.proofs.Common.{Segment, Stack, Coming, IsCopied, Copies}
 use Rattle.sgf_properties.proofs.ValueEnds.{span-join}
 
 -- a visitor that keeps the same in other words

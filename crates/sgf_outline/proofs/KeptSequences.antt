@@ -1,24 +1,8 @@
 -- What the table of sequences keeps: with one more sequence, and after a game that ends.
-use Rattle.std.proofs.lemmas.Grind.{common_steps}
-use Rattle.std.proofs.Common.{◌≡◌, ℕ, ◌+◌, ◌-◌, ◌/◌, ◌%◌, ◌<◌, ◌≤◌, Bool, true, false, cond, inl, inr, List, [], ◌∷◌, ◌++◌, length, get_or, drop, slice_get, slice_range, Option, Some, None, refl, sym, ap, subst, ◌∙◌, arith, length-append, rules}
-use Rattle.std.proofs.Math.Dec.{eqb}
+use Rattle.sgf_outline.proofs.Common.{common_steps, drop-append-le, slice_get-get_or, slice_get_within, Segment, KeptSegment, Sequence, Sequences, Listed, unclosed_list, UnclosedGame, Stack, after_game, whole_game, close, outer_by, start_by, is_last_by, nodes_of, AreTold, AreWhole, HasSegments, IsKept, AreKept, HoldsSequences, Coming, nothing, with_text, coming_of, is_written, IsCopied, AreOwnNodes, own_of, with_game, Node, Games, no_games, unclosed_count, node_text}
+use Rattle.std.proofs.Common.{◌≡◌, ℕ, ◌+◌, ◌-◌, ◌/◌, ◌%◌, ◌<◌, ◌≤◌, Bool, true, false, cond, inl, inr, List, [], ◌∷◌, ◌++◌, length, get_or, drop, slice_get, slice_range, Option, Some, None, refl, sym, ap, subst, ◌∙◌, arith, length-append, rules, eqb, eqb-true, flat_map}
 use Rattle.std.proofs.Math.Seq.{drop-length}
-use Rattle.std.proofs.lemmas.Bool.{eqb-true}
-use Rattle.std.proofs.lemmas.List.{drop-append-le}
-use Rattle.std.specs.List.{flat_map}
-use Rattle.std.proofs.lemmas.Option.{slice_get-get_or, slice_get_within}
-use Rattle.sgf_outline.specs.Tree.{Node, Games, no_games}
-use Rattle.sgf_outline.specs.Written.{node_text}
-use Rattle.sgf_outline.specs.Machine.{UnclosedGame, Stack, after_game, whole_game, close}
-use Rattle.sgf_outline.specs.Unclosed.{unclosed_count}
-use Rattle.sgf_outline.specs.Listing.{Listed, unclosed_list}
-use Rattle.sgf_outline.specs.OwnNodes.{Coming, nothing, with_text, coming_of, is_written, IsCopied, AreOwnNodes, own_of, with_game}
-use Rattle.sgf_outline.specs.Outlining.{outer_by, start_by, is_last_by, nodes_of, AreTold, AreWhole, HasSegments, IsKept, AreKept, HoldsSequences}
 use Rattle.sgf_outline.specs.declared.layout.OwnNodes.{OwnNodes}
-use Rattle.sgf_outline.specs.declared.layout.Segment.{Segment}
-use Rattle.sgf_outline.specs.declared.sequences.KeptSegment.{KeptSegment}
-use Rattle.sgf_outline.specs.declared.sequences.Sequence.{Sequence}
-use Rattle.sgf_outline.specs.declared.sequences.Sequences.{Sequences}
 use Rattle.sgf_outline.proofs.GameEnds.{add_games, game-ends, unclosed_games-least, unclosed_count-closed, game_count-closed}
 use Rattle.sgf_outline.proofs.Listed.{before, own, unclosed_list-least, unclosed_list-nodes, list-closed, innermost-closed}
 use Rattle.sgf_outline.proofs.Lists.{slice_get-pushed, slice_get-right}

@@ -1,18 +1,7 @@
 -- A move and other properties after it.
-use Rattle.std.proofs.lemmas.Grind.{common_steps}
+use Rattle.sgf_outline.proofs.Common.{common_steps, All-nil, All-push, properties_in, IsValueEnd, IsValue, games_in, EndsNode, is_upper, no_white_space, no_letter, upper, prop_value, no_value, IsProperty, property, AreProperties, no_property, properties, Property, IsOtherProperty, AreOtherProperties, AreOthers, IsLedNode, IsEmptyNode, IsNodeEnd, node_in, nodes_between, IsTraversal}
 use Rattle.std.proofs.Common.{rules, ◌≡◌, ◌≢◌, ℕ, ◌+◌, ◌<◌, ◌≤◌, IsTrue, All, List, [], ◌∷◌, ◌++◌, length, get_or, drop, slice_range, refl, sym, ap, subst, ◌∙◌, arith}
-use Rattle.std.proofs.lemmas.List.Elements.{All-nil, All-push}
-use Rattle.sgf_outline.specs.Tree.{Property}
 use Rattle.sgf_outline.specs.Lead.{IsOtherName, IsLedBy}
-use Rattle.sgf_properties.specs.RawValue.{IsValue}
-use Rattle.sgf_outline.specs.Spelling.{is_upper, no_white_space, no_letter, upper, prop_value, no_value, IsProperty, property, AreProperties, no_property, properties}
-use Rattle.sgf_outline.specs.inner.Lead.{IsOtherProperty, AreOtherProperties, AreOthers, IsLedNode, IsEmptyNode, IsNodeEnd}
-use Rattle.sgf_outline.specs.Machine.{games_in}
-use Rattle.sgf_properties.specs.Front.{properties_in}
-use Rattle.sgf_outline.specs.inner.NodeText.{node_in}
-use Rattle.sgf_properties.specs.Offsets.{IsValueEnd}
-use Rattle.sgf_outline.specs.Move.{EndsNode}
-use Rattle.sgf_outline.specs.inner.Traversing.{nodes_between, IsTraversal}
 use Rattle.sgf_properties.proofs.Iterating.{byte-at}
 use Rattle.sgf_outline.proofs.LoneNodes.{lone, spelled, ends-node, nothing-skipped}
 use Rattle.sgf_properties.proofs.FrontSpelled.{properties-in}

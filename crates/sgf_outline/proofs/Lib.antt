@@ -1,3 +1,4 @@
+mod Common
 pub mod Ends
 pub mod Rises
 pub mod PlacesRise

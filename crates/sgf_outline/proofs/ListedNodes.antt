@@ -1,11 +1,6 @@
 -- Where the listed sequences stand among the ordered nodes.
-use Rattle.std.proofs.lemmas.Grind.{common_steps}
-use Rattle.std.proofs.Common.{◌≡◌, ℕ, zero, suc, ◌+◌, ◌-◌, ◌<◌, ◌⊎◌, inl, inr, true, List, [], ◌∷◌, ◌++◌, length, map, get_or, slice_get, Option, Some, refl, sym, ap, subst, ◌∙◌, arith, append_assoc, length-append, rules}
-use Rattle.std.proofs.lemmas.Bool.{cases_lt}
-use Rattle.std.proofs.lemmas.List.{map-append, get_or-append-add, length-map}
-use Rattle.sgf_outline.specs.Tree.{Node, Games, no_games, game, node_count}
-use Rattle.sgf_outline.specs.FileOrder.{OrderedNode, further_nodes, nodes_from, game_of}
-use Rattle.sgf_outline.specs.Listing.{Listed, listed}
+use Rattle.sgf_outline.proofs.Common.{cases_lt, common_steps, map-append, length-map, OrderedNode, further_nodes, nodes_from, game_of, Listed, listed, Node, Games, no_games, game, node_count}
+use Rattle.std.proofs.Common.{◌≡◌, ℕ, zero, suc, ◌+◌, ◌-◌, ◌<◌, ◌⊎◌, inl, inr, true, List, [], ◌∷◌, ◌++◌, length, map, get_or, slice_get, Option, Some, refl, sym, ap, subst, ◌∙◌, arith, append_assoc, length-append, rules, get_or-append-add}
 use Rattle.sgf_outline.proofs.Lists.{slice_get-left, slice_get-right, get_or-joined}
 use Rattle.sgf_outline.proofs.Rises.{Rises, rises-low, rises-append}
 use Rattle.sgf_outline.proofs.OrderedNodes.{length-further_nodes, length-nodes_from, game-first, game-after}

@@ -1,13 +1,6 @@
 -- A node that begins with a property of one letter and one value of two bytes.
-use Rattle.std.proofs.lemmas.Grind.{common_steps}
+use Rattle.sgf_outline.proofs.Common.{common_steps, properties_in, NoValueFollows, NoPropertyFollows, ArePropertiesIn, IsSpan, no_unit, ordinary, IsMove, is_white_space, is_upper, no_white_space, no_letter, prop_value, no_value, IsProperty, property, Property, lone_property, IsNodeEnd, IsLoneFront}
 use Rattle.std.proofs.Common.{◌≡◌, ◌≢◌, ℕ, ◌<◌, false, List, ◌∷◌, length, get_or, take, drop, slice_range, sym, ap, subst, arith}
-use Rattle.sgf_outline.specs.Tree.{Property, lone_property}
-use Rattle.sgf_properties.specs.RawValue.{no_unit, ordinary}
-use Rattle.sgf_outline.specs.Spelling.{is_white_space, is_upper, no_white_space, no_letter, prop_value, no_value, IsProperty, property}
-use Rattle.sgf_properties.specs.Front.{properties_in, NoValueFollows, NoPropertyFollows, ArePropertiesIn}
-use Rattle.sgf_outline.specs.inner.Lead.{IsNodeEnd, IsLoneFront}
-use Rattle.sgf_outline.specs.Move.{IsMove}
-use Rattle.sgf_properties.specs.Offsets.{IsSpan}
 use Rattle.sgf_properties.proofs.Classes.{between-not_upper, between-not_white_space, white-not_bracket, white-not_upper}
 use Rattle.sgf_properties.proofs.Iterating.{byte-at}
 use Rattle.sgf_properties.proofs.ValueEnds.{ordinary-other}

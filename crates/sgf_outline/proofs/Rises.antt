@@ -1,8 +1,6 @@
 -- Numbers that rise strictly.
-use Rattle.std.proofs.lemmas.Grind.{common_steps}
+use Rattle.sgf_outline.proofs.Common.{cases_lt, common_steps, slice_get-get_or}
 use Rattle.std.proofs.Common.{rules, ◌≡◌, ℕ, zero, suc, ◌+◌, ◌<◌, ◌≤◌, List, [], ◌∷◌, ◌++◌, length, get_or, Some, slice_get, arith}
-use Rattle.std.proofs.lemmas.Bool.{cases_lt}
-use Rattle.std.proofs.lemmas.Option.{slice_get-get_or}
 
 -- the numbers rise strictly, from low on and below high
 abbrev pub Rises : ℕ → List ℕ → ℕ → Type 0

@@ -1,9 +1,6 @@
 -- Segments that are kept: with one more, and up to the last one of a sequence.
 use Rattle.std.proofs.Common.{◌≡◌, ℕ, ◌+◌, ◌<◌, ◌≤◌, true, false, inl, inr, List, [], ◌∷◌, ◌++◌, length, drop, get_or, slice_range, refl, sym, ap, subst, ◌∙◌, append_assoc, append-nil, rules}
-use Rattle.std.proofs.lemmas.Bool.{cases_lt, false≢true}
-use Rattle.std.proofs.lemmas.List.{drop_all, drop_more}
-use Rattle.sgf_outline.specs.Outlining.{start_by, is_last_by, IsCopiedFirst, AreTold, AreWhole}
-use Rattle.sgf_outline.specs.declared.sequences.KeptSegment.{KeptSegment}
+use Rattle.sgf_outline.proofs.Common.{cases_lt, false≢true, drop_all, drop_more, KeptSegment, start_by, is_last_by, IsCopiedFirst, AreTold, AreWhole}
 
 module _ (t : List ℕ) where
   -- the text of a kept segment

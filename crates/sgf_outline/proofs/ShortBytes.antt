@@ -1,14 +1,8 @@
 -- The bytes of a property of two capitals and one value, all compared at once.
-use Rattle.std.proofs.lemmas.Grind.{common_steps}
+use Rattle.sgf_outline.proofs.Common.{and_from, cases_lt, or_left, common_steps, get_or-append_right, is_letter, IsSpan, IsValueEnd, is_ordinary, IsShortProperty, is_upper}
 use Rattle.std.proofs.Common.{◌≡◌, ◌≢◌, ℕ, zero, suc, ◌+◌, ◌-◌, ◌/◌, ◌%◌, ◌^◌, ◌<◌, ◌≤◌, Bool, false, IsTrue, List, [], ◌∷◌, length, get_or, inl, inr, refl, sym, subst, ◌∙◌, arith, le-leb}
-use Rattle.std.proofs.lemmas.Bool.{and_from, cases_lt, or_left}
-use Rattle.std.proofs.lemmas.List.{get_or-append_right}
 use Rattle.std.proofs.lemmas.Simd.{get_or-replicate}
 use Rattle.std.specs.Int.Count.{count_trailing_zeros}
-use Rattle.sgf_outline.specs.Spelling.{is_upper}
-use Rattle.sgf_properties.specs.Front.{is_letter}
-use Rattle.sgf_properties.specs.Offsets.{IsSpan, IsValueEnd, is_ordinary}
-use Rattle.sgf_outline.specs.Move.{IsShortProperty}
 use Rattle.sgf_properties.proofs.PlacedBytes
 use Rattle.sgf_properties.proofs.PlacedBytes.{above}
 use Rattle.sgf_properties.proofs.ValueEnds.{other-ordinary}

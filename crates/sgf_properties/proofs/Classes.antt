@@ -1,8 +1,7 @@
 -- The classes of bytes stand apart.
 use Rattle.std.proofs.Common.{◌≡◌, ◌≢◌, ℕ, ◌≤◌, false, ◌==◌, nat_le, ◌<◌, IsTrue, arith, leb-true, eqb-true}
-use Rattle.std.proofs.lemmas.Bool.{and_parts, or_cases, false_from_ne_true}
+use Rattle.sgf_properties.proofs.Common.{and_parts, or_cases, false_from_ne_true, is_white_space, is_upper, is_lower}
 use Rattle.std.proofs.lemmas.Bool.Decides.{nat_tests}
-use Rattle.sgf_properties.specs.Spelling.{is_white_space, is_upper, is_lower}
 
 pub white-range : (b : ℕ) → IsTrue (is_white_space b) → b ≤ 32
 white-range b h = grind (arith, nat_tests, or_cases)

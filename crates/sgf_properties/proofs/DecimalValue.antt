@@ -1,12 +1,9 @@
 -- The value of digits: at one more digit, and how large it is.
-use Rattle.std.proofs.lemmas.Grind.{common_steps}
-use Rattle.std.proofs.Common.{◌≡◌, ℕ, suc, ◌+◌, ◌-◌, ◌*◌, ◌^◌, ◌<◌, ◌≤◌, true, ◌&&◌, List, [], ◌∷◌, ◌++◌, length, take, get_or, ap, ◌∙◌, arith, length-append, rules}
+use Rattle.sgf_properties.proofs.Common.{list_all, common_steps, take_more, is_digit, decimal_value}
+use Rattle.std.proofs.Common.{◌≡◌, ℕ, suc, ◌+◌, ◌-◌, ◌*◌, ◌^◌, ◌<◌, ◌≤◌, true, ◌&&◌, List, [], ◌∷◌, ◌++◌, length, take, get_or, ap, ◌∙◌, arith, length-append, rules, pow-suc, mul-le-mul_right, length-take-le}
 use Rattle.std.proofs.Math.Bool.{and-true}
-use Rattle.std.proofs.Math.Nat.{pow-suc, mul-le-mul_right, pow-le-pow_right}
-use Rattle.std.proofs.lemmas.List.{take_more, length-take-le}
+use Rattle.std.proofs.Math.Nat.{pow-le-pow_right}
 use Rattle.std.proofs.lemmas.List.Folds.{list_all-append}
-use Rattle.std.specs.List.{list_all}
-use Rattle.sgf_properties.specs.Number.{is_digit, decimal_value}
 
 decimal_value-append_digit : (ds : List ℕ) (d : ℕ) → decimal_value (ds ++ d ∷ []) ≡ 10 * decimal_value ds + (d - 48)
 decimal_value-append_digit [] d = omega arith

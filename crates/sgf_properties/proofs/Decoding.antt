@@ -1,8 +1,6 @@
 -- The rules of decoding, and the function that computes by them.
-use Rattle.std.proofs.Common.{◌≡◌, ◌≢◌, ℕ, Bool, true, false, ◌==◌, if◌then◌else◌, ◌-◌, ◌≤◌, List, [], ◌∷◌, ◌++◌, length, get_or, take, drop, refl, sym, ap, subst, ◌∙◌, append-nil, arith, rules}
-use Rattle.std.proofs.lemmas.Bool.{eqb-true}
-use Rattle.std.proofs.lemmas.List.{take_rest}
-use Rattle.sgf_properties.specs.Text.{is_break, is_pair, MakesNoPair, IsDecoded, nothing, last_backslash, escaped_pair, escaped_break, escaped_byte, pair, line_break, ordinary_byte, spaced, unescaped, after_backslash, text_of}
+use Rattle.std.proofs.Common.{◌≡◌, ◌≢◌, ℕ, Bool, true, false, ◌==◌, if◌then◌else◌, ◌-◌, ◌≤◌, List, [], ◌∷◌, ◌++◌, length, get_or, take, drop, refl, sym, ap, subst, ◌∙◌, append-nil, arith, rules, eqb-true}
+use Rattle.sgf_properties.proofs.Common.{take_rest, is_break, is_pair, MakesNoPair, IsDecoded, nothing, last_backslash, escaped_pair, escaped_break, escaped_byte, pair, line_break, ordinary_byte, spaced, unescaped, after_backslash, text_of}
 
 no_backslash : (b : ℕ) → (b == 92) ≡ false → b ≢ 92
 no_backslash b h = grind arith

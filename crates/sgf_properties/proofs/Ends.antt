@@ -1,10 +1,6 @@
 -- What is left after a thing is an end of what was left before it.
-use Rattle.std.proofs.lemmas.Grind.{common_steps}
-use Rattle.std.proofs.Common.{◌≡◌, ℕ, ◌+◌, ◌-◌, ◌≤◌, List, ◌∷◌, length, drop, sym, ap, ◌∙◌, arith}
-use Rattle.std.proofs.lemmas.List.{drop-drop}
-use Rattle.sgf_properties.specs.Property.{Property}
-use Rattle.sgf_properties.specs.RawValue.{IsValue, no_unit, ordinary, escaped}
-use Rattle.sgf_properties.specs.Spelling.{WhiteSpace, no_white_space, white_space, Letters, no_letter, upper, lower, IsPropValue, prop_value, ArePropValues, no_value, value, IsProperty, property, AreProperties, no_property, properties}
+use Rattle.sgf_properties.proofs.Common.{common_steps, Property, IsValue, no_unit, ordinary, escaped, WhiteSpace, no_white_space, white_space, Letters, no_letter, upper, lower, IsPropValue, prop_value, ArePropValues, no_value, value, IsProperty, property, AreProperties, no_property, properties}
+use Rattle.std.proofs.Common.{◌≡◌, ℕ, ◌+◌, ◌-◌, ◌≤◌, List, ◌∷◌, length, drop, sym, ap, ◌∙◌, arith, drop-drop}
 
 -- s is the end of t
 pub data IsEnd (t : List ℕ) : List ℕ → Type 0 where

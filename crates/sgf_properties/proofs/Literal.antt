@@ -1,9 +1,6 @@
 -- The bytes that stand for themselves, whatever follows.
-use Rattle.std.proofs.Common.{◌≡◌, ℕ, zero, suc, ◌≤◌, true, false, ◌==◌, List, [], ◌∷◌, ◌++◌, length, take, drop, refl, ap, sym, ◌∙◌, arith, rules}
-use Rattle.std.proofs.lemmas.List.{take-append-drop}
-use Rattle.std.specs.List.{list_all}
-use Rattle.sgf_properties.specs.Text.{text_of, is_pair, unescaped}
-use Rattle.sgf_properties.specs.inner.Literals.{is_literal, AreLiterals}
+use Rattle.std.proofs.Common.{◌≡◌, ℕ, zero, suc, ◌≤◌, true, false, ◌==◌, List, [], ◌∷◌, ◌++◌, length, take, drop, refl, ap, sym, ◌∙◌, arith, rules, take-append-drop}
+use Rattle.sgf_properties.proofs.Common.{list_all, text_of, is_pair, unescaped, is_literal, AreLiterals}
 
 not_backslash : (a : ℕ) → is_literal a ≡ true → (a == 92) ≡ false
 not_backslash a h = grind arith

@@ -1,11 +1,6 @@
 -- Where the identifier of a property begins and ends.
-use Rattle.std.proofs.lemmas.Grind.{common_steps}
+use Rattle.sgf_properties.proofs.Common.{cases_lt, or_left, false≢true, common_steps, take_more, is_letter, IsSpan, IsBracket, is_white_space, is_upper}
 use Rattle.std.proofs.Common.{◌≡◌, ℕ, ◌+◌, ◌<◌, IsTrue, List, [], ◌∷◌, length, get_or, slice_range, ap, arith, get_or-drop, length-drop}
-use Rattle.std.proofs.lemmas.Bool.{cases_lt, or_left, false≢true}
-use Rattle.std.proofs.lemmas.List.{take_more}
-use Rattle.sgf_properties.specs.Spelling.{is_white_space, is_upper}
-use Rattle.sgf_properties.specs.Front.{is_letter}
-use Rattle.sgf_properties.specs.Offsets.{IsSpan, IsBracket}
 use Rattle.sgf_properties.proofs.Spans.{empty-span}
 use Rattle.sgf_properties.proofs.ValueEnds.{span-join}
 

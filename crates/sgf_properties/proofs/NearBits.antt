@@ -1,13 +1,8 @@
 -- Sixteen bytes that are tested at once, and the mask of those that pass.
 use Rattle.std.proofs.Common.{◌≡◌, ℕ, ◌+◌, ◌<◌, ◌≤◌, Bool, true, false, List, map, length, get_or, inl, inr, ap, ◌∙◌, arith, w64, rules}
-use Rattle.std.proofs.lemmas.Bool.{cases_lt}
-use Rattle.std.proofs.lemmas.List.{length-map}
+use Rattle.sgf_properties.proofs.Common.{count_trailing_zeros, chunk, mask_l, cases_lt, length-map, length-chunk, mask_l-mod, bit_mask_l, trailing_mask_l, first_set_mask_l, run_in_chunk_le, run_in_chunk_fails, run_in_chunk_stops, lowest_bit}
 use Rattle.std.proofs.lemmas.Nat.Bits.{bit_at-trailing_zeros}
-use Rattle.std.proofs.lemmas.Simd.{length-chunk, mask_l-mod, bit_mask_l, trailing_mask_l, first_set_mask_l, run_in_chunk_le, run_in_chunk_fails, run_in_chunk_stops}
 use Rattle.std.proofs.Math.ListN.{get_or-eq_default}
-use Rattle.std.specs.Int.Count.{count_trailing_zeros}
-use Rattle.std.specs.Simd.Lanes.{chunk, mask_l}
-use Rattle.sgf_properties.specs.inner.Literals.{lowest_bit}
 
 module _ (test : ℕ → Bool) (t : List ℕ) (at : ℕ) (room : at + 16 ≤ length t) where
   abbrev bytes : List ℕ

@@ -1,10 +1,6 @@
 -- The first `]` of sixteen bytes, by the mask of those that are one.
-use Rattle.std.proofs.Common.{◌≡◌, ◌≢◌, ℕ, ◌+◌, ◌^◌, ◌%◌, ◌≤◌, false, cond, eqb, List, map, replicate, length, get_or, sym, ◌∙◌, arith, w8, rules}
-use Rattle.std.proofs.lemmas.Bool.{eqb-true, eq-eqb, false≢true}
-use Rattle.std.proofs.lemmas.Simd.{length-chunk, bitmask_splat, none_from_empty_mask}
-use Rattle.std.specs.Int.Count.{count_trailing_zeros}
-use Rattle.std.specs.Simd.Lanes.{chunk, zip2, mask_l, top}
-use Rattle.sgf_properties.specs.inner.Searches.{HasNoBracket, IsNextBracket}
+use Rattle.std.proofs.Common.{◌≡◌, ◌≢◌, ℕ, ◌+◌, ◌^◌, ◌%◌, ◌≤◌, false, cond, eqb, List, map, replicate, length, get_or, sym, ◌∙◌, arith, w8, rules, eqb-true, eq-eqb}
+use Rattle.sgf_properties.proofs.Common.{count_trailing_zeros, chunk, zip2, mask_l, top, false≢true, length-chunk, bitmask_splat, none_from_empty_mask, HasNoBracket, IsNextBracket}
 use Rattle.sgf_properties.proofs.NearBits
 
 not-bracket : (b : ℕ) → eqb b 93 ≡ false → b ≢ 93

@@ -1,13 +1,7 @@
 -- The bytes of a raw value, and where the next `]` stands.
-use Rattle.std.proofs.lemmas.Grind.{common_steps}
-use Rattle.std.proofs.Common.{rules, ◌≡◌, ◌≢◌, ℕ, ◌+◌, ◌-◌, ◌<◌, ◌≤◌, true, not, List, ◌++◌, length, get_or, take, drop, slice_range, Some, None, sym, ap, ◌∙◌, arith, eqb-true, get_or-take, get_or-drop, ne_eqb}
-use Rattle.std.proofs.Math.Seq.{take-add}
-use Rattle.std.proofs.Common.{length-take, length-drop}
-use Rattle.std.proofs.lemmas.Bool.{and_parts, not-true, eqb-false, eq-eqb}
+use Rattle.sgf_properties.proofs.Common.{and_parts, not-true, eqb-false, common_steps, is_ordinary, HasNoBracket, IsNextBracket}
+use Rattle.std.proofs.Common.{rules, ◌≡◌, ◌≢◌, ℕ, ◌+◌, ◌-◌, ◌<◌, ◌≤◌, true, not, List, ◌++◌, length, get_or, take, drop, slice_range, Some, None, sym, ap, ◌∙◌, arith, eqb-true, get_or-take, get_or-drop, ne_eqb, length-take, length-drop, take-add, eq-eqb, drop-drop}
 use Rattle.memchr.specs.Find.{IsFirstByte, is_byte}
-use Rattle.std.proofs.lemmas.List.{drop-drop}
-use Rattle.sgf_properties.specs.inner.Searches.{HasNoBracket, IsNextBracket}
-use Rattle.sgf_properties.specs.Offsets.{is_ordinary}
 
 pub drop-span : {A : Type 0} (t : List A) (a b : ℕ) → a ≤ b → drop (b - a) (drop a t) ≡ drop b t
 drop-span t a b le = let e : a + (b - a) ≡ b = omega arith in drop-drop (b - a) a t ∙ ap (λ k. drop k t) e

@@ -1,13 +1,6 @@
 -- The byte order mark, by the machine, and the white space after it.
 use Rattle.std.proofs.Common.{rules, ◌≡◌, ◌≢◌, ℕ, ◌+◌, ◌<◌, ◌≤◌, inl, inr, List, [], length, get_or, refl, ◌∙◌, arith, ne_eqb}
-use Rattle.std.proofs.lemmas.Bool.{cases_lt}
-use Rattle.sgf_outline.specs.Tree.{no_games}
-use Rattle.sgf_outline.specs.Spelling.{is_white_space}
-use Rattle.sgf_outline.specs.Machine.{Stack, start, first_of_mark, second_of_mark, after_game, next_state, accepted}
-use Rattle.sgf_tree.specs.Refusal.{IsFaultyAt}
-use Rattle.sgf_tree.specs.inner.Progress.{ComesTo}
-use Rattle.sgf_properties.specs.Offsets.{IsSpan}
-use Rattle.sgf_tree.specs.inner.GamesRead.{StandsBetween, IsByteOrderMarkRead}
+use Rattle.sgf_tree.proofs.Common.{cases_lt, IsSpan, Stack, start, first_of_mark, second_of_mark, after_game, next_state, accepted, is_white_space, no_games, IsFaultyAt, StandsBetween, IsByteOrderMarkRead, ComesTo}
 use Rattle.sgf_tree.proofs.GamesLoop.{game-next}
 use Rattle.sgf_tree.proofs.Run.{run-take-none, run-take-step}
 use Rattle.sgf_tree.proofs.Skipping.{stays-after_game}

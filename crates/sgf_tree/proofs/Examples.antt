@@ -1,7 +1,6 @@
 -- Worked examples: the machine computes the collections of a few texts.
 use Rattle.std.proofs.Common.{◌≡◌, ℕ, [], ◌∷◌, Some, None, refl}
-use Rattle.sgf_outline.specs.Tree.{Node, no_games, game, leaf_count}
-use Rattle.sgf_outline.specs.Machine.{next_state, run, accepted, collection_of}
+use Rattle.sgf_tree.proofs.Common.{next_state, run, accepted, collection_of, Node, no_games, game, leaf_count}
 
 abbrev bare : ℕ → Node
 bare at = record { place = at; properties = [] }

@@ -1,14 +1,6 @@
 -- How the machine goes from game to game.
-use Rattle.std.proofs.lemmas.Grind.{common_steps}
+use Rattle.sgf_tree.proofs.Common.{common_steps, IsSpan, UnclosedGame, Stack, opened, after_game, between_games, close_in, whole_game, next_state, accepted, is_white_space, Games, no_games, game, game_count, unclosed_count, IsFaultyAt, StandsBetween, ComesTo}
 use Rattle.std.proofs.Common.{◌≡◌, ◌≢◌, ℕ, ◌+◌, ◌<◌, ◌≤◌, false, List, [], ◌∷◌, length, get_or, Some, None, refl, ap, subst, ◌∙◌, arith, ne_eqb}
-use Rattle.sgf_outline.specs.Tree.{Games, no_games, game, game_count}
-use Rattle.sgf_outline.specs.Spelling.{is_white_space}
-use Rattle.sgf_outline.specs.Machine.{UnclosedGame, Stack, opened, after_game, between_games, close_in, whole_game, next_state, accepted}
-use Rattle.sgf_tree.specs.Refusal.{IsFaultyAt}
-use Rattle.sgf_tree.specs.inner.Progress.{ComesTo}
-use Rattle.sgf_properties.specs.Offsets.{IsSpan}
-use Rattle.sgf_outline.specs.Unclosed.{unclosed_count}
-use Rattle.sgf_tree.specs.inner.GamesRead.{StandsBetween}
 use Rattle.sgf_outline.proofs.GameEnds.{add_games, closed-in, node_count-followed}
 use Rattle.sgf_tree.proofs.Run.{run-take-step}
 use Rattle.sgf_tree.proofs.Skipping.{stays-after_game}

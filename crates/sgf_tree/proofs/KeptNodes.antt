@@ -1,16 +1,6 @@
 -- What is kept of all nodes: with one more unclosed game, and after a game that ends.
-use Rattle.std.proofs.lemmas.Grind.{common_steps}
+use Rattle.sgf_tree.proofs.Common.{common_steps, length-map, map-append, set_at, further_nodes, UnclosedGame, Stack, after_game, whole_game, close, HoldsSequences, Coming, nothing, own_of, places_of, coming_of, with_game, Node, Games, no_games, node_count, unclosed_count, Numbered, unclosed_nodes, lasts, unclosed_lasts, ordered_places, HoldsNodes}
 use Rattle.std.proofs.Common.{◌≡◌, ℕ, ◌+◌, ◌-◌, List, [], ◌∷◌, ◌++◌, length, set, Some, refl, sym, ap, ◌∙◌, arith, append-nil}
-use Rattle.std.proofs.lemmas.List.{length-map, map-append, set_at}
-use Rattle.sgf_outline.specs.Tree.{Node, Games, no_games, node_count}
-use Rattle.sgf_outline.specs.FileOrder.{further_nodes}
-use Rattle.sgf_outline.specs.Machine.{UnclosedGame, Stack, after_game, whole_game, close}
-use Rattle.sgf_outline.specs.Unclosed.{unclosed_count}
-use Rattle.sgf_tree.specs.inner.GamesRead.{unclosed_nodes, lasts, unclosed_lasts}
-use Rattle.sgf_outline.specs.OwnNodes.{Coming, nothing, own_of, places_of, coming_of, with_game}
-use Rattle.sgf_outline.specs.Outlining.{HoldsSequences}
-use Rattle.sgf_tree.specs.inner.Placing.{ordered_places, HoldsNodes}
-use Rattle.sgf_tree.specs.declared.numbered.Numbered.{Numbered}
 use Rattle.sgf_outline.proofs.GameEnds.{add_games, game-ends}
 use Rattle.sgf_outline.proofs.Listed.{before}
 use Rattle.sgf_tree.proofs.Stacks.{unclosed_lasts-listed, length-unclosed_nodes, unclosed_nodes-closed, unclosed_lasts-closed}

@@ -1,3 +1,4 @@
+mod Common
 pub mod ValueEnds
 pub mod ValuesRead
 pub mod NameEnds

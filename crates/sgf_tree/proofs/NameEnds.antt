@@ -1,15 +1,6 @@
 -- How the name of a property is read, up to the `[` after it.
-use Rattle.std.proofs.lemmas.Grind.{common_steps}
+use Rattle.sgf_tree.proofs.Common.{cases_lt, or_cases, or_parts, common_steps, filter-append, is_letter, name_in, IsSpan, IsBracket, Started, MachineState, in_name, after_name, in_value, next_state, accepted, is_white_space, is_upper, is_lower, IsFaultyAt, ComesTo, IsNameRead}
 use Rattle.std.proofs.Common.{◌≡◌, ◌≢◌, ℕ, zero, suc, ◌+◌, ◌-◌, ◌<◌, ◌≤◌, false, inl, inr, IsTrue, List, [], ◌∷◌, ◌++◌, length, get_or, slice_range, Some, None, refl, sym, ap, subst, ◌∙◌, arith, if◌then◌else◌, ne_eqb, rules}
-use Rattle.std.proofs.lemmas.Bool.{cases_lt, or_cases, or_parts}
-use Rattle.std.proofs.lemmas.List.Elements.{filter-append}
-use Rattle.sgf_outline.specs.Spelling.{is_white_space, is_upper, is_lower}
-use Rattle.sgf_outline.specs.Machine.{Started, MachineState, in_name, after_name, in_value, next_state, accepted}
-use Rattle.sgf_tree.specs.Refusal.{IsFaultyAt}
-use Rattle.sgf_properties.specs.Front.{is_letter, name_in}
-use Rattle.sgf_tree.specs.inner.Progress.{ComesTo}
-use Rattle.sgf_properties.specs.Offsets.{IsSpan, IsBracket}
-use Rattle.sgf_tree.specs.inner.PropertiesRead.{IsNameRead}
 use Rattle.sgf_properties.proofs.Classes.{white-not_upper, white-not_lower}
 use Rattle.sgf_tree.proofs.Run.{run-take-step}
 use Rattle.sgf_tree.proofs.Skipping.{stays-after_name}

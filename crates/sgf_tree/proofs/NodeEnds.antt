@@ -1,11 +1,6 @@
 -- How the properties of a node are read, one after another.
-use Rattle.std.proofs.lemmas.Grind.{common_steps}
+use Rattle.sgf_tree.proofs.Common.{common_steps, Started, MachineState, in_node, in_name, after_value, after_node, with_property, ended, next_state, accepted, is_white_space, is_upper, Property, ComesTo, StandsAfterNode}
 use Rattle.std.proofs.Common.{rules, ◌≡◌, ◌≢◌, ℕ, ◌+◌, ◌<◌, false, IsTrue, List, [], ◌∷◌, length, get_or, Option, Some, None, arith, ne_eqb}
-use Rattle.sgf_outline.specs.Tree.{Property}
-use Rattle.sgf_outline.specs.Spelling.{is_white_space, is_upper}
-use Rattle.sgf_outline.specs.Machine.{Started, MachineState, in_node, in_name, after_value, after_node, with_property, ended, next_state, accepted}
-use Rattle.sgf_tree.specs.inner.Progress.{ComesTo}
-use Rattle.sgf_tree.specs.inner.PropertiesRead.{StandsAfterNode}
 use Rattle.sgf_properties.proofs.Classes.{upper-not_white_space, upper-not_bracket}
 use Rattle.sgf_tree.proofs.Run.{run-take-step}
 

@@ -1,25 +1,8 @@
 -- How the own nodes of a game are read one by one, and what a visitor keeps of them.
-use Rattle.std.proofs.lemmas.Grind.{flat_map-append}
-use Rattle.std.proofs.Common.{◌≡◌, ◌≢◌, ℕ, ◌+◌, ◌-◌, ◌<◌, ◌≤◌, true, List, [], ◌∷◌, ◌++◌, length, get_or, slice_range, refl, sym, ap, subst, ◌∙◌, arith, length-append, append_assoc, append-nil, rules}
+use Rattle.sgf_tree.proofs.Common.{flat_map-append, map-append, IsSpan, OwnNodes, UnclosedGame, Stack, Started, opened, in_node, IsMoveNode, EndsNode, Coming, nothing, coming_of, places_of, own_of, with_game, IsCopied, Copies, CopiesNode, AreOwnNodes, is_white_space, Property, Node, no_games, unclosed_count, property_text, node_text, NodesRead, IsFaultyAt, IsGameRead, NodesSoFar, AreReadTo, AreOwnRead, AreNodesRead, ComesTo, StandsIn, ArePropertiesRead}
+use Rattle.std.proofs.Common.{◌≡◌, ◌≢◌, ℕ, ◌+◌, ◌-◌, ◌<◌, ◌≤◌, true, List, [], ◌∷◌, ◌++◌, length, get_or, slice_range, refl, sym, ap, subst, ◌∙◌, arith, length-append, append_assoc, append-nil, rules, flat_map}
 use Rattle.std.proofs.Math.Seq.{get_or-append_seam}
-use Rattle.std.proofs.lemmas.List.{map-append}
-use Rattle.std.specs.List.{flat_map}
-use Rattle.sgf_outline.specs.Tree.{Property, Node, no_games}
-use Rattle.sgf_outline.specs.Spelling.{is_white_space}
-use Rattle.sgf_tree.specs.Refusal.{IsFaultyAt}
-use Rattle.sgf_outline.specs.Written.{property_text, node_text}
-use Rattle.sgf_outline.specs.Machine.{UnclosedGame, Stack, Started, opened, in_node}
-use Rattle.sgf_tree.specs.inner.Progress.{ComesTo}
-use Rattle.sgf_outline.specs.Move.{IsMoveNode, EndsNode}
-use Rattle.sgf_properties.specs.Offsets.{IsSpan}
-use Rattle.sgf_tree.specs.inner.PropertiesRead.{StandsIn, ArePropertiesRead}
-use Rattle.sgf_outline.specs.Unclosed.{unclosed_count}
-use Rattle.sgf_tree.specs.inner.GamesRead.{IsGameRead}
-use Rattle.sgf_tree.specs.inner.NodesRead.{NodesSoFar, AreReadTo, AreOwnRead, AreNodesRead}
-use Rattle.sgf_outline.specs.OwnNodes.{Coming, nothing, coming_of, places_of, own_of, with_game, IsCopied, Copies, CopiesNode, AreOwnNodes}
-use Rattle.sgf_outline.specs.declared.layout.OwnNodes.{OwnNodes}
 use Rattle.sgf_outline.specs.declared.layout.Segment.{Segment}
-use Rattle.sgf_tree.specs.declared.reader.own_nodes.NodesRead.{NodesRead}
 use Rattle.sgf_properties.proofs.NameEnds.{span-one}
 use Rattle.sgf_tree.proofs.ShortProperties.{lone-read}
 use Rattle.sgf_properties.proofs.Spans.{span-none}

@@ -1,10 +1,6 @@
 -- How the machine goes over one text and then another, and over one byte more.
-use Rattle.std.proofs.lemmas.Grind.{common_steps}
-use Rattle.std.proofs.Common.{◌≡◌, ℕ, ◌+◌, ◌-◌, ◌<◌, ◌≤◌, List, [], ◌∷◌, ◌++◌, length, get_or, take, drop, slice_range, Option, Some, None, option_and_then, refl, sym, ap, ◌∙◌, add-zero, arith, rules}
-use Rattle.std.proofs.Math.Seq.{take-add}
-use Rattle.std.proofs.lemmas.List.{take_more, length-take-le, take-append-drop}
-use Rattle.std.proofs.lemmas.Option.{option_and_then_some}
-use Rattle.sgf_outline.specs.Machine.{MachineState, start, next_state, run, accepted, collection_of}
+use Rattle.sgf_tree.proofs.Common.{common_steps, take_more, option_and_then_some, MachineState, start, next_state, run, accepted, collection_of}
+use Rattle.std.proofs.Common.{◌≡◌, ℕ, ◌+◌, ◌-◌, ◌<◌, ◌≤◌, List, [], ◌∷◌, ◌++◌, length, get_or, take, drop, slice_range, Option, Some, None, option_and_then, refl, sym, ap, ◌∙◌, add-zero, arith, rules, take-add, length-take-le, take-append-drop}
 
 -- a byte is taken, and then the text after it
 then_run : (at : ℕ) (x : ℕ) (a b : List ℕ)

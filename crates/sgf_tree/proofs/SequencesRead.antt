@@ -1,17 +1,6 @@
 -- How the machine goes over the own nodes of a game.
-use Rattle.std.proofs.lemmas.Grind.{common_steps}
-use Rattle.std.proofs.Common.{◌≡◌, ◌≢◌, ℕ, ◌+◌, ◌<◌, true, false, List, [], ◌∷◌, ◌++◌, length, get_or, None, refl, arith, ne_eqb, rules}
-use Rattle.std.specs.List.{flat_map}
-use Rattle.sgf_outline.specs.Tree.{Property, Node, Games, no_games, game}
-use Rattle.sgf_outline.specs.Spelling.{is_white_space}
-use Rattle.sgf_outline.specs.Written.{property_text}
-use Rattle.sgf_outline.specs.Machine.{UnclosedGame, Stack, Started, opened, in_node, after_game, after_node, between_games, ended, new_game, new_node, next_state, accepted}
-use Rattle.sgf_tree.specs.Refusal.{IsFaultyAt}
-use Rattle.sgf_tree.specs.inner.Progress.{ComesTo}
-use Rattle.sgf_properties.specs.Offsets.{IsSpan}
-use Rattle.sgf_tree.specs.inner.PropertiesRead.{StandsAfterNode, ArePropertiesRead}
-use Rattle.sgf_tree.specs.inner.GamesRead.{StandsBetween}
-use Rattle.sgf_tree.specs.inner.NodesRead.{NodesSoFar}
+use Rattle.sgf_tree.proofs.Common.{common_steps, IsSpan, UnclosedGame, Stack, Started, opened, in_node, after_game, after_node, between_games, ended, new_game, new_node, next_state, accepted, is_white_space, Property, Node, Games, no_games, game, property_text, IsFaultyAt, StandsBetween, NodesSoFar, ComesTo, StandsAfterNode, ArePropertiesRead}
+use Rattle.std.proofs.Common.{◌≡◌, ◌≢◌, ℕ, ◌+◌, ◌<◌, true, false, List, [], ◌∷◌, ◌++◌, length, get_or, None, refl, arith, ne_eqb, rules, flat_map}
 use Rattle.sgf_tree.proofs.Run.{run-take-step}
 use Rattle.sgf_tree.proofs.Skipping.{stays-opened}
 use Rattle.sgf_tree.proofs.Spans.{run-white}

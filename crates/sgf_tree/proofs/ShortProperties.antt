@@ -1,17 +1,6 @@
 -- A property with one value, as the code tells it.
-use Rattle.std.proofs.lemmas.Grind.{common_steps, flat_map-append}
-use Rattle.std.proofs.Common.{◌≡◌, ◌≢◌, ℕ, ◌+◌, ◌<◌, ◌≤◌, Bool, false, IsTrue, List, [], ◌∷◌, ◌++◌, length, get_or, slice_range, Some, None, refl, sym, ap, subst, ◌∙◌, arith, append-nil, rules}
-use Rattle.std.proofs.lemmas.Bool.{or_left}
-use Rattle.std.specs.List.{flat_map}
-use Rattle.sgf_outline.specs.Tree.{Property, values}
-use Rattle.sgf_outline.specs.Spelling.{is_white_space, is_upper, is_lower}
-use Rattle.sgf_outline.specs.Written.{property_text}
-use Rattle.sgf_outline.specs.Machine.{Started, in_node}
-use Rattle.sgf_properties.specs.Front.{is_letter}
-use Rattle.sgf_tree.specs.inner.Progress.{ComesTo}
-use Rattle.sgf_outline.specs.Move.{IsMove, EndsNode, IsShortProperty}
-use Rattle.sgf_properties.specs.Offsets.{IsSpan, IsBracket, IsValueEnd}
-use Rattle.sgf_tree.specs.inner.PropertiesRead.{AreValuesEnded, StandsIn, IsNameRead, IsPropertyRead, ArePropertiesRead, with_properties}
+use Rattle.sgf_tree.proofs.Common.{or_left, common_steps, flat_map-append, is_letter, IsSpan, IsBracket, IsValueEnd, Started, in_node, IsMove, EndsNode, IsShortProperty, is_white_space, is_upper, is_lower, Property, values, property_text, ComesTo, AreValuesEnded, StandsIn, IsNameRead, IsPropertyRead, ArePropertiesRead, with_properties}
+use Rattle.std.proofs.Common.{◌≡◌, ◌≢◌, ℕ, ◌+◌, ◌<◌, ◌≤◌, Bool, false, IsTrue, List, [], ◌∷◌, ◌++◌, length, get_or, slice_range, Some, None, refl, sym, ap, subst, ◌∙◌, arith, append-nil, rules, flat_map}
 use Rattle.sgf_properties.proofs.Classes.{upper-range, between-not_upper}
 use Rattle.sgf_tree.proofs.NameEnds.{name-read, capitals-are}
 use Rattle.sgf_properties.proofs.NameEnds.{bracket-here}

@@ -1,8 +1,6 @@
 -- The states that skip white space.
 use Rattle.std.proofs.Common.{◌≡◌, ℕ, IsTrue, List, Some}
-use Rattle.sgf_outline.specs.Tree.{Property}
-use Rattle.sgf_outline.specs.Spelling.{is_white_space}
-use Rattle.sgf_outline.specs.Machine.{Stack, Started, MachineState, opened, in_node, after_name, after_value, after_game, next_state}
+use Rattle.sgf_tree.proofs.Common.{Stack, Started, MachineState, opened, in_node, after_name, after_value, after_game, next_state, is_white_space, Property}
 
 abbrev pub Stays : MachineState → Type 0
 Stays z = (b at : ℕ) → IsTrue (is_white_space b) → next_state at z b ≡ Some z

@@ -1,9 +1,6 @@
 -- What a text spells, the machine accepts; so a text spells one collection at most.
 use Rattle.std.proofs.Common.{◌≡◌, ℕ, List, [], ◌∷◌, length, Some, option_and_then, refl, sym, ◌∙◌, rules}
-use Rattle.std.proofs.lemmas.Option.{same_Some}
-use Rattle.sgf_outline.specs.Tree.{Games, no_games, game}
-use Rattle.sgf_outline.specs.Spelling.{WhiteSpace, no_white_space, white_space, games, ByteOrderMark, no_byte_order_mark, byte_order_mark, Spells, spells}
-use Rattle.sgf_outline.specs.Machine.{start, first_of_mark, second_of_mark, opened, after_game, next_state, accepted, collection_of}
+use Rattle.sgf_tree.proofs.Common.{same_Some, start, first_of_mark, second_of_mark, opened, after_game, next_state, accepted, collection_of, WhiteSpace, no_white_space, white_space, games, ByteOrderMark, no_byte_order_mark, byte_order_mark, Spells, spells, Games, no_games, game}
 use Rattle.sgf_properties.proofs.Classes.{white-not_mark}
 use Rattle.sgf_tree.proofs.Transitions.{no_stack}
 use Rattle.sgf_tree.proofs.Reading.{read, run-whole, one-byte, over-white}

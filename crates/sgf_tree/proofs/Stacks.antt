@@ -1,11 +1,6 @@
 -- The ordered nodes of whole and unclosed games, and the last nodes below: games side by side, and a game that ends.
-use Rattle.std.proofs.lemmas.Grind.{common_steps}
+use Rattle.sgf_tree.proofs.Common.{common_steps, nodes_from, joined, UnclosedGame, whole_game, Games, no_games, game, node_count, unclosed_count, tip, own_nodes, unclosed_nodes, lasts, unclosed_lasts}
 use Rattle.std.proofs.Common.{◌≡◌, ℕ, ◌+◌, List, [], ◌∷◌, ◌++◌, length, Option, None, refl, arith, append_assoc, append-nil, length-append, rules}
-use Rattle.sgf_outline.specs.Tree.{Games, no_games, game, joined, node_count}
-use Rattle.sgf_outline.specs.FileOrder.{nodes_from}
-use Rattle.sgf_outline.specs.Machine.{UnclosedGame, whole_game}
-use Rattle.sgf_outline.specs.Unclosed.{unclosed_count}
-use Rattle.sgf_tree.specs.inner.GamesRead.{tip, own_nodes, unclosed_nodes, lasts, unclosed_lasts}
 use Rattle.sgf_outline.proofs.GameEnds.{add_games}
 use Rattle.sgf_outline.specs.Listing.{listed, unclosed_list}
 use Rattle.sgf_outline.proofs.ListedNodes.{length-listed}

@@ -1,12 +1,6 @@
 -- The machine's steps as a relation: one constructor for each way that a byte takes a state to the next one.
-use Rattle.std.proofs.Common.{arith, rules}
-use Rattle.std.proofs.lemmas.Grind.{common_steps}
-use Rattle.std.proofs.Common.{◌≡◌, ◌≢◌, ℕ, Bool, true, false, ◌==◌, if◌then◌else◌, IsTrue, List, [], ◌∷◌, ◌++◌, Option, Some, None, subst, eqb-true}
-use Rattle.std.proofs.lemmas.Bool.{eqb-false}
-use Rattle.std.proofs.lemmas.Option.{none-some, same_Some}
-use Rattle.sgf_outline.specs.Tree.{no_games, Property, values}
-use Rattle.sgf_outline.specs.Spelling.{is_white_space, is_upper, is_lower}
-use Rattle.sgf_outline.specs.Machine.{Stack, Started, MachineState, start, first_of_mark, second_of_mark, opened, in_node, in_name, after_name, in_value, after_escape, after_value, after_game, property_of, with_property, ended, close, new_node, after_node, between_games, next_state}
+use Rattle.std.proofs.Common.{arith, rules, ◌≡◌, ◌≢◌, ℕ, Bool, true, false, ◌==◌, if◌then◌else◌, IsTrue, List, [], ◌∷◌, ◌++◌, Option, Some, None, subst, eqb-true}
+use Rattle.sgf_tree.proofs.Common.{eqb-false, common_steps, none-some, same_Some, Stack, Started, MachineState, start, first_of_mark, second_of_mark, opened, in_node, in_name, after_name, in_value, after_escape, after_value, after_game, property_of, with_property, ended, close, new_node, after_node, between_games, next_state, is_white_space, is_upper, is_lower, no_games, Property, values}
 
 -- no game, and none unclosed
 abbrev pub no_stack : Stack

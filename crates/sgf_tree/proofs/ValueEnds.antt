@@ -1,13 +1,6 @@
 -- The units of a raw value, by the machine, and a text that ends too early or has a byte that is refused.
-use Rattle.std.proofs.lemmas.Grind.{common_steps}
-use Rattle.std.proofs.Common.{rules, inl, inr, ◌≡◌, ℕ, ◌+◌, ◌<◌, ◌≤◌, List, [], ◌∷◌, ◌++◌, length, get_or, slice_range, Some, None, refl, sym, ap, subst, ◌∙◌, arith, ne_eqb, append_assoc, append-nil}
-use Rattle.std.proofs.lemmas.Bool.{cases_lt}
-use Rattle.std.proofs.lemmas.List.{take_all}
-use Rattle.sgf_outline.specs.Machine.{Started, MachineState, start, in_value, after_escape, next_state, run, accepted}
-use Rattle.sgf_tree.specs.Refusal.{IsFaultyAt}
-use Rattle.sgf_properties.specs.RawValue.{IsValue, no_unit, ordinary, escaped}
-use Rattle.sgf_tree.specs.inner.Progress.{ComesTo}
-use Rattle.sgf_properties.specs.Offsets.{SpellsValue, IsUnended, in_units, in_escape}
+use Rattle.sgf_tree.proofs.Common.{cases_lt, common_steps, SpellsValue, IsUnended, in_units, in_escape, IsValue, no_unit, ordinary, escaped, Started, MachineState, start, in_value, after_escape, next_state, run, accepted, IsFaultyAt, ComesTo}
+use Rattle.std.proofs.Common.{rules, inl, inr, ◌≡◌, ℕ, ◌+◌, ◌<◌, ◌≤◌, List, [], ◌∷◌, ◌++◌, length, get_or, slice_range, Some, None, refl, sym, ap, subst, ◌∙◌, arith, ne_eqb, append_assoc, append-nil, take_all}
 use Rattle.sgf_tree.proofs.Faults.{ended-fault, refused-fault}
 use Rattle.sgf_tree.proofs.Run.{run-take-step, run-take-span}
 

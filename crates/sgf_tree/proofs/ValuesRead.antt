@@ -1,13 +1,6 @@
 -- How the values of a property are read, one after another, and what the sgf form writes for them.
-use Rattle.std.proofs.Common.{◌≡◌, ℕ, ◌+◌, ◌<◌, ◌≤◌, List, [], ◌∷◌, ◌++◌, length, get_or, slice_range, refl, sym, ap, subst, ◌∙◌, arith, append_assoc, append-nil, rules}
-use Rattle.std.proofs.lemmas.Grind.{flat_map-append}
-use Rattle.std.specs.List.{flat_map}
-use Rattle.sgf_outline.specs.Tree.{Property, values}
-use Rattle.sgf_outline.specs.Spelling.{is_white_space}
-use Rattle.sgf_outline.specs.Written.{value_text}
-use Rattle.sgf_outline.specs.Machine.{Started, in_value, after_value, property_of, next_state}
-use Rattle.sgf_tree.specs.inner.Progress.{ComesTo}
-use Rattle.sgf_properties.specs.Offsets.{IsSpan, IsBracket, IsValueEnd}
+use Rattle.std.proofs.Common.{◌≡◌, ℕ, ◌+◌, ◌<◌, ◌≤◌, List, [], ◌∷◌, ◌++◌, length, get_or, slice_range, refl, sym, ap, subst, ◌∙◌, arith, append_assoc, append-nil, rules, flat_map}
+use Rattle.sgf_tree.proofs.Common.{flat_map-append, IsSpan, IsBracket, IsValueEnd, Started, in_value, after_value, property_of, next_state, is_white_space, Property, values, value_text, ComesTo}
 use Rattle.sgf_properties.proofs.NameEnds.{span-one}
 use Rattle.sgf_tree.proofs.Run.{run-take-step}
 use Rattle.sgf_tree.proofs.Skipping.{stays-after_value}

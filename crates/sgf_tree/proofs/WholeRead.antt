@@ -1,15 +1,6 @@
 -- How all games of a text are read, and what holds then.
-use Rattle.std.proofs.lemmas.Grind.{common_steps}
+use Rattle.sgf_tree.proofs.Common.{common_steps, IsSpan, UnclosedGame, Stack, MachineState, after_game, close, accepted, collection_of, Coming, nothing, is_white_space, Games, no_games, game, game_count, node_count, unclosed_count, IsFaultyAt, StandsBetween, IsGameRead, ReadsWhole, ComesTo}
 use Rattle.std.proofs.Common.{◌≡◌, ℕ, ◌+◌, ◌-◌, ◌<◌, ◌≤◌, ◌⊎◌, inl, inr, List, [], ◌∷◌, length, get_or, Some, None, unwrap_or, sym, ap, subst, ◌∙◌, arith, rules}
-use Rattle.sgf_outline.specs.Tree.{Games, no_games, game, game_count, node_count}
-use Rattle.sgf_outline.specs.Spelling.{is_white_space}
-use Rattle.sgf_tree.specs.Refusal.{IsFaultyAt}
-use Rattle.sgf_outline.specs.Machine.{UnclosedGame, Stack, MachineState, after_game, close, accepted, collection_of}
-use Rattle.sgf_outline.specs.OwnNodes.{Coming, nothing}
-use Rattle.sgf_tree.specs.inner.Progress.{ComesTo}
-use Rattle.sgf_properties.specs.Offsets.{IsSpan}
-use Rattle.sgf_outline.specs.Unclosed.{unclosed_count}
-use Rattle.sgf_tree.specs.inner.GamesRead.{StandsBetween, IsGameRead, ReadsWhole}
 use Rattle.sgf_tree.proofs.AcceptedSpelled.{accepted-spelled}
 use Rattle.sgf_outline.proofs.GameEnds.{closed-in}
 use Rattle.sgf_tree.proofs.GamesLoop.{none-accepted, close-faulty, close-stands, games-unfinished, games-whole, games-accepted, unclosed_count-closed, depth-closed}

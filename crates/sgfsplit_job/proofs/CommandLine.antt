@@ -1,8 +1,7 @@
 -- How clap reads the words that ask for a job.
-use Rattle.std.proofs.Common.{Bool, ◌≡◌, true, List, [], ◌∷◌, ◌++◌, codes, refl, false, ◌&&◌, Option, Some, None, ap, sym, ◌∙◌, rules}
+use Rattle.std.proofs.Common.{Bool, ◌≡◌, true, List, [], ◌∷◌, ◌++◌, codes, refl, false, ◌&&◌, Option, Some, None, ap, sym, ◌∙◌, rules, unwrap_or, find, fold, IfSome, is_some, bytes_eq}
 use Rattle.std.proofs.Math.Bool.{and-false}
 use Rattle.std.proofs.lemmas.Bool.{and_from}
-use Rattle.std.specs.Prelude.{unwrap_or, find, fold, IfSome, is_some}
 use Rattle.std.specs.List.{list_any, list_all}
 use Rattle.clap.specs.Faults.{is_simple_and_free}
 use Rattle.clap.specs.Takes.{takes, walk_passes, settle_passes, level_passes, default_passes, is_valid, entered_passes}
@@ -10,7 +9,6 @@ use Rattle.clap.specs.Walk.{Held, Names, Row, Rule, Text, Walk, walk, walked, id
 use Rattle.clap.specs.Simple.{Shape, is_simple, built, entered, label_of, names_of as subcommands, new_shape, subcommand_of}
 use Rattle.clap.specs.Values.{same_text}
 use Rattle.clap.specs.Lexer.{long_of, short_of}
-use Rattle.std.specs.Str.{bytes_eq}
 use Rattle.clap.specs.ValueTests.{is_unsigned_in}
 use Rattle.clap.proofs.OnLiterals.{clap_on_literals}
 use Rattle.clap.proofs.WalkLemmas.{walk_stopped}

@@ -1,22 +1,11 @@
 -- How many lines end before a node, which line ends at it, and what a cursor that stands after it shows.
-use Rattle.std.proofs.lemmas.Grind.{common_steps}
-use Rattle.std.proofs.Common.{◌≡◌, ℕ, ◌+◌, ◌-◌, ◌<◌, ◌≤◌, List, [], length, slice_get, Option, Some, None, option_map, sym, ap, ◌∙◌, inl, inr, arith, zero, suc, get_or}
-use Rattle.std.specs.Prelude.{nat_lt}
-use Rattle.std.proofs.lemmas.Bool.{lt-ltb, le-ltb, cases_lt}
+use Rattle.tree_lines.proofs.Common.{cases_lt, common_steps, slice_get-map, slice_get_within, get_or_from_slice_get, slice_get_past, IsLeaf, place_at, game_of, Games, node_count, CursorState, advanced, IsLine, lines_before, path_before, line_before, Line, lines, place_of, Path, paths, leaf_of, IsPathTo, HasNoLeaf, IsNextLeaf, IsAfterLeaf}
+use Rattle.std.proofs.Common.{◌≡◌, ℕ, ◌+◌, ◌-◌, ◌<◌, ◌≤◌, List, [], length, slice_get, Option, Some, None, option_map, sym, ap, ◌∙◌, inl, inr, arith, zero, suc, get_or, nat_lt, lt-ltb, le-ltb}
 use Rattle.std.proofs.lemmas.List.Sums.{prefix_len_is}
-use Rattle.std.proofs.lemmas.Option.{slice_get-map, slice_get_within, get_or_from_slice_get, slice_get_past}
-use Rattle.sgf_outline.specs.Tree.{Games, node_count}
-use Rattle.sgf_outline.specs.FileOrder.{IsLeaf, place_at, game_of}
-use Rattle.tree_lines.specs.Paths.{Path, paths, leaf_of}
-use Rattle.tree_lines.specs.inner.PathTo.{IsPathTo, HasNoLeaf, IsNextLeaf}
-use Rattle.tree_lines.specs.Following.{lines_before, path_before, line_before}
-use Rattle.tree_lines.specs.inner.Standing.{IsAfterLeaf}
 use Rattle.sgf_outline.proofs.Rises.{rises-pair}
 use Rattle.tree_lines.proofs.Lists.{element, each_get}
 use Rattle.tree_lines.proofs.Visits.{one_way, way_within, last-way, some_node, leads, leaves_in_order, covered}
-use Rattle.tree_lines.specs.Lines.{Line, lines, place_of}
 use Rattle.tree_lines.proofs.Named.{game_of_root, line_at, length-paths}
-use Rattle.tree_lines.specs.Cursor.{CursorState, advanced, IsLine}
 use Rattle.tree_lines.specs.declared.line.LineRef.{LineRef}
 
 -- the line that ends at a leaf, where no leaf stands between node n and it

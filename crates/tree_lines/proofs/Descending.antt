@@ -1,19 +1,9 @@
 -- From a leaf's path to that of the next leaf: back to the parent of the node after it, and down from there.
-use Rattle.std.proofs.lemmas.Grind.{common_steps}
+use Rattle.tree_lines.proofs.Common.{range_with_len, take-append_seam, cases_lt, common_steps, slice_get_within, parent_at, Games, CursorState, lines_before, first_after, Continues, numbers_before, path_before, paths, IsPathTo, IsNextLeaf, IsCutBack, IsAfterLeaf}
 use Rattle.std.proofs.Common.{◌≡◌, ℕ, zero, suc, ◌+◌, ◌-◌, ◌<◌, ◌≤◌, List, [], ◌∷◌, ◌++◌, length, take, slice_get, Option, Some, None, inl, inr, refl, sym, ap, ◌∙◌, arith, length-append, rules}
-use Rattle.std.proofs.lemmas.Bool.{cases_lt}
-use Rattle.std.proofs.Math.Seq.{take-append_seam}
-use Rattle.std.proofs.lemmas.Option.{slice_get_within}
-use Rattle.std.specs.List.{range_with_len}
-use Rattle.sgf_outline.specs.Tree.{Games}
-use Rattle.sgf_outline.specs.FileOrder.{parent_at}
 use Rattle.sgf_outline.proofs.Lists.{slice_get-right}
 use Rattle.sgf_outline.proofs.Rises.{Rises, rises-pair}
-use Rattle.tree_lines.specs.Paths.{paths}
-use Rattle.tree_lines.specs.Cursor.{CursorState}
-use Rattle.tree_lines.specs.inner.PathTo.{IsPathTo, step, IsNextLeaf, IsCutBack}
-use Rattle.tree_lines.specs.Following.{lines_before, first_after, Continues, numbers_before, path_before}
-use Rattle.tree_lines.specs.inner.Standing.{IsAfterLeaf}
+use Rattle.tree_lines.specs.inner.PathTo.{step}
 use Rattle.tree_lines.proofs.Lists.{get_left}
 use Rattle.tree_lines.proofs.Visits.{none_above, way_rises, rises_parts, GoesOn, goes_on_there, after_way}
 use Rattle.tree_lines.proofs.CursorStates.{before_none, next_line, given_line, before}

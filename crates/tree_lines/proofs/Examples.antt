@@ -1,9 +1,6 @@
 -- The definitions on small collections.
-use Rattle.std.proofs.Common.{◌≡◌, ℕ, List, [], ◌∷◌, map, refl}
-use Rattle.std.specs.Prelude.{codes}
-use Rattle.sgf_outline.specs.Tree.{Property, Node, Games, no_games, game}
-use Rattle.tree_lines.specs.Lines.{lines, place_of}
-use Rattle.tree_lines.specs.Paths.{paths}
+use Rattle.std.proofs.Common.{◌≡◌, ℕ, List, [], ◌∷◌, map, refl, codes}
+use Rattle.tree_lines.proofs.Common.{Property, Node, Games, no_games, game, lines, place_of, paths}
 
 abbrev pub one : List ℕ → List ℕ → Property
 one name value = record { name = name; first = value; more = [] }

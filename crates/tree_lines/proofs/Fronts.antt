@@ -1,11 +1,6 @@
 -- Nodes in sequences, by the indices where these end.
-use Rattle.std.proofs.lemmas.Grind.{common_steps, flat_map-append}
-use Rattle.std.proofs.Common.{◌≡◌, ℕ, zero, suc, ◌+◌, ◌-◌, ◌<◌, ◌≤◌, List, [], ◌∷◌, ◌++◌, length, get_or, take, drop, map, slice_get, Some, refl, sym, ap, ◌∙◌, arith, add-one}
-use Rattle.std.specs.List.{concat, flat_map}
-use Rattle.std.proofs.Math.Seq.{take-append_seam}
-use Rattle.std.proofs.lemmas.List.{take-append-drop, length-drop, length-take-le, drop-take, drop-drop, drop_all}
-use Rattle.tree_lines.specs.Following.{Continues}
-use Rattle.tree_lines.specs.Sequences.{RiseTo, nodes_in, parts_from}
+use Rattle.tree_lines.proofs.Common.{concat, take-append_seam, common_steps, flat_map-append, drop-take, drop_all, Continues, RiseTo, nodes_in, parts_from}
+use Rattle.std.proofs.Common.{◌≡◌, ℕ, zero, suc, ◌+◌, ◌-◌, ◌<◌, ◌≤◌, List, [], ◌∷◌, ◌++◌, length, get_or, take, drop, map, slice_get, Some, refl, sym, ap, ◌∙◌, arith, add-one, flat_map, take-append-drop, length-drop, length-take-le, drop-drop}
 
 -- where the first `k` parts end
 abbrev pub end_of : ℕ → List ℕ → ℕ → ℕ

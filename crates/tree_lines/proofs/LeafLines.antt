@@ -1,10 +1,6 @@
 -- A line ends at each leaf, so there are as many lines as leaves, and no more lines than nodes.
-use Rattle.std.proofs.lemmas.Grind.{common_steps}
+use Rattle.tree_lines.proofs.Common.{common_steps, length-map, Node, Games, no_games, game, leaf_count, node_count, lines, lines_from, node_lines, through, paths, leaf_of}
 use Rattle.std.proofs.Common.{◌≡◌, ℕ, ◌+◌, ◌<◌, ◌≤◌, List, [], ◌∷◌, ◌++◌, length, map, refl, arith, length-append}
-use Rattle.std.proofs.lemmas.List.{length-map}
-use Rattle.sgf_outline.specs.Tree.{Node, Games, no_games, game, leaf_count, node_count}
-use Rattle.tree_lines.specs.Lines.{lines, lines_from, node_lines, through}
-use Rattle.tree_lines.specs.Paths.{paths, leaf_of}
 use Rattle.tree_lines.proofs.Visits.{rises_parts, leaves_in_order}
 use Rattle.tree_lines.proofs.Named.{length-paths}
 

@@ -1,3 +1,4 @@
+mod Common
 pub mod Examples
 pub mod Lists
 pub mod Visits

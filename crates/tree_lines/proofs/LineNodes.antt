@@ -1,18 +1,6 @@
 -- The nodes of the line before a cursor, by its path.
-use Rattle.std.proofs.lemmas.Grind.{common_steps}
-use Rattle.std.proofs.Common.{◌≡◌, ℕ, zero, suc, ◌-◌, ◌<◌, List, [], ◌∷◌, length, map, drop, get_or, slice_get, Option, Some, refl, sym, ap, ◌∙◌, inl, inr, arith}
-use Rattle.std.proofs.lemmas.List.{length-map}
-use Rattle.std.proofs.lemmas.Option.{slice_get_past}
-use Rattle.std.proofs.lemmas.Bool.{cases_lt}
-use Rattle.std.specs.Prelude.{option_to_list}
-use Rattle.std.specs.List.{flat_map, drop-map}
-use Rattle.sgf_outline.specs.Tree.{Node, Games}
-use Rattle.sgf_outline.specs.FileOrder.{node_at, nodes_at}
-use Rattle.tree_lines.specs.Lines.{lines}
-use Rattle.tree_lines.specs.Paths.{paths}
-use Rattle.tree_lines.specs.Cursor.{CursorState}
-use Rattle.tree_lines.specs.Following.{nodes_of, line_in, line_before, nodes_before, path_before, numbers_before, lines_before}
-use Rattle.tree_lines.specs.inner.Standing.{IsAfterLeaf}
+use Rattle.tree_lines.proofs.Common.{drop-map, cases_lt, common_steps, length-map, slice_get_past, node_at, nodes_at, Node, Games, CursorState, nodes_of, line_in, line_before, nodes_before, path_before, numbers_before, lines_before, lines, paths, IsAfterLeaf}
+use Rattle.std.proofs.Common.{◌≡◌, ℕ, zero, suc, ◌-◌, ◌<◌, List, [], ◌∷◌, length, map, drop, get_or, slice_get, Option, Some, refl, sym, ap, ◌∙◌, inl, inr, arith, option_to_list, flat_map}
 use Rattle.tree_lines.proofs.Lists.{element}
 use Rattle.tree_lines.proofs.Named.{line_at, length-paths}
 use Rattle.tree_lines.proofs.CursorStates.{before}

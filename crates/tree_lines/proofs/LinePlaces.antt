@@ -1,12 +1,7 @@
 -- The places of the lines rise, if those of the nodes do.
 use Rattle.std.proofs.Common.{◌≡◌, ℕ, suc, length, map, slice_get, Some, option_map, sym, ap, ◌∙◌, slice_index, add-one, arith}
 use Rattle.std.specs.List.Sorted.{IsStrictlyIncreasing}
-use Rattle.std.proofs.lemmas.List.{length-map}
-use Rattle.std.proofs.lemmas.Option.{slice_get-map, get_or_from_slice_get}
-use Rattle.sgf_outline.specs.Tree.{Games}
-use Rattle.sgf_outline.specs.FileOrder.{PlacesRise}
-use Rattle.tree_lines.specs.Lines.{Line, lines, place_of}
-use Rattle.tree_lines.specs.Paths.{paths, leaf_of}
+use Rattle.tree_lines.proofs.Common.{length-map, slice_get-map, get_or_from_slice_get, PlacesRise, Games, Line, lines, place_of, paths, leaf_of}
 use Rattle.tree_lines.proofs.Lists.{element}
 use Rattle.tree_lines.proofs.Named.{line_at, length-paths}
 use Rattle.tree_lines.proofs.CursorStates.{leaf_rises}

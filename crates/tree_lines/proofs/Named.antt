@@ -1,16 +1,9 @@
 -- The paths of a collection name the nodes of its lines, and begin in their games.
-use Rattle.std.proofs.lemmas.Grind.{common_steps}
-use Rattle.std.proofs.Common.{◌≡◌, ℕ, suc, ◌+◌, ◌<◌, List, [], ◌∷◌, ◌++◌, length, map, slice_get, Option, Some, None, refl, sym, ap, ◌∙◌, arith, zero, false, add-zero, ◌-◌, ◌≤◌, get_or, rules}
-use Rattle.std.specs.List.{AllZip}
-use Rattle.std.proofs.lemmas.List.{map-append}
+use Rattle.tree_lines.proofs.Common.{AllZip, common_steps, map-append, OrderedNode, further_nodes, ordered_nodes, node_at, place_at, game_of, Node, Games, no_games, game, node_count, Line, through, node_lines, lines_of_game, lines_from, lines, last_number, place_of, Path, numbered_nodes, numbered, path_of, paths, leaf_of, IsPathOf}
+use Rattle.std.proofs.Common.{◌≡◌, ℕ, suc, ◌+◌, ◌<◌, List, [], ◌∷◌, ◌++◌, length, map, slice_get, Option, Some, None, refl, sym, ap, ◌∙◌, arith, zero, false, add-zero, ◌-◌, ◌≤◌, get_or, rules, lt-ltb, le-ltb}
 use mathlib.Core.List.{map-map}
 use Rattle.std.proofs.lemmas.Slice.Zip.{AllZip-long}
-use Rattle.sgf_outline.specs.Tree.{Node, Games, no_games, game, node_count}
-use Rattle.sgf_outline.specs.FileOrder.{OrderedNode, further_nodes, ordered_nodes, node_at, place_at, game_of}
-use Rattle.tree_lines.specs.Lines.{Line, through, node_lines, lines_of_game, lines_from, lines, last_number, place_of}
-use Rattle.tree_lines.specs.Paths.{Path, numbered_nodes, numbered, path_of, paths, leaf_of, IsPathOf}
 use Rattle.tree_lines.proofs.Visits.{StandsAt, Stands, stands_whole, stands_get, stands_right, stands_own, stands_below, stands_after, first_ordered, some_node, leads}
-use Rattle.std.proofs.lemmas.Bool.{lt-ltb, le-ltb}
 use Rattle.tree_lines.proofs.Lists.{Each, each_append, each_weaker, map-through}
 
 zip_append : {A B : Type 0} (R : A → B → Type 0) (xs us : List A) (ys vs : List B) → AllZip R xs ys → AllZip R us vs → AllZip R (xs ++ us) (ys ++ vs)

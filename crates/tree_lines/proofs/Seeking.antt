@@ -1,17 +1,9 @@
 -- The place of the leaf that a line ends in, and the position after that line.
-use Rattle.std.proofs.lemmas.Grind.{common_steps}
+use Rattle.tree_lines.proofs.Common.{common_steps, slice_get_within, get_or_from_slice_get, IsLeaf, place_at, Games, node_count, CursorState, IsAfterPlace, lines, place_of, HasNoLineAt, paths, leaf_of, IsPathTo, IsAfterLeaf}
 use Rattle.std.proofs.Common.{◌≡◌, ℕ, ◌+◌, ◌<◌, List, Some, ap, ◌∙◌, arith, ◌≢◌, get_or}
-use Rattle.sgf_outline.specs.Tree.{Games, node_count}
-use Rattle.sgf_outline.specs.FileOrder.{IsLeaf, place_at}
-use Rattle.tree_lines.specs.inner.PathTo.{IsPathTo}
 use Rattle.sgf_outline.proofs.OrderedNodes.{length-nodes_from}
 use Rattle.tree_lines.proofs.Visits.{leads}
 use Rattle.tree_lines.proofs.CursorStates.{next_line, before}
-use Rattle.std.proofs.lemmas.Option.{slice_get_within, get_or_from_slice_get}
-use Rattle.tree_lines.specs.Lines.{lines, place_of, HasNoLineAt}
-use Rattle.tree_lines.specs.Paths.{paths, leaf_of}
-use Rattle.tree_lines.specs.Cursor.{CursorState, IsAfterPlace}
-use Rattle.tree_lines.specs.inner.Standing.{IsAfterLeaf}
 use Rattle.tree_lines.proofs.Lists.{element}
 use Rattle.tree_lines.proofs.Named.{line_at, length-paths}
 

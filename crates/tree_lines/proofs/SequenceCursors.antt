@@ -1,23 +1,7 @@
 -- What a cursor by sequences shows of the line before it, and where it stands after the next leaf.
-use Rattle.std.proofs.lemmas.Grind.{common_steps}
-use Rattle.std.proofs.Common.{◌≡◌, ◌≢◌, ℕ, suc, ◌+◌, ◌-◌, ◌<◌, ◌≤◌, inl, inr, List, [], ◌∷◌, ◌++◌, length, get_or, take, slice_get, Option, Some, None, option_map, refl, sym, ap, ◌∙◌, arith, add-one, length-append, rules}
-use Rattle.std.specs.List.{range_with_len}
-use Rattle.std.proofs.lemmas.Bool.{cases_lt}
-use Rattle.std.proofs.lemmas.List.{length-map, take-map, length-take-le}
-use Rattle.std.proofs.lemmas.Option.{slice_get-get_or}
-use Rattle.std.proofs.lemmas.List.FromFn.{get_or-range_with_len, length-range_with_len}
+use Rattle.tree_lines.proofs.Common.{range_with_len, take-append_seam, cases_lt, common_steps, length-map, take-map, get_or-range_with_len, length-range_with_len, slice_get-get_or, parent_at, place_at, node_at, nodes_at, game_of, IsLeaf, sequence_starts, sequence_start, sequence_end, sequence_numbers, Node, Games, node_count, Front, CursorState, advanced, IsAfterPlace, lines_before, Continues, path_before, nodes_before, line_before, line_in, nodes_of, lines, place_of, Line, HasNoLineAt, SequencesState, SharesFront, RiseTo, sequences_of, parts_from, Part, first_of, parts_of, part_numbers, part_ends, AreParts, IsAfterSequences, IsCursorKept, IsWayTo, IsNextEnd, IsFrontUpTo, GoesDown, IsAbove, ArePartsTo, HasNoLeaf, IsNextLeaf, IsCutBack, IsAfterLeaf}
+use Rattle.std.proofs.Common.{◌≡◌, ◌≢◌, ℕ, suc, ◌+◌, ◌-◌, ◌<◌, ◌≤◌, inl, inr, List, [], ◌∷◌, ◌++◌, length, get_or, take, slice_get, Option, Some, None, option_map, refl, sym, ap, ◌∙◌, arith, add-one, length-append, rules, length-take-le}
 use Rattle.std.proofs.Math.ListN.{get_or-append}
-use Rattle.std.proofs.Math.Seq.{take-append_seam}
-use Rattle.sgf_outline.specs.Tree.{Node, Games, node_count}
-use Rattle.sgf_outline.specs.FileOrder.{parent_at, place_at, node_at, nodes_at, game_of, IsLeaf, sequence_starts, sequence_start, sequence_end, sequence_numbers}
-use Rattle.tree_lines.specs.Lines.{lines, place_of, Line, HasNoLineAt}
-use Rattle.tree_lines.specs.Cursor.{CursorState, advanced, IsAfterPlace}
-use Rattle.tree_lines.specs.inner.PathTo.{HasNoLeaf, IsNextLeaf, IsCutBack}
-use Rattle.tree_lines.specs.Following.{lines_before, Continues, path_before, nodes_before, line_before, line_in, nodes_of}
-use Rattle.tree_lines.specs.inner.Standing.{IsAfterLeaf}
-use Rattle.tree_lines.specs.Sequences.{SequencesState, SharesFront, RiseTo, sequences_of, parts_from}
-use Rattle.tree_lines.specs.inner.Parts.{Part, first_of, parts_of, part_numbers, part_ends, AreParts, IsAfterSequences, IsCursorKept, IsWayTo, IsNextEnd, IsFrontUpTo, GoesDown, IsAbove, ArePartsTo}
-use Rattle.tree_lines.specs.declared.sequence_cursor.Front.{Front}
 use Rattle.tree_lines.proofs.Named.{line_at}
 use Rattle.tree_lines.proofs.LineNodes.{as_many_nodes, nodes_after, node_is, some_before, line_is}
 use Rattle.tree_lines.proofs.CursorStates.{before, starts, IsShown, shows_line, advances, none_is_left}

@@ -1,14 +1,6 @@
 -- Parts of a line: the numbers of their nodes, where they end, and the way to a sequence by the sequences above it.
-use Rattle.std.proofs.lemmas.Grind.{common_steps, flat_map-append}
-use Rattle.std.proofs.Common.{◌≡◌, ℕ, zero, suc, ◌+◌, ◌-◌, ◌<◌, ◌≤◌, List, [], ◌∷◌, ◌++◌, length, get_or, take, slice_get, Option, Some, None, option_map, refl, ap, ◌∙◌, arith, append-nil, length-append, rules}
-use Rattle.std.specs.List.{flat_map, range_with_len}
-use Rattle.std.proofs.lemmas.List.FromFn.{length-range_with_len}
-use Rattle.std.proofs.Math.Seq.{take-append_seam, drop-append_seam}
-use Rattle.sgf_outline.specs.Tree.{Node, Games, node_count}
-use Rattle.sgf_outline.specs.FileOrder.{OrderedNode, parent_at, node_at, nodes_at, sequence_starts, sequence_start, sequence_end, sequence_numbers}
-use Rattle.tree_lines.specs.inner.PathTo.{IsPathTo}
-use Rattle.tree_lines.specs.inner.Parts.{Part, sequence_length, parts_of, part_numbers, part_ends, AreParts, IsAbove}
-use Rattle.tree_lines.specs.Sequences.{RiseTo, parts_from}
+use Rattle.tree_lines.proofs.Common.{range_with_len, take-append_seam, drop-append_seam, common_steps, flat_map-append, length-range_with_len, OrderedNode, parent_at, node_at, nodes_at, sequence_starts, sequence_start, sequence_end, sequence_numbers, Node, Games, node_count, RiseTo, parts_from, Part, sequence_length, parts_of, part_numbers, part_ends, AreParts, IsAbove, IsPathTo}
+use Rattle.std.proofs.Common.{◌≡◌, ℕ, zero, suc, ◌+◌, ◌-◌, ◌<◌, ◌≤◌, List, [], ◌∷◌, ◌++◌, length, get_or, take, slice_get, Option, Some, None, option_map, refl, ap, ◌∙◌, arith, append-nil, length-append, rules, flat_map}
 use Rattle.tree_lines.proofs.Lists.{front_more}
 use Rattle.tree_lines.proofs.Visits.{way_along}
 use Rattle.tree_lines.proofs.SequenceStarts.{ordered_there, never_empty, length_is, start_is, first_within}

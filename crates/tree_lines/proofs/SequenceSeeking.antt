@@ -1,9 +1,6 @@
 -- The search for the leaf with a place.
 use Rattle.std.proofs.Common.{◌≡◌, ◌≢◌, ℕ, ◌+◌, ◌-◌, ◌<◌, Some, length, option_map, ap, inl, inr, arith}
-use Rattle.std.proofs.lemmas.Bool.{cases_lt, cases_eq}
-use Rattle.sgf_outline.specs.Tree.{Games, node_count}
-use Rattle.sgf_outline.specs.FileOrder.{OrderedNode, place_at, IsLeaf, PlacesRise, sequence_starts, sequence_end}
-use Rattle.tree_lines.specs.inner.Parts.{IsFirstFrom}
+use Rattle.tree_lines.proofs.Common.{cases_lt, cases_eq, OrderedNode, place_at, IsLeaf, PlacesRise, sequence_starts, sequence_end, Games, node_count, IsFirstFrom}
 use Rattle.tree_lines.proofs.SequenceStarts.{ordered_there, never_empty, first_rises, first_within, in_sequence, leaf_last}
 use Rattle.tree_lines.proofs.Seeking.{place_within}
 

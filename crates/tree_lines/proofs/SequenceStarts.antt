@@ -1,18 +1,11 @@
 -- Where the sequences of a collection begin and end among its nodes, and which nodes are leaves.
-use Rattle.std.proofs.lemmas.Grind.{common_steps}
+use Rattle.tree_lines.proofs.Common.{cases_lt, cases_eq, common_steps, get_or_past, slice_get-get_or, get_or_from_slice_get, OrderedNode, ordered_nodes, IsLeaf, sequence_starts, sequence_start, sequence_end, Games, node_count, first_of, sequence_length, HasNoLeaf}
 use Rattle.std.proofs.Common.{◌≡◌, ℕ, zero, suc, ◌+◌, ◌-◌, ◌<◌, ◌≤◌, inl, inr, List, length, get_or, slice_get, Some, ap, ◌∙◌, arith, rules}
-use Rattle.std.proofs.lemmas.Bool.{cases_lt, cases_eq}
-use Rattle.std.proofs.lemmas.List.{get_or_past}
-use Rattle.std.proofs.lemmas.Option.{slice_get-get_or, get_or_from_slice_get}
-use Rattle.sgf_outline.specs.Tree.{Games, node_count}
-use Rattle.sgf_outline.specs.FileOrder.{OrderedNode, ordered_nodes, IsLeaf, sequence_starts, sequence_start, sequence_end}
 use Rattle.sgf_outline.proofs.OrderedNodes.{length-ordered_nodes}
 use Rattle.sgf_outline.proofs.Starts.{starts-are, first-start}
 use Rattle.sgf_outline.proofs.ListedNodes.{starts-rise}
 use Rattle.sgf_outline.proofs.Outlined.{sequence-further}
 use Rattle.sgf_outline.proofs.Rises.{Rises, rises-get, rises-pair}
-use Rattle.tree_lines.specs.inner.PathTo.{HasNoLeaf}
-use Rattle.tree_lines.specs.inner.Parts.{first_of, sequence_length}
 use Rattle.tree_lines.proofs.Lists.{element}
 use Rattle.tree_lines.proofs.Visits.{rises_parts}
 

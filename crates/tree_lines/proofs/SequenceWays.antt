@@ -1,11 +1,7 @@
 -- The way to a sequence by the sequences above it.
-use Rattle.std.proofs.lemmas.Grind.{common_steps}
+use Rattle.tree_lines.proofs.Common.{common_steps, sequence_starts, sequence_end, Games, Front, Part, sequence_length, part_numbers, AreParts, IsAbove, ArePartsTo, MeasuresTo, IsPathTo}
 use Rattle.std.proofs.Common.{◌≡◌, ℕ, ◌+◌, ◌-◌, ◌<◌, List, [], ◌∷◌, ◌++◌, length, Option, Some, None, refl, sym, ap, subst, ◌∙◌, arith}
-use Rattle.sgf_outline.specs.Tree.{Games}
-use Rattle.sgf_outline.specs.FileOrder.{sequence_starts, sequence_end}
-use Rattle.tree_lines.specs.inner.PathTo.{IsPathTo}
-use Rattle.tree_lines.specs.inner.Parts.{Part, sequence_length, part_numbers, AreParts, IsAbove, ArePartsTo, top, step, MeasuresTo}
-use Rattle.tree_lines.specs.declared.sequence_cursor.Front.{Front}
+use Rattle.tree_lines.specs.inner.Parts.{top, step}
 use Rattle.tree_lines.proofs.SequenceStarts.{same_sequence, last_in}
 use Rattle.tree_lines.proofs.SequenceParts.{end_of, parent_of, way_down, numbers_more, parts_more}
 

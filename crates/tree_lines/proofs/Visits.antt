@@ -1,22 +1,12 @@
 -- The nodes of a collection are visited in file order. Each path leads to a leaf, and keeps a front of the path before it.
-use Rattle.std.proofs.lemmas.Grind.{common_steps}
+use Rattle.tree_lines.proofs.Common.{range_with_len, take-append_seam, cases_eq, cases_lt, common_steps, map-append, length-map, slice_get-map, parent_at, OrderedNode, further_nodes, nodes_from, ordered_nodes, IsLeaf, Games, node_count, Node, game, no_games, first_after, Continues, numbers_before, last_number, through, node_lines, lines_from, numbered_nodes, numbered, path_of, paths, Path, leaf_of, EndsInLeaf, IsPathTo, HasNoLeaf}
 use Rattle.std.proofs.Common.{◌≡◌, ℕ, ◌+◌, ◌<◌, ◌≤◌, List, [], ◌∷◌, ◌++◌, length, Option, Some, None, refl, sym, ap, ◌∙◌, arith, length-append, suc, slice_get, option_map, true, add-zero, append_assoc, append-nil, ◌≢◌, zero, ◌-◌, map, inl, inr, All, add-one, rules}
-use Rattle.sgf_outline.specs.Tree.{Games, node_count, Node, game, no_games}
-use Rattle.sgf_outline.specs.FileOrder.{parent_at, OrderedNode, further_nodes, nodes_from, ordered_nodes, IsLeaf}
 use Rattle.sgf_outline.proofs.OrderedNodes.{parent_at-lt, parent_at-within, length-ordered_nodes, length-further_nodes, length-nodes_from, parent_in-further, next-child}
 use Rattle.sgf_outline.proofs.Rises.{Rises, rises-append}
-use Rattle.tree_lines.specs.Lines.{last_number, through, node_lines, lines_from}
-use Rattle.tree_lines.specs.inner.PathTo.{IsPathTo, top, step, HasNoLeaf}
+use Rattle.tree_lines.specs.inner.PathTo.{top, step}
 use Rattle.tree_lines.proofs.Lists.{Each, range_append, map-through, each_weaker, each_get, element}
 use Rattle.sgf_outline.proofs.Lists.{slice_get-left, slice_get-right}
-use Rattle.std.proofs.lemmas.List.{map-append, length-map}
-use Rattle.std.specs.List.{range_with_len}
-use Rattle.tree_lines.specs.Paths.{numbered_nodes, numbered, path_of, paths, Path, leaf_of, EndsInLeaf}
-use Rattle.std.proofs.Math.Seq.{take-append_seam}
-use Rattle.std.proofs.lemmas.Bool.{cases_eq, cases_lt}
 use mathlib.Core.List.{map-map}
-use Rattle.std.proofs.lemmas.Option.{slice_get-map}
-use Rattle.tree_lines.specs.Following.{first_after, Continues, numbers_before}
 
 pub last_number-append : (ns : List ℕ) (m : ℕ) (ms : List ℕ) → last_number (ns ++ m ∷ ms) ≡ last_number (m ∷ ms)
 last_number-append [] m ms = refl

@@ -1,6 +1,5 @@
 use Rattle.std.proofs.Common.{◌||◌, sym, ap, ◌∙◌}
-use Rattle.std.proofs.Math.Bool.{or-false}
-use Rattle.board_points.specs.Rows.{has_bit}
+use Rattle.board_points.proofs.Common.{or-false, has_bit}
 use Rattle.board_points.proofs.ColumnLemmas.{set_bit_there}
 use Rattle.board_points.proofs.columns.with_column.Goals as goal
 

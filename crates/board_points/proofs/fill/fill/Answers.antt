@@ -1,6 +1,5 @@
 use Rattle.std.proofs.Common.{◌<◌, ◌^◌, subst, arith, rules}
-use Rattle.board_points.specs.declared.fill.Direction.TheVariants.{Up, Down}
-use Rattle.board_points.specs.inner.Fill.{IsFilledBut}
+use Rattle.board_points.proofs.Common.{Up, Down, IsFilledBut}
 use Rattle.board_points.proofs.GiveLemmas.{turned, fewer_flags, IsClosed-all}
 use Rattle.board_points.proofs.fill.fill.Goals as goal
 

@@ -1,7 +1,5 @@
 use Rattle.std.proofs.Common.{inl, inr, sym, ap, ◌∙◌, subst}
-use Rattle.std.proofs.lemmas.Bool.{cases_eq, false≢true}
-use Rattle.board_points.specs.Rows.{has_bit}
-use Rattle.board_points.specs.inner.Fill.{IsFilledBut}
+use Rattle.board_points.proofs.Common.{cases_eq, false≢true, has_bit, IsFilledBut}
 use Rattle.board_points.proofs.ColumnLemmas.{without_smaller}
 use Rattle.board_points.proofs.GiveLemmas.{IsFilledBut-first, HaveMore-twice}
 use Rattle.board_points.proofs.fill.give_all.Goals as goal

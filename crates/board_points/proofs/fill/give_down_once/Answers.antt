@@ -1,7 +1,5 @@
-use Rattle.std.proofs.Common.{◌≡◌, ◌<◌, length, set, slice_index, sym, ap, ◌∙◌, arith, rules, suc, ◌+◌}
-use Rattle.std.proofs.lemmas.Bool.{and_parts}
-use Rattle.std.proofs.lemmas.List.{get_or-set_same}
-use Rattle.board_points.specs.inner.Fill.{row_above}
+use Rattle.std.proofs.Common.{◌≡◌, ◌<◌, length, set, slice_index, sym, ap, ◌∙◌, arith, rules, suc, ◌+◌, get_or-set_same}
+use Rattle.board_points.proofs.Common.{and_parts, row_above}
 use Rattle.board_points.proofs.WordLemmas.{has_bit-and}
 use Rattle.board_points.proofs.GiveLemmas.{IsSwept-more, IsFilledBut-swept, after_sweep}
 use Rattle.board_points.proofs.fill.give_down_once.Goals as goal

@@ -1,9 +1,6 @@
-use Rattle.std.proofs.lemmas.Grind.{common_steps}
+use Rattle.board_points.proofs.Common.{common_steps, Point, IsOn, IsRectOn, colon, point_of, rect_of, rect_value}
 use Rattle.std.proofs.Common.{◌≡◌, ℕ, Option, Some, IfSome, List, [], ◌∷◌, length, get_or, sym, ◌∙◌, arith}
-use Rattle.board_points.specs.declared.points.Point.{Point}
 use Rattle.board_points.specs.declared.points.Rect.{Rect}
-use Rattle.board_points.specs.Point.{IsOn, IsRectOn}
-use Rattle.board_points.specs.Values.{colon, point_of, rect_of, rect_value}
 use Rattle.board_points.proofs.values.rect.Goals as goal
 
 -- the rectangle that five bytes name.

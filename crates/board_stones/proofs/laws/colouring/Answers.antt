@@ -1,6 +1,5 @@
 use Rattle.std.proofs.Common.{sym, ap, ◌∙◌, refl, subst}
-use Rattle.board_points.specs.Point.{IsOn}
-use Rattle.board_stones.specs.Grid.{Grid, cell_at, grid_of}
+use Rattle.board_stones.proofs.Common.{IsOn, Grid, cell_at, grid_of}
 use Rattle.board_stones.proofs.GroupLemmas.{grid_of-cells}
 use Rattle.board_stones.proofs.laws.colouring.Goals as goal
 

@@ -1,7 +1,6 @@
 -- The write went on after the bytes that were written.
-use Rattle.std.proofs.Common.{arith}
+use Rattle.std.proofs.Common.{arith, length-drop}
 use Rattle.std.proofs.lemmas.Grind.{common_steps}
-use Rattle.std.proofs.lemmas.List.{length-drop}
 use Rattle.byte_streams.proofs.SliceStreams.{goes_on}
 use Rattle.byte_streams.proofs.buffered_sink.write_whole.Goals as goal
 

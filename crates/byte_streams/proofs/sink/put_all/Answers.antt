@@ -1,8 +1,7 @@
 -- The put went on after the bytes that were taken.
-use Rattle.std.proofs.Common.{List, ℕ, subst, arith}
+use Rattle.std.proofs.Common.{List, ℕ, subst, arith, length-drop, take_all}
 use Rattle.std.specs.Io.KnownBytes.{Appends}
 use Rattle.std.proofs.lemmas.Grind.{common_steps}
-use Rattle.std.proofs.lemmas.List.{length-drop, take_all}
 use Rattle.byte_streams.proofs.SliceStreams.{goes_on}
 use Rattle.byte_streams.proofs.sink.put_all.Goals as goal
 

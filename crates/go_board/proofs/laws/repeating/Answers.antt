@@ -1,8 +1,5 @@
-use Rattle.std.proofs.Common.{subst, sym}
-use Rattle.board_stones.specs.Clearing.{play}
-use Rattle.board_stones.specs.Grid.{Grid}
-use Rattle.std.proofs.Common.{List, Contains}
-use Rattle.board_past.specs.Past.{WasEmptied}
+use Rattle.std.proofs.Common.{subst, sym, List, Contains}
+use Rattle.go_board.proofs.Common.{play, Grid, WasEmptied}
 use Rattle.board_past.proofs.RepeatLemmas.{emptied-if_back}
 use Rattle.go_board.proofs.laws.repeating.Goals as goal
 

@@ -1,9 +1,6 @@
 -- The sink failed within the row, or at the flush after it.
-use Rattle.std.proofs.Common.{Ok, Err, [], ◌+◌, ◌∙◌, ap, append-nil, drop, refl, rules, sym, take}
-use Rattle.std.proofs.KnownBytes.{Appends-kept}
-use Rattle.std.proofs.lemmas.List.{take-append-drop}
-use Rattle.sgf_lines.specs.Counts.{counts_row}
-use Rattle.byte_streams.specs.Streams.{PutsAll}
+use Rattle.std.proofs.Common.{Ok, Err, [], ◌+◌, ◌∙◌, ap, append-nil, drop, refl, rules, sym, take, take-append-drop}
+use Rattle.sgf_lines.proofs.Common.{Appends-kept, PutsAll, counts_row}
 use Rattle.sgf_lines.proofs.counting.write_counts.Goals as goal
 
 pub returns-in_default : goal.returns-in_default

@@ -1,7 +1,6 @@
 -- The text is what the source has given, which hasn't failed.
 use Rattle.std.proofs.Common.{length, ◌-◌, ◌≡◌, ◌≤◌}
-use Rattle.sgf_outline.specs.declared.limit.TheConstants.{MAX_LENGTH}
-use Rattle.sgf_lines.specs.inner.Running.{HasRead}
+use Rattle.sgf_lines.proofs.Common.{MAX_LENGTH, HasRead}
 use Rattle.sgf_lines.proofs.run.read_all.Given as goal
 
 abbrev pub invariant-read : goal.invariant-read

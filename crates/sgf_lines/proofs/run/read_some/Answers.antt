@@ -1,7 +1,6 @@
 -- What the last call gave was not kept.
-use Rattle.std.proofs.Common.{◌++◌, take, refl, arith, length-append, rules}
+use Rattle.std.proofs.Common.{◌++◌, take, refl, arith, length-append, rules, length-take-le}
 use Rattle.std.proofs.KnownBytes.{Appends-kept, Appends-trans, Consumes-kept, Consumes-trans}
-use Rattle.std.proofs.lemmas.List.{length-take-le}
 use Rattle.std.proofs.lemmas.Result.{err_from_is_err_and}
 use Rattle.sgf_lines.proofs.run.read_some.Goals as goal
 

@@ -1,11 +1,7 @@
 -- What is said of the text is said of the run, whatever source gave it.
-use Rattle.std.proofs.Common.{◌≡◌, take, drop, Err, ap, ◌∙◌, rules}
-use Rattle.std.specs.Prelude.{unwrap_or}
+use Rattle.std.proofs.Common.{◌≡◌, take, drop, Err, ap, ◌∙◌, rules, unwrap_or}
 use Rattle.std.proofs.lemmas.Result.{err_from_is_err_and}
-use Rattle.sgf_outline.specs.Tree.{node_count}
-use Rattle.sgf_outline.specs.Spelling.{Spells}
-use Rattle.tree_lines.specs.Lines.{lines}
-use Rattle.sgf_lines.specs.inner.Running.{WritesLines}
+use Rattle.sgf_lines.proofs.Common.{Spells, node_count, lines, WritesLines}
 use Rattle.sgf_lines.proofs.PlayCounts.{for_options}
 use Rattle.sgf_lines.proofs.Running.{no_start_run, unread_run, lines_run}
 use Rattle.sgf_lines.proofs.run.split_text.Goals as goal

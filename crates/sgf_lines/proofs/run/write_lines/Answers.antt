@@ -1,17 +1,8 @@
 -- One record more was written, or the sink failed within it.
 use Rattle.std.proofs.Common.{◌≡◌, true, None, Some, Ok, Err, slice_get, sym, ap, ◌∙◌, arith}
-use Rattle.std.proofs.lemmas.Grind.{common_steps}
-use Rattle.sgf_properties.specs.declared.fault.MemoryFault.{MemoryFault}
-use Rattle.tree_lines.specs.Cursor.{CursorState, advanced}
-use Rattle.tree_lines.specs.Lines.{lines}
-use Rattle.sgf_lines.specs.Record.{record_of}
-use Rattle.judged_lines.specs.declared.over_lines.Before.TheVariants.{Held}
+use Rattle.sgf_lines.proofs.Common.{Appends-kept, common_steps, MemoryFault, CursorState, advanced, line_before, nodes_before, lines, PutsAll, Held, PlaysLine, StandsBy, record_of, WritesLines, page_after}
 use Rattle.byte_streams.specs.declared.sink.SinkFault.{SinkFault}
-use Rattle.tree_lines.specs.Following.{line_before, nodes_before}
-use Rattle.judged_lines.specs.GoingOn.{PlaysLine, StandsBy, next_by}
-use Rattle.std.proofs.KnownBytes.{Appends-kept}
-use Rattle.byte_streams.specs.Streams.{PutsAll}
-use Rattle.sgf_lines.specs.inner.Running.{WritesLines, page_after}
+use Rattle.judged_lines.specs.GoingOn.{next_by}
 use Rattle.judged_lines.proofs.Keeping.{line_next}
 use Rattle.sgf_lines.proofs.PlayCounts.{one_written, cut_short, none_left, limit_met, few, goes_forth, not_flushed, one_played, played_then_cut, played_in_part}
 use Rattle.sgf_lines.proofs.run.write_lines.Given.{Over}

@@ -1,9 +1,6 @@
 -- So many records were written, the cursor stands after their lines, and the last of these is held.
 use Rattle.std.proofs.Common.{take, ◌≡◌, ◌-◌, ◌<◌}
-use Rattle.judged_lines.specs.declared.over_lines.Before.TheVariants.{Unheld, Held}
-use Rattle.tree_lines.specs.Following.{nodes_before}
-use Rattle.judged_lines.specs.GoingOn.{StandsBy}
-use Rattle.sgf_lines.specs.RunPlays.{plays_of}
+use Rattle.sgf_lines.proofs.Common.{nodes_before, Unheld, Held, StandsBy, plays_of}
 use Rattle.sgf_lines.proofs.PlayCounts.{IsSoFar}
 use Rattle.judged_lines.proofs.StreakPlays.{page_from}
 use Rattle.sgf_lines.proofs.run.write_lines.Given as goal

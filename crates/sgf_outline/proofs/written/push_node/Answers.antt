@@ -1,6 +1,5 @@
 -- These answers are only there for speed.
-use Rattle.std.proofs.Common.{[], ◌∷◌, ◌++◌, refl, sym, ap, ◌∙◌, append_assoc, append-nil}
-use Rattle.std.specs.List.{flat_map}
+use Rattle.std.proofs.Common.{[], ◌∷◌, ◌++◌, refl, sym, ap, ◌∙◌, append_assoc, append-nil, flat_map}
 use Rattle.sgf_outline.specs.Written.{property_text}
 use Rattle.sgf_properties.proofs.GoingOn.{goes_on_on}
 use Rattle.sgf_outline.proofs.written.push_node.Goals as goal

@@ -1,9 +1,6 @@
 -- With the properties that are left, the node is appended.
-use Rattle.std.proofs.Common.{◌≡◌, ◌++◌, drop}
-use Rattle.std.specs.List.{flat_map}
-use Rattle.sgf_outline.specs.Written.{property_text, node_text}
-use Rattle.sgf_properties.specs.Front.{properties_in}
-use Rattle.sgf_properties.specs.Written.{GoesOn}
+use Rattle.std.proofs.Common.{◌≡◌, ◌++◌, drop, flat_map}
+use Rattle.sgf_outline.proofs.Common.{properties_in, GoesOn, property_text, node_text}
 use Rattle.sgf_outline.proofs.written.push_node.Given as goal
 
 abbrev pub invariant-loop-property : goal.invariant-loop-property

@@ -1,6 +1,5 @@
 use Rattle.std.proofs.Common.{◌≡◌, true, take}
-use Rattle.std.specs.List.{list_all}
-use Rattle.sgf_properties.specs.Number.{is_digit, decimal_value}
+use Rattle.sgf_properties.proofs.Common.{list_all, is_digit, decimal_value}
 use Rattle.sgf_properties.proofs.numbers.magnitude.Given as goal
 
 -- the bytes so far are digits, and this is their value

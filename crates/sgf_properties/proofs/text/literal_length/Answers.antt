@@ -1,6 +1,5 @@
-use Rattle.std.proofs.lemmas.Grind.{common_steps}
+use Rattle.sgf_properties.proofs.Common.{cases_lt, common_steps}
 use Rattle.std.proofs.Common.{◌+◌, inl, inr, arith}
-use Rattle.std.proofs.lemmas.Bool.{cases_lt}
 use Rattle.sgf_properties.proofs.Literal.{text_of_literals_before}
 use Rattle.sgf_properties.proofs.text.literal_length.Goals as goal
 

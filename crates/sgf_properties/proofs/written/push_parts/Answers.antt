@@ -1,7 +1,6 @@
 -- These answers are only there for speed.
 use Rattle.std.proofs.lemmas.Grind.{common_steps}
-use Rattle.std.proofs.Common.{◌++◌, sym, ap, ◌∙◌, append_assoc, append-nil, arith}
-use Rattle.std.specs.List.{flat_map}
+use Rattle.std.proofs.Common.{◌++◌, sym, ap, ◌∙◌, append_assoc, append-nil, arith, flat_map}
 use Rattle.sgf_properties.specs.Written.{value_text}
 use Rattle.sgf_properties.proofs.GoingOn.{goes_on_on}
 use Rattle.sgf_properties.proofs.written.push_parts.Goals as goal

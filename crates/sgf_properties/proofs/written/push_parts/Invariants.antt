@@ -1,8 +1,6 @@
 -- With the values that are left, the property is appended.
-use Rattle.std.proofs.Common.{◌≡◌, ◌++◌}
-use Rattle.std.specs.List.{flat_map}
-use Rattle.sgf_properties.specs.Written.{value_text, property_text}
-use Rattle.sgf_properties.specs.Written.{GoesOn}
+use Rattle.std.proofs.Common.{◌≡◌, ◌++◌, flat_map}
+use Rattle.sgf_properties.specs.Written.{value_text, property_text, GoesOn}
 use Rattle.sgf_properties.proofs.written.push_parts.Given as goal
 
 abbrev pub invariant-loop-value : goal.invariant-loop-value

@@ -1,7 +1,6 @@
 -- The sink took the first bytes of the text, and then failed.
-use Rattle.std.proofs.Common.{drop, sym, take, arith}
+use Rattle.std.proofs.Common.{drop, sym, take, arith, take-append-drop}
 use Rattle.std.proofs.lemmas.Grind.{common_steps}
-use Rattle.std.proofs.lemmas.List.{take-append-drop}
 use Rattle.std.proofs.lemmas.Result.{err_from_is_err_and}
 use Rattle.sgfsplit_job.proofs.acts.put_text.Goals as goal
 

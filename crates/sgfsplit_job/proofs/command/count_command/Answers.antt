@@ -1,6 +1,5 @@
 use Rattle.std.proofs.Common.{ap, ap₂, codes, ◌≡◌, ◌∙◌}
-use Rattle.clap.specs.Simple.{app_of, app_of_fields, new_app}
-use Rattle.clap.specs.Simple.{with_rule}
+use Rattle.clap.specs.Simple.{app_of, app_of_fields, new_app, with_rule}
 use Rattle.sgfsplit_job.proofs.command.count_command.Goals as goal
 
 pub returns : goal.returns

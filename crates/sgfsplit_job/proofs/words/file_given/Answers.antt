@@ -1,6 +1,5 @@
 -- The word that clap found for FILE.
-use Rattle.std.proofs.Common.{Bool, ◌≡◌, ◌∙◌, ap, codes, false, refl, sym, true, rules}
-use Rattle.std.specs.Str.{bytes_eq}
+use Rattle.std.proofs.Common.{Bool, ◌≡◌, ◌∙◌, ap, codes, false, refl, sym, true, rules, bytes_eq}
 use Rattle.std.proofs.lemmas.Slice.Eq.{bytes_eq-Decides}
 use Rattle.clap.specs.Matches.{found_of}
 use Rattle.clap.proofs.WalkLemmas.{first_value-rows}

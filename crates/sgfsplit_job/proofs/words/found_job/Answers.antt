@@ -1,6 +1,5 @@
 -- clap entered the command with this name, and found what the words after it give.
-use Rattle.std.proofs.Common.{◌≡◌, ◌∙◌, ap, codes, false, subst, sym, true, rules}
-use Rattle.std.proofs.Math.Bool.{true≢false}
+use Rattle.std.proofs.Common.{◌≡◌, ◌∙◌, ap, codes, false, subst, sym, true, rules, true≢false}
 use Rattle.clap.specs.Walk.{first_of}
 use Rattle.sgfsplit_job.specs.PlainWords.{file_of}
 use Rattle.sgfsplit_job.specs.inner.Found.{HoldSplitWords}

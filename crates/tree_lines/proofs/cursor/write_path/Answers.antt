@@ -1,10 +1,6 @@
 -- Each sequence follows those before it, until all nodes are there.
-use Rattle.std.proofs.Common.{◌≡◌, ℕ, ◌+◌, ◌-◌, ◌++◌, List, length, drop, sym, ap, ◌∙◌, append_assoc, append-nil, length-append, arith, rules}
-use Rattle.std.specs.List.{range_with_len}
-use Rattle.std.proofs.lemmas.List.{take-append-drop}
-use Rattle.std.proofs.lemmas.List.FromFn.{length-range_with_len}
-use Rattle.tree_lines.specs.Following.{nodes_before, path_before}
-use Rattle.tree_lines.specs.Sequences.{nodes_in}
+use Rattle.std.proofs.Common.{◌≡◌, ℕ, ◌+◌, ◌-◌, ◌++◌, List, length, drop, sym, ap, ◌∙◌, append_assoc, append-nil, length-append, arith, rules, take-append-drop}
+use Rattle.tree_lines.proofs.Common.{range_with_len, length-range_with_len, nodes_before, path_before, nodes_in}
 use Rattle.tree_lines.proofs.Fronts.{next_part, none_after}
 use Rattle.tree_lines.proofs.LineNodes.{as_long}
 use Rattle.tree_lines.proofs.cursor.write_path.Goals as goal

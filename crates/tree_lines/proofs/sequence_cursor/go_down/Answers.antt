@@ -1,9 +1,6 @@
 -- There is room for each number, and it stands after those so far.
-use Rattle.std.proofs.lemmas.Grind.{common_steps}
-use Rattle.std.proofs.Common.{◌≡◌, ◌+◌, ◌-◌, ◌++◌, ◌∷◌, [], take, length-append, append-nil, append_assoc, arith, rules}
-use Rattle.std.proofs.lemmas.List.{length-take-le}
-use Rattle.std.proofs.lemmas.List.FromFn.{length-range_with_len}
-use Rattle.std.specs.List.{range_with_len}
+use Rattle.tree_lines.proofs.Common.{range_with_len, common_steps, length-range_with_len}
+use Rattle.std.proofs.Common.{◌≡◌, ◌+◌, ◌-◌, ◌++◌, ◌∷◌, [], take, length-append, append-nil, append_assoc, arith, rules, length-take-le}
 use Rattle.tree_lines.proofs.Lists.{range_append}
 use Rattle.tree_lines.proofs.sequence_cursor.go_down.Goals as goal
 

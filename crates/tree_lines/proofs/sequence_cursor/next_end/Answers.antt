@@ -1,7 +1,6 @@
 -- A sequence that ends in no leaf has none.
-use Rattle.std.proofs.lemmas.Grind.{common_steps}
+use Rattle.tree_lines.proofs.Common.{both_ways, common_steps}
 use Rattle.std.proofs.Common.{arith, rules}
-use Rattle.std.proofs.lemmas.Bool.{both_ways}
 use Rattle.tree_lines.proofs.SequenceStarts.{no_leaf_inside, no_leaf_more, past_all}
 use Rattle.tree_lines.proofs.sequence_cursor.next_end.Goals as goal
 

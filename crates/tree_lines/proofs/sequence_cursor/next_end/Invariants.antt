@@ -1,6 +1,5 @@
 -- No leaf was passed.
-use Rattle.tree_lines.specs.inner.PathTo.{HasNoLeaf}
-use Rattle.tree_lines.specs.inner.Parts.{first_of}
+use Rattle.tree_lines.proofs.Common.{first_of, HasNoLeaf}
 use Rattle.tree_lines.proofs.sequence_cursor.next_end.Given as goal
 
 abbrev pub invariant-loop-sequence : goal.invariant-loop-sequence

@@ -1,7 +1,5 @@
 use Rattle.std.proofs.Common.{Contains, refl, ap, subst, ◌∙◌}
-use Rattle.board_stones.specs.Clearing.{play}
-use Rattle.board_stones.specs.Grid.{Grid}
-use Rattle.board_past.specs.Past.{present_stretch}
+use Rattle.board_past.proofs.Common.{play, Grid, present_stretch}
 use Rattle.board_past.proofs.past.Past.play.Goals as goal
 
 pub returns-then-holds : goal.returns-then-holds

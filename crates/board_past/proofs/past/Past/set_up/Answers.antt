@@ -1,6 +1,5 @@
 use Rattle.std.proofs.Common.{fold, ap, ◌∙◌}
-use Rattle.board_stones.specs.Grid.{Grid}
-use Rattle.board_stones.specs.Rectangle.{with_rectangle}
+use Rattle.board_past.proofs.Common.{Grid, with_rectangle}
 use Rattle.board_past.proofs.past.Past.set_up.Goals as goal
 
 pub returns-clause-ok : goal.returns-clause-ok

@@ -1,6 +1,5 @@
 use Rattle.std.proofs.Common.{◌≡◌, ◌+◌, ◌-◌, ◌<◌, length, arith, refl, ap, sym, ◌∙◌}
-use Rattle.std.proofs.lemmas.Bool.{false≢true}
-use Rattle.board_past.specs.Past.{Held}
+use Rattle.board_past.proofs.Common.{false≢true, Held}
 use Rattle.board_past.proofs.ListPastLemmas.{Has-none, Has-found, Has-more, Has-cases}
 use Rattle.board_past.proofs.past.list_past.stretch_has.Goals as goal
 

@@ -1,8 +1,5 @@
 use Rattle.std.proofs.Common.{false, arith}
-use Rattle.board_stones.specs.declared.stones.Colour.{Colour}
-use Rattle.board_points.specs.declared.points.Point.{Point}
-use Rattle.board_stones.specs.Clearing.{play}
-use Rattle.board_past.specs.Past.{Held, PastColourings, all_of, newest_grid}
+use Rattle.board_past.proofs.Common.{Point, Colour, play, Held, PastColourings, all_of, newest_grid}
 use Rattle.board_past.proofs.RepeatLemmas.{emptied_by_play}
 use Rattle.board_past.proofs.TableLemmas.{few_all, gap_same, print_same, table_same}
 use Rattle.board_past.proofs.past.print_past.add_stone.Goals as goal

@@ -1,9 +1,5 @@
 use Rattle.std.proofs.Common.{ap, sym, ◌∙◌, arith}
-use Rattle.board_stones.specs.Grid.{Grid}
-use Rattle.board_stones.specs.Clearing.{play}
-use Rattle.board_past.specs.Past.{all_of}
-use Rattle.board_past.specs.inner.Print.{print_of}
-use Rattle.board_past.specs.inner.Table.{IsAwakeTable}
+use Rattle.board_past.proofs.Common.{play, Grid, all_of, print_of, IsAwakeTable}
 use Rattle.board_past.proofs.TableLemmas.{tabled}
 use Rattle.board_past.proofs.past.print_past.print_if_awake.Goals as goal
 use Rattle.board_past.proofs.past.print_past.print_if_awake.Goals.{After-has_all_cells}

@@ -1,11 +1,5 @@
 use Rattle.std.proofs.Common.{◌≡◌, ◌≢◌, ◌<◌, ◌^◌, false, ℕ, inl, inr, bit_and, w64, sym, ap, ◌∙◌, arith, rules, subst}
-use Rattle.std.proofs.lemmas.Bool.{false≢true}
-use Rattle.std.specs.Int.{bit_not}
-use Rattle.board_points.specs.declared.liberty.RowStones.{RowStones}
-use Rattle.board_points.specs.Point.{DifferByOne}
-use Rattle.board_points.specs.inner.Look.{IsLookedAt}
-use Rattle.board_points.specs.Glance.{Lives, LeavesAlong, LeavesAcross}
-use Rattle.board_points.specs.Rows.{has_bit}
+use Rattle.board_points.proofs.Common.{bit_not, false≢true, RowStones, Lives, LeavesAlong, LeavesAcross, DifferByOne, has_bit, IsLookedAt}
 use Rattle.board_points.proofs.GlanceLemmas.{row_here, free_here, none_free, free_elsewhere, keeps_liberty, friend_there, left_there}
 use Rattle.board_points.proofs.quick.glance.five_rows_show_alive.Goals as goal
 use Rattle.board_points.proofs.quick.glance.five_rows_show_alive.Goals.{After-columns_beside-in_doubt}

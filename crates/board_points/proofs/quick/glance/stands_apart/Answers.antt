@@ -1,8 +1,5 @@
 use Rattle.std.proofs.Common.{◌≡◌, ◌<◌, false, inl, inr, bit_and, bit_or, sym, ap, ◌∙◌, arith, get_or}
-use Rattle.std.proofs.lemmas.Bool.{and_cases, or_parts, not-true, false≢true, false_from_ne_true}
-use Rattle.board_points.specs.Point.{AreAdjacent}
-use Rattle.board_points.specs.Rows.{has_bit}
-use Rattle.board_points.specs.inner.Columns.{IsInOrBeside}
+use Rattle.board_points.proofs.Common.{and_cases, or_parts, not-true, false≢true, false_from_ne_true, AreAdjacent, has_bit, IsInOrBeside}
 use Rattle.board_points.proofs.WordLemmas.{has_bit-and, has_bit-or}
 use Rattle.board_points.proofs.GlanceLemmas.{apart}
 use Rattle.board_points.proofs.quick.glance.stands_apart.Goals as goal

@@ -1,8 +1,5 @@
 use Rattle.std.proofs.Common.{◌≡◌, ◌≢◌, ℕ, true, inl, inr, refl, sym, ap, ◌∙◌, subst, slice_index}
-use Rattle.std.proofs.Math.Bool.{or-true}
-use Rattle.std.proofs.lemmas.Bool.{cases_eq, false≢true}
-use Rattle.board_points.specs.Rows.{has_bit}
-use Rattle.board_points.specs.inner.Columns.{HasBeside, IsPart}
+use Rattle.board_points.proofs.Common.{or-true, cases_eq, false≢true, has_bit, HasBeside, IsPart}
 use Rattle.board_points.proofs.WordLemmas.{has_bit-zero}
 use Rattle.board_points.proofs.quick.group.joined_in_row.Goals as goal
 

@@ -1,6 +1,5 @@
-use Rattle.std.proofs.Common.{◌≡◌, ◌<◌, length, set, slice_index, bit_or, sym, ◌∙◌, arith, rules}
+use Rattle.std.proofs.Common.{◌≡◌, ◌<◌, length, set, slice_index, bit_or, sym, ◌∙◌, arith, rules, length-set}
 use Rattle.std.proofs.lemmas.Bool.{and_parts}
-use Rattle.std.proofs.lemmas.List.{length-set}
 use Rattle.board_points.proofs.WordLemmas.{has_bit-and}
 use Rattle.board_points.proofs.GrowLemmas.{Grows-twice}
 use Rattle.board_points.proofs.GiveLemmas.{Grows-take, take-there, fewer_ahead}

@@ -1,6 +1,5 @@
 use Rattle.std.proofs.Common.{◌^◌, ◌<◌, IsTrue, sym, subst, rules}
-use Rattle.board_points.specs.Linked.{HasLiberty}
-use Rattle.board_points.specs.Rows.{has_bit}
+use Rattle.board_points.proofs.Common.{HasLiberty, has_bit}
 use Rattle.board_points.proofs.LinkedLemmas.{common_column, none_lives}
 use Rattle.board_points.proofs.quick.group.row_in_doubt.Goals as goal
 

@@ -1,6 +1,5 @@
 use Rattle.std.proofs.Common.{◌<◌, ◌^◌, slice_index, inl, inr, sym, ap, ◌∙◌, arith, rules}
-use Rattle.std.proofs.lemmas.Bool.{cases_eq, false≢true}
-use Rattle.board_points.specs.Rows.{has_bit}
+use Rattle.board_points.proofs.Common.{cases_eq, false≢true, has_bit}
 use Rattle.board_points.proofs.WordLemmas.{has_bit-zero}
 use Rattle.board_points.proofs.LinkedLemmas.{common_column, none_lives}
 use Rattle.board_points.proofs.quick.group.some_lives.Goals as goal

@@ -1,7 +1,5 @@
 use Rattle.std.proofs.Common.{◌<◌, IsTrue}
-use Rattle.board_points.specs.declared.points.Point.{Point}
-use Rattle.board_points.specs.Rows.{is_set}
-use Rattle.board_points.specs.Linked.{HasLiberty}
+use Rattle.board_points.proofs.Common.{Point, HasLiberty, is_set}
 use Rattle.board_points.proofs.quick.group.some_lives.Given as goal
 
 abbrev pub invariant-rows : goal.invariant-rows

@@ -1,10 +1,5 @@
-use Rattle.std.proofs.Common.{◌≡◌, ◌≤◌, ◌<◌, ◌+◌, ◌-◌, ℕ, List, get_or, length, take, IsTrue, sym, ap, ◌∙◌, subst, arith}
-use Rattle.std.proofs.lemmas.List.{take_more, get_or-take, length-take-le}
-use Rattle.std.proofs.lemmas.List.Elements.{All-get_or, All-from_get_or}
-use Rattle.board_points.specs.declared.points.Point.{Point}
-use Rattle.board_points.specs.Point.{IsOn}
-use Rattle.board_points.specs.Marking.{Marking, is_marked}
-use Rattle.board_points.specs.Search.{Searched, IsSound}
+use Rattle.std.proofs.Common.{◌≡◌, ◌≤◌, ◌<◌, ◌+◌, ◌-◌, ℕ, List, get_or, length, take, IsTrue, sym, ap, ◌∙◌, subst, arith, get_or-take, length-take-le}
+use Rattle.board_points.proofs.Common.{take_more, All-get_or, All-from_get_or, Point, Marking, is_marked, IsOn, Searched, IsSound}
 use Rattle.board_points.proofs.PointLemmas.{origin}
 use Rattle.board_points.proofs.SearchLemmas.{held}
 use Rattle.board_points.proofs.search.Search.take_one.Goals as goal

@@ -1,7 +1,5 @@
 use Rattle.std.proofs.Common.{◌≡◌, ◌+◌, ◌-◌, ◌<◌, ◌≤◌, ℕ, ap, ◌∙◌, arith, slice_index}
-use Rattle.std.proofs.lemmas.Grind.{common_steps}
-use Rattle.board_points.specs.declared.vertices.Vertex.{Vertex}
-use Rattle.board_points.specs.Vertex.{column_letters, vertex_of}
+use Rattle.board_points.proofs.Common.{common_steps, Vertex, column_letters, vertex_of}
 use Rattle.board_points.proofs.vertices.naming.vertex.Goals as goal
 use Rattle.board_points.proofs.vertices.naming.vertex.Goals.{then-point, else-point}
 

@@ -1,13 +1,7 @@
 use Rattle.std.proofs.Common.{◌≡◌, ◌≢◌, ℕ, ◌*◌, true, false, List, length, set, bit_or, get_or, subst, sym, ap, ◌∙◌}
-use Rattle.std.proofs.Math.Bool.{or-true}
-use Rattle.std.proofs.lemmas.Bool.{false≢true}
+use Rattle.board_stones.proofs.Common.{or-true, false≢true, IsOn, has_bit, Cell, Grid, cell_at, with_cell, AreStones, grid_with}
 use Rattle.board_points.proofs.WordLemmas.{has_bit-zero}
-use Rattle.board_points.specs.Point.{IsOn}
-use Rattle.board_points.specs.Rows.{has_bit}
-use Rattle.board_stones.specs.declared.stones.Cell.{Cell}
 use Rattle.board_stones.specs.declared.stones.Cell.TheVariants.{Black, White}
-use Rattle.board_stones.specs.Grid.{Grid, cell_at, with_cell}
-use Rattle.board_stones.specs.inner.Regions.{AreStones, grid_with}
 use Rattle.board_stones.proofs.StoneRowsLemmas.{black_added, white_added}
 use Rattle.board_stones.proofs.board.Board.add.Goals as goal
 use Rattle.board_stones.proofs.board.Board.add.Goals.{After-with_column-column, in-Black, in-White}

@@ -1,13 +1,7 @@
 use Rattle.std.proofs.Common.{◌≡◌, inl, ap, sym, ◌∙◌, subst, arith, rules}
-use Rattle.std.proofs.lemmas.Bool.{false≢true}
+use Rattle.board_stones.proofs.Common.{false≢true, has_unreaching, opponent, stone_of, Grid, cell_at, with_cell, Clears, Reaches, AreShutGroups, AreClearedOrReachBeside, ReachBeside}
 use Rattle.board_stones.specs.declared.stones.Cell.TheVariants.{Empty}
-use Rattle.board_stones.specs.Colour.{opponent, stone_of}
-use Rattle.board_stones.specs.Grid.{Grid, cell_at, with_cell}
 use Rattle.board_stones.proofs.GridLemmas.{cell_at-with_cell}
-use Rattle.board_stones.specs.Clearing.{has_unreaching}
-use Rattle.board_stones.specs.Reaching.{Reaches}
-use Rattle.board_stones.specs.inner.Groups.{AreShutGroups, AreClearedOrReachBeside, ReachBeside}
-use Rattle.board_stones.specs.Move.{Clears}
 use Rattle.board_stones.proofs.ClearedLemmas.{cleared_away, clears_nothing, clears_beside, clears_own}
 use Rattle.board_stones.proofs.board.Board.find_cleared.Goals as goal
 use Rattle.board_stones.proofs.board.Board.find_cleared.Goals.{then-not-some, else-not-some}

@@ -1,7 +1,5 @@
 use Rattle.std.proofs.Common.{◌≡◌, ◌||◌, true, sym, ap, ◌∙◌, arith, rules}
-use Rattle.std.proofs.lemmas.Bool.{false≢true}
-use Rattle.board_points.specs.Rows.{is_set}
-use Rattle.board_stones.specs.inner.Groups.{AddsGroup}
+use Rattle.board_stones.proofs.Common.{false≢true, is_set, AddsGroup}
 use Rattle.board_stones.proofs.GridLemmas.{Decides-same_cell}
 use Rattle.board_stones.proofs.LibertyLemmas.{rows_of_opponent, Reaches-liberty}
 use Rattle.board_stones.proofs.ClearedLemmas.{AddsGroup-rows, AreShutGroups-none}

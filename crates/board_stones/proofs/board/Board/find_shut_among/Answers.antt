@@ -1,12 +1,6 @@
 use Rattle.std.proofs.Common.{◌∙◌, inl, inr, sym, ap, subst, refl, arith, rules}
-use Rattle.board_points.specs.Point.{IsOn}
-use Rattle.board_stones.specs.inner.Groups.{IsClearedOrReaches}
-use Rattle.std.proofs.lemmas.Bool.{false≢true}
-use Rattle.board_points.specs.declared.points.Point.{Point}
-use Rattle.board_stones.specs.Grid.{cell_at}
-use Rattle.board_stones.specs.Reaching.{Reaches}
+use Rattle.board_stones.proofs.Common.{false≢true, Point, IsOn, is_set, cell_at, Reaches, IsClearedOrReaches}
 use Rattle.board_stones.specs.declared.stones.Cell.TheVariants.{Empty}
-use Rattle.board_points.specs.Rows.{is_set}
 use Rattle.board_points.proofs.LinkedLemmas.{none_in_front}
 use Rattle.board_points.proofs.PointLemmas.{Contains-take_more}
 use Rattle.board_stones.proofs.ClearedLemmas.{adds_either, cleared_still, beside_cleared}

@@ -1,6 +1,5 @@
 use Rattle.std.proofs.Common.{Contains, take}
-use Rattle.board_points.specs.Point.{IsOn}
-use Rattle.board_stones.specs.inner.Groups.{AddsShut, AreKnownAlive, IsClearedOrReaches}
+use Rattle.board_stones.proofs.Common.{IsOn, AddsShut, AreKnownAlive, IsClearedOrReaches}
 use Rattle.board_stones.proofs.board.Board.find_shut_among.Given as goal
 
 abbrev pub invariant-loop-at : goal.invariant-loop-at

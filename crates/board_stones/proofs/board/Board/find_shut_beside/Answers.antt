@@ -1,11 +1,6 @@
 use Rattle.std.proofs.Common.{inl, inr, sym, ◌∙◌, ap, subst, arith, Some, is_some, ◌≡◌}
-use Rattle.std.proofs.lemmas.Bool.{false≢true}
-use Rattle.board_points.specs.Point.{IsOn}
-use Rattle.board_points.specs.declared.points.Point.{Point}
-use Rattle.board_stones.specs.inner.Groups.{ReachesIfStone}
-use Rattle.board_stones.specs.Reaching.{Reaches}
+use Rattle.board_stones.proofs.Common.{false≢true, Point, IsOn, is_set, Reaches, ReachesIfStone}
 use Rattle.board_stones.specs.declared.stones.Cell.TheVariants.{Empty}
-use Rattle.board_points.specs.Rows.{is_set}
 use Rattle.board_points.proofs.PointLemmas.{Contains-take_more}
 use Rattle.board_stones.proofs.ClearedLemmas.{beside_cleared}
 use Rattle.board_stones.proofs.board.Board.find_shut_beside.Goals as goal

@@ -1,8 +1,5 @@
 use Rattle.std.proofs.Common.{◌≡◌, ◌⊎◌, Contains, take, Some, IfSome}
-use Rattle.board_points.specs.Point.{IsOn}
-use Rattle.board_stones.specs.Colour.{stone_of}
-use Rattle.board_stones.specs.Grid.{cell_at}
-use Rattle.board_stones.specs.inner.Groups.{ReachesIfStone}
+use Rattle.board_stones.proofs.Common.{IsOn, stone_of, cell_at, ReachesIfStone}
 use Rattle.board_stones.proofs.board.Board.find_shut_beside.Given as goal
 
 abbrev pub invariant-loop-at : goal.invariant-loop-at

@@ -1,10 +1,6 @@
-use Rattle.std.proofs.Common.{◌≡◌, ◌⊎◌, inl, inr, sym, subst, arith}
-use Rattle.std.specs.List.{Contains}
-use Rattle.std.proofs.lemmas.List.{take_all}
+use Rattle.std.proofs.Common.{◌≡◌, ◌⊎◌, inl, inr, sym, subst, arith, Contains, take_all}
 use Rattle.std.proofs.lemmas.List.Elements.{Contains-get_or}
-use Rattle.board_points.specs.declared.points.Point.{Point}
-use Rattle.board_points.specs.Point.{IsOn}
-use Rattle.board_stones.specs.Grid.{cell_at}
+use Rattle.board_stones.proofs.Common.{Point, IsOn, cell_at}
 use Rattle.board_points.proofs.PointLemmas.{origin, Contains-take_more}
 use Rattle.board_points.proofs.SearchLemmas.{Finds-then, Finds-same}
 use Rattle.board_stones.proofs.board.Board.offer_neighbours.Goals as goal

@@ -1,6 +1,5 @@
 use Rattle.std.proofs.Common.{Contains, take}
-use Rattle.board_stones.specs.inner.Flood.{ReachesThrough}
-use Rattle.board_points.specs.Search.{Finds}
+use Rattle.board_stones.proofs.Common.{Finds, ReachesThrough}
 use Rattle.board_stones.proofs.board.Board.offer_neighbours.Given as goal
 
 abbrev pub invariant-loop-to : goal.invariant-loop-to

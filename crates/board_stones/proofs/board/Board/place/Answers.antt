@@ -1,7 +1,5 @@
 use Rattle.std.proofs.Common.{ap, ◌∙◌}
-use Rattle.board_stones.specs.Clearing.{clear, play}
-use Rattle.board_stones.specs.Colour.{opponent}
-use Rattle.board_stones.specs.Grid.{Grid, with_cell}
+use Rattle.board_stones.proofs.Common.{clear, play, opponent, Grid, with_cell}
 use Rattle.board_stones.proofs.board.Board.place.Goals as goal
 
 pub returns-clause-value : goal.returns-clause-value

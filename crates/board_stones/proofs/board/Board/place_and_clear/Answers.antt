@@ -1,13 +1,5 @@
-use Rattle.std.proofs.Common.{◌≡◌, ◌*◌, ap, ◌∙◌, List, ℕ, length, true, subst}
-use Rattle.std.proofs.lemmas.List.{length-set}
-use Rattle.board_points.specs.declared.points.Point.{Point}
-use Rattle.board_stones.specs.declared.stones.Colour.{Colour}
-use Rattle.board_stones.specs.Colour.{stone_of}
-use Rattle.board_points.specs.Point.{index_of}
-use Rattle.board_stones.specs.Grid.{Grid, with_cell}
-use Rattle.board_stones.specs.Clearing.{play, has_unreaching}
-use Rattle.board_points.specs.Rows.{is_set}
-use Rattle.board_stones.specs.Move.{IsWithout, Clears}
+use Rattle.std.proofs.Common.{◌≡◌, ◌*◌, ap, ◌∙◌, List, ℕ, length, true, subst, length-set}
+use Rattle.board_stones.proofs.Common.{Point, index_of, is_set, Colour, play, has_unreaching, stone_of, Grid, with_cell, IsWithout, Clears}
 use Rattle.board_stones.proofs.SettledLemmas.{settled_by_play}
 use Rattle.board_stones.proofs.ClearedLemmas.{same_without}
 use Rattle.board_stones.proofs.board.Board.place_and_clear.Goals as goal

@@ -1,9 +1,5 @@
 use Rattle.std.proofs.Common.{◌≡◌, length, sym, ap, ◌∙◌, subst, arith, IsTrue}
-use Rattle.std.proofs.lemmas.List.{length_push}
-use Rattle.std.proofs.lemmas.List.Sums.{count_by-le-length}
-use Rattle.board_stones.specs.Grid.{cell_at}
-use Rattle.board_points.specs.Marking.{is_marked, marked_count}
-use Rattle.board_points.specs.Point.{IsOn}
+use Rattle.board_stones.proofs.Common.{length_push, count_by-le-length, is_marked, marked_count, IsOn, cell_at}
 use Rattle.board_stones.proofs.FloodLemmas.{IsUnderWay-step, complete}
 use Rattle.board_stones.proofs.board.Board.reaching.Goals as goal
 

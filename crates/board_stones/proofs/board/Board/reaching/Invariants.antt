@@ -1,6 +1,5 @@
 use Rattle.std.proofs.Common.{◌≡◌, ◌+◌, ◌*◌, ◌-◌, length}
-use Rattle.board_points.specs.Marking.{marked_count}
-use Rattle.board_stones.specs.inner.Flood.{IsUnderWay}
+use Rattle.board_stones.proofs.Common.{marked_count, IsUnderWay}
 use Rattle.board_stones.proofs.board.Board.reaching.Given as goal
 
 abbrev pub invariant-loop-point : goal.invariant-loop-point

@@ -1,6 +1,5 @@
 use Rattle.std.proofs.Common.{sym, ◌∙◌}
-use Rattle.std.proofs.lemmas.Bool.{false≢true, not-false}
-use Rattle.std.proofs.lemmas.Bool.Decides.{Decides-eqb}
+use Rattle.board_stones.proofs.Common.{false≢true, not-false, Decides-eqb}
 use Rattle.std.proofs.lemmas.Slice.Eq.{slice_eq-Decides}
 use Rattle.board_stones.proofs.StoneRowsLemmas.{same_rows}
 use Rattle.board_stones.proofs.board.Board.same.Goals as goal

@@ -1,11 +1,7 @@
 use Rattle.std.proofs.Common.{◌≡◌, ap, sym, subst, ◌∙◌, length, rules}
 use Rattle.board_stones.specs.declared.stones.Cell.TheVariants.{Empty}
 use Rattle.board_stones.specs.declared.stones.Colour.TheVariants.{Black, White}
-use Rattle.board_stones.specs.Colour.{stone_of}
-use Rattle.board_points.specs.Point.{IsOn}
-use Rattle.board_points.specs.Rows.{AreRowsOf, count_apart}
-use Rattle.board_stones.specs.inner.Regions.{reaches_through_own}
-use Rattle.board_points.specs.Halves.{low_halves, high_halves}
+use Rattle.board_stones.proofs.Common.{low_halves, high_halves, IsOn, AreRowsOf, count_apart, stone_of, reaches_through_own}
 use Rattle.board_stones.proofs.ScoreLemmas.{score_by_rows}
 use Rattle.board_stones.proofs.BothAreasLemmas.{stones_within, areas}
 use Rattle.board_stones.proofs.board.Board.score_in_halves.Goals as goal

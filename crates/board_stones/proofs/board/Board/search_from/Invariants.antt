@@ -1,7 +1,5 @@
 use Rattle.std.proofs.Common.{◌≡◌, ◌<◌}
-use Rattle.board_points.specs.Point.{index_of}
-use Rattle.board_stones.specs.Grid.{cell_at}
-use Rattle.board_points.specs.Search.{Finds, nothing_found}
+use Rattle.board_stones.proofs.Common.{index_of, Finds, nothing_found, cell_at}
 use Rattle.board_stones.proofs.board.Board.search_from.Given as goal
 
 abbrev pub invariant-loop-index : goal.invariant-loop-index

@@ -1,7 +1,6 @@
 -- The rest is what comes after the bytes given before.
-use Rattle.std.proofs.Common.{◌≡◌, ◌+◌, ◌-◌, ◌++◌, length, take, drop, refl, sym, ap, ◌∙◌, arith}
-use Rattle.std.proofs.Math.Seq.{take-add}
-use Rattle.std.proofs.lemmas.List.{take-append-drop, drop-drop, drop_all}
+use Rattle.std.proofs.Common.{◌≡◌, ◌+◌, ◌-◌, ◌++◌, length, take, drop, refl, sym, ap, ◌∙◌, arith, take-add, take-append-drop, drop-drop}
+use Rattle.std.proofs.lemmas.List.{drop_all}
 use Rattle.byte_streams.proofs.source.SliceSourceSource.give_rest.Goals as goal
 
 pub returns : goal.returns

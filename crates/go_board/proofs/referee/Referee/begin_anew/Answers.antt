@@ -1,9 +1,8 @@
 use Rattle.std.proofs.Common.{◌≡◌, ◌++◌, [], ◌∷◌, true, false, fold, ap, sym, ◌∙◌, arith, rules}
-use Rattle.board_past.specs.Past.{newest_grid}
-use Rattle.go_board.specs.State.{States}
+use Rattle.go_board.proofs.Common.{newest_grid, States, grew, player_of}
 use Rattle.board_stones.specs.Rectangle.{with_rectangle}
 use Rattle.board_stones.proofs.RectangleLemmas.{side-with_rectangles}
-use Rattle.go_board.specs.inner.Earlier.{grew, player_of, turned}
+use Rattle.go_board.specs.inner.Earlier.{turned}
 use Rattle.go_board.proofs.EarlierLemmas.{IsRefereeKept-grown}
 use Rattle.go_board.proofs.referee.Referee.begin_anew.Goals as goal
 

@@ -1,6 +1,5 @@
 use Rattle.std.proofs.Common.{subst, arith}
-use Rattle.go_board.specs.State.{States, HadSameBoardSince}
-use Rattle.go_board.specs.inner.Earlier.{player_of}
+use Rattle.go_board.proofs.Common.{States, HadSameBoardSince, player_of}
 use Rattle.go_board.proofs.EarlierLemmas.{same_board_since}
 use Rattle.go_board.proofs.referee.Referee.left_board_since.Goals as goal
 

@@ -1,9 +1,6 @@
 use Rattle.std.proofs.Common.{◌≡◌, ◌+◌, ◌++◌, [], ◌∷◌, false, true, refl, ap, sym, ◌∙◌, arith, rules}
-use Rattle.board_stones.specs.Clearing.{play}
-use Rattle.board_past.specs.Past.{newest_grid, with_next}
-use Rattle.go_board.specs.State.{States}
-use Rattle.go_board.specs.Reason.{reason_of}
-use Rattle.go_board.specs.inner.Earlier.{grew, player_of, turned}
+use Rattle.go_board.proofs.Common.{play, newest_grid, with_next, reason_of, States, grew, player_of}
+use Rattle.go_board.specs.inner.Earlier.{turned}
 use Rattle.go_board.proofs.EarlierLemmas.{IsRefereeKept-grown}
 use Rattle.board_stones.proofs.SettledLemmas.{side_play}
 use Rattle.go_board.proofs.TurnLemmas.{reason_of-new}

@@ -1,12 +1,7 @@
 use Rattle.std.proofs.Common.{◌≡◌, ◌+◌, ◌-◌, ◌++◌, reverse, [], ◌∷◌, false, true, Contains, None, refl, ap, sym, ◌∙◌, arith, rules}
 use Rattle.std.proofs.lemmas.Bool.{false≢true}
-use Rattle.std.proofs.lemmas.List.{length-reverse, reverse-append}
-use Rattle.go_board.specs.declared.referee.plays.Play.TheVariants.{Stone}
-use Rattle.board_stones.specs.Clearing.{play}
-use Rattle.board_past.specs.Past.{newest_grid, with_next, present_stretch}
-use Rattle.go_board.specs.State.{States}
-use Rattle.go_board.specs.Reason.{reason_of}
-use Rattle.go_board.specs.inner.Earlier.{grew, player_of, turned}
+use Rattle.go_board.proofs.Common.{length-reverse, reverse-append, play, newest_grid, with_next, present_stretch, Stone, reason_of, States, grew, player_of}
+use Rattle.go_board.specs.inner.Earlier.{turned}
 use Rattle.go_board.proofs.EarlierLemmas.{IsRefereeKept-grown}
 use Rattle.board_stones.proofs.SettledLemmas.{side_play}
 use Rattle.go_board.proofs.TurnLemmas.{reason_by_past, reason_of-new, on_err}

@@ -1,8 +1,5 @@
 use Rattle.std.proofs.Common.{◌≡◌, ◌↔◌, Some, IsErrOf, refl, subst}
-use Rattle.go_board.specs.declared.reason.Reason.{Reason}
-use Rattle.go_board.specs.declared.fault.TurnFault.TheVariants.{Illegal}
-use Rattle.go_board.specs.State.{States}
-use Rattle.go_board.specs.Reason.{reason_of}
+use Rattle.go_board.proofs.Common.{Illegal, Reason, reason_of, States}
 use Rattle.go_board.proofs.referee.Referee.turn.Goals as goal
 
 -- the call that took no turn changed nothing

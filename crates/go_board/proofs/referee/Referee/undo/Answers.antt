@@ -1,8 +1,7 @@
 use Rattle.std.proofs.Common.{◌≡◌, ◌≤◌, ◌++◌, reverse, [], ◌∷◌, arith, cond, refl, sym, ap, ◌∙◌, rules}
 use Rattle.std.specs.Int.{from_bool}
-use Rattle.std.proofs.lemmas.List.{reverse-append}
-use Rattle.go_board.specs.declared.referee.Earlier.{Earlier}
-use Rattle.go_board.specs.inner.Earlier.{turned, player_of, past_of_older, past_before}
+use Rattle.go_board.proofs.Common.{reverse-append, Earlier, player_of, past_of_older, past_before}
+use Rattle.go_board.specs.inner.Earlier.{turned}
 use Rattle.go_board.proofs.EarlierLemmas.{IsRefereeKept-back}
 use Rattle.go_board.proofs.referee.Referee.undo.Goals as goal
 

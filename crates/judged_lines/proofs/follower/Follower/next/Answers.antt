@@ -1,15 +1,8 @@
 -- The next line was judged from where it leaves the line before it.
 use Rattle.std.proofs.Common.{◌≡◌, ◌≤◌, true, Ok, ap, arith, rules}
-use Rattle.std.proofs.lemmas.Grind.{common_steps}
-use Rattle.sgf_outline.specs.Tree.{node_count}
-use Rattle.sgf_outline.specs.FileOrder.{PlacesRise}
+use Rattle.judged_lines.proofs.Common.{common_steps, MemoryFault, PlacesRise, node_count, advanced, nodes_before, path_before, Held, PlaysLine, StandsBy, HoldsVerdict}
 use Rattle.sgf_outline.specs.declared.limit.TheConstants.{MAX_LENGTH}
-use Rattle.sgf_properties.specs.declared.fault.MemoryFault.{MemoryFault}
-use Rattle.tree_lines.specs.Cursor.{advanced}
-use Rattle.judged_lines.specs.declared.over_lines.Before.TheVariants.{Held}
-use Rattle.tree_lines.specs.Following.{nodes_before, path_before}
-use Rattle.judged_lines.specs.GoingOn.{PlaysLine, StandsBy, next_by}
-use Rattle.judged_lines.specs.Keeping.{HoldsVerdict}
+use Rattle.judged_lines.specs.GoingOn.{next_by}
 use Rattle.judged_lines.proofs.Followers.{given, streak_countable, few_played, follows_on}
 use Rattle.judged_lines.proofs.follower.Follower.next.Goals as goal
 use Rattle.judged_lines.proofs.follower.Follower.next.Goals.{After-nodes-nodes, In-Ok-true}

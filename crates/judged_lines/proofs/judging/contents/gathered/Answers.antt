@@ -1,7 +1,6 @@
 -- The buffer is empty at first.
 use Rattle.std.proofs.Common.{sym, subst, refl, append_assoc, rules}
-use Rattle.sgf_outline.specs.Tree.{told_property}
-use Rattle.judged_lines.specs.inner.Gathered.{IsGathered}
+use Rattle.judged_lines.proofs.Common.{told_property, IsGathered}
 use Rattle.judged_lines.proofs.judging.contents.gathered.Goals as goal
 
 pub loop-property-init : goal.loop-property-init

@@ -1,5 +1,4 @@
-use Rattle.std.proofs.Common.{Some, None, sym, ap, ◌∙◌}
-use Rattle.std.specs.Prelude.{option_map}
+use Rattle.std.proofs.Common.{Some, None, sym, ap, ◌∙◌, option_map}
 use Rattle.judged_lines.proofs.Gathered.{later_player}
 use Rattle.judged_lines.specs.NodeValues.{last_player}
 use Rattle.judged_lines.proofs.judging.contents.last_player.Goals as goal

@@ -1,8 +1,6 @@
 -- The last player of all values is that of those left after the one that was met last.
 use Rattle.std.proofs.Common.{◌≡◌, Option, Some, length}
-use Rattle.sgf_outline.specs.Tree.{values}
-use Rattle.board_stones.specs.declared.stones.Colour.{Colour}
-use Rattle.judged_lines.specs.NodeValues.{last_player}
+use Rattle.judged_lines.proofs.Common.{values, Colour, last_player}
 use Rattle.judged_lines.proofs.judging.contents.last_player.Given as goal
 
 abbrev pub invariant-loop-raw : goal.invariant-loop-raw

@@ -1,7 +1,5 @@
 use Rattle.std.proofs.Common.{[], ◌∷◌, ◌++◌, sym, ap, ◌∙◌, append_assoc, subst, All}
-use Rattle.std.proofs.lemmas.List.Elements.{All-append, All-from_recursion}
-use Rattle.board_stones.specs.declared.setup_op.SetupOp.{SetupOp}
-use Rattle.board_points.specs.Point.{IsRectOn}
+use Rattle.judged_lines.proofs.Common.{All-append, All-from_recursion, IsRectOn, SetupOp}
 use Rattle.judged_lines.proofs.Gathered.{rectangles_more, rectangles_stop}
 use Rattle.judged_lines.proofs.judging.contents.push_rectangles.Goals as goal
 

@@ -1,9 +1,6 @@
 -- The operations of the values so far were appended.
 use Rattle.std.proofs.Common.{◌≡◌, ◌++◌, ℕ, List, map, Some, All, length}
-use Rattle.sgf_outline.specs.Tree.{values}
-use Rattle.board_stones.specs.declared.setup_op.SetupOp.{SetupOp}
-use Rattle.board_points.specs.Point.{IsRectOn}
-use Rattle.judged_lines.specs.NodeValues.{operations}
+use Rattle.judged_lines.proofs.Common.{values, IsRectOn, SetupOp, operations}
 use Rattle.judged_lines.proofs.judging.contents.push_rectangles.Given as goal
 
 abbrev pub invariant-loop-raw : goal.invariant-loop-raw

@@ -1,10 +1,6 @@
 -- One sequence more is judged, until all are, or the verdict is known.
-use Rattle.std.proofs.Common.{◌≡◌, ◌+◌, ◌++◌, ◌≤◌, List, length, take, drop, refl, sym, ap, ◌∙◌, length-append, arith, rules}
-use Rattle.std.proofs.lemmas.List.{length-drop}
-use Rattle.sgf_outline.specs.Tree.{Node}
-use Rattle.tree_lines.specs.Following.{nodes_before}
-use Rattle.tree_lines.specs.Sequences.{nodes_in}
-use Rattle.judged_lines.specs.JudgedGames.{game_kind, root_properties}
+use Rattle.std.proofs.Common.{◌≡◌, ◌+◌, ◌++◌, ◌≤◌, List, length, take, drop, refl, sym, ap, ◌∙◌, length-append, arith, rules, length-drop}
+use Rattle.judged_lines.proofs.Common.{Node, nodes_before, nodes_in, game_kind, root_properties}
 use Rattle.tree_lines.proofs.Fronts.{next_part, none_after, rises_through}
 use Rattle.judged_lines.proofs.JudgedLines.{Going, begun_front, countable, ends, finish, goes_on, decides, starts, stopped, stops}
 use Rattle.judged_lines.proofs.Keeping.{judgement_kept, judging_front, taken_kept}

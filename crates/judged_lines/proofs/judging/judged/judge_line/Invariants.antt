@@ -1,9 +1,6 @@
 -- The judge goes on by the sequences after the front, and the verdict isn't known yet.
 use Rattle.std.proofs.Common.{drop, take}
-use Rattle.tree_lines.specs.Following.{nodes_before}
-use Rattle.tree_lines.specs.Sequences.{nodes_in}
-use Rattle.judged_lines.specs.JudgedGames.{game_kind, root_properties}
-use Rattle.judged_lines.specs.inner.Judging.{IsUndecided}
+use Rattle.judged_lines.proofs.Common.{nodes_before, nodes_in, game_kind, root_properties, IsUndecided}
 use Rattle.judged_lines.proofs.JudgedLines.{Going}
 use Rattle.judged_lines.proofs.judging.judged.judge_line.Given as goal
 

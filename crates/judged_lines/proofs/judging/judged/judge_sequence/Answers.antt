@@ -1,18 +1,7 @@
 -- One node more is judged, and told if its step is taken, until all are, or the verdict is known.
-use Rattle.std.proofs.Common.{◌≡◌, ◌<◌, Bor, Option, Some, None, [], ◌∷◌, OnErr, Result, Ok, Err, refl, sym, ap, subst, ◌∙◌, length, arith, rules}
-use Rattle.std.specs.Prelude.{IsSome, option_copied}
-use Rattle.std.proofs.lemmas.Bool.{eqb-true}
-use Rattle.std.proofs.lemmas.List.{nil_from_length}
+use Rattle.std.proofs.Common.{◌≡◌, ◌<◌, Bor, Option, Some, None, [], ◌∷◌, OnErr, Result, Ok, Err, refl, sym, ap, subst, ◌∙◌, length, arith, rules, IsSome, option_copied, eqb-true}
+use Rattle.judged_lines.proofs.Common.{nil_from_length, NextNode, IsTakenOff, Node, Grid, State, LegalStep, after, board_in, ComesAs, IsDecided, IsStepFrom, IsUndecided, Judging}
 use Rattle.sgf_outline.specs.NodesLeft.{NodesLeft}
-use Rattle.sgf_outline.specs.Traversal.{IsTakenOff}
-use Rattle.sgf_outline.specs.declared.traversal.NextNode.{NextNode}
-use Rattle.judged_lines.specs.inner.Gathered.{ComesAs}
-use Rattle.sgf_outline.specs.Tree.{Node}
-use Rattle.board_stones.specs.Grid.{Grid}
-use Rattle.go_board.specs.State.{State}
-use Rattle.judged_lines.specs.declared.judging.step.LegalStep.{LegalStep}
-use Rattle.judged_lines.specs.inner.Judging.{IsDecided, IsStepFrom, IsUndecided, Judging}
-use Rattle.judged_lines.specs.Judgement.{after, board_in}
 use Rattle.judged_lines.proofs.Gathered.{comes, setup_names}
 use Rattle.judged_lines.proofs.JudgedLines.{TookOne, countable, ends, refuses, said, starts, step_taken, stops, unsaid}
 use Rattle.judged_lines.proofs.Judgements.{board_after, decided_by, undecided_by}

@@ -1,9 +1,6 @@
 -- The judge goes on by the nodes of the sequence, and the verdict isn't known yet.
 use Rattle.std.proofs.Common.{List, length}
-use Rattle.sgf_outline.specs.Tree.{Node}
-use Rattle.judged_lines.specs.JudgedGames.{GameKind}
-use Rattle.judged_lines.specs.inner.Judging.{IsUndecided}
-use Rattle.judged_lines.specs.Keeping.{HasJudged}
+use Rattle.judged_lines.proofs.Common.{Node, GameKind, HasJudged, IsUndecided}
 use Rattle.judged_lines.proofs.JudgedLines.{Going}
 use Rattle.judged_lines.proofs.judging.judged.judge_sequence.Given as goal
 

@@ -1,7 +1,6 @@
 -- There is a node with what was gathered.
 use Rattle.std.proofs.Common.{◌++◌, rules, arith}
-use Rattle.std.proofs.lemmas.Grind.{common_steps}
-use Rattle.sgf_outline.specs.Tree.{told_property}
+use Rattle.judged_lines.proofs.Common.{common_steps, told_property}
 use Rattle.judged_lines.proofs.judging.step.take_any_step.Goals as goal
 
 pub take_contents-requires : goal.take_contents-requires

@@ -1,8 +1,5 @@
 use Rattle.std.proofs.Common.{◌≡◌, Some, sym, ap, ◌∙◌, arith}
-use Rattle.std.proofs.lemmas.Grind.{common_steps}
-use Rattle.board_stones.specs.Grid.{Grid}
-use Rattle.judged_lines.specs.NodeValues.{move_value}
-use Rattle.judged_lines.specs.Step.{move_step}
+use Rattle.judged_lines.proofs.Common.{common_steps, Grid, move_value, move_step}
 use Rattle.judged_lines.proofs.Steps.{takes_turn, refuses_turn}
 use Rattle.judged_lines.proofs.judging.step.take_move.Goals as goal
 

@@ -1,6 +1,5 @@
 use Rattle.std.proofs.Common.{◌≡◌, ◌++◌, ◌∷◌, []}
-use Rattle.sgf_outline.specs.Tree.{lone_property, told_property}
-use Rattle.judged_lines.specs.inner.Gathered.{HoldsAlone}
+use Rattle.judged_lines.proofs.Common.{lone_property, told_property, HoldsAlone}
 use Rattle.judged_lines.proofs.Gathered.{gathered_alone}
 use Rattle.judged_lines.proofs.judging.step.take_step.Goals as goal
 

@@ -1,16 +1,7 @@
 -- The next line stands before the cursor that went on, and was shown to the keeper.
-use Rattle.std.proofs.Common.{◌≡◌, ◌≢◌, ℕ, ◌<◌, List, [], ◌∷◌, length, Result, Ok, Err, OnErr, inl, inr, refl, ap, arith, rules}
-use Rattle.std.specs.Prelude.{Bool}
-use Rattle.std.specs.Result.{IsErr}
-use Rattle.tree_lines.specs.Cursor.{CursorState}
-use Rattle.sgf_outline.specs.Tree.{node_count}
-use Rattle.tree_lines.specs.declared.sequence_cursor.Front.{Front}
-use Rattle.tree_lines.specs.Sequences.{SequencesState, RiseTo}
-use Rattle.judged_lines.specs.declared.over_lines.Before.{Before}
-use Rattle.judged_lines.specs.declared.over_lines.Before.TheVariants.{Unheld, Held, Refused}
-use Rattle.judged_lines.specs.GoingOn.{HasFront, IsHeldOf, PlaysLine, StandsBy, next_by}
-use Rattle.judged_lines.specs.inner.GoingOn.{GoesOnBy}
-use Rattle.tree_lines.specs.Following.{nodes_before}
+use Rattle.std.proofs.Common.{◌≡◌, ◌≢◌, ℕ, ◌<◌, List, [], ◌∷◌, length, Result, Ok, Err, OnErr, inl, inr, refl, ap, arith, rules, Bool, IsErr}
+use Rattle.judged_lines.proofs.Common.{node_count, Front, CursorState, nodes_before, SequencesState, RiseTo, Before, Unheld, Held, Refused, HasFront, IsHeldOf, PlaysLine, StandsBy, GoesOnBy}
+use Rattle.judged_lines.specs.GoingOn.{next_by}
 use Rattle.judged_lines.proofs.GoingOn.{IsNext, goes_on, has_plays, next_again, plays_refused}
 use Rattle.judged_lines.proofs.Keeping.{has_front}
 use Rattle.judged_lines.proofs.over_lines.OverLines.next.Given.{Over}

@@ -1,7 +1,5 @@
 use Rattle.std.proofs.Common.{◌≡◌, ◌++◌, ◌∷◌, [], List, length, ap, sym, subst, ◌∙◌}
-use Rattle.std.proofs.lemmas.List.{nil_from_length}
-use Rattle.key_trie.specs.declared.node.Node.{Node}
-use Rattle.key_trie.specs.Trie.{IsTrieOf}
+use Rattle.key_trie.proofs.Common.{nil_from_length, Node, IsTrieOf}
 use Rattle.key_trie.proofs.InsertLemmas.{trie_first}
 use Rattle.key_trie.proofs.trie.Trie.insert_first.Goals as goal
 

@@ -1,7 +1,5 @@
 use Rattle.std.proofs.Common.{◌≡◌, ◌∙◌, ap, arith}
-use Rattle.std.proofs.lemmas.List.{get_or_default}
-use Rattle.key_trie.specs.declared.node.Node.{Node}
-use Rattle.key_trie.specs.Trie.{no_node, node_at}
+use Rattle.key_trie.proofs.Common.{get_or_default, Node, no_node, node_at}
 use Rattle.key_trie.proofs.TrieLemmas.{end_opens}
 use Rattle.key_trie.proofs.trie.Trie.opening.Goals as goal
 

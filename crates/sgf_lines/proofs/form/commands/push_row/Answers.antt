@@ -1,8 +1,6 @@
 use Rattle.std.proofs.Common.{◌≡◌, Some, slice_get, ◌*◌, ◌+◌, [], subst, arith}
-use Rattle.board_points.specs.declared.points.Point.{Point}
-use Rattle.board_points.specs.Point.{points}
+use Rattle.sgf_lines.proofs.Common.{Point, points, commands_at, AreAppended}
 use Rattle.board_points.proofs.PointLemmas.{slice_get-points}
-use Rattle.sgf_lines.specs.inner.Cutting.{commands_at, AreAppended}
 use Rattle.judged_lines.proofs.Joins.{joins}
 use Rattle.sgf_lines.proofs.form.commands.push_row.Goals as goal
 

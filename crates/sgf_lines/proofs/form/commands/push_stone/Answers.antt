@@ -1,6 +1,5 @@
 use Rattle.std.proofs.Common.{arith}
-use Rattle.std.proofs.lemmas.Grind.{common_steps}
-use Rattle.std.proofs.lemmas.Bool.Decides.{nat_tests}
+use Rattle.sgf_lines.proofs.Common.{nat_tests, common_steps}
 use Rattle.sgf_lines.proofs.ScriptRows.{command-one_digit, command-two_digits}
 use Rattle.sgf_lines.proofs.form.commands.push_stone.Goals as goal
 

@@ -1,6 +1,5 @@
-use Rattle.std.proofs.Common.{arith}
+use Rattle.std.proofs.Common.{arith, take_all}
 use Rattle.std.proofs.lemmas.Grind.{common_steps}
-use Rattle.std.proofs.lemmas.List.{take_all}
 use Rattle.board_points.proofs.PointLemmas.{length-points}
 use Rattle.sgf_lines.proofs.CutTexts.{stones-by_point}
 use Rattle.sgf_lines.proofs.form.commands.push_stones.Goals as goal

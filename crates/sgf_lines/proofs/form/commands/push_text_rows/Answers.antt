@@ -1,6 +1,5 @@
 use Rattle.std.proofs.Common.{◌≡◌, ◌++◌, ◌==◌, length, sym, ap, subst, ◌∙◌, OnOk}
-use Rattle.std.proofs.lemmas.Bool.{eqb-false}
-use Rattle.sgf_lines.specs.Script.{comment_row}
+use Rattle.sgf_lines.proofs.Common.{eqb-false, comment_row}
 use Rattle.sgf_lines.proofs.CutTexts.{of_pieces, rows-on, rows-none}
 use Rattle.sgf_lines.proofs.form.commands.push_text_rows.Goals as goal
 

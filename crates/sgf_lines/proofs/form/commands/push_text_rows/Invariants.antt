@@ -1,6 +1,5 @@
-use Rattle.std.proofs.Common.{◌≡◌, ◌++◌, ◌==◌, length}
-use Rattle.std.specs.List.{flat_map, slice_split}
-use Rattle.sgf_lines.specs.Script.{comment_row}
+use Rattle.std.proofs.Common.{◌≡◌, ◌++◌, ◌==◌, length, flat_map}
+use Rattle.sgf_lines.proofs.Common.{slice_split, comment_row}
 use Rattle.sgf_lines.proofs.form.commands.push_text_rows.Given as goal
 
 -- the rows so far, and those of the pieces of the rest, are all

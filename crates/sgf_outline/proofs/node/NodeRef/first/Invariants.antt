@@ -1,5 +1,4 @@
-use Rattle.std.proofs.Common.{◌≡◌, find}
-use Rattle.std.specs.Str.{bytes_eq}
+use Rattle.std.proofs.Common.{◌≡◌, find, bytes_eq}
 use Rattle.sgf_outline.proofs.node.NodeRef.first.Given as goal
 
 abbrev pub invariant-loop-property : goal.invariant-loop-property

@@ -1,7 +1,5 @@
-use Rattle.std.proofs.lemmas.Grind.{common_steps}
-use Rattle.std.proofs.Common.{◌≡◌, ℕ, Bool, not, IsTrue, Option, None, Some, refl, sym, ap, ◌∙◌, arith, ne_eqb}
-use Rattle.std.proofs.lemmas.Bool.{false≢true, eq-eqb}
-use Rattle.std.specs.Prelude.{nat_eq, ◌≢◌}
+use Rattle.sgf_outline.proofs.Common.{false≢true, common_steps}
+use Rattle.std.proofs.Common.{◌≡◌, ℕ, Bool, not, IsTrue, Option, None, Some, refl, sym, ap, ◌∙◌, arith, ne_eqb, eq-eqb, nat_eq, ◌≢◌}
 use Rattle.std.specs.Option.{option_eq}
 use Rattle.std.proofs.Math.Dec.{eqb_refl}
 use Rattle.sgf_outline.proofs.Outlined.{end-leaf, leaf-if, if-leaf}

@@ -1,6 +1,5 @@
-use Rattle.std.proofs.lemmas.Grind.{common_steps}
+use Rattle.sgf_outline.proofs.Common.{common_steps, outer_by}
 use Rattle.std.proofs.Common.{◌≡◌, None, sym, ◌∙◌, arith}
-use Rattle.sgf_outline.specs.Outlining.{outer_by}
 use Rattle.sgf_outline.proofs.Outlined.{IsEntryOf, table-length, entry-in, game-outer, outer-none}
 use Rattle.sgf_outline.proofs.outline.Outline.game_of.Goals as goal
 use Rattle.sgf_outline.proofs.outline.Outline.game_of.Goals.{After-index}

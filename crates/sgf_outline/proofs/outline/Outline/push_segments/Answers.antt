@@ -1,8 +1,5 @@
-use Rattle.std.proofs.Common.{◌≡◌, List, ℕ, ◌+◌, ◌∙◌, [], ◌∷◌, ◌++◌, drop, slice_range, refl, sym, ap, arith, append_assoc, append-nil, rules}
-use Rattle.std.specs.List.{flat_map}
-use Rattle.sgf_outline.specs.FileOrder.{nodes_at, sequence_numbers}
-use Rattle.sgf_outline.specs.Written.{node_text}
-use Rattle.sgf_outline.specs.Outlining.{start_by, AreWhole}
+use Rattle.std.proofs.Common.{◌≡◌, List, ℕ, ◌+◌, ◌∙◌, [], ◌∷◌, ◌++◌, drop, slice_range, refl, sym, ap, arith, append_assoc, append-nil, rules, flat_map}
+use Rattle.sgf_outline.proofs.Common.{nodes_at, sequence_numbers, start_by, AreWhole, node_text}
 use Rattle.sgf_outline.proofs.Outlined.{IsEntryOf, table-length, entry-in}
 use Rattle.sgf_outline.proofs.SegmentsKept.{whole-within, whole-first}
 use Rattle.sgf_outline.proofs.outline.Outline.push_segments.Goals as goal

@@ -1,10 +1,6 @@
 -- With the segments that are left, up to the last one of the sequence, all is appended.
-use Rattle.std.proofs.Common.{◌≡◌, ℕ, ◌-◌, List, ◌++◌, length, drop}
-use Rattle.std.specs.List.{flat_map}
-use Rattle.sgf_outline.specs.FileOrder.{nodes_at, sequence_numbers}
-use Rattle.sgf_outline.specs.Written.{node_text}
-use Rattle.sgf_properties.specs.Written.{GoesOn}
-use Rattle.sgf_outline.specs.Outlining.{AreWhole}
+use Rattle.std.proofs.Common.{◌≡◌, ℕ, ◌-◌, List, ◌++◌, length, drop, flat_map}
+use Rattle.sgf_outline.proofs.Common.{GoesOn, nodes_at, sequence_numbers, AreWhole, node_text}
 use Rattle.sgf_outline.proofs.outline.Outline.push_segments.Given as goal
 
 abbrev pub invariant-segments : goal.invariant-segments

@@ -1,6 +1,5 @@
-use Rattle.std.proofs.lemmas.Grind.{common_steps}
+use Rattle.sgf_outline.proofs.Common.{common_steps, sequence_end}
 use Rattle.std.proofs.Common.{◌≡◌, ◌+◌, ◌∙◌, arith}
-use Rattle.sgf_outline.specs.FileOrder.{sequence_end}
 use Rattle.sgf_outline.proofs.Outlined.{table-length, entry-in, sequence-some, sequence-within, next-start, last-end}
 use Rattle.sgf_outline.proofs.outline.Outline.sequence_end.Goals as goal
 use Rattle.sgf_outline.proofs.outline.Outline.sequence_end.Goals.{After-index, Else-i-len}

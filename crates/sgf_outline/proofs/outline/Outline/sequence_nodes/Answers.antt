@@ -1,7 +1,5 @@
 use Rattle.std.proofs.Common.{◌<◌, [], arith, ap, length, sym, subst, ◌∙◌, rules}
-use Rattle.sgf_outline.specs.FileOrder.{sequence_starts, sequence_start, sequence_end}
-use Rattle.sgf_outline.specs.Machine.{games_in}
-use Rattle.sgf_outline.specs.inner.Traversing.{nodes_between}
+use Rattle.sgf_outline.proofs.Common.{sequence_starts, sequence_start, sequence_end, games_in, nodes_between}
 use Rattle.sgf_outline.proofs.Outlined.{table-length}
 use Rattle.sgf_outline.proofs.Traversing.{sequence-traversal}
 use Rattle.sgf_outline.proofs.outline.Outline.sequence_nodes.Goals as goal

@@ -1,7 +1,6 @@
 -- All nodes stand before the end of the last sequence.
-use Rattle.std.proofs.lemmas.Grind.{common_steps}
+use Rattle.sgf_outline.proofs.Common.{common_steps, get_or_past}
 use Rattle.std.proofs.Common.{arith, rules}
-use Rattle.std.proofs.lemmas.List.{get_or_past}
 use Rattle.sgf_outline.proofs.Outlined.{starts-first}
 use Rattle.sgf_outline.proofs.outline.Outline.sequence_of.Goals as goal
 

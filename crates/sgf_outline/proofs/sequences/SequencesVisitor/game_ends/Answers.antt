@@ -1,8 +1,5 @@
-use Rattle.std.proofs.Common.{◌≡◌, ℕ, ◌+◌, cond, get_or, Some, ap, arith, rules}
-use Rattle.std.proofs.Math.Dec.{eqb}
-use Rattle.sgf_outline.specs.OwnNodes.{nothing}
-use Rattle.sgf_outline.specs.Outlining.{outer_by}
-use Rattle.sgf_outline.specs.declared.sequences.Sequence.{Sequence}
+use Rattle.std.proofs.Common.{◌≡◌, ℕ, ◌+◌, cond, get_or, Some, ap, arith, rules, eqb}
+use Rattle.sgf_outline.proofs.Common.{Sequence, outer_by, nothing}
 use Rattle.sgf_outline.proofs.GameEnds.{unclosed_games-least, cast-to, at_most_1}
 use Rattle.sgf_outline.proofs.KeptSequences.{innermost-within, sequences-ended}
 use Rattle.sgf_outline.proofs.sequences.SequencesVisitor.game_ends.Goals.{in-Some, in_default}

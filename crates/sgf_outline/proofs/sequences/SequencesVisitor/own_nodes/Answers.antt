@@ -1,8 +1,5 @@
 use Rattle.std.proofs.Common.{◌≡◌, ℕ, ◌+◌, ◌<◌, ◌≤◌, cond, false, List, [], ◌∷◌, ◌++◌, length, None, Some, refl, sym, ap, ◌∙◌, arith, append-nil, rules}
-use Rattle.std.proofs.lemmas.Bool.{false≢true}
-use Rattle.sgf_outline.specs.OwnNodes.{is_written}
-use Rattle.sgf_outline.specs.declared.sequences.KeptSegment.{KeptSegment}
-use Rattle.sgf_outline.specs.declared.sequences.Sequences.{Sequences}
+use Rattle.sgf_outline.proofs.Common.{false≢true, KeptSegment, Sequences, is_written}
 use Rattle.sgf_outline.proofs.KeptSequences.{innermost-within, sequences-few, packs-new, sequences-opened}
 use Rattle.sgf_outline.proofs.sequences.SequencesVisitor.own_nodes.Goals.{in-Some, in-None, then-is_written, else-is_written+in_ok-push_segment, Joined-is_written}
 use Rattle.sgf_outline.proofs.sequences.SequencesVisitor.own_nodes.Goals as goal

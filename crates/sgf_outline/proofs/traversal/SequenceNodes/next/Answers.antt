@@ -1,8 +1,5 @@
-use Rattle.std.proofs.lemmas.Grind.{common_steps}
+use Rattle.sgf_outline.proofs.Common.{common_steps, NodesLeft, IsLedNode, IsEmptyNode, node_in}
 use Rattle.std.proofs.Common.{◌∙◌, drop, refl, sym, ap, subst, arith, rules}
-use Rattle.sgf_outline.specs.NodesLeft.{NodesLeft}
-use Rattle.sgf_outline.specs.inner.Lead.{IsLedNode, IsEmptyNode}
-use Rattle.sgf_outline.specs.inner.NodeText.{node_in}
 use Rattle.sgf_outline.proofs.Leading.{led-properties, led-next, empty-next}
 use Rattle.sgf_outline.proofs.Traversing.{between_some}
 use Rattle.sgf_outline.proofs.traversal.SequenceNodes.next.Goals as goal

@@ -1,8 +1,5 @@
-use Rattle.std.proofs.lemmas.Grind.{common_steps}
+use Rattle.sgf_outline.proofs.Common.{common_steps, properties_in, ArePropertiesIn, IsSpan, is_white_space}
 use Rattle.std.proofs.Common.{◌≡◌, ◌-◌, ◌∙◌, ◌∷◌, drop, refl, sym, ap, subst, arith}
-use Rattle.sgf_outline.specs.Spelling.{is_white_space}
-use Rattle.sgf_properties.specs.Front.{properties_in, ArePropertiesIn}
-use Rattle.sgf_properties.specs.Offsets.{IsSpan}
 use Rattle.sgf_properties.proofs.Iterating.{no-property, run-drop}
 use Rattle.sgf_properties.proofs.KeptLengths.{kept-drop}
 use Rattle.sgf_outline.proofs.Traversing.{past-property}

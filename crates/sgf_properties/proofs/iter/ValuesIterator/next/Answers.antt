@@ -1,7 +1,5 @@
-use Rattle.std.proofs.Common.{◌≡◌, ◌∙◌, [], ◌∷◌, length, sym, ap, arith}
-use Rattle.std.specs.Prelude.{option_copied}
-use Rattle.sgf_properties.specs.Front.{values_in}
-use Rattle.sgf_properties.specs.inner.Iterating.{values_left}
+use Rattle.std.proofs.Common.{◌≡◌, ◌∙◌, [], ◌∷◌, length, sym, ap, arith, option_copied}
+use Rattle.sgf_properties.proofs.Common.{values_in, values_left}
 use Rattle.sgf_properties.proofs.Iterating.{no-value, next-value}
 use Rattle.sgf_properties.proofs.iter.ValuesIterator.next.Goals as goal
 use Rattle.sgf_properties.proofs.iter.ValuesIterator.next.Goals.{In_default, After-part}

@@ -1,5 +1,4 @@
-use Rattle.std.proofs.Common.{◌≡◌, ◌≤◌, ◌+◌, ◌-◌, ◌++◌, length, take, filter, vec_len}
-use Rattle.std.specs.Vec.{vec_capacity}
+use Rattle.std.proofs.Common.{◌≡◌, ◌≤◌, ◌+◌, ◌-◌, ◌++◌, length, take, filter, vec_len, vec_capacity}
 use Rattle.sgf_properties.specs.Spelling.{is_upper}
 use Rattle.sgf_properties.proofs.property.PropRef.push_name.Given as goal
 

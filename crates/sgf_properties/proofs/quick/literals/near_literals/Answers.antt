@@ -1,6 +1,5 @@
 use Rattle.std.proofs.Common.{eqb, ltb, arith, w8}
-use Rattle.std.proofs.lemmas.Simd.{length-chunk, bitmask_splat}
-use Rattle.std.specs.Simd.Lanes.{chunk}
+use Rattle.sgf_properties.proofs.Common.{chunk, length-chunk, bitmask_splat}
 use Rattle.sgf_properties.proofs.NearBits.{before-lowest}
 use Rattle.sgf_properties.proofs.NearLiterals.{near-literals}
 use Rattle.sgf_properties.proofs.quick.literals.near_literals.Goals as goal

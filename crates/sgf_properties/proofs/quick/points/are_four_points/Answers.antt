@@ -1,5 +1,4 @@
-use Rattle.std.proofs.Common.{arith}
-use Rattle.std.proofs.lemmas.Bool.{eqb-true}
+use Rattle.std.proofs.Common.{arith, eqb-true}
 use Rattle.sgf_properties.proofs.PointBytes.{four-points}
 use Rattle.sgf_properties.proofs.quick.points.are_four_points.Goals as goal
 

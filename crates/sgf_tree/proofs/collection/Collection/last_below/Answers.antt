@@ -1,10 +1,5 @@
-use Rattle.std.proofs.lemmas.Grind.{common_steps}
-use Rattle.std.proofs.Common.{◌≡◌, ◌≤◌, ◌<◌, ◌+◌, get_or, length, refl, ap, subst, arith}
-use Rattle.std.proofs.lemmas.Option.{slice_get_read}
-use Rattle.std.specs.Prelude.{slice_get, Some}
-use Rattle.sgf_outline.specs.Tree.{node_count}
-use Rattle.sgf_outline.specs.FileOrder.{IsLastBelow}
-use Rattle.sgf_tree.specs.inner.GamesRead.{lasts}
+use Rattle.sgf_tree.proofs.Common.{common_steps, slice_get_read, IsLastBelow, node_count, lasts}
+use Rattle.std.proofs.Common.{◌≡◌, ◌≤◌, ◌<◌, ◌+◌, get_or, length, refl, ap, subst, arith, slice_get, Some}
 use Rattle.sgf_tree.proofs.LastBelow.{lasts-below}
 use Rattle.sgf_outline.proofs.Starts.{starts-are}
 use Rattle.sgf_tree.proofs.Stacks.{length-lasts}

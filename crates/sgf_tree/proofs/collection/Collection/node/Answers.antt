@@ -1,6 +1,5 @@
-use Rattle.std.proofs.lemmas.Grind.{common_steps}
+use Rattle.sgf_tree.proofs.Common.{common_steps, place_at}
 use Rattle.std.proofs.Common.{◌≡◌, Some, arith, rules}
-use Rattle.sgf_outline.specs.FileOrder.{place_at}
 use Rattle.sgf_tree.proofs.PlacesKept.{places_count, place_kept}
 use Rattle.sgf_tree.proofs.collection.Collection.node.Goals as goal
 use Rattle.sgf_tree.proofs.collection.Collection.node.Goals.{After-index}

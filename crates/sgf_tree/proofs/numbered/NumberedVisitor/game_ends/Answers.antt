@@ -1,7 +1,5 @@
 use Rattle.std.proofs.Common.{◌≡◌, ℕ, ◌-◌, length, set, Some, sym, ap, subst, arith}
-use Rattle.sgf_outline.specs.OwnNodes.{nothing}
-use Rattle.sgf_outline.specs.Outlining.{HoldsSequences}
-use Rattle.sgf_tree.specs.declared.numbered.Numbered.{Numbered}
+use Rattle.sgf_tree.proofs.Common.{HoldsSequences, nothing, Numbered}
 use Rattle.sgf_outline.proofs.GameEnds.{fewer-games}
 use Rattle.sgf_tree.proofs.KeptNodes.{length-places, length-lasts, nodes-ended}
 use Rattle.sgf_outline.proofs.KeptSequences.{innermost-within}

@@ -1,6 +1,5 @@
 use Rattle.std.proofs.Common.{◌+◌, arith}
-use Rattle.sgf_tree.specs.inner.PropertiesRead.{StandsIn}
-use Rattle.sgf_tree.specs.declared.reader.own_nodes.NodesRead.{NodesRead}
+use Rattle.sgf_tree.proofs.Common.{NodesRead, StandsIn}
 use Rattle.sgf_tree.proofs.OwnRead.{piece-copied, own-more}
 use Rattle.sgf_tree.proofs.quick.nodes.take_whole.Goals as goal
 

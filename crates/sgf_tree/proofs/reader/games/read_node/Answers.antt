@@ -1,10 +1,5 @@
 use Rattle.std.proofs.Common.{◌≡◌, ◌+◌, refl, ap, subst, arith, rules}
-use Rattle.std.proofs.lemmas.Result.{err_from_is_err_and}
-use Rattle.sgf_outline.specs.OwnNodes.{Copies}
-use Rattle.sgf_tree.specs.inner.NodesRead.{AreNodesRead}
-use Rattle.sgf_tree.specs.inner.PropertiesRead.{ArePropertiesRead}
-use Rattle.sgf_outline.specs.declared.layout.OwnNodes.{OwnNodes}
-use Rattle.sgf_tree.specs.declared.reader.own_nodes.NodesRead.{NodesRead}
+use Rattle.sgf_tree.proofs.Common.{err_from_is_err_and, OwnNodes, Copies, NodesRead, AreNodesRead, ArePropertiesRead}
 use Rattle.sgf_tree.proofs.OwnRead.{parts-copied, read-node, own-more}
 use Rattle.sgf_tree.proofs.reader.games.read_node.Goals as goal
 

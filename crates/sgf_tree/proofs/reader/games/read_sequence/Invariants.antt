@@ -1,9 +1,5 @@
 use Rattle.std.proofs.Common.{◌-◌, length}
-use Rattle.sgf_outline.specs.Machine.{Stack, opened}
-use Rattle.sgf_tree.specs.inner.Progress.{ComesTo}
-use Rattle.sgf_outline.specs.OwnNodes.{nothing}
-use Rattle.sgf_tree.specs.inner.NodesRead.{AreOwnRead}
-use Rattle.sgf_properties.specs.KeptLengths.{AreKeptLengths}
+use Rattle.sgf_tree.proofs.Common.{AreKeptLengths, Stack, opened, nothing, AreOwnRead, ComesTo}
 use Rattle.sgf_tree.proofs.reader.games.read_sequence.Given as goal
 
 abbrev pub invariant-nodes : goal.invariant-nodes

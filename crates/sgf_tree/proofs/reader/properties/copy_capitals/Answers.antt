@@ -1,6 +1,5 @@
 use Rattle.std.proofs.Common.{◌≡◌, ◌+◌, slice_range, subst, arith, rules}
-use Rattle.sgf_properties.specs.Front.{name_in}
-use Rattle.sgf_outline.specs.OwnNodes.{Copies}
+use Rattle.sgf_tree.proofs.Common.{name_in, Copies}
 use Rattle.sgf_outline.proofs.Copying.{copies-then}
 use Rattle.sgf_tree.proofs.NameEnds.{name-join}
 use Rattle.sgf_properties.proofs.Spans.{span-none}

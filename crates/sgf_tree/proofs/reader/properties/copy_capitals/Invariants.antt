@@ -1,6 +1,5 @@
 use Rattle.std.proofs.Common.{◌-◌, ◌≤◌, slice_range}
-use Rattle.sgf_properties.specs.Front.{name_in}
-use Rattle.sgf_outline.specs.OwnNodes.{Copies}
+use Rattle.sgf_tree.proofs.Common.{name_in, Copies}
 use Rattle.sgf_tree.proofs.reader.properties.copy_capitals.Given as goal
 
 abbrev pub invariant-letters : goal.invariant-letters

@@ -1,6 +1,5 @@
 use Rattle.std.proofs.Common.{◌-◌, ◌≤◌, length}
-use Rattle.sgf_properties.specs.KeptLengths.{AreKeptLengths}
-use Rattle.sgf_outline.specs.OwnNodes.{Copies}
+use Rattle.sgf_tree.proofs.Common.{AreKeptLengths, Copies}
 use Rattle.sgf_tree.proofs.ShortProperties.{ReadSoFar}
 use Rattle.sgf_tree.proofs.reader.properties.read_properties.Given as goal
 

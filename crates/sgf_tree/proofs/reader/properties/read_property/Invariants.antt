@@ -1,7 +1,5 @@
 use Rattle.std.proofs.Common.{◌-◌, ◌≤◌, length}
-use Rattle.sgf_properties.specs.KeptLengths.{AreKeptLengths}
-use Rattle.sgf_outline.specs.OwnNodes.{Copies}
-use Rattle.sgf_properties.specs.Offsets.{IsBracket}
+use Rattle.sgf_tree.proofs.Common.{AreKeptLengths, IsBracket, Copies}
 use Rattle.sgf_tree.proofs.ValuesRead.{ValuesSoFar}
 use Rattle.sgf_tree.proofs.reader.properties.read_property.Given as goal
 

@@ -1,7 +1,6 @@
 -- The cursor by sequences was made of the same collection.
 use Rattle.std.proofs.Common.{◌≡◌, ◌∙◌, ap, rules}
-use Rattle.tree_lines.specs.Cursor.{CursorState}
-use Rattle.tree_lines.specs.Sequences.{SequencesState}
+use Rattle.tree_lines.proofs.Common.{CursorState, SequencesState}
 use Rattle.tree_lines.proofs.cursor.Cursor.seek_after.Goals as goal
 use Rattle.tree_lines.proofs.cursor.Cursor.seek_after.Goals.{After-new-sequences}
 

@@ -1,7 +1,6 @@
 -- The cursor stands after the next leaf.
-use Rattle.std.proofs.lemmas.Grind.{common_steps}
+use Rattle.tree_lines.proofs.Common.{common_steps, parts_of}
 use Rattle.std.proofs.Common.{arith}
-use Rattle.tree_lines.specs.inner.Parts.{parts_of}
 use Rattle.tree_lines.proofs.SequenceStarts.{fewer}
 use Rattle.tree_lines.proofs.SequenceCursors.{no_more, front_kept, next_rises, next_few, goes_on, kept_further, moved, shares_front}
 use Rattle.tree_lines.proofs.sequence_cursor.SequenceCursor.advance.Goals as goal

@@ -1,6 +1,5 @@
 use Rattle.std.proofs.Common.{◌≡◌, ◌≢◌, ◌↔◌, false, Contains, IsTrue, reverse, sym, subst, ◌∙◌}
-use Rattle.std.proofs.lemmas.Bool.{false≢true}
-use Rattle.board_past.specs.Past.{PastColourings, present_stretch, stretch_of}
+use Rattle.board_past.proofs.Common.{false≢true, PastColourings, present_stretch, stretch_of}
 use Rattle.board_past.proofs.ListPastLemmas.{going_on, only_later}
 use Rattle.board_past.proofs.past.list_past.ListPastPast.holds.Goals as goal
 

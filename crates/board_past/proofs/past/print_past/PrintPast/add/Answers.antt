@@ -1,12 +1,5 @@
 use Rattle.std.proofs.Common.{◌≡◌, ◌≢◌, true, subst, arith}
-use Rattle.std.proofs.Math.Facts.{Fits-of_lt}
-use Rattle.board_stones.specs.declared.stones.Cell.TheVariants.{Empty}
-use Rattle.board_points.specs.declared.points.Point.{Point}
-use Rattle.board_points.specs.Point.{IsOn}
-use Rattle.board_stones.specs.Grid.{Grid, cell_at}
-use Rattle.board_past.specs.Past.{Held, all_of}
-use Rattle.board_past.specs.inner.Table.{IsPrintOfNext}
-use Rattle.board_points.specs.Rows.{is_set}
+use Rattle.board_past.proofs.Common.{Fits-of_lt, Point, IsOn, is_set, Empty, Grid, cell_at, Held, all_of, IsPrintOfNext}
 use Rattle.board_past.proofs.TableLemmas.{few_all, print_same, table_same}
 use Rattle.board_past.proofs.past.print_past.PrintPast.add.Goals as goal
 use Rattle.board_past.proofs.past.print_past.PrintPast.add.Goals.{After-add_stones, then-is_awake, else-is_awake}

@@ -1,9 +1,5 @@
 use Rattle.std.proofs.Common.{◌≡◌, ◌↔◌, ◌∙◌, Bool, IfSome, IsTrue, Contains, ap, sym, subst}
-use Rattle.std.proofs.lemmas.Bool.{false≢true}
-use Rattle.board_stones.specs.Grid.{Grid}
-use Rattle.board_stones.specs.Clearing.{play}
-use Rattle.board_past.specs.Past.{PastColourings, newest_grid, present_stretch}
-use Rattle.board_stones.specs.Move.{IsMove}
+use Rattle.board_past.proofs.Common.{false≢true, play, Grid, IsMove, PastColourings, newest_grid, present_stretch}
 use Rattle.board_past.proofs.past.print_past.PrintPast.decide_by_newest.Goals as goal
 
 pub newest_steps_show_new-requires : goal.newest_steps_show_new-requires

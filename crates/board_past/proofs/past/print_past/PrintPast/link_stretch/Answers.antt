@@ -1,6 +1,5 @@
 use Rattle.std.proofs.Common.{arith}
-use Rattle.std.proofs.Math.Facts.{Fits-of_lt}
-use Rattle.board_past.specs.Past.{all_of}
+use Rattle.board_past.proofs.Common.{Fits-of_lt, all_of}
 use Rattle.board_past.proofs.TableLemmas.{few_all}
 use Rattle.board_past.proofs.past.print_past.PrintPast.link_stretch.Goals as goal
 

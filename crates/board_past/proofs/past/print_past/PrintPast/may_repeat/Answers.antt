@@ -1,9 +1,5 @@
 use Rattle.std.proofs.Common.{◌≡◌, ◌*◌, ◌∙◌, length, ap, sym, subst}
-use Rattle.std.proofs.lemmas.Bool.{or_parts}
-use Rattle.board_stones.specs.Grid.{Grid}
-use Rattle.board_past.specs.Past.{PastColourings, all_of, newest_grid}
-use Rattle.board_past.specs.inner.Emptied.{HasAllEmptied}
-use Rattle.board_points.specs.Rows.{is_set}
+use Rattle.board_past.proofs.Common.{or_parts, is_set, Grid, PastColourings, all_of, newest_grid, HasAllEmptied}
 use Rattle.board_past.proofs.EmptiedLemmas.{history_all}
 use Rattle.board_past.proofs.RepeatLemmas.{never_back, fresh_stone_put}
 use Rattle.board_past.proofs.past.print_past.PrintPast.may_repeat.Goals as goal

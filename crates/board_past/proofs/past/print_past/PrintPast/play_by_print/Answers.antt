@@ -1,6 +1,5 @@
 use Rattle.std.proofs.Common.{◌∙◌, false, ap}
-use Rattle.board_stones.specs.Clearing.{play}
-use Rattle.board_past.specs.Past.{PastColourings, newest_grid, with_next}
+use Rattle.board_past.proofs.Common.{play, PastColourings, newest_grid, with_next}
 use Rattle.board_past.proofs.RepeatLemmas.{played_new, played_refused}
 use Rattle.board_past.proofs.TableLemmas.{gap_never}
 use Rattle.board_past.proofs.past.print_past.PrintPast.play_by_print.Goals as goal

@@ -1,8 +1,5 @@
 use Rattle.std.proofs.Common.{◌≡◌, Contains, false, ap, subst, sym, ◌∙◌}
-use Rattle.std.proofs.lemmas.Bool.{false≢true}
-use Rattle.board_stones.specs.Grid.{Grid}
-use Rattle.board_stones.specs.Clearing.{has_unreaching, play}
-use Rattle.board_past.specs.Past.{newest_grid, present_stretch, with_next}
+use Rattle.board_past.proofs.Common.{false≢true, has_unreaching, play, Grid, newest_grid, present_stretch, with_next}
 use Rattle.board_past.proofs.RepeatLemmas.{played_new, played_refused}
 use Rattle.board_stones.proofs.SettledLemmas.{settled_by_play}
 use Rattle.board_past.proofs.past.print_past.PrintPast.play_on_copy.Goals as goal

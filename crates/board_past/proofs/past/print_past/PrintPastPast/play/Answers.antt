@@ -1,6 +1,5 @@
 use Rattle.std.proofs.Common.{refl, ap, sym, ◌∙◌}
-use Rattle.board_stones.specs.Clearing.{has_unreaching}
-use Rattle.board_past.specs.Past.{PastColourings, newest_grid}
+use Rattle.board_past.proofs.Common.{has_unreaching, PastColourings, newest_grid}
 use Rattle.board_past.proofs.past.print_past.PrintPastPast.play.Goals as goal
 
 pub play_in_doubt-requires-clause-stone : goal.play_in_doubt-requires-clause-stone

@@ -1,8 +1,5 @@
 use Rattle.std.proofs.Common.{◌∷◌, List, length, inl, refl, ap, subst, arith}
-use Rattle.std.proofs.Math.Facts.{Fits-of_lt}
-use Rattle.board_past.specs.Past.{Held, all_of}
-use Rattle.board_past.specs.inner.Emptied.{IsEmptied}
-use Rattle.board_past.specs.inner.Table.{IsTable}
+use Rattle.board_past.proofs.Common.{Fits-of_lt, Held, all_of, IsEmptied, IsTable}
 use Rattle.board_past.proofs.TableLemmas.{asleep_less, few_all}
 use Rattle.board_past.proofs.past.print_past.PrintPastPast.pop.Goals as goal
 

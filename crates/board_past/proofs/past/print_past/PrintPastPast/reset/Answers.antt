@@ -1,7 +1,5 @@
 use Rattle.std.proofs.Common.{sym, subst}
-use Rattle.board_past.specs.Past.{PastColourings, all_of}
-use Rattle.board_past.specs.inner.Emptied.{IsEmptied}
-use Rattle.board_past.specs.inner.Table.{IsTable}
+use Rattle.board_past.proofs.Common.{PastColourings, all_of, IsEmptied, IsTable}
 use Rattle.board_past.proofs.past.print_past.PrintPastPast.reset.Goals as goal
 
 pub invariant_of-self : goal.invariant_of-self

@@ -1,6 +1,5 @@
 use Rattle.std.proofs.Common.{◌≡◌, ◌<◌, ◌∷◌, [], length, length-append, ap, arith}
-use Rattle.std.proofs.lemmas.Bool.{or_parts}
-use Rattle.board_stones.specs.Clearing.{play}
+use Rattle.board_past.proofs.Common.{or_parts, play}
 use Rattle.board_past.proofs.ChangesLemmas.{kept_none, kept_more, kept_same, kept_rest, row_kept}
 use Rattle.board_past.proofs.past.print_past.changes.keep_played.Goals as goal
 use Rattle.board_past.proofs.past.print_past.changes.keep_played.Goals.{then-apart, else-apart}

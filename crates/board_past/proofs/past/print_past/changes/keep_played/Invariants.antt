@@ -1,10 +1,6 @@
 -- Of the rows looked at so far, those that the stone changes are kept.
-use Rattle.std.proofs.Common.{◌+◌, ◌≤◌, length}
-use Rattle.std.specs.Vec.{vec_capacity}
-use Rattle.board_stones.specs.declared.stones.Colour.{Colour}
-use Rattle.board_stones.specs.Clearing.{play}
-use Rattle.board_past.specs.inner.Changes.{KeepRows}
-use Rattle.board_stones.specs.Move.{IsMove}
+use Rattle.std.proofs.Common.{◌+◌, ◌≤◌, length, vec_capacity}
+use Rattle.board_past.proofs.Common.{Colour, play, IsMove, KeepRows}
 use Rattle.board_past.proofs.past.print_past.changes.keep_played.Given as goal
 
 abbrev pub invariant-loop-row : goal.invariant-loop-row

@@ -1,11 +1,5 @@
 use Rattle.std.proofs.Common.{refl, sym, ap, subst, ◌∙◌, take, get_or, arith}
-use Rattle.std.proofs.lemmas.Bool.{false≢true}
-use Rattle.std.proofs.lemmas.List.{take_more}
-use Rattle.std.proofs.lemmas.List.Elements.{All-get_or}
-use Rattle.board_past.specs.declared.past.print_past.changes.Change.{Change}
-use Rattle.board_stones.specs.Grid.{Grid}
-use Rattle.board_past.specs.inner.Changes.{IsChangeOn}
-use Rattle.board_points.specs.Rows.{has_bit}
+use Rattle.board_past.proofs.Common.{false≢true, take_more, All-get_or, has_bit, Grid, Change, IsChangeOn}
 use Rattle.board_past.proofs.ChangesLemmas.{IsMade, after-side, made-whole, made-more, made-passed}
 use Rattle.board_past.proofs.past.print_past.changes.take_back.Goals as goal
 use Rattle.board_past.proofs.past.print_past.changes.take_back.Goals.{then-has_column, else-has_column}

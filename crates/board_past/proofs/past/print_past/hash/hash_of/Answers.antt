@@ -1,11 +1,7 @@
-use Rattle.std.proofs.Common.{◌≡◌, ℕ, suc, ◌+◌, ◌++◌, List, ap, subst, ◌∙◌, arith}
-use Rattle.std.specs.Int.{w64, from_be_bytes}
+use Rattle.std.proofs.Common.{◌≡◌, ℕ, suc, ◌+◌, ◌++◌, List, ap, subst, ◌∙◌, arith, w64}
+use Rattle.board_past.proofs.Common.{from_be_bytes, Black, White, same_cell, cell_at, columns_bytes, columns_of, hash_of, rows_bytes}
 use Rattle.sha2.specs.Hashers.{Holds512}
 use Rattle.sha2.specs.Sha512.{sha512}
-use Rattle.board_stones.specs.declared.stones.Cell.TheVariants.{Black, White}
-use Rattle.board_stones.specs.Colour.{same_cell}
-use Rattle.board_stones.specs.Grid.{cell_at}
-use Rattle.board_past.specs.inner.Hash.{columns_bytes, columns_of, hash_of, rows_bytes}
 use Rattle.board_past.proofs.HashLemmas.{number_is}
 use Rattle.board_past.proofs.past.print_past.hash.hash_of.Goals as goal
 

@@ -1,5 +1,4 @@
-use Rattle.std.proofs.Common.{◌≡◌, ◌+◌, ◌-◌, ◌*◌, ◌<◌, ◌≤◌, ◌%◌, ◌^◌, ap, sym, ◌∙◌, arith, rules}
-use Rattle.std.proofs.Math.Nat.{mod-eq_of_lt}
+use Rattle.std.proofs.Common.{◌≡◌, ◌+◌, ◌-◌, ◌*◌, ◌<◌, ◌≤◌, ◌%◌, ◌^◌, ap, sym, ◌∙◌, arith, rules, mod-eq_of_lt}
 use Rattle.board_past.specs.inner.Print.{word_number}
 use Rattle.board_past.proofs.PrintLemmas.{byte_less, byte_more, digit_more, shifted_number}
 use Rattle.board_past.proofs.past.print_past.print.number_by_bytes.Goals as goal

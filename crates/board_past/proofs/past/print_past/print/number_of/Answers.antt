@@ -1,6 +1,5 @@
 use Rattle.std.proofs.Common.{◌-◌, ◌%◌, ◌^◌, ap, sym, ◌∙◌, arith, rules, w64}
-use Rattle.std.specs.Int.{trailing_zeros}
-use Rattle.board_past.specs.inner.Print.{word_number}
+use Rattle.board_past.proofs.Common.{trailing_zeros, word_number}
 use Rattle.board_past.proofs.PrintLemmas.{no_column, one_column}
 use Rattle.board_points.proofs.ColumnLemmas.{lowest_left}
 use Rattle.board_past.proofs.past.print_past.print.number_of.Goals as goal

@@ -1,12 +1,5 @@
-use Rattle.std.proofs.Common.{◌≡◌, ◌≢◌, ◌*◌, length, refl, ap, ◌∙◌, sym, rules}
-use Rattle.std.proofs.lemmas.Bool.{false≢true}
-use Rattle.std.proofs.lemmas.List.{length-set}
-use Rattle.board_stones.specs.Colour.{stone_of}
-use Rattle.board_points.specs.Point.{index_of}
-use Rattle.board_stones.specs.Grid.{with_cell}
-use Rattle.board_stones.specs.Clearing.{play}
-use Rattle.board_past.specs.inner.Print.{print_of}
-use Rattle.board_points.specs.Rows.{is_set}
+use Rattle.std.proofs.Common.{◌≡◌, ◌≢◌, ◌*◌, length, refl, ap, ◌∙◌, sym, rules, length-set}
+use Rattle.board_past.proofs.Common.{false≢true, index_of, is_set, play, stone_of, with_cell, print_of}
 use Rattle.board_stones.proofs.GridLemmas.{cell_at-with_cell_elsewhere}
 use Rattle.board_past.proofs.PrintLemmas.{print_left}
 use Rattle.board_stones.proofs.ClearedLemmas.{clears_nothing-alone}

@@ -1,7 +1,5 @@
 use Rattle.std.proofs.Common.{◌≡◌, ℕ, ◌*◌, ◌-◌, ◌%◌, ◌^◌, ap, ◌∙◌, sym, arith}
-use Rattle.board_stones.specs.Colour.{stone_of}
-use Rattle.board_points.specs.Point.{index_of}
-use Rattle.board_past.specs.inner.Print.{code}
+use Rattle.board_past.proofs.Common.{index_of, stone_of, code}
 use Rattle.board_past.proofs.PrintLemmas.{stone_added}
 use Rattle.board_past.proofs.past.print_past.print.print_after_stone.Goals as goal
 use Rattle.board_past.proofs.past.print_past.print.print_after_stone.Goals.{in-Black, in-White}

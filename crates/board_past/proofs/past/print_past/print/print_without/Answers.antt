@@ -1,7 +1,5 @@
 use Rattle.std.proofs.Common.{◌≡◌, ℕ, ◌*◌, ◌-◌, ◌%◌, ◌^◌, ◌<◌, ap, ◌∙◌, sym, arith}
-use Rattle.board_points.specs.Point.{index_of}
-use Rattle.board_stones.specs.Grid.{cell_at}
-use Rattle.board_past.specs.inner.Print.{code}
+use Rattle.board_past.proofs.Common.{index_of, cell_at, code}
 use Rattle.board_past.proofs.PrintLemmas.{cell_removed}
 use Rattle.board_past.proofs.past.print_past.print.print_without.Goals as goal
 use Rattle.board_past.proofs.past.print_past.print.print_without.Goals.{in-Empty, in-Black, in-White}

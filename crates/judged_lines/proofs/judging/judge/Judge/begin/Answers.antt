@@ -1,9 +1,6 @@
 -- The board's size says what game the root begins.
 use Rattle.std.proofs.Common.{◌≡◌, ℕ, Ok, Err, OnOk, ap, subst, sym}
-use Rattle.judged_lines.specs.JudgedGames.{GameKind, not_go, bad_size, board}
-use Rattle.judged_lines.specs.declared.verdict.Verdict.{Verdict}
-use Rattle.judged_lines.specs.Judgement.{Judgement, begun_game, unjudged}
-use Rattle.judged_lines.specs.inner.Judging.{Judging, size_said}
+use Rattle.judged_lines.proofs.Common.{Verdict, GameKind, not_go, bad_size, board, Judgement, begun_game, unjudged, Judging, size_said}
 use Rattle.judged_lines.proofs.judging.judge.Judge.begin.Goals as goal
 
 begun_on : (kind : GameKind) (size : ℕ) → size_said kind ≡ Ok size → begun_game (board size) ≡ begun_game kind

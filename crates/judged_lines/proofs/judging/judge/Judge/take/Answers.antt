@@ -1,7 +1,6 @@
 -- The step leads to the state that it added, or the refusal decides the verdict.
 use Rattle.std.proofs.Common.{◌≡◌, Err, subst, rules}
-use Rattle.judged_lines.specs.Step.{step}
-use Rattle.judged_lines.specs.Judgement.{IsStepOf}
+use Rattle.judged_lines.proofs.Common.{IsStepOf, step}
 use Rattle.judged_lines.proofs.Gathered.{coming}
 use Rattle.judged_lines.proofs.Judgements.{side_stood, leads_to, leads_on, refused, leads_nowhere, untaken}
 use Rattle.judged_lines.proofs.judging.judge.Judge.take.Goals as goal

@@ -1,7 +1,6 @@
 -- The line was judged, and then its verdict was given.
 use Rattle.std.proofs.Common.{arith}
-use Rattle.judged_lines.specs.Keeping.{HoldsLine}
-use Rattle.tree_lines.specs.Following.{nodes_before}
+use Rattle.judged_lines.proofs.Common.{nodes_before, HoldsLine}
 use Rattle.judged_lines.proofs.Keeping.{held_part}
 use Rattle.judged_lines.proofs.LineVerdicts.{verdict_is}
 use Rattle.judged_lines.proofs.judging.judged.JudgedLineKeeper.follow.Goals as goal

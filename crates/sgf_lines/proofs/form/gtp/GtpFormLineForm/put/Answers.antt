@@ -1,12 +1,6 @@
 -- The parts of the record were put one after the other.
-use Rattle.std.proofs.Common.{◌≡◌, ◌++◌, Some, Ok, Err, subst, rules}
-use Rattle.std.specs.Prelude.{codes}
-use Rattle.byte_streams.specs.Streams.{PutsAll}
-use Rattle.tree_lines.specs.Lines.{Line}
-use Rattle.sgf_lines.specs.Script.{script}
-use Rattle.tree_lines.specs.Following.{line_before}
-use Rattle.sgf_lines.specs.inner.Views.{built_text}
-use Rattle.sgf_lines.specs.inner.Scripting.{script_text}
+use Rattle.std.proofs.Common.{◌≡◌, ◌++◌, Some, Ok, Err, subst, rules, codes}
+use Rattle.sgf_lines.proofs.Common.{line_before, Line, PutsAll, script, script_text, built_text}
 use Rattle.sgf_lines.proofs.LineCounts.{both_put, first_cut}
 use Rattle.sgf_lines.proofs.RunRecords.{made_script}
 use Rattle.sgf_lines.proofs.form.gtp.GtpFormLineForm.put.Given.{Over}

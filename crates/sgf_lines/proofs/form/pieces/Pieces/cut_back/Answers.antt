@@ -1,7 +1,6 @@
 -- The text ends where the last of the pieces that are left ends.
-use Rattle.std.proofs.Common.{◌≡◌, ◌-◌, length, take, slice_get, ap, ◌∙◌, arith}
+use Rattle.std.proofs.Common.{◌≡◌, ◌-◌, length, take, slice_get, ap, ◌∙◌, arith, unwrap_or}
 use Rattle.std.proofs.lemmas.Grind.{common_steps}
-use Rattle.std.specs.Prelude.{unwrap_or}
 use Rattle.sgf_lines.proofs.PieceTexts.{seen_cut}
 use Rattle.sgf_lines.proofs.form.pieces.Pieces.cut_back.Goals as goal
 use Rattle.sgf_lines.proofs.form.pieces.Pieces.cut_back.Goals.{After-truncate-2}

@@ -1,9 +1,6 @@
 -- The pieces of the nodes that are held are left.
 use Rattle.std.proofs.Common.{◌≡◌, ℕ, List, take, ap, ◌∙◌, arith, rules}
-use Rattle.std.proofs.lemmas.Grind.{common_steps}
-use Rattle.judged_lines.specs.JudgedGames.{GameKind}
-use Rattle.judged_lines.specs.Walk.{LegalNode}
-use Rattle.sgf_lines.specs.inner.Scripting.{ScriptState, script_back, script_of}
+use Rattle.sgf_lines.proofs.Common.{common_steps, GameKind, LegalNode, ScriptState, script_back, script_of}
 use Rattle.sgf_lines.proofs.Scripts.{script_cut}
 use Rattle.sgf_lines.proofs.form.script.ScriptStepKeeper.keep.Goals as goal
 

@@ -1,13 +1,6 @@
 -- One sequence more is a piece, until all are. Then the end is begun.
-use Rattle.std.proofs.Common.{◌≡◌, ap, ◌∙◌, arith, rules}
-use Rattle.std.proofs.lemmas.Grind.{common_steps}
-use Rattle.std.specs.List.{flat_map}
-use Rattle.std.proofs.lemmas.Bool.{cases_lt}
-use Rattle.std.proofs.lemmas.List.{take_all}
-use Rattle.sgf_lines.specs.Record.{node_text}
-use Rattle.tree_lines.specs.Following.{nodes_before}
-use Rattle.sgf_lines.specs.inner.Recording.{sequences_before}
-use Rattle.sgf_lines.specs.inner.Pieces.{pushed, closed}
+use Rattle.std.proofs.Common.{◌≡◌, ap, ◌∙◌, arith, rules, flat_map, take_all}
+use Rattle.sgf_lines.proofs.Common.{cases_lt, common_steps, nodes_before, node_text, pushed, closed, sequences_before}
 use Rattle.tree_lines.proofs.Fronts.{as_many_parts}
 use Rattle.sgf_lines.proofs.Recordings.{record_kept, record_more}
 use Rattle.tree_lines.proofs.Lists.{element}

@@ -1,5 +1,4 @@
-use Rattle.std.proofs.Common.{◌≡◌, cond, arith}
-use Rattle.std.proofs.Math.Dec.{eqb}
+use Rattle.std.proofs.Common.{◌≡◌, cond, arith, eqb}
 use Rattle.sgf_tree.proofs.Counting.{fewer-leaves, tally-closed}
 use Rattle.sgf_outline.proofs.GameEnds.{cast-to, at_most_1, fewer-games}
 use Rattle.sgf_tree.proofs.reader.counting.TallyVisitor.game_ends.Goals as goal

@@ -1,12 +1,5 @@
-use Rattle.std.proofs.Common.{◌≡◌, ◌+◌, Bool, not, ◌++◌, [], ◌∷◌, false, true, length, reverse, refl, ap, sym, subst, ◌∙◌, ◌<◌, IsTrue, arith, rules}
-use Rattle.std.specs.Vec.{vec_capacity}
-use Rattle.std.proofs.lemmas.Bool.{eqb-true, false≢true}
-use Rattle.std.proofs.Math.Facts.{Fits-of_lt}
-use Rattle.board_past.specs.declared.past.print_past.changes.Older.{Older}
-use Rattle.board_stones.specs.Clearing.{has_unreaching, play}
-use Rattle.board_past.specs.Past.{PastColourings, newest_grid, with_next}
-use Rattle.board_past.specs.inner.Changes.{is_full, is_fresh, is_settled, IsFreshStone, IsPast, KeepRows}
-use Rattle.board_stones.specs.Move.{IsMove}
+use Rattle.std.proofs.Common.{◌≡◌, ◌+◌, Bool, not, ◌++◌, [], ◌∷◌, false, true, length, reverse, refl, ap, sym, subst, ◌∙◌, ◌<◌, IsTrue, arith, rules, vec_capacity, eqb-true}
+use Rattle.board_past.proofs.Common.{Fits-of_lt, false≢true, has_unreaching, play, IsMove, Older, PastColourings, newest_grid, with_next, is_full, is_fresh, is_settled, IsFreshStone, IsPast, KeepRows}
 use Rattle.board_past.proofs.ChangesLemmas.{alone_back, play_cells}
 use Rattle.board_past.proofs.ColouringsLemmas.{count-all, started-below, past_held, room_for_all, grown, grown_alone}
 use Rattle.board_stones.proofs.SettledLemmas.{side_play}

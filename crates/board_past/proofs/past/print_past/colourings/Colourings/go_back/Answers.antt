@@ -1,7 +1,5 @@
 use Rattle.std.proofs.Common.{◌≡◌, ◌-◌, ◌<◌, length, get_or, ap, sym, subst, ◌∙◌, arith, rules}
-use Rattle.board_past.specs.declared.past.print_past.changes.Older.{Older}
-use Rattle.board_past.specs.Past.{all_of, newest_grid}
-use Rattle.board_past.specs.inner.Changes.{IsNumber}
+use Rattle.board_past.proofs.Common.{Older, all_of, newest_grid, IsNumber}
 use Rattle.board_past.proofs.ColouringsLemmas.{IsStep, IsFullStep, count-all, step-from, there-full, there-newest, there-number}
 use Rattle.board_past.proofs.past.print_past.colourings.Colourings.go_back.Goals as goal
 use Rattle.board_past.proofs.past.print_past.colourings.Colourings.go_back.Goals.{After-next_full-at, After-deref-in-each, then-at-len, else-at-len}

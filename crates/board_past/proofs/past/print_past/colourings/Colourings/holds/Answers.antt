@@ -1,7 +1,5 @@
 use Rattle.std.proofs.Common.{◌-◌, ◌<◌, inl, inr, length, refl, sym, subst, ◌∙◌, arith}
-use Rattle.std.proofs.lemmas.Bool.{cases_eq, false≢true}
-use Rattle.board_past.specs.Past.{all_of}
-use Rattle.board_past.specs.inner.Changes.{IsNumber}
+use Rattle.board_past.proofs.Common.{cases_eq, false≢true, all_of, IsNumber}
 use Rattle.board_past.proofs.NumberLemmas.{has_number, has_colouring}
 use Rattle.board_past.proofs.past.print_past.colourings.Colourings.holds.Goals as goal
 

@@ -1,6 +1,5 @@
 use Rattle.std.proofs.Common.{◌≡◌, length, reverse, sym, ap, ◌∙◌, arith, rules}
-use Rattle.std.proofs.lemmas.List.{length-reverse}
-use Rattle.board_past.specs.Past.{PastColourings}
+use Rattle.board_past.proofs.Common.{length-reverse, PastColourings}
 use Rattle.board_past.proofs.ColouringsLemmas.{length-held}
 use Rattle.board_past.proofs.past.print_past.colourings.Colourings.len.Goals as goal
 

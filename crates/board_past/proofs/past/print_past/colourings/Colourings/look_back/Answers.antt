@@ -1,10 +1,5 @@
-use Rattle.std.proofs.Common.{◌≡◌, ◌↔◌, ◌-◌, ◌<◌, not, Contains, List, length, take, slice_range, reverse, drop, ap, sym, subst, ◌∙◌, arith}
-use Rattle.std.proofs.lemmas.Bool.{false≢true}
-use Rattle.std.proofs.lemmas.List.{length-reverse, length-take}
-use Rattle.board_stones.specs.Grid.{Grid, cell_at}
-use Rattle.board_stones.specs.declared.stones.Cell.TheVariants.{Empty}
-use Rattle.board_past.specs.Past.{all_of, present_stretch, stretch_of}
-use Rattle.board_past.specs.inner.Changes.{step_back}
+use Rattle.std.proofs.Common.{◌≡◌, ◌↔◌, ◌-◌, ◌<◌, not, Contains, List, length, take, slice_range, reverse, drop, ap, sym, subst, ◌∙◌, arith, length-take}
+use Rattle.board_past.proofs.Common.{false≢true, length-reverse, Empty, Grid, cell_at, all_of, present_stretch, stretch_of, step_back}
 use Rattle.board_past.proofs.ColouringsLemmas.{IsThere, IsStep, IsLook, started-le, step-from, look-from, contains-others}
 use Rattle.board_stones.proofs.GridLemmas.{Decides-cell_eq}
 use Rattle.board_past.proofs.past.print_past.colourings.Colourings.look_back.Goals as goal

@@ -1,10 +1,5 @@
-use Rattle.std.proofs.Common.{◌≡◌, ◌≢◌, ◌<◌, length, take, reverse, ap, sym, subst, ◌∙◌, arith, rules, Contains}
-use Rattle.std.proofs.lemmas.Bool.{not-false}
-use Rattle.std.proofs.lemmas.List.{length-reverse, length-take}
-use Rattle.board_stones.specs.Grid.{Grid}
-use Rattle.board_stones.specs.Clearing.{play}
-use Rattle.board_past.specs.Past.{PastColourings, all_of, newest_grid, present_stretch}
-use Rattle.board_stones.specs.Move.{IsMove}
+use Rattle.std.proofs.Common.{◌≡◌, ◌≢◌, ◌<◌, length, take, reverse, ap, sym, subst, ◌∙◌, arith, rules, Contains, length-take}
+use Rattle.board_past.proofs.Common.{not-false, length-reverse, play, Grid, IsMove, PastColourings, all_of, newest_grid, present_stretch}
 use Rattle.board_past.proofs.ColouringsLemmas.{started-le, passed_none, passed_one, passed_fresh, fresh_on, fresh_there}
 use Rattle.board_past.proofs.RepeatLemmas.{stone_put, stone_left}
 use Rattle.board_past.proofs.past.print_past.colourings.Colourings.newest_steps_show_new.Goals as goal

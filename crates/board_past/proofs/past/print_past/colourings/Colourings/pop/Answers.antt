@@ -1,9 +1,5 @@
 use Rattle.std.proofs.Common.{◌≡◌, ◌+◌, ◌≤◌, ◌++◌, [], ◌∷◌, List, length, reverse, refl, ap, sym, subst, ◌∙◌, arith, rules}
-use Rattle.std.proofs.lemmas.List.{reverse-append, take_rest}
-use Rattle.board_past.specs.declared.past.print_past.changes.Change.{Change}
-use Rattle.board_past.specs.declared.past.print_past.changes.Older.{Older}
-use Rattle.board_stones.specs.Grid.{Grid}
-use Rattle.board_past.specs.inner.Changes.{AreKept}
+use Rattle.board_past.proofs.Common.{reverse-append, take_rest, Grid, Change, Older, AreKept}
 use Rattle.board_past.proofs.ColouringsLemmas.{past-pop}
 use Rattle.board_past.proofs.past.print_past.colourings.Colourings.pop.Goals as goal
 

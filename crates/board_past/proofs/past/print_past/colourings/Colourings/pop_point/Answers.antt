@@ -1,9 +1,5 @@
 use Rattle.std.proofs.Common.{◌≡◌, ◌+◌, ◌++◌, [], ◌∷◌, true, List, length, drop, cond, reverse, refl, ap, sym, subst, ◌∙◌, arith, rules}
-use Rattle.std.proofs.lemmas.List.{reverse-append}
-use Rattle.board_stones.specs.declared.stones.Cell.TheVariants.{Empty}
-use Rattle.board_past.specs.declared.past.print_past.changes.Change.{Change}
-use Rattle.board_stones.specs.Grid.{Grid, with_cell}
-use Rattle.board_past.specs.inner.Changes.{after_changes, before, changes_before, IsPast}
+use Rattle.board_past.proofs.Common.{reverse-append, Empty, Grid, with_cell, Change, after_changes, before, changes_before, IsPast}
 use Rattle.board_past.proofs.ColouringsLemmas.{none_kept, past-pop}
 use Rattle.board_past.proofs.past.print_past.colourings.Colourings.pop_point.Goals as goal
 use Rattle.board_past.proofs.past.print_past.colourings.Colourings.pop_point.Goals.{After-set}

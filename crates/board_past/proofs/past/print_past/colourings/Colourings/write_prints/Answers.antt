@@ -1,7 +1,5 @@
 use Rattle.std.proofs.Common.{◌≡◌, ℕ, List, [], ◌-◌, ◌+◌, ◌<◌, ◌++◌, length, length-set, reverse, drop, ap, sym, ◌∙◌, arith, rules}
-use Rattle.std.proofs.lemmas.List.{drop_all}
-use Rattle.board_past.specs.Past.{all_of}
-use Rattle.board_past.specs.inner.Print.{prints_of}
+use Rattle.board_past.proofs.Common.{drop_all, all_of, prints_of}
 use Rattle.board_past.proofs.ColouringsLemmas.{IsThere, IsStep, count-all, step-from, there-newest, written-next, written-all}
 use Rattle.board_past.proofs.past.print_past.colourings.Colourings.write_prints.Goals as goal
 use Rattle.board_past.proofs.past.print_past.colourings.Colourings.write_prints.Goals.{After-len-end, After-deref}

@@ -1,6 +1,5 @@
-use Rattle.std.proofs.Common.{◌≡◌, ◌≤◌, ◌++◌, ◌∷◌, [], ap, ◌∙◌, slice_set, arith, rules}
+use Rattle.std.proofs.Common.{◌≡◌, ◌≤◌, ◌++◌, ◌∷◌, [], ap, ◌∙◌, slice_set, arith, rules, length-set}
 use Rattle.std.proofs.lemmas.Grind.{common_steps}
-use Rattle.std.proofs.lemmas.List.{length-set}
 use Rattle.board_past.proofs.EmptiedLemmas.{all_but_one, logged_back, logged_tail}
 use Rattle.board_past.proofs.past.print_past.emptied.Emptied.go_back.Goals as goal
 

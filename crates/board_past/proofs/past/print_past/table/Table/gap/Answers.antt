@@ -1,13 +1,6 @@
 use Rattle.std.proofs.Common.{◌≡◌, ◌<◌, ◌^◌, ◌∷◌, false, bit_xor, w64, inl, inr, length, get_or, refl, ap, subst, sym, ◌∙◌, arith}
-use Rattle.std.specs.Int.{bit_at, trailing_zeros}
-use Rattle.std.proofs.Math.Facts.{Fits-lt-pow, Fits-xor, Fits-of_lt}
-use Rattle.std.proofs.lemmas.Bool.{cases_lt}
+use Rattle.board_past.proofs.Common.{bit_at, trailing_zeros, Fits-lt-pow, Fits-xor, Fits-of_lt, cases_lt, bit_at-trailing_zeros, item_count, child_at, IsNearest, IsTrie, IsWayTo, WIDTH, Held, all_of, bits_of, keys_of}
 use Rattle.std.proofs.lemmas.Grind.{get_or_default_zero}
-use Rattle.std.proofs.lemmas.Nat.Bits.{bit_at-trailing_zeros}
-use Rattle.board_past.specs.declared.past.print_past.key.TheConstants.{WIDTH}
-use Rattle.board_past.specs.Past.{Held, all_of}
-use Rattle.board_past.specs.inner.Key.{bits_of, keys_of}
-use Rattle.key_trie.specs.Trie.{item_count, child_at, IsNearest, IsTrie, IsWayTo}
 use Rattle.board_past.proofs.PrintLemmas.{print_small}
 use Rattle.board_past.proofs.TableLemmas.{tabled, gap_parts, linked_before, number_there, print_there}
 use Rattle.key_trie.proofs.TrieLemmas.{way_nearest}

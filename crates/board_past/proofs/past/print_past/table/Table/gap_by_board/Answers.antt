@@ -1,13 +1,5 @@
 use Rattle.std.proofs.Common.{◌≡◌, ◌≢◌, ℕ, Bool, true, false, ◌<◌, ◌∷◌, length, ap, subst, sym, ◌∙◌, arith}
-use Rattle.board_past.specs.declared.past.print_past.key.TheConstants.{WIDTH}
-use Rattle.board_stones.specs.Grid.{Grid}
-use Rattle.board_past.specs.Past.{Held, all_of}
-use Rattle.board_past.specs.inner.Hash.{hash_of}
-use Rattle.board_past.specs.inner.Key.{bits_of, hash_in_key, key_bits, keys_of, start_of}
-use Rattle.board_past.specs.inner.Print.{print_of}
-use Rattle.key_trie.specs.declared.trie.Trie.{Trie}
-use Rattle.key_trie.specs.Key.{Agree}
-use Rattle.key_trie.specs.Trie.{item_count, child_at, IsNearest, IsOpening, IsTrie, IsWayTo}
+use Rattle.board_past.proofs.Common.{Trie, Agree, item_count, child_at, IsNearest, IsOpening, IsTrie, IsWayTo, Grid, WIDTH, Held, all_of, hash_of, bits_of, hash_in_key, key_bits, keys_of, start_of, print_of}
 use Rattle.board_past.proofs.TableLemmas.{keys-next, keys-older, linked_before, repeats, side-number, tabled}
 use Rattle.key_trie.proofs.TrieLemmas.{agree_self, parts_as, way_nearest}
 use Rattle.board_past.proofs.past.print_past.table.Table.gap_by_board.Goals as goal

@@ -1,5 +1,4 @@
-use Rattle.board_past.specs.Past.{all_of}
-use Rattle.board_past.specs.inner.Table.{IsAwakeTable, most_to_link}
+use Rattle.board_past.proofs.Common.{all_of, IsAwakeTable, most_to_link}
 use Rattle.board_past.proofs.past.print_past.table.Table.link.Given as goal
 
 abbrev pub invariant-each : goal.invariant-each

@@ -1,12 +1,5 @@
-use Rattle.std.proofs.Common.{◌≡◌, ◌<◌, ◌≤◌, inl, inr, ◌+◌, ◌-◌, ◌++◌, ◌∷◌, [], List, ℕ, Option, Some, length, length-append, reverse, get_or, ap, sym, subst, ◌∙◌, arith, rules}
-use Rattle.std.specs.Option.{option_to_list}
-use Rattle.board_past.specs.declared.past.print_past.table.Table.{Table}
-use Rattle.board_past.specs.declared.past.print_past.key.TheConstants.{WIDTH}
-use Rattle.key_trie.specs.declared.trie.Trie.{Trie}
-use Rattle.board_past.specs.inner.Key.{keys_of}
-use Rattle.board_past.specs.inner.Print.{prints_of}
-use Rattle.board_past.specs.inner.Table.{IsAwakeTable}
-use Rattle.key_trie.specs.Trie.{item_count, capacity_of, IsTrie}
+use Rattle.std.proofs.Common.{◌≡◌, ◌<◌, ◌≤◌, inl, inr, ◌+◌, ◌-◌, ◌++◌, ◌∷◌, [], List, ℕ, Option, Some, length, length-append, reverse, get_or, ap, sym, subst, ◌∙◌, arith, rules, option_to_list}
+use Rattle.board_past.proofs.Common.{Trie, item_count, capacity_of, IsTrie, WIDTH, Table, keys_of, prints_of, IsAwakeTable}
 use Rattle.board_past.proofs.TableLemmas.{asleep_less, sleeps, with_prints, tabled, printed_back, linked_after}
 use Rattle.board_past.proofs.past.print_past.table.Table.pop.Goals as goal
 use Rattle.board_past.proofs.past.print_past.table.Table.pop.Goals.{then-len, else-len}

@@ -1,7 +1,5 @@
-use Rattle.std.proofs.Common.{◌<◌, ◌≤◌, ◌^◌, inl, inr, length, rules, arith}
-use Rattle.std.specs.Vec.{vec_capacity}
-use Rattle.std.proofs.lemmas.List.{nil_from_length}
-use Rattle.key_trie.specs.Trie.{capacity_of}
+use Rattle.std.proofs.Common.{◌<◌, ◌≤◌, ◌^◌, inl, inr, length, rules, arith, vec_capacity}
+use Rattle.board_past.proofs.Common.{nil_from_length, capacity_of}
 use Rattle.board_past.proofs.TableLemmas.{tabled}
 use Rattle.board_past.proofs.past.print_past.table.Table.reset.Goals as goal
 

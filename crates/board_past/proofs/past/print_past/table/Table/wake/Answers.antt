@@ -1,6 +1,5 @@
-use Rattle.std.proofs.Common.{◌≡◌, ℕ, List, length, drop, reverse, ap, ◌∙◌, refl, rules, arith}
+use Rattle.std.proofs.Common.{◌≡◌, ℕ, List, length, drop, reverse, ap, ◌∙◌, refl, rules, arith, take_at}
 use Rattle.std.specs.Vec.{with_items}
-use Rattle.std.proofs.lemmas.List.{take_at}
 use Rattle.board_past.proofs.PrintPastLemmas.{same_length}
 use Rattle.board_past.specs.Past.{all_of}
 use Rattle.board_past.proofs.TableLemmas.{sleeps, awoken}

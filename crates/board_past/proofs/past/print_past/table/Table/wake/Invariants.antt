@@ -1,5 +1,4 @@
-use Rattle.std.proofs.Common.{◌≡◌, length}
-use Rattle.std.specs.Vec.{vec_capacity}
+use Rattle.std.proofs.Common.{◌≡◌, length, vec_capacity}
 use Rattle.board_past.proofs.past.print_past.table.Table.wake.Given as goal
 
 abbrev pub invariant-each : goal.invariant-each

@@ -1,0 +1,8 @@
+-- What the proofs of this crate import together: words of specs, types, and lemmas of the standard library.
+pub use Rattle.std.proofs.lemmas.Bool.{cases_eq, cases_lt, cases_order, false≢true}
+pub use Rattle.std.proofs.lemmas.List.{get_or_append_left, get_or_default, nil_from_length, set-get_or}
+pub use Rattle.key_trie.specs.declared.node.Node.{Node}
+pub use Rattle.key_trie.specs.declared.trie.Slot.{Slot}
+pub use Rattle.key_trie.specs.declared.trie.Trie.{Trie}
+pub use Rattle.key_trie.specs.Key.{Agree}
+pub use Rattle.key_trie.specs.Trie.{after_steps, child_at, child_of, depth_of, displaced, GoesOn, IsChild, IsNearest, IsOnWay, IsOpening, IsParting, IsReach, IsSlot, IsTree, IsTrie, IsTrieOf, IsUnder, IsWayTo, item_count, named, no_node, node_at, nodes_of, with_child, with_named, without_newest}

@@ -1,0 +1,30 @@
+-- What the proofs of this crate import together: words of specs, types, and lemmas of the standard library.
+pub use Rattle.std.proofs.lemmas.Bool.{cases_lt, eqb-false, or_cases, or_left, or_parts}
+pub use Rattle.std.proofs.lemmas.Grind.{common_steps, flat_map-append}
+pub use Rattle.std.proofs.lemmas.List.{get_or-append_right, get_or_append_left, length-map, map-append, set_at, take_more}
+pub use Rattle.std.proofs.lemmas.List.Elements.{All-append, All-cons, All-nil, All-replicate, filter-append}
+pub use Rattle.std.proofs.lemmas.Option.{none-some, option_and_then_some, same_Some, slice_get-get_or, slice_get-map, slice_get_read}
+pub use Rattle.std.proofs.lemmas.Result.{err_from_is_err_and}
+pub use Rattle.sgf_properties.specs.Front.{is_letter, name_in}
+pub use Rattle.sgf_properties.specs.KeptLengths.{AreKeptLengths}
+pub use Rattle.sgf_properties.specs.Offsets.{ArePoints, in_escape, in_units, IsBracket, IsPoint, IsSpan, IsUnended, IsValueEnd, SpellsValue}
+pub use Rattle.sgf_properties.specs.RawValue.{escaped, IsValue, no_unit, ordinary}
+pub use Rattle.sgf_outline.specs.declared.layout.OwnNodes.{OwnNodes}
+pub use Rattle.sgf_outline.specs.FileOrder.{below, further_nodes, IsAtOrBelow, IsLastBelow, IsLeaf, itself, nodes_from, ordered_nodes, OrderedNode, place_at}
+pub use Rattle.sgf_outline.specs.Machine.{add_node, after_escape, after_game, after_name, after_node, after_value, between_games, close, close_in, ended, first_of_mark, in_name, in_node, in_value, joined, MachineState, new_game, new_node, opened, property_of, second_of_mark, Stack, start, Started, UnclosedGame, whole_game, whole_games, with_property}
+unfoldable pub use Rattle.sgf_outline.specs.Machine.{accepted, collection_of, next_state, run}
+pub use Rattle.sgf_outline.specs.Move.{EndsNode, IsMove, IsMoveNode, IsShortProperty}
+pub use Rattle.sgf_outline.specs.Outlining.{HoldsSequences}
+pub use Rattle.sgf_outline.specs.OwnNodes.{AreOwnNodes, Coming, coming_of, Copies, CopiesNode, IsCopied, nothing, own_of, places_of, with_game}
+pub use Rattle.sgf_outline.specs.Spelling.{AreGames, AreNodes, AreProperties, ArePropValues, byte_order_mark, ByteOrderMark, games, is_lower, is_upper, is_white_space, IsNode, IsProperty, IsPropValue, Letters, lower, no_byte_order_mark, no_game, no_letter, no_node, no_property, no_value, no_white_space, node, nodes, prop_value, properties, property, Spells, spells, upper, value, white_space, WhiteSpace}
+pub use Rattle.sgf_outline.specs.Tree.{game, game_count, Games, leaf_count, no_games, Node, node_count, Property, values}
+pub use Rattle.sgf_outline.specs.Unclosed.{unclosed_count}
+pub use Rattle.sgf_outline.specs.Written.{node_text, property_text, value_text}
+pub use Rattle.sgf_tree.specs.declared.numbered.Numbered.{Numbered}
+pub use Rattle.sgf_tree.specs.declared.reader.own_nodes.NodesRead.{NodesRead}
+pub use Rattle.sgf_tree.specs.Refusal.{IsFaultyAt}
+pub use Rattle.sgf_tree.specs.inner.GamesRead.{IsByteOrderMarkRead, IsGameRead, lasts, own_nodes, ReadsWhole, StandsBetween, tip, unclosed_lasts, unclosed_nodes}
+pub use Rattle.sgf_tree.specs.inner.NodesRead.{AreNodesRead, AreOwnRead, AreReadTo, NodesSoFar}
+pub use Rattle.sgf_tree.specs.inner.Placing.{HoldsNodes, ordered_places}
+pub use Rattle.sgf_tree.specs.inner.Progress.{ComesTo}
+pub use Rattle.sgf_tree.specs.inner.PropertiesRead.{ArePropertiesRead, AreValuesEnded, IsNameRead, IsPropertyRead, StandsAfterNode, StandsIn, with_properties}
