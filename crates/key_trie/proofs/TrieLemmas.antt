@@ -168,11 +168,6 @@ trie_same w zero keys others nodes same trie = trie
 trie_same w (suc n) keys others nodes same trie =
     (trie.0, same_tree trie.1 same (λ i h. refl), trie.2, trie_same w n keys others (without_newest nodes) (λ i h. same i (omega (arith, h))) trie.3)
 
--- where a descent by the bits of an item ends before the position where the item parts, it comes in
-pub way_opens : {keys : ℕ → ℕ → Bool} {trie : Trie} {key bits : ℕ → Bool} {item : ℕ} (slot : Slot) (position : ℕ) → IsWayTo keys trie key position slot
-    → Agree key bits (position + 1) → IsParting (item_count trie) keys bits item position → IsOpening keys trie bits slot position
-way_opens {keys} {trie} {key} {bits} {item} slot position descent same part = grind (arith, agree_back, agree_less, agree_on)
-
 module _ (w : ℕ) (keys : ℕ → ℕ → Bool) (trie : Trie) (is : IsTrie w keys trie) {key : ℕ → Bool} {end : ℕ} (slot : Slot) (descent : IsWayTo keys trie key end slot) where
   tree : IsTree w (item_count trie) keys (depth_of (nodes_of trie)) (child_of (nodes_of trie))
   tree = trie_tree (item_count trie) keys (nodes_of trie) is (omega (arith, descent.way.slot.there))
