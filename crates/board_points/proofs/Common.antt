@@ -28,7 +28,7 @@ pub use Rattle.board_points.specs.Values.{colon, point_of, rect_of}
 unfoldable pub use Rattle.board_points.specs.Values.{point_value, rect_value}
 pub use Rattle.board_points.specs.Vertex.{column_letters}
 unfoldable pub use Rattle.board_points.specs.Vertex.{vertex_of}
-pub use Rattle.board_points.specs.inner.Columns.{HasBeside, HasNext, IsInOrBeside, IsPart, IsTaken, IsWidened}
+pub use Rattle.board_points.specs.inner.Columns.{HasBeside, HasNext, IsInOrBeside, IsOpenBeside, IsPart, IsTaken, IsWidened}
 pub use Rattle.board_points.specs.inner.Fill.{AreRowsBelow, HaveGiven, HaveGivenBut, HaveMore, IsFilledBut, IsNext, lacking, opposite, row_above}
 pub use Rattle.board_points.specs.inner.Joined.{HasNoneAcross, HasOneAlive}
-pub use Rattle.board_points.specs.inner.Look.{AreFree, IsInRowAround, IsLookedAt, IsNextRow, IsRowAt}
+pub use Rattle.board_points.specs.inner.Look.{AreColumnsOff, AreFree, IsInRowAround, IsLookedAt, IsNextRow, IsRowAt}

@@ -1,9 +1,9 @@
 -- The group of a stone, and the points beside it.
 use Rattle.std.proofs.Common.{◌≡◌, ◌≢◌, inl, inr, ℕ, zero, suc, ◌+◌, ◌*◌, ◌/◌, ◌%◌, ◌^◌, ◌<◌, subst, Bool, not, ◌&&◌, ◌||◌, true, false, w64, List, length, set, take, replicate, bit_and, bit_or, slice_index, refl, sym, ap, ◌∙◌, arith, rules}
-use Rattle.board_points.proofs.Common.{trailing_zeros, or_cases, or_left, or_right, or_parts, and_parts, and_from, false≢true, cases_Bool, common_steps, RowStones, Point, HasLiberty, HaveLiberty, IsLinked, IsLiberty, IsOn, DifferByOne, AreAdjacent, has_bit, is_set, IsAmong, IsClosed, Grows, IsPart, IsInOrBeside, HasOneAlive, IsRowAt}
+use Rattle.board_points.proofs.Common.{bit_not, trailing_zeros, or_cases, or_left, or_right, or_parts, and_parts, and_from, false≢true, cases_Bool, common_steps, RowStones, Point, HasLiberty, HaveLiberty, IsLinked, IsLiberty, IsOn, DifferByOne, AreAdjacent, has_bit, is_set, IsAmong, IsClosed, Grows, IsPart, IsInOrBeside, HasOneAlive, IsRowAt}
 use Rattle.board_points.proofs.PointLemmas.{AreAdjacent-sym, DifferByOne-sym}
 use Rattle.board_points.proofs.GrowLemmas.{set_there, set_elsewhere, row_below}
-use Rattle.board_points.proofs.WordLemmas.{has_bit-or, has_bit-and, has_bit-left, from_left, has_bit-right, has_bit-zero, column_below}
+use Rattle.board_points.proofs.WordLemmas.{has_bit-not, in_complement, has_bit-or, has_bit-and, has_bit-left, from_left, has_bit-right, has_bit-zero, column_below}
 use Rattle.board_points.proofs.ColumnLemmas.{lowest_left}
 
 -- the columns of two rows and those beside the columns of the row between them
@@ -46,21 +46,30 @@ none_in_front n m words p is = grind (arith, common_steps, has_bit-zero, suc, ze
 
 -- the points around a row that have no stone
 module _ (own others : List ℕ) (row : ℕ) (above here below : RowStones) (is_above : IsRowAt own others row 1 above) (is_here : IsRowAt own others row 2 here) (is_below : IsRowAt own others row 3 below) where
-  pub free_beside : (col : ℕ) → IsInOrBeside above.free here.free below.free col → HasLiberty own others (record { col = col; row = row })
-  free_beside col (inl up) =
-      let f = is_above.are_free col up in
+  pub free_beside : (col : ℕ) → above.taken < 2 ^ 64 → here.taken < 2 ^ 64 → below.taken < 2 ^ 64 → IsInOrBeside (bit_not w64 above.taken) (bit_not w64 here.taken) (bit_not w64 below.taken) col
+      → HasLiberty own others (record { col = col; row = row })
+  free_beside col few_above few_here few_below (inl up) =
+      let free = in_complement above.taken col few_above up in
+      let f = is_above.are_free col free.0 free.1 in
       (f.0, f.2, inl (f.1.0, inl (omega (arith, f.1.1))))
-  free_beside col (inr (inl down)) =
-      let f = is_below.are_free col down in
+  free_beside col few_above few_here few_below (inr (inl down)) =
+      let free = in_complement below.taken col few_below down in
+      let f = is_below.are_free col free.0 free.1 in
       (f.0, f.2, inl (f.1.0, inr (omega (arith, f.1.1))))
-  free_beside col (inr (inr (d, differ, there))) =
-      let f = is_here.are_free d there in
+  free_beside col few_above few_here few_below (inr (inr (d, differ, there))) =
+      let free = in_complement here.taken d few_here there in
+      let f = is_here.are_free d free.0 free.1 in
       (f.0, f.2, inr (omega (arith, f.1.1), subst (λ n. DifferByOne n col) (sym f.1.0) (DifferByOne-sym col d differ)))
 
 -- the free columns of a row around another one
 abbrev pub HasFree : List ℕ → List ℕ → ℕ → ℕ → ℕ → Type 0
 HasFree own others row i free =
     (p : Point) → p.row + 2 ≡ row + i → IsOn (length own) p → is_set own p ≡ false → is_set others p ≡ false → has_bit free p.col ≡ true
+
+pub has_free : (own others : List ℕ) (row i taken : ℕ) → length own < 64 → taken < 2 ^ 64
+    → ((p : Point) → p.row + 2 ≡ row + i → IsOn (length own) p → is_set own p ≡ false → is_set others p ≡ false → has_bit taken p.col ≡ false) → HasFree own others row i (bit_not w64 taken)
+has_free own others row i taken few low is p at on not_own not_other =
+    has_bit-not taken p.col low (omega (arith, on.0, few)) ∙ ap not (is p at on not_own not_other)
 
 pub liberty_beside : (own others : List ℕ) (row above here below : ℕ) → HasFree own others row 1 above → HasFree own others row 2 here → HasFree own others row 3 below → (p q : Point) → q.row ≡ row → IsOn (length own) p → AreAdjacent p q → is_set own p ≡ false → is_set others p ≡ false → IsInOrBeside above here below q.col
 liberty_beside own others row above here below is_above is_here is_below p q at on adjacent not_own not_other = grind (arith, common_steps, DifferByOne-sym)

@@ -1,6 +1,6 @@
 -- Words as sets of columns: what the operations on words make of their bits.
 use Rattle.std.proofs.Common.{◌≡◌, inl, inr, ℕ, zero, suc, ◌+◌, ◌-◌, ◌*◌, ◌/◌, ◌%◌, ◌^◌, ◌<◌, ◌≤◌, ◌==◌, ◌||◌, ◌&&◌, min, max, Bool, true, false, not, bit_and, bit_or, w64, refl, sym, ap, ◌∙◌, arith, subst, rules, bit_xor, eqb-true, pow_pos}
-use Rattle.board_points.proofs.Common.{bit_at, bit_not, false_from_ne_true, false≢true, cases_lt, eqb-false, common_steps, le_or_l, and_mask, mod_below, bit_at_and, bit_at_or, bit_at_not, bit_at_xor, bit_at-lt, bit_at-suc, bit_at-zero, bit_at_above, bit_at_ones, bit_at_cat_high, bit_at_cat_low, same_from_bits, has_bit, IsPart}
+use Rattle.board_points.proofs.Common.{bit_at, bit_not, not-true, false_from_ne_true, false≢true, cases_lt, eqb-false, common_steps, le_or_l, and_mask, mod_below, bit_at_and, bit_at_or, bit_at_not, bit_at_xor, bit_at-lt, bit_at-suc, bit_at-zero, bit_at_above, bit_at_ones, bit_at_cat_high, bit_at_cat_low, same_from_bits, has_bit, IsPart, AreAllColumns, AreColumnsOff}
 
 -- what holds of each two bits
 by_bits : (P : ℕ → ℕ → Type 0) → P zero zero → P zero (suc zero) → P (suc zero) zero → P (suc zero) (suc zero) → (x y : ℕ) → x < 2 → y < 2 → P x y
@@ -31,6 +31,33 @@ test_without = by_bits (λ a b. (min a (1 - b) == 1) ≡ ((a == 1) && not (b == 
 
 pub has_bit-without : (word other c : ℕ) → other < 2 ^ 64 → c < 64 → has_bit (bit_and word (bit_not w64 other)) c ≡ (has_bit word c && not (has_bit other c))
 has_bit-without word other c low column = search (rules, bit_at-lt, bit_at_and, bit_at_not, test_without)
+
+-- a column of a word of k bits is below k
+pub column_below : (k a c : ℕ) → a < 2 ^ k → has_bit a c ≡ true → c < k
+column_below k a c low is = grind (arith, common_steps, bit_at_above)
+
+-- what is in the complement of a word
+test_not : (a : ℕ) → a < 2 → (1 - a == 1) ≡ not (a == 1)
+test_not a low = grind arith
+
+pub has_bit-not : (word c : ℕ) → word < 2 ^ 64 → c < 64 → has_bit (bit_not w64 word) c ≡ not (has_bit word c)
+has_bit-not word c low column = search (rules, bit_at-lt, bit_at_not, test_not)
+
+pub in_complement : (word c : ℕ) → word < 2 ^ 64 → has_bit (bit_not w64 word) c ≡ true → (c < 64) × (has_bit word c ≡ false)
+in_complement word c few is =
+    let low : c < 64 = column_below 64 (bit_not w64 word) c (omega arith) is in
+    (low, not-true _ (sym (has_bit-not word c few low) ∙ is))
+
+from_not : (b : Bool) → not b ≡ false → b ≡ true
+from_not b gone = grind (arith, false≢true)
+
+pub columns_off : (side all : ℕ) → side < 64 → all < 2 ^ 64 → AreAllColumns side all → AreColumnsOff side (bit_not w64 all)
+columns_off side all few low is = record {
+  inside = λ col below. has_bit-not all col low (omega (arith, below, few)) ∙ ap not (is.within col below);
+  outside = λ col column gone. is.off col (from_not _ (sym (has_bit-not all col low column) ∙ gone));
+  last = has_bit-not all 63 low (omega arith) ∙ ap not (false_from_ne_true _ (λ (there : has_bit all 63 ≡ true). omega (arith, is.off 63 there, few)));
+}
+
 
 -- the same in every column, of words
 pub has_bit-less : (word other c : ℕ) → word < 2 ^ 64 → other < 2 ^ 64 → has_bit (bit_and word (bit_not w64 other)) c ≡ (has_bit word c && not (has_bit other c))
@@ -66,10 +93,6 @@ bit_at-gone n c none = let other = eqb-false (bit_at n c) 1 none in omega (arith
 
 pub has_bit-zero : (c : ℕ) → has_bit 0 c ≡ false
 has_bit-zero c = ap (λ n. n == 1) (bit_at-zero c)
-
--- a column of a word of k bits is below k
-pub column_below : (k a c : ℕ) → a < 2 ^ k → has_bit a c ≡ true → c < k
-column_below k a c low is = grind (arith, common_steps, bit_at_above)
 
 min_one : (x : ℕ) → x < 2 → min x 1 ≡ x
 min_one x h = grind arith

@@ -4,6 +4,7 @@
 ghost use Rattle.std.specs.Prelude.{◌≡◌, ◌≢◌, ◌<◌, ◌≤◌, ◌||◌, ◌&&◌, false, not, nat_le, ℕ, IsTrue};
 ghost use Rattle.board_points.specs.Rows.{has_bit, AreAllColumns};
 ghost use Rattle.board_points.specs.inner.Columns.{IsPart};
+ghost use Rattle.board_points.specs.inner.Look.{AreColumnsOff};
 
 /// Whether a word has the bit of a column.
 #[tactic(auto, using(std::proofs::lemmas::Nat::Bits::shr_and_one))]
@@ -41,6 +42,15 @@ pub fn all_columns(side: usize) -> u64
     ensures { AreAllColumns side result }
 {
     other_columns(0, side)
+}
+
+/// The columns that a row with `side` columns doesn't have. There must be fewer than 64.
+#[tactic(auto, using(crate::proofs::WordLemmas::columns_off))]
+pub(crate) fn columns_off(side: usize) -> u64
+    requires { side < 64 }
+    ensures { AreColumnsOff side result }
+{
+    !all_columns(side)
 }
 
 /// The columns of a row that aren't in `word`. The row has `side` columns.

@@ -4,19 +4,19 @@ ghost use Rattle.std.specs.Prelude.{◌≡◌, ◌+◌, ◌<◌, ◌≤◌, fals
 ghost use Rattle.board_points.specs.declared.points.Point.{Point};
 ghost use Rattle.board_points.specs.Point.{IsOn};
 ghost use Rattle.board_points.specs.Linked.{HasLiberty, HaveLiberty};
-ghost use Rattle.board_points.specs.inner.Look.{IsRowAt};
-ghost use Rattle.board_points.specs.Rows.{has_bit, is_set, AreAllColumns, AreOfOneBoard};
+ghost use Rattle.board_points.specs.inner.Look.{AreColumnsOff, IsRowAt};
+ghost use Rattle.board_points.specs.Rows.{has_bit, is_set, AreOfOneBoard};
 ghost use Rattle.board_points.specs.inner.Columns.{IsInOrBeside};
 
-use crate::columns::{all_columns, columns_left};
+use crate::columns::columns_off;
 
-/// The columns of a row that have a stone of the player (`own`), a stone of the opponent
-/// (`others`) or no stone (`free`). A row outside the board has no columns.
+/// The columns of a row that have a stone of the player (`own`) or of the opponent (`others`), and those of the 64 that have no free point
+/// (`taken`): a stone is there, or the board has no such column. A row outside the board has no stones, and all columns are taken.
 #[derive(Clone, Copy)]
 pub(crate) struct RowStones {
     pub(crate) own: u64,
     pub(crate) others: u64,
-    pub(crate) free: u64,
+    pub(crate) taken: u64,
 }
 
 /// The columns in which a row's point has a liberty: a point beside it that is in neither `own` nor `others`.
@@ -27,11 +27,11 @@ pub(crate) fn columns_with_liberty(own: &[u64], others: &[u64], row: usize) -> u
     ensures to { (stone : Point) → stone.row ≡ row → stone.col < 64 → HasLiberty own.now others.now stone
         → IsTrue (has_bit result stone.col) }
 {
-    let all = all_columns(own.len());
-    let above = row_at(own, others, all, row, 1);
-    let here = row_at(own, others, all, row, 2);
-    let below = row_at(own, others, all, row, 3);
-    columns_beside(above.free, here.free, below.free)
+    let off = columns_off(own.len());
+    let above = row_at(own, others, off, row, 1);
+    let here = row_at(own, others, off, row, 2);
+    let below = row_at(own, others, off, row, 3);
+    columns_beside(!above.taken, !here.taken, !below.taken)
 }
 
 /// The columns of a row whose points are beside a point of a set. The set is given by its columns above, in and below the row.
@@ -44,41 +44,42 @@ pub(crate) fn columns_beside(above: u64, here: u64, below: u64) -> u64
 }
 
 /// What stands on a row near the row `middle`. `i` is 0 for the second row above it, and 2 for `middle` itself.
-/// `all` has all columns.
-pub(crate) fn row_at(own: &[u64], others: &[u64], all: u64, middle: usize, i: usize) -> RowStones
+/// `off` has the columns that the board doesn't have.
+#[tactic(auto, using(crate::proofs::GrowLemmas::row_below, crate::proofs::GlanceLemmas::row_outside))]
+pub(crate) fn row_at(own: &[u64], others: &[u64], off: u64, middle: usize, i: usize) -> RowStones
     requires rows { AreOfOneBoard own.now others.now }
-    requires all { AreAllColumns (length own.now) all }
+    requires off { AreColumnsOff (length own.now) off }
     requires middle { middle < length own.now }
     requires near { i ≤ 4 }
     ensures is { IsRowAt own.now others.now middle i result }
     ensures free { (point : Point) → point.row + 2 ≡ middle + i → IsOn (length own.now) point → is_set own.now point ≡ false
-        → is_set others.now point ≡ false → IsTrue (has_bit result.free point.col) }
+        → is_set others.now point ≡ false → has_bit result.taken point.col ≡ false }
 {
     // the rows down to `middle` are above the board's end
     if 2 <= middle + i && (i <= 2 || middle + i - 2 < own.len()) {
-        return row_inside(own, others, all, middle + i - 2);
+        return row_inside(own, others, off, middle + i - 2);
     }
     RowStones {
         own: 0,
         others: 0,
-        free: 0,
+        taken: u64::MAX,
     }
 }
 
-/// What stands on a row of the board. `all` has all columns.
+/// What stands on a row of the board. `off` has the columns that the board doesn't have.
 #[inline(always)]
-pub(crate) fn row_inside(own: &[u64], others: &[u64], all: u64, row: usize) -> RowStones
+pub(crate) fn row_inside(own: &[u64], others: &[u64], off: u64, row: usize) -> RowStones
     requires rows { AreOfOneBoard own.now others.now }
-    requires all { AreAllColumns (length own.now) all }
+    requires off { AreColumnsOff (length own.now) off }
     requires row { row < length own.now }
     ensures is { (middle i : ℕ) → row + 2 ≡ middle + i → IsRowAt own.now others.now middle i result }
     ensures free { (point : Point) → point.row ≡ row → IsOn (length own.now) point → is_set own.now point ≡ false
-        → is_set others.now point ≡ false → IsTrue (has_bit result.free point.col) }
+        → is_set others.now point ≡ false → has_bit result.taken point.col ≡ false }
 {
     RowStones {
         own: own[row],
         others: others[row],
-        free: columns_left(all, own[row] | others[row]),
+        taken: own[row] | others[row] | off,
     }
 }
 

@@ -1,5 +1,5 @@
 -- Sets of columns of one row.
-use Rattle.std.specs.Prelude.{◌⊎◌, ℕ, suc, Bool, IsTrue, List, slice_index}
+use Rattle.std.specs.Prelude.{◌≡◌, ◌⊎◌, ℕ, suc, ◌<◌, Bool, false, IsTrue, List, slice_index}
 use Rattle.board_points.specs.Point.{DifferByOne}
 use Rattle.board_points.specs.Rows.{has_bit}
 
@@ -35,3 +35,9 @@ abbrev pub IsInOrBeside : ℕ → ℕ → ℕ → ℕ → Type 0
 IsInOrBeside above here below col =
     IsTrue (has_bit above col)
     ⊎ (IsTrue (has_bit below col) ⊎ ((beside : ℕ) × DifferByOne col beside × IsTrue (has_bit here beside)))
+
+-- a column is missing from one of two rows, or one beside it is missing from the row between them
+abbrev pub IsOpenBeside : ℕ → ℕ → ℕ → ℕ → Type 0
+IsOpenBeside above here below col =
+    (has_bit above col ≡ false)
+    ⊎ ((has_bit below col ≡ false) ⊎ ((beside : ℕ) × (beside < 64) × DifferByOne col beside × (has_bit here beside ≡ false)))

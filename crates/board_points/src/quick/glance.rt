@@ -1,14 +1,16 @@
 //! A glance at the rows around a player's stone. It shows of most stones that they are alive, and that the opponent's stones beside
 //! them still are. Of the others it shows nothing.
 
-ghost use Rattle.std.specs.Prelude.{◌≡◌, ◌+◌, ◌<◌, ◌≤◌, IsTrue, length};
+ghost use Rattle.std.specs.Prelude.{◌≡◌, ◌+◌, ◌<◌, ◌≤◌, false, ℕ, IsTrue, length};
 ghost use Rattle.board_points.specs.declared.points.Point.{Point};
 ghost use Rattle.board_points.specs.Point.{IsOn};
-ghost use Rattle.board_points.specs.inner.Look.{IsNextRow, IsRowAt};
+ghost use Rattle.board_points.specs.Rows.{has_bit};
+ghost use Rattle.board_points.specs.inner.Columns.{IsOpenBeside};
+ghost use Rattle.board_points.specs.inner.Look.{AreColumnsOff, IsNextRow, IsRowAt};
 ghost use Rattle.board_points.specs.Glance.{LeavesAllAlive};
 ghost use Rattle.board_points.specs.Rows.{AreOfOneBoard};
 
-use crate::columns::{all_columns, has_column, without_column};
+use crate::columns::{columns_off, has_column, with_column};
 use crate::liberty::{RowStones, columns_beside, row_at, row_inside};
 use crate::points::Point;
 
@@ -104,14 +106,14 @@ fn alive_inside(own: &[u64], others: &[u64], point: Point) -> bool
     requires below { point.row + 2 < length own.now }
     ensures { IsTrue result → LeavesAllAlive own.now others.now point }
 {
-    let all = all_columns(own.len());
+    let off = columns_off(own.len());
     let row = usize::from(point.row);
-    let first = row_inside(own, others, all, row - 2);
-    let above = row_inside(own, others, all, row - 1);
-    let here = row_inside(own, others, all, row);
-    let below = row_inside(own, others, all, row + 1);
-    let last = row_inside(own, others, all, row + 2);
-    five_rows_show_alive(own, others, point, first, above, here, below, last)
+    let first = row_inside(own, others, off, row - 2);
+    let above = row_inside(own, others, off, row - 1);
+    let here = row_inside(own, others, off, row);
+    let below = row_inside(own, others, off, row + 1);
+    let last = row_inside(own, others, off, row + 2);
+    five_rows_show_alive(own, others, point, off, first, above, here, below, last)
 }
 
 /// The same as `leaves_all_alive`, for every point.
@@ -121,22 +123,24 @@ fn alive_near_the_edge(own: &[u64], others: &[u64], point: Point) -> bool
     requires on_board { IsOn (length own.now) point }
     ensures { IsTrue result → LeavesAllAlive own.now others.now point }
 {
-    let all = all_columns(own.len());
+    let off = columns_off(own.len());
     let row = usize::from(point.row);
-    let first = row_at(own, others, all, row, 0);
-    let above = row_at(own, others, all, row, 1);
-    let here = row_at(own, others, all, row, 2);
-    let below = row_at(own, others, all, row, 3);
-    let last = row_at(own, others, all, row, 4);
-    five_rows_show_alive(own, others, point, first, above, here, below, last)
+    let first = row_at(own, others, off, row, 0);
+    let above = row_at(own, others, off, row, 1);
+    let here = row_at(own, others, off, row, 2);
+    let below = row_at(own, others, off, row, 3);
+    let last = row_at(own, others, off, row, 4);
+    five_rows_show_alive(own, others, point, off, first, above, here, below, last)
 }
 
-/// The same as `leaves_all_alive`. The rows are those around the point, from the second one above it to the second one below it.
+/// The same as `leaves_all_alive`. The rows are those around the point, from the second one above it to the second one below it. `off` has
+/// the columns that the board doesn't have.
 #[inline(always)]
 fn five_rows_show_alive(
     own: &[u64],
     others: &[u64],
     point: Point,
+    off: u64,
     first: RowStones,
     above: RowStones,
     here: RowStones,
@@ -145,6 +149,7 @@ fn five_rows_show_alive(
 ) -> bool
     requires rows { AreOfOneBoard own.now others.now }
     requires on_board { IsOn (length own.now) point }
+    requires off { AreColumnsOff (length own.now) off }
     requires first { IsRowAt own.now others.now point.row 0 first }
     requires above { IsRowAt own.now others.now point.row 1 above }
     requires here { IsRowAt own.now others.now point.row 2 here }
@@ -153,22 +158,28 @@ fn five_rows_show_alive(
     ensures { IsTrue result → LeavesAllAlive own.now others.now point }
 {
     let col = usize::from(point.col);
-    let free = without_column(here.free, col);
-    // the columns of three rows whose points have a free point beside them
-    let up = columns_beside(first.free, above.free, 0);
-    let middle = columns_beside(above.free, free, below.free);
-    let down = columns_beside(0, below.free, last.free);
-    let in_doubt = columns_beside(
-        above.others & !up,
-        here.others & !middle,
-        below.others & !down,
-    );
+    let taken = with_column(here.taken, col, true);
+    // the columns of three rows whose points have no free point beside them
+    let up = columns_shut(first.taken, above.taken, u64::MAX, off);
+    let middle = columns_shut(above.taken, taken, below.taken, off);
+    let down = columns_shut(u64::MAX, below.taken, last.taken, off);
+    let in_doubt = columns_beside(above.others & up, here.others & middle, below.others & down);
     if has_column(in_doubt, col) {
         return false;
     }
-    if has_column(middle, col) {
+    if !has_column(middle, col) {
         return true;
     }
-    let friends = columns_beside(above.own & up, here.own & middle, below.own & down);
+    let friends = columns_beside(above.own & !up, here.own & !middle, below.own & !down);
     has_column(friends, col)
+}
+
+/// The columns of a row whose points have all points beside them taken. These are given by their columns above, in and below the row, and
+/// `off` has the columns that the board doesn't have.
+#[inline(always)]
+fn columns_shut(above: u64, here: u64, below: u64, off: u64) -> u64
+    requires { IsTrue (has_bit off 63) }
+    ensures { (col : ℕ) → col < 64 → has_bit result col ≡ false → IsOpenBeside above here below col }
+{
+    above & below & (here << 1 | 1) & (here >> 1 | off)
 }

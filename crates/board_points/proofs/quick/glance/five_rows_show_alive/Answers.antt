@@ -1,14 +1,14 @@
-use Rattle.std.proofs.Common.{◌≡◌, ◌≢◌, ◌<◌, ◌^◌, false, ℕ, inl, inr, bit_and, w64, sym, ap, ◌∙◌, arith, rules, subst}
-use Rattle.board_points.proofs.Common.{bit_not, false≢true, RowStones, Lives, LeavesAlong, LeavesAcross, DifferByOne, has_bit, IsLookedAt}
+use Rattle.std.proofs.Common.{◌≡◌, ◌≢◌, ◌-◌, ◌<◌, ◌^◌, false, true, ℕ, inl, inr, bit_and, sym, ap, ◌∙◌, arith, rules, subst}
+use Rattle.board_points.proofs.Common.{or-true, false≢true, RowStones, Lives, LeavesAlong, LeavesAcross, DifferByOne, has_bit, IsLookedAt}
 use Rattle.board_points.proofs.GlanceLemmas.{row_here, free_here, none_free, free_elsewhere, keeps_liberty, friend_there, left_there}
 use Rattle.board_points.proofs.quick.glance.five_rows_show_alive.Goals as goal
 use Rattle.board_points.proofs.quick.glance.five_rows_show_alive.Goals.{After-columns_beside-in_doubt}
 
 -- the point's own row, without the point
 abbrev here : After-columns_beside-in_doubt → RowStones
-here c = record { own = c.args.here.own; others = c.args.here.others; free = c.without_column-free.result }
+here c = record { own = c.args.here.own; others = c.args.here.others; taken = c.with_column-taken.result }
 
-up : (c : After-columns_beside-in_doubt) → IsLookedAt c.args.own.now c.args.others.now c.args.point 0 c.args.first.free c.args.above 0
+up : (c : After-columns_beside-in_doubt) → IsLookedAt c.args.own.now c.args.others.now c.args.point 0 c.args.first.taken c.args.above (2 ^ 64 - 1)
 up c = record {
   stones = c.requires.above;
   free_above = free_elsewhere _ _ c.args.point 0 c.args.first (omega arith) c.requires.first;
@@ -16,20 +16,20 @@ up c = record {
   free_below = none_free c.args.own.now c.args.others.now c.args.point 2;
 }
 
-along : (c : After-columns_beside-in_doubt) → IsLookedAt c.args.own.now c.args.others.now c.args.point 1 c.args.above.free (here c) c.args.below.free
+along : (c : After-columns_beside-in_doubt) → IsLookedAt c.args.own.now c.args.others.now c.args.point 1 c.args.above.taken (here c) c.args.below.taken
 along c =
-    let free = c.without_column-free.result in
+    let taken = c.with_column-taken.result in
     let same = c.from-col.ensures in
-    let out = ap (has_bit free) (sym same) ∙ c.without_column-free.ensures.there in
-    let left : (k : ℕ) → k ≢ c.args.point.col → has_bit free k ≡ has_bit c.args.here.free k = λ k other. c.without_column-free.ensures.elsewhere k (λ e. other (e ∙ same)) in
+    let there : has_bit taken c.args.point.col ≡ true = ap (has_bit taken) (sym same) ∙ c.with_column-taken.ensures.there ∙ or-true _ in
+    let left : (k : ℕ) → k ≢ c.args.point.col → has_bit taken k ≡ has_bit c.args.here.taken k = λ k other. c.with_column-taken.ensures.elsewhere k (λ e. other (e ∙ same)) in
     record {
-      stones = row_here _ _ c.args.point free c.args.here out left c.requires.here;
+      stones = row_here _ _ c.args.point taken c.args.here there left c.requires.here;
       free_above = free_elsewhere _ _ c.args.point 1 c.args.above (omega arith) c.requires.above;
-      free_here = free_here _ _ c.args.point free c.args.here out left c.requires.here;
+      free_here = free_here _ _ c.args.point taken c.args.here there left c.requires.here;
       free_below = free_elsewhere _ _ c.args.point 3 c.args.below (omega arith) c.requires.below;
     }
 
-down : (c : After-columns_beside-in_doubt) → IsLookedAt c.args.own.now c.args.others.now c.args.point 2 0 c.args.below c.args.last.free
+down : (c : After-columns_beside-in_doubt) → IsLookedAt c.args.own.now c.args.others.now c.args.point 2 (2 ^ 64 - 1) c.args.below c.args.last.taken
 down c = record {
   stones = c.requires.below;
   free_above = none_free c.args.own.now c.args.others.now c.args.point 2;
@@ -44,11 +44,10 @@ NoneInDoubt c = has_bit c.columns_beside-in_doubt.result c.from-col.result ≡ f
 leaves_along : (c : After-columns_beside-in_doubt) → NoneInDoubt c → LeavesAlong c.args.own.now c.args.others.now c.args.point
 leaves_along c none q set next =
     let in_doubt = c.columns_beside-in_doubt in
-    let middle = c.columns_beside-middle in
+    let middle = c.columns_shut-middle in
     let low : c.args.here.others < 2 ^ 64 = search rules in
-    let few : middle.result < 2 ^ 64 = search rules in
     let column : c.from-col.result < 64 = omega (arith, c.from-col.ensures, c.requires.on_board.0, c.requires.rows.few) in
-    left_there c.args.own.now c.args.others.now c.args.point 1 c.args.above.free (here c) c.args.below.free (along c) middle.result middle.ensures.from q low few
+    left_there c.args.own.now c.args.others.now c.args.point 1 c.args.above.taken (here c) c.args.below.taken (along c) middle.result middle.ensures q low
     (λ is. false≢true (sym none ∙ in_doubt.ensures.to c.from-col.result column (inr (inr (q.col, subst (λ n. DifferByOne n q.col) (sym c.from-col.ensures) next.1, is)))))
     (omega (arith, next.0)) set
 
@@ -57,31 +56,30 @@ leaves_across c none q set next =
     let own = c.args.own.now in
     let others = c.args.others.now in
     let in_doubt = c.columns_beside-in_doubt in
-    let above = c.columns_beside-up in
-    let below = c.columns_beside-down in
+    let above = c.columns_shut-up in
+    let below = c.columns_shut-down in
     let below_low : c.args.below.others < 2 ^ 64 = search rules in
-    let up_low : above.result < 2 ^ 64 = search rules in
-    let down_low : below.result < 2 ^ 64 = search rules in
     let column : c.from-col.result < 64 = omega (arith, c.from-col.ensures, c.requires.on_board.0, c.requires.rows.few) in
     let same = c.from-col.ensures ∙ next.0 in
     elim next.1 [
-      | inl row ↦ left_there own others c.args.point 2 0 c.args.below c.args.last.free (down c) below.result below.ensures.from q below_low down_low
-          (λ is. false≢true (sym none ∙ in_doubt.ensures.to c.from-col.result column (inr (inl (ap (has_bit (bit_and c.args.below.others (bit_not w64 below.result))) same ∙ is)))))
+      | inl row ↦ left_there own others c.args.point 2 (2 ^ 64 - 1) c.args.below c.args.last.taken (down c) below.result below.ensures q below_low
+          (λ is. false≢true (sym none ∙ in_doubt.ensures.to c.from-col.result column (inr (inl (ap (has_bit (bit_and c.args.below.others below.result)) same ∙ is)))))
           (omega (arith, row)) set
-      | inr row ↦ left_there own others c.args.point 0 c.args.first.free c.args.above 0 (up c) above.result above.ensures.from q (search rules) up_low
-          (λ is. false≢true (sym none ∙ in_doubt.ensures.to c.from-col.result column (inl (ap (has_bit (bit_and c.args.above.others (bit_not w64 above.result))) same ∙ is))))
+      | inr row ↦ left_there own others c.args.point 0 c.args.first.taken c.args.above (2 ^ 64 - 1) (up c) above.result above.ensures q (search rules)
+          (λ is. false≢true (sym none ∙ in_doubt.ensures.to c.from-col.result column (inl (ap (has_bit (bit_and c.args.above.others above.result)) same ∙ is))))
           (omega (arith, row)) set
     ]
 
-pub returns-then-has_column-2 : goal.returns-then-has_column-2
-returns-then-has_column-2 c = λ _.
-    let b = (goal.at.returns-then-has_column-2 c).After-columns_beside-in_doubt in
+pub returns-then-not-has_column : goal.returns-then-not-has_column
+returns-then-not-has_column c = λ _.
+    let b = (goal.at.returns-then-not-has_column c).After-columns_beside-in_doubt in
     let p = c.args.point in
-    let middle = c.columns_beside-middle in
+    let middle = c.columns_shut-middle in
     let none = sym c.has_column.ensures ∙ c.if-has_column.false in
-    let there = ap (has_bit middle.result) (sym c.from-col.ensures) ∙ sym c.has_column-2.ensures ∙ c.if-has_column-2.true in
+    let low : p.col < 64 = omega (arith, c.requires.on_board.0, c.requires.rows.few) in
+    let gone = ap (has_bit middle.result) (sym c.from-col.ensures) ∙ sym c.has_column-2.ensures ∙ c.if-not-has_column.true in
     record {
-      lives = inl (keeps_liberty c.args.own.now c.args.others.now p 1 c.args.above.free (here b) c.args.below.free (along b) middle.result middle.ensures.from p (omega arith) there);
+      lives = inl (keeps_liberty c.args.own.now c.args.others.now p 1 c.args.above.taken (here b) c.args.below.taken (along b) middle.result middle.ensures p (omega arith) low gone);
       along = leaves_along b none;
       across = leaves_across b none;
     }
@@ -92,16 +90,20 @@ returns c = λ some.
     let p = c.args.point in
     let own = c.args.own.now in
     let others = c.args.others.now in
-    let above = c.columns_beside-up in
-    let middle = c.columns_beside-middle in
-    let below = c.columns_beside-down in
+    let above = c.columns_shut-up in
+    let middle = c.columns_shut-middle in
+    let below = c.columns_shut-down in
+    let low : p.col < 63 = omega (arith, c.requires.on_board.0, c.requires.rows.few) in
+    let up_few : above.result < 2 ^ 64 = search rules in
+    let few : middle.result < 2 ^ 64 = search rules in
+    let down_few : below.result < 2 ^ 64 = search rules in
     let none = sym c.has_column.ensures ∙ c.if-has_column.false in
     let there = ap (has_bit c.columns_beside-friends.result) (sym c.from-col.ensures) ∙ sym c.has_column-3.ensures ∙ some in
     let lives : Lives own others p =
     elim (c.columns_beside-friends.ensures.from p.col there) [
-      | inl is ↦ friend_there own others p 0 c.args.first.free c.args.above 0 (up b) above.result above.ensures.from p.col (λ q at. inl (sym at.0, inr (omega (arith, at.1)))) is
-      | inr (inl is) ↦ friend_there own others p 2 0 c.args.below c.args.last.free (down b) below.result below.ensures.from p.col (λ q at. inl (sym at.0, inl (omega (arith, at.1)))) is
-      | inr (inr w) ↦ friend_there own others p 1 c.args.above.free (here b) c.args.below.free (along b) middle.result middle.ensures.from w.0
+      | inl is ↦ friend_there own others p 0 c.args.first.taken c.args.above (2 ^ 64 - 1) (up b) above.result above.ensures p.col up_few (omega (arith, low)) (λ q at. inl (sym at.0, inr (omega (arith, at.1)))) is
+      | inr (inl is) ↦ friend_there own others p 2 (2 ^ 64 - 1) c.args.below c.args.last.taken (down b) below.result below.ensures p.col down_few (omega (arith, low)) (λ q at. inl (sym at.0, inl (omega (arith, at.1)))) is
+      | inr (inr w) ↦ friend_there own others p 1 c.args.above.taken (here b) c.args.below.taken (along b) middle.result middle.ensures w.0 few (omega (arith, low, w.1))
           (λ q at. inr (omega (arith, at.1), subst (DifferByOne p.col) (sym at.0) w.1)) w.2
     ] in
     record { lives = lives; along = leaves_along b none; across = leaves_across b none }
