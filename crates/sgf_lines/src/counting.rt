@@ -1,9 +1,10 @@
 //! Counting what a collection holds. No collection is made for that.
 
-ghost use Rattle.std.specs.Prelude.{◌<◌, ◌≤◌, ◌+◌};
+ghost use Rattle.std.specs.Prelude.{◌≡◌, ◌<◌, ◌≤◌, ◌+◌};
 ghost use Rattle.sgf_lines.specs.Counts.{IsCount, IsWriting, counts_row};
 ghost use Rattle.byte_streams.specs.Streams.{SourceState};
 ghost use Rattle.sgf_lines.specs.inner.Running.{HasReadAll};
+ghost use Rattle.sgf_lines.specs.inner.Views.{built_text};
 
 use crate::fault::RunFault;
 use crate::form::text_row::TextRow;
@@ -69,8 +70,7 @@ pub fn write_counts<T: Sink>(sink: &mut T, counts: &Counts) -> Result<(), RunFau
     ensures { IsWriting (counts_row counts.now) (T.state sink.old) (T.state sink.new) result }
 {
     let fault = RunFault::Write { lines: 0 };
-    let mut row = TextRow::new();
-    row.lay_out_counts(counts);
+    let row = row_of_counts(counts);
     let Ok(()) = put_all(row.text(), sink) else {
         return Err(fault);
     };
@@ -78,4 +78,18 @@ pub fn write_counts<T: Sink>(sink: &mut T, counts: &Counts) -> Result<(), RunFau
         Ok(()) => Ok(()),
         Err(SinkFault) => Err(fault),
     }
+}
+
+/// The row of counts, with its line feed.
+fn row_of_counts(counts: &Counts) -> TextRow
+    ensures { built_text result ≡ counts_row counts.now }
+{
+    let mut row = TextRow::new();
+    row.put(b"\n");
+    row.put_number(counts.lines);
+    row.put(b" ");
+    row.put_number(counts.nodes);
+    row.put(b" ");
+    row.put_number(counts.games);
+    row
 }

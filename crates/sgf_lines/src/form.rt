@@ -3,7 +3,7 @@
 //! | Module | What it has |
 //! |---|---|
 //! | `list`, `sgf`, `gtp` | the forms: what each keeps of a line, and the record that it makes |
-//! | `text_row` | the row of a line, alone or as a comment; the row of counts |
+//! | `text_row` | a text row: that of a line, alone or as a comment |
 //! | `script`, `commands` | the script of a line in gtp form; the commands of a node |
 //! | `pieces` | a text in pieces |
 

@@ -47,7 +47,7 @@
 //! | at most 64 MiB of a source | `read_some` (`run`) |
 //! | whether an input ends too early | `RunFault::ends_too_early` (`fault`), which `Fault::row` of `sgfsplit_job` (`fault`) asks; where: the first fault, in the table of `sgf_tree` |
 //! | PLACE, GAME and NODES of a row | `SequenceCursor::place`, `SequenceCursor::game`, `SequenceCursor::len` of `tree_lines` (`sequence_cursor`) |
-//! | a row; the row of counts | `TextRow::lay_out`; `TextRow::lay_out_counts` (`form/text_row`); the counts: `read_extent` of `sgf_tree` (`reader`) |
+//! | a row; the row of counts | `TextRow::lay_out` (`form/text_row`); `write_counts` (`counting`); the counts: `read_extent` of `sgf_tree` (`reader`) |
 //! | what a node is; which games are judged; the reasons of a node; the verdict of a line; that a script stops before an illegal node | the table of `judged_lines` |
 //! | which lines have no commands: not judged, or over side 25; a setup leaves a stone without a liberty | `Script::keep`; `leaves_unreaching`, `Script::text` (`form/script`) |
 //! | a script; a node's commands | `Script::begin`, `Script::say`, `Script::text` (`form/script`); `push_step` (`form/commands`) |

@@ -1,14 +1,12 @@
-//! The row of a line, alone or as a comment, and the row of counts. It is built from its end to its
-//! front, because the digits of a number are found last to first.
+//! A text row, such as that of a line, alone or as a comment. It is built from its end to its front, because the digits of a number are found
+//! last to first.
 
 ghost use Rattle.std.specs.Prelude.{◌≡◌, ◌<◌, ◌≤◌, ◌+◌, Some, [], ◌++◌, length, codes, decimal};
-ghost use Rattle.sgf_lines.specs.Counts.{counts_row};
 ghost use Rattle.tree_lines.specs.Lines.{Line};
 ghost use Rattle.sgf_lines.specs.ListRow.{verdict_text};
 ghost use Rattle.sgf_lines.specs.Script.{comment_row};
 ghost use Rattle.tree_lines.specs.Following.{line_before};
 
-use crate::counting::Counts;
 use itoa::write_digits;
 use judged_lines::Verdict;
 use tree_lines::SequenceCursor;
@@ -72,21 +70,8 @@ impl TextRow {
         self.put(b"# ");
     }
 
-    /// Becomes the row of counts, with its line feed.
-    pub(crate) fn lay_out_counts(&mut self, counts: &Counts)
-        ensures { built_text self.new ≡ counts_row counts.now }
-    {
-        self.clear();
-        self.put(b"\n");
-        self.put_number(counts.lines);
-        self.put(b" ");
-        self.put_number(counts.nodes);
-        self.put(b" ");
-        self.put_number(counts.games);
-    }
-
     /// Puts bytes before the text.
-    fn put(&mut self, bytes: &[u8])
+    pub(crate) fn put(&mut self, bytes: &[u8])
         requires { length bytes.now ≤ self.old.start }
         ensures text { built_text self.new ≡ bytes.now ++ built_text self.old }
         ensures room { self.new.start + length bytes.now ≡ self.old.start }
@@ -97,7 +82,7 @@ impl TextRow {
     }
 
     /// Puts a number before the text, in decimal, without leading zeros.
-    fn put_number(&mut self, number: u64)
+    pub(crate) fn put_number(&mut self, number: u64)
         requires { 20 ≤ self.old.start }
         ensures text { built_text self.new ≡ decimal number ++ built_text self.old }
         ensures room { self.old.start ≤ self.new.start + 20 }
