@@ -1,7 +1,7 @@
-use Rattle.std.proofs.Common.{◌≡◌, List, ℕ, ◌+◌, ◌∙◌, [], ◌∷◌, ◌++◌, drop, slice_range, refl, sym, ap, arith, append_assoc, append-nil, rules, flat_map}
-use Rattle.sgf_outline.proofs.Common.{nodes_at, sequence_numbers, start_by, AreWhole, node_text}
+use Rattle.std.proofs.Common.{◌+◌, ◌∙◌, [], ◌∷◌, drop, slice_range, refl, sym, arith, append_assoc, append-nil, rules, flat_map}
+use Rattle.sgf_outline.proofs.Common.{nodes_at, sequence_numbers, AreWhole, node_text}
 use Rattle.sgf_outline.proofs.Outlined.{IsEntryOf, table-length, entry-in}
-use Rattle.sgf_outline.proofs.SegmentsKept.{whole-within, whole-first}
+use Rattle.sgf_outline.proofs.SegmentsKept.{whole-first}
 use Rattle.sgf_outline.proofs.outline.Outline.push_segments.Goals as goal
 use Rattle.sgf_outline.proofs.outline.Outline.push_segments.Goals.{After-index-sequence, After-index-segment}
 
@@ -31,31 +31,9 @@ segments-init c = record {
   goes_on = ([], sym (append-nil c.args.out.now.items));
 }
 
-pub index-segment-requires : goal.index-segment-requires
-index-segment-requires c =
-    omega (arith, whole-within c.self.inside.text.now c.self.inside.sequences.segments.items c.segments.at c.segments.invariant.left c.segments.invariant.whole, c.self.inside.sequences.segments.ok.0)
-
 -- the segment at the index, and those after it
 first : (c : After-index-segment) → AreWhole c.self.inside.text.now (c.index-segment.result.now ∷ drop (c.segments.at + 1) c.self.inside.sequences.segments.items) c.segments.invariant.left
 first c = whole-first c.self.inside.text.now c.self.inside.sequences.segments.items c.segments.at c.segments.invariant.left c.index-segment.result.now c.segments.invariant.whole c.index-segment.ensures
-
-pub part-copied-requires-clause-rises : goal.part-copied-requires-clause-rises
-part-copied-requires-clause-rises c = let (rest, is, last, next) = first (goal.at.part-copied-requires-clause-rises c).After-index-segment in omega (arith, is.rises, c.start.ensures)
-
-pub part-copied-requires-clause-within : goal.part-copied-requires-clause-within
-part-copied-requires-clause-within c = let (rest, is, last, next) = first (goal.at.part-copied-requires-clause-within c).After-index-segment in is.within
-
-pub returns-then-is_last-clause-appended : goal.returns-then-is_last-clause-appended
-returns-then-is_last-clause-appended c =
-    let (rest, is, last, next) = first (goal.at.returns-then-is_last-clause-appended c).After-index-segment in
-    let segment = c.index-segment.result.now in
-    let text : List ℕ = slice_range c.self.inside.text.now (start_by segment) segment.end in
-    let copied : c.part-copied.result.now ≡ text = c.part-copied.ensures ∙ ap (λ i. slice_range c.self.inside.text.now i segment.end) c.start.ensures in
-    let all : c.segments.invariant.left ≡ text = is.are ∙ ap (λ s. text ++ s) (last (sym c.is_last.ensures ∙ c.if-is_last.true)) ∙ append-nil text in
-    c.in_ok-extend_from_slice-2.ensures.items ∙ ap (λ s. c.segments.out.items ++ s) (copied ∙ sym all) ∙ c.segments.invariant.appended
-
-pub returns-then-is_last-clause-goes_on : goal.returns-then-is_last-clause-goes_on
-returns-then-is_last-clause-goes_on c = search (rules, append_assoc)
 
 pub segments-preserved : goal.segments-preserved
 segments-preserved c =
@@ -64,13 +42,3 @@ segments-preserved c =
     let out = c.segments.out.items in
     let copied = c.part-copied.result.now in
     search (rules, first, slice_range, append_assoc)
-
--- the answers below are only there for speed
-pub returns-then-is_written-clause-goes_on : goal.returns-then-is_written-clause-goes_on
-returns-then-is_written-clause-goes_on c = (c.part-written.result.now, c.in_ok-extend_from_slice.ensures.items)
-
-pub returns-in_err-extend_from_slice-clause-goes_on : goal.returns-in_err-extend_from_slice-clause-goes_on
-returns-in_err-extend_from_slice-clause-goes_on c = ([], c.in_err-extend_from_slice.ensures.items ∙ sym (append-nil c.args.out.now.items))
-
-pub returns-in_err-extend_from_slice-2-clause-goes_on : goal.returns-in_err-extend_from_slice-2-clause-goes_on
-returns-in_err-extend_from_slice-2-clause-goes_on c = let (more, before) = c.segments.invariant.goes_on in (more, c.in_err-extend_from_slice-2.ensures.items ∙ before)

@@ -1,6 +1,6 @@
 -- All nodes stand before the end of the last sequence.
-use Rattle.sgf_outline.proofs.Common.{common_steps, get_or_past}
-use Rattle.std.proofs.Common.{arith, rules}
+use Rattle.sgf_outline.proofs.Common.{get_or_past}
+use Rattle.std.proofs.Common.{rules}
 use Rattle.sgf_outline.proofs.Outlined.{starts-first}
 use Rattle.sgf_outline.proofs.outline.Outline.sequence_of.Goals as goal
 
@@ -9,6 +9,3 @@ halves-init c =
     let count = c.sequences-high.ensures.count in
     let first = starts-first c.args.self.now c.args.number c.requires in
     search (rules, starts-first, get_or_past)
-
-pub halves-preserved : goal.halves-preserved
-halves-preserved c = grind (arith, common_steps)

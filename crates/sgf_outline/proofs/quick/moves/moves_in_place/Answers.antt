@@ -1,5 +1,5 @@
 use Rattle.std.proofs.Common.{arith}
-use Rattle.sgf_outline.proofs.MoveBytes.{first-node, second-node, node-ended}
+use Rattle.sgf_outline.proofs.MoveBytes.{first-node, second-node}
 use Rattle.sgf_outline.proofs.quick.moves.moves_in_place.Goals as goal
 
 pub returns-clause-first : goal.returns-clause-first
@@ -7,10 +7,3 @@ returns-clause-first c = first-node c.args.text.now c.args.at (omega arith) (λ 
 
 pub returns-clause-second : goal.returns-clause-second
 returns-clause-second c = second-node c.args.text.now c.args.at (omega arith) (λ i. (c.type_inv.text i).fits)
-
--- only there for speed
-pub returns-clause-after : goal.returns-clause-after
-returns-clause-after c = λ _. omega arith
-
-pub returns-clause-ends : goal.returns-clause-ends
-returns-clause-ends c = node-ended c.args.text.now c.args.at (omega arith) (λ i. (c.type_inv.text i).fits)

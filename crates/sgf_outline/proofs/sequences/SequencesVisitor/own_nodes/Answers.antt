@@ -26,15 +26,9 @@ overflow_add-outer-2 c =
       | else-is_written+in_ok-push_segment w ↦ omega (arith, low, ap (λ (p : ℕ × ℕ). p.1) w.end-is)
     ]
 
-pub push_segment-requires-clause-rises : goal.push_segment-requires-clause-rises
-push_segment-requires-clause-rises c = let (text, k, g, are, copied, few) = c.requires.few in copied.rises
-
 -- where the segments of the next game begin
 few-kept : (c : Joined-is_written) → length c.if-is_written.self.segments.items ≤ 67108864
 few-kept c = search rules
-
-pub overflow_cast-self : goal.overflow_cast-self
-overflow_cast-self c = omega (arith, few-kept (goal.at.overflow_cast-self c).Joined-is_written, c.len.ensures, c.if-is_written.self.segments.ok.0)
 
 pub returns : goal.returns
 returns c =

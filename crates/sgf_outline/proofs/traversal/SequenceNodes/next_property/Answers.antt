@@ -1,4 +1,4 @@
-use Rattle.sgf_outline.proofs.Common.{common_steps, properties_in, ArePropertiesIn, IsSpan, is_white_space}
+use Rattle.sgf_outline.proofs.Common.{common_steps, properties_in, IsSpan, is_white_space}
 use Rattle.std.proofs.Common.{◌≡◌, ◌-◌, ◌∙◌, ◌∷◌, drop, refl, sym, ap, subst, arith}
 use Rattle.sgf_properties.proofs.Iterating.{no-property, run-drop}
 use Rattle.sgf_properties.proofs.KeptLengths.{kept-drop}
@@ -15,18 +15,8 @@ returns-then-not-capital_at c =
       refl,
     )
 
-pub property_at-property-requires : goal.property_at-property-requires
-property_at-property-requires c =
-    let w = c.self.inside in
-    let here = c.rest_from-text.ensures in
-    let none : w.at - w.at ≡ 0 = omega arith in
-    record {
-      held = subst ArePropertiesIn (sym here) c.self.invariant.0.left.held;
-      kept = rw here (kept-drop w.text.now w.at _ c.self.invariant.0.stands.within c.self.invariant.1);
-      white_space = rw here (subst (IsSpan is_white_space (drop w.at w.text.now) 0) none (run-drop is_white_space w.text.now w.at w.at c.self.invariant.0.stands));
-      within = (c.capital_at.ensures.stands c.if-not-capital_at.false).0;
-      capital = (c.capital_at.ensures.stands c.if-not-capital_at.false).1;
-    }
+pub property_at-property-requires-clause-kept : goal.property_at-property-requires-clause-kept
+property_at-property-requires-clause-kept c = rw c.rest_from-text.ensures (kept-drop c.self.inside.text.now c.self.inside.at _ c.self.invariant.0.stands.within c.self.invariant.1)
 
 pub invariant_of-self : goal.invariant_of-self
 invariant_of-self c = grind (arith, common_steps, past-property)

@@ -1,5 +1,5 @@
 -- No property is left, so the traversal is at the `;` of its next node.
-use Rattle.std.proofs.Common.{◌≡◌, ◌<◌, ◌∙◌, length, sym, ap, arith, refl, length-drop, rules}
+use Rattle.std.proofs.Common.{◌≡◌, ◌<◌, ◌∙◌, length, sym, ap, arith, refl}
 use Rattle.sgf_outline.proofs.Common.{games_in, NodesLeft, node_in, nodes_between}
 use Rattle.sgf_outline.proofs.Traversing.{IsNextAt, some-between, next-closed, into-node, past-front}
 use Rattle.sgf_outline.proofs.traversal.SequenceNodes.next_unread.Goals as goal
@@ -14,9 +14,6 @@ next c =
     let nodes : nodes_between (games_in s.text.now) s.number s.end ≡ c.args.self.now.nodes = ap (λ (n : NodesLeft). n.nodes) left ∙ c.left.invariant in
     let more : s.number < s.end = some-between (games_in s.text.now) s.number s.end (omega (arith, c.requires, ap length nodes)) in
     (more, nodes, next-closed s.text.now s.at s.number s.end c.self.invariant.0 more (ap (λ (n : NodesLeft). n.properties) left ∙ c.in_default.ensures.0))
-
-pub skip_white_space-self-inside-requires : goal.skip_white_space-self-inside-requires
-skip_white_space-self-inside-requires c = search (rules, length-drop)
 
 pub invariant_of-self : goal.invariant_of-self
 invariant_of-self c =
