@@ -17,8 +17,3 @@ values-preserved c =
       values = before.values ++ slice_range t c.in-Some._start c.in-Some.close ∷ [];
       spelled = values-joined before.spelled (value next.spelled no_value);
     }
-
-pub returns : goal.returns
-returns c =
-    let before = c.values.invariant in
-    record { within = before.within; past = record { values = before.values; spelled = before.spelled; none_left = c.in_default.ensures } }

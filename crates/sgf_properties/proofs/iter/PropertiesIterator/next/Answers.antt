@@ -13,6 +13,3 @@ pub invariant_of-self : goal.invariant_of-self
 invariant_of-self c =
     let at = c.property_at-property.ensures in
     rw c.rest_from-self-inside.ensures (at.left, kept-drop _ _ _ at.within c.self.invariant.1)
-
-pub returns-clause-steps : goal.returns-clause-steps
-returns-clause-steps c = rw c.rest_from-self-inside.ensures (sym c.self.view_is ∙ c.property_at-property.ensures.first)

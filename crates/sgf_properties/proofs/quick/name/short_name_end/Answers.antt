@@ -1,5 +1,0 @@
-use Rattle.std.proofs.Common.{rules}
-use Rattle.sgf_properties.proofs.quick.name.short_name_end.Goals as goal
-
-pub returns-then-is_ascii_uppercase-clause-letters : goal.returns-then-is_ascii_uppercase-clause-letters
-returns-then-is_ascii_uppercase-clause-letters c = search rules

@@ -1,5 +1,0 @@
-use Rattle.std.proofs.Common.{refl}
-use Rattle.sgf_properties.proofs.scan.part.Goals as goal
-
-pub returns : goal.returns
-returns c = refl
