@@ -1,5 +1,5 @@
 -- Rows that give their points to the rows beside them, as a set is filled.
-use Rattle.std.proofs.Common.{◌≡◌, ◌≢◌, inl, inr, ℕ, ◌+◌, ◌-◌, ◌*◌, ◌^◌, ◌<◌, ◌≤◌, ◌⊎◌, ◌&&◌, ◌||◌, Bool, true, false, not, nat_eq, List, length, set, bit_and, bit_or, refl, sym, ap, ◌∙◌, arith, slice_index, subst, w64, length-set}
+use Rattle.std.proofs.Common.{◌≡◌, ◌≢◌, inl, inr, ℕ, ◌+◌, ◌-◌, ◌^◌, ◌<◌, ◌≤◌, ◌⊎◌, ◌&&◌, ◌||◌, Bool, true, false, not, nat_eq, List, length, set, bit_and, bit_or, refl, sym, ap, ◌∙◌, arith, slice_index, subst, w64, length-set}
 use Rattle.board_points.proofs.Common.{trailing_zeros, or_cases, or_left, or_right, and_parts, and_from, false≢true, cases_eq, cases_Bool, Up, Down, has_bit, is_set, IsAmong, IsClosed, Grows, IsPart, HasBeside, IsTaken, row_above, IsNext, opposite, AreRowsBelow, HaveGiven, HaveGivenBut, IsFilledBut, HaveMore, lacking}
 use Rattle.board_points.specs.declared.fill.Direction.{Direction}
 use Rattle.board_points.proofs.WordLemmas.{has_bit-or, has_bit-and, has_bit-zero, not_in_part, le_from_part}
@@ -314,13 +314,6 @@ IsFilledBut-swept region first rows ups count was all_rows only_rows = record {
 pub HaveMore-twice : (a b c : List ℕ) (first second third : ℕ) → HaveMore a b first second → HaveMore b c second third → HaveMore a c first third
 HaveMore-twice a b c first second third one other = grind arith
 
-HaveMore-sum : (a b c : List ℕ) (downs next : ℕ) → HaveMore a b 0 downs → HaveMore b c 0 next → HaveMore a c 0 next
-HaveMore-sum a b c downs next up down = grind arith
-
--- where two rounds change nothing, no row is flagged
-pub fewer_flags : (a b c : List ℕ) (ups downs next : ℕ) → ups ≢ 0 → next < 2 ^ 64 → HaveMore a b 0 downs → HaveMore b c 0 next → lacking c * 2 ^ 64 + next < lacking a * 2 ^ 64 + ups
-fewer_flags a b c ups downs next some low up down = grind (arith, HaveMore-sum)
-
 -- what the row that was widened last lacks
 pub after_sweep : (region rows : List ℕ) (r row word left : ℕ) → r ≡ row → slice_index rows row ≡ word → ((col : ℕ) → has_bit left col ≡ (has_bit (slice_index region row) col && not (has_bit word col))) → (col : ℕ) → has_bit left col ≡ (has_bit (slice_index region r) col && not (has_bit (slice_index rows r) col))
 after_sweep region rows r row word left same is left_is col = cc (left_is col)
@@ -404,6 +397,3 @@ module _ (d : Direction) (region rows : List ℕ) (row next given taken : ℕ) (
 abbrev pub rows_ahead : Direction → ℕ → ℕ
 rows_ahead Up row = row
 rows_ahead Down row = 64 - row
-
-pub fewer_ahead : (d : Direction) (row next : ℕ) → IsNext d row next → next < 64 → rows_ahead d next < rows_ahead d row
-fewer_ahead d row next is low = grind arith

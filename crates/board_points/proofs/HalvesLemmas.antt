@@ -1,6 +1,6 @@
 -- Sets of points in the halves of words.
 use Rattle.std.proofs.Common.{◌≡◌, ◌≢◌, inl, inr, ℕ, ◌+◌, ◌-◌, ◌*◌, ◌/◌, ◌%◌, ◌^◌, ◌<◌, ◌≤◌, ◌==◌, ◌&&◌, true, false, not, nat_lt, max, bit_and, count_ones, w64, List, slice_index, sym, ap, ◌∙◌, arith, length, subst, pow_pos}
-use Rattle.board_points.proofs.Common.{bit_at, bit_not, rotate_left, and_parts, and_from, cases_lt, Decides-ltb, common_steps, length-map, get_or_past, mod_below, ones_cat, bit_at_above, bit_at_cat_high, bit_at_cat_low, bit_at_or, bit_at-zero, same_from_bits, Point, low_halves, high_halves, ArePaired, AreOthersPaired, AreAdjacent, has_bit, is_set, AreAllColumns, IsAmong, IsClosed, IsPart}
+use Rattle.board_points.proofs.Common.{bit_at, bit_not, rotate_left, and_parts, and_from, cases_lt, Decides-ltb, common_steps, length-map, mod_below, ones_cat, bit_at_above, bit_at_cat_high, bit_at_cat_low, bit_at_or, bit_at-zero, same_from_bits, Point, low_halves, high_halves, AreOthersPaired, AreAdjacent, has_bit, is_set, AreAllColumns, IsAmong, IsClosed, IsPart}
 use Rattle.std.proofs.Math.ListN.{get_or-map}
 use Rattle.board_points.proofs.WordLemmas.{same_bools, bit_at-mod, column_below, has_bit-less, not_in_part, same_word}
 use Rattle.board_points.proofs.ColumnLemmas.{AreOthers}
@@ -193,13 +193,6 @@ IsPair black white row word = (word % 2 ^ 32 ≡ slice_index black row) × (word
 abbrev pub IsPairOfOthers : ℕ → List ℕ → List ℕ → ℕ → ℕ → Type 0
 IsPairOfOthers side black white row word =
     AreOthers side (slice_index white row) (word % 2 ^ 32) × AreOthers side (slice_index black row) (word / 2 ^ 32)
-
--- half a word of a row, where it is the row of a set up to the last row
-half_row : (f : ℕ → ℕ) (rows set : List ℕ) → f 0 ≡ 0 → length rows ≡ length set → ((r : ℕ) → r < length rows → f (slice_index rows r) ≡ slice_index set r) → (r : ℕ) → f (slice_index rows r) ≡ slice_index set r
-half_row f rows other none long each r = grind (arith, common_steps, cases_lt, get_or_past)
-
-pub paired_all : (black white rows : List ℕ) → length rows ≡ length black → length rows ≡ length white → ((r : ℕ) → r < length rows → IsPair black white r (slice_index rows r)) → ArePaired black white rows
-paired_all black white rows long_black long_white each = grind (arith, common_steps, get_or-map, half_row)
 
 pub others_paired_all : (black white rows : List ℕ) → length rows ≡ length black → length rows ≡ length white → ((r : ℕ) → r < length rows → IsPairOfOthers (length black) black white r (slice_index rows r)) → AreOthersPaired black white rows
 others_paired_all black white rows long_black long_white each = record {

@@ -96,12 +96,6 @@ pub record HaveLibertyInRow (own others : List ℕ) (row found : ℕ) : Type 0 w
 pub HaveLibertyInRow-row : (own others : List ℕ) (row wide : ℕ) → ((col : ℕ) → has_bit wide col ≡ true → HasLiberty own others (record { col = col; row = row })) → ((col : ℕ) → col < 64 → HasLiberty own others (record { col = col; row = row }) → has_bit wide col ≡ true) → HaveLibertyInRow own others row (bit_and (slice_index own row) wide)
 HaveLibertyInRow-row own others row wide from to = grind (arith, common_steps, and_from, and_parts, has_bit-and, slice_index)
 
-pub HaveLiberty-all : (own others found : List ℕ) → length found ≡ length own → ((r : ℕ) → r < length own → HaveLibertyInRow own others r (slice_index found r)) → HaveLiberty own others found
-HaveLiberty-all own others found long each = record {
-  from = λ q is. (each q.row (rw (← long) (row_below found q is))).from q.col is;
-  to = λ q low stone free. (each q.row (row_below own q stone)).to q.col low stone free;
-}
-
 -- a group that grew from stones linked to a stone is linked to it
 pub alive_linked : (own others start rows : List ℕ) (from : Point) → Grows (is_set own) (is_set start) (is_set rows) → ((p : Point) → is_set start p ≡ true → IsLinked (is_set own) from p) → HasOneAlive own others rows → (p : Point) × IsLiberty own others from p
 alive_linked own others start rows from grows linked alive = (

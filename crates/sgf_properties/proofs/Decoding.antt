@@ -1,6 +1,6 @@
 -- The rules of decoding, and the function that computes by them.
-use Rattle.std.proofs.Common.{◌≡◌, ◌≢◌, ℕ, Bool, true, false, ◌==◌, if◌then◌else◌, ◌-◌, ◌≤◌, List, [], ◌∷◌, ◌++◌, length, get_or, take, drop, refl, sym, ap, subst, ◌∙◌, append-nil, arith, rules, eqb-true}
-use Rattle.sgf_properties.proofs.Common.{take_rest, is_break, is_pair, MakesNoPair, IsDecoded, nothing, last_backslash, escaped_pair, escaped_break, escaped_byte, pair, line_break, ordinary_byte, spaced, unescaped, after_backslash, text_of}
+use Rattle.std.proofs.Common.{◌≡◌, ◌≢◌, ℕ, Bool, true, false, ◌==◌, List, [], ◌∷◌, ◌++◌, refl, sym, ap, subst, ◌∙◌, append-nil, arith, rules, eqb-true}
+use Rattle.sgf_properties.proofs.Common.{is_break, is_pair, MakesNoPair, IsDecoded, nothing, last_backslash, escaped_pair, escaped_break, escaped_byte, pair, line_break, ordinary_byte, unescaped, after_backslash, text_of}
 
 no_backslash : (b : ℕ) → (b == 92) ≡ false → b ≢ 92
 no_backslash b h = grind arith
@@ -73,21 +73,6 @@ text-after b rest h = search (rules, append-nil)
 
 text-pair : (b n : ℕ) (rest : List ℕ) → is_pair b n ≡ true → text_of (b ∷ n ∷ rest) ≡ 10 ∷ text_of rest
 text-pair b n rest h = search (rules, pair_no_backslash)
-
--- the same of a text that is given by its bytes
-pub text-escaped : (s : List ℕ) → 2 ≤ length s → get_or s 0 0 ≡ 92 → get_or s 1 0 ≢ 10 → get_or s 1 0 ≢ 13
-    → text_of s ≡ spaced (get_or s 1 0) ∷ text_of (take (length s - 2) (drop 2 s))
-text-escaped [] two first feed return = absurd (omega arith)
-text-escaped (a ∷ []) two first feed return = absurd (omega arith)
-text-escaped (a ∷ b ∷ rest) two first feed return =
-    let no : is_break b ≡ false = grind arith in
-    rw (take_rest (a ∷ b ∷ rest) 2)
-    (ap (λ x. text_of (x ∷ b ∷ rest)) first ∙ text-after b rest (no-pair b rest no) ∙ ap (λ y. (if y then [] else spaced b ∷ []) ++ text_of rest) no)
-
-pub text-paired : (s : List ℕ) → 2 ≤ length s → is_pair (get_or s 0 0) (get_or s 1 0) ≡ true → text_of s ≡ 10 ∷ text_of (take (length s - 2) (drop 2 s))
-text-paired [] two is = absurd (omega arith)
-text-paired (a ∷ []) two is = absurd (omega arith)
-text-paired (a ∷ b ∷ rest) two is = rw (take_rest (a ∷ b ∷ rest) 2) (text-pair a b rest is)
 
 -- and it is the one text
 pub decoded-is : {raw text : List ℕ} → IsDecoded raw text → text ≡ text_of raw

@@ -1,6 +1,6 @@
-use Rattle.std.proofs.Common.{◌<◌, ◌^◌, subst, arith, rules}
+use Rattle.std.proofs.Common.{subst, arith}
 use Rattle.board_points.proofs.Common.{Up, Down, IsFilledBut}
-use Rattle.board_points.proofs.GiveLemmas.{turned, fewer_flags, IsClosed-all}
+use Rattle.board_points.proofs.GiveLemmas.{turned, IsClosed-all}
 use Rattle.board_points.proofs.fill.fill.Goals as goal
 
 pub give_all-ups-requires-clause-within : goal.give_all-ups-requires-clause-within
@@ -20,12 +20,6 @@ passes-preserved c =
     let up = c.give_all-downs.ensures.filled c.args.rows.now c.passes.invariant in
     let down = c.give_all-ups.ensures.filled c.args.rows.now (turned Up c.args.region.now c.args.rows.now c.give_all-downs.new.rows c.give_all-downs.result up) in
     turned Down c.args.region.now c.args.rows.now c.give_all-ups.new.rows c.give_all-ups.result down
-
-pub passes-smaller : goal.passes-smaller
-passes-smaller c =
-    let low : c.give_all-ups.result < 2 ^ 64 = search rules in
-    fewer_flags c.passes.rows c.give_all-downs.new.rows c.give_all-ups.new.rows c.passes.ups c.give_all-downs.result c.give_all-ups.result c.passes-test.true low
-    c.give_all-downs.ensures.more c.give_all-ups.ensures.more
 
 pub returns-clause-closed : goal.returns-clause-closed
 returns-clause-closed c =

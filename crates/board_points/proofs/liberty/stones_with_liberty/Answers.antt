@@ -1,6 +1,6 @@
-use Rattle.std.proofs.Common.{◌∙◌, refl, arith}
+use Rattle.std.proofs.Common.{refl, arith}
 use Rattle.board_points.proofs.RowLemmas.{written_more}
-use Rattle.board_points.proofs.LinkedLemmas.{HaveLibertyInRow, HaveLibertyInRow-row, HaveLiberty-all}
+use Rattle.board_points.proofs.LinkedLemmas.{HaveLibertyInRow, HaveLibertyInRow-row}
 use Rattle.board_points.proofs.liberty.stones_with_liberty.Goals as goal
 
 pub loop-row-preserved : goal.loop-row-preserved
@@ -9,8 +9,3 @@ loop-row-preserved c =
     let near = c.columns_with_liberty in
     written_more (HaveLibertyInRow c.args.own.now c.args.others.now) l.found l.row _ (omega (arith, c.loop-row-test.true, l.auto.found, c.requires.found)) l.invariant
     (HaveLibertyInRow-row c.args.own.now c.args.others.now l.row near.result near.ensures.from (λ col low free. near.ensures.to (record { col = col; row = l.row }) refl low free))
-
-pub returns : goal.returns
-returns c =
-    HaveLiberty-all c.args.own.now c.args.others.now c.loop-row.found (c.loop-row.auto.found ∙ c.requires.found)
-    (λ r below. c.loop-row.invariant r (omega (arith, below, c.loop-row-test.false)))

@@ -1,11 +1,6 @@
 use Rattle.std.proofs.Common.{arith}
-use Rattle.board_points.proofs.RowLemmas.{added_next, added_all}
+use Rattle.board_points.proofs.RowLemmas.{added_all}
 use Rattle.board_points.proofs.rows.add_points.Goals as goal
-
-pub loop-row-preserved : goal.loop-row-preserved
-loop-row-preserved c =
-    let l = c.loop-row in
-    added_next c.args.all.now c.args.rows.now l.all l.row (omega (arith, c.loop-row-test.true, l.auto.all, c.requires)) l.invariant
 
 pub returns-clause-both : goal.returns-clause-both
 returns-clause-both c =

@@ -1,5 +1,5 @@
-use Rattle.std.proofs.Common.{inl, inr, refl, sym, ◌∙◌, length, rules}
-use Rattle.std.proofs.lemmas.Bool.{or_cases, false≢true}
+use Rattle.std.proofs.Common.{inl, inr, sym, ◌∙◌, length, rules}
+use Rattle.std.proofs.lemmas.Bool.{or_cases}
 use Rattle.board_points.proofs.LinkedLemmas.{none_in_front, IsLiberty-linked}
 use Rattle.board_points.proofs.quick.group.add_to_either.Goals as goal
 
@@ -7,12 +7,6 @@ pub has_liberty-requires-clause-none : goal.has_liberty-requires-clause-none
 has_liberty-requires-clause-none c = record {
   all = search rules;
   none = λ p. none_in_front (length c.args.own.now) 52 c.no_rows-words.result p c.no_rows-words.ensures;
-}
-
-pub returns-then-has_liberty-clause-shut : goal.returns-then-has_liberty-clause-shut
-returns-then-has_liberty-clause-shut c = record {
-  lives = λ _. (refl, c.has_liberty.ensures.lives c.if-has_liberty.true);
-  shut = λ no. absurd (false≢true no);
 }
 
 pub returns-then-has_liberty-clause-alive : goal.returns-then-has_liberty-clause-alive
@@ -28,9 +22,3 @@ returns-then-has_liberty-clause-alive c =
                 inr (part.0, (lives.0, IsLiberty-linked c.args.own.now c.args.others.now c.args.from p lives.0 c.requires.stone.there part.1 lives.1)))
           ];
     }
-
-pub returns-clause-shut : goal.returns-clause-shut
-returns-clause-shut c = record {
-  lives = λ no. absurd (false≢true (sym no));
-  shut = λ _. (c.has_liberty.new.group, c.has_liberty.ensures.shut c.if-has_liberty.false, c.add_points-2.ensures.rows, c.add_points-2.ensures.both);
-}

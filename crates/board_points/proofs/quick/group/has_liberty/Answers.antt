@@ -104,9 +104,6 @@ returns-then-is_in_one_row-clause-part c = λ stone is.
     let w = (goal.at.returns-then-is_in_one_row-clause-part c).After-from-first in
     ((start_within w).within stone is, linked w stone is)
 
-pub lives_ahead-requires-clause-group : goal.lives_ahead-requires-clause-group
-lives_ahead-requires-clause-group c = start_within (goal.at.lives_ahead-requires-clause-group c).After-from-first
-
 pub returns-then-lives_ahead-clause-lives : goal.returns-then-lives_ahead-clause-lives
 returns-then-lives_ahead-clause-lives c = λ is.
     alive (goal.at.returns-then-lives_ahead-clause-lives c).After-from-first _ c.lives_ahead.ensures.grows (c.lives_ahead.ensures.lives c.if-lives_ahead.true)
@@ -146,14 +143,3 @@ returns-clause-part c =
     let w = (goal.at.returns-clause-part c).After-from-first in
     let grows = Grows-twice (own w) (start w) c.lives_ahead.new.group c.lives_ahead-2.new.group c.lives_ahead.ensures.grows c.lives_ahead-2.ensures.grows in
     part w _ (Grows-twice (own w) (start w) c.lives_ahead-2.new.group c.fill.new.rows grows c.fill.ensures.grows)
-
-pub returns-then-lives_ahead-clause-all : goal.returns-then-lives_ahead-clause-all
-returns-then-lives_ahead-clause-all c = omega (arith, c.lives_ahead.ensures.all, length-set c.args.group.now c.from-first.result c.args.joined, c.requires.none.all)
-
-pub returns-then-lives_ahead-2-clause-all : goal.returns-then-lives_ahead-2-clause-all
-returns-then-lives_ahead-2-clause-all c =
-    omega (arith, c.lives_ahead-2.ensures.all, c.lives_ahead.ensures.all, length-set c.args.group.now c.from-first.result c.args.joined, c.requires.none.all)
-
-pub returns-clause-all : goal.returns-clause-all
-returns-clause-all c =
-    omega (arith, c.fill.auto.rows, c.lives_ahead-2.ensures.all, c.lives_ahead.ensures.all, length-set c.args.group.now c.from-first.result c.args.joined, c.requires.none.all)

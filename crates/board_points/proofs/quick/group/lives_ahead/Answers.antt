@@ -2,7 +2,7 @@ use Rattle.std.proofs.Common.{◌≡◌, ◌<◌, length, set, slice_index, bit_
 use Rattle.std.proofs.lemmas.Bool.{and_parts}
 use Rattle.board_points.proofs.WordLemmas.{has_bit-and}
 use Rattle.board_points.proofs.GrowLemmas.{Grows-twice}
-use Rattle.board_points.proofs.GiveLemmas.{Grows-take, take-there, fewer_ahead}
+use Rattle.board_points.proofs.GiveLemmas.{Grows-take, take-there}
 use Rattle.board_points.proofs.LinkedLemmas.{common_column}
 use Rattle.board_points.proofs.quick.group.lives_ahead.Goals as goal
 
@@ -55,8 +55,3 @@ rows-preserved c =
       row = c.if-next-own.false;
       given = take-there c.args.direction own l.group l.row next l.given w.result.0 is_next below l.invariant.within.within l.invariant.given w.ensures.within w.ensures.kept w.ensures.least;
     }
-
-pub rows-smaller : goal.rows-smaller
-rows-smaller c =
-    let few : c.next-next.result < 64 = omega (arith, c.if-next-own.false, c.rows.invariant.within.same, c.rows.invariant.within.few) in
-    fewer_ahead c.args.direction c.rows.row c.next-next.result (c.next-next.ensures.next few) few

@@ -1,5 +1,5 @@
-use Rattle.std.proofs.Common.{◌^◌, ◌<◌, IsTrue, sym, subst, rules}
-use Rattle.board_points.proofs.Common.{HasLiberty, has_bit}
+use Rattle.std.proofs.Common.{◌^◌, ◌<◌, sym, subst, rules}
+use Rattle.board_points.proofs.Common.{HasLiberty}
 use Rattle.board_points.proofs.LinkedLemmas.{common_column, none_lives}
 use Rattle.board_points.proofs.quick.group.row_in_doubt.Goals as goal
 
@@ -25,15 +25,3 @@ returns-clause-doubt c =
       shut = λ col. none_lives c.args.own.now c.args.others.now c.from-row.result joined.result c.columns_with_liberty-free.result low c.columns_with_liberty-free.ensures.to
           c.if-joined-free-ne0.false (record { col = col; row = c.args.from.row }) (sym c.from-row.ensures);
     }
-
-pub returns-then-has_column-clause-lives : goal.returns-then-has_column-clause-lives
-returns-then-has_column-clause-lives c =
-    let col = c.args.from.col in
-    let set : IsTrue (has_bit c.columns_with_liberty-free.result col) = search rules in (
-      c.args.from,
-      record {
-        own_stone = search rules;
-        linked = λ test closed start. start;
-        liberty = subst (λ r. HasLiberty c.args.own.now c.args.others.now (record { col = col; row = r })) c.from-row.ensures (c.columns_with_liberty-free.ensures.from col set);
-      },
-    )

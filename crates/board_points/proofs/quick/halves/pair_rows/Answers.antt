@@ -1,6 +1,6 @@
 use Rattle.std.proofs.Common.{◌≡◌, ◌∙◌, ◌<◌, ◌/◌, ◌%◌, ◌^◌, sym, length, slice_index, arith, rules}
 use Rattle.board_points.proofs.RowLemmas.{written_more}
-use Rattle.board_points.proofs.HalvesLemmas.{fits_half, left_low, left_high, others_of_all, IsPair, IsPairOfOthers, paired_all, others_paired_all}
+use Rattle.board_points.proofs.HalvesLemmas.{fits_half, left_low, left_high, others_of_all, IsPair, IsPairOfOthers, others_paired_all}
 use Rattle.board_points.proofs.quick.halves.pair_rows.Goals as goal
 
 pub paired-all-requires-clause-low : goal.paired-all-requires-clause-low
@@ -16,16 +16,6 @@ paired-area-requires-clause-low c =
 pub paired-area-requires-clause-high : goal.paired-area-requires-clause-high
 paired-area-requires-clause-high c =
     fits_half _ (length c.args.black.now) c.requires.stones.few (λ col is. (c.requires.stones.white_on (record { col = col; row = c.rows.row }) is).0)
-
--- the next two answers are only there for speed
-pub rows-init : goal.rows-init
-rows-init c = record { areas = λ r low. absurd (omega arith); region = λ r low. absurd (omega arith) }
-
-pub returns-clause-areas : goal.returns-clause-areas
-returns-clause-areas c =
-    let long = c.rows.auto.areas ∙ c.requires.areas in
-    paired_all c.args.black.now c.args.white.now c.rows.areas long (long ∙ sym c.requires.stones.same)
-    (λ r below. c.rows.invariant.areas r (omega (arith, below, long, c.rows-test.false)))
 
 pub returns-clause-region : goal.returns-clause-region
 returns-clause-region c =
