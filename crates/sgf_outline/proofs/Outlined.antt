@@ -231,8 +231,8 @@ module _ (text : List ℕ) (kept : Sequences) (outlined : IsOutlined text kept) 
   kept-by = subst (λ c. AreKept text kept.segments.items kept.table.items (sequences_of c)) is outlined.held.are
 
   -- there is an entry for each sequence
-  pub table-length : length kept.table.items ≡ length (sequence_starts g)
-  table-length = kept-by.count ∙ sym (length-map (sequences_of g) number_of) ∙ ap length (listed-starts g)
+  pub table_length : length kept.table.items ≡ length (sequence_starts g)
+  table_length = kept-by.count ∙ sym (length-map (sequences_of g) number_of) ∙ ap length (listed-starts g)
 
   pub entry-in : (i : ℕ) (entry : Sequence) → i < length (sequence_starts g) → entry ≡ get_or kept.table.items i entry → IsEntryOf text kept.segments.items g i entry
   entry-in i entry lt here =
@@ -240,7 +240,7 @@ module _ (text : List ℕ) (kept : Sequences) (outlined : IsOutlined text kept) 
     where
       of : (s : Listed) → slice_get (sequences_of g) i ≡ Some s → IsEntryOf text kept.segments.items g i entry
       of s at =
-          let k : IsKept text kept.segments.items entry s = kept-by.each i entry s (slice_get_read kept.table.items _ i entry refl (omega (arith, lt, table-length)) here) at in
+          let k : IsKept text kept.segments.items entry s = kept-by.each i entry s (slice_get_read kept.table.items _ i entry refl (omega (arith, lt, table_length)) here) at in
           let start : sequence_start g i ≡ s.number = start-listed g i s at in
           let end : sequence_end g i ≡ last_number s + 1 = end-listed g i s at in
           let e : s.number + 0 ≡ s.number = omega arith in

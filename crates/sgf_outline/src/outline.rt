@@ -1,5 +1,7 @@
 //! The outline of a collection: its sequences in file order, numbered from 0.
 
+#![tactic(auto, using(crate::proofs::Outlined::table_length))]
+
 ghost use Rattle.std.specs.Prelude.{◌≡◌, ◌-◌, ◌<◌, ◌≤◌, ◌++◌, ◌↔◌, ℕ, [], Some, None, length, IsTrue, IfSome, OnOk, OnErr, MatchOption};
 ghost use Rattle.std.specs.List.{flat_map};
 ghost use Rattle.sgf_outline.specs.declared.limit.TheConstants.{MAX_LENGTH};

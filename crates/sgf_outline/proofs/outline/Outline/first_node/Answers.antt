@@ -1,10 +1,6 @@
-use Rattle.std.proofs.Common.{arith}
 use Rattle.sgf_outline.specs.FileOrder.{sequence_start}
-use Rattle.sgf_outline.proofs.Outlined.{table-length, entry-in}
+use Rattle.sgf_outline.proofs.Outlined.{entry-in}
 use Rattle.sgf_outline.proofs.outline.Outline.first_node.Goals as goal
-
-pub index-requires : goal.index-requires
-index-requires c = omega (arith, c.requires, table-length c.self.inside.text.now c.self.inside.sequences c.self.invariant.0 _ c.self.view_is)
 
 pub node_at-requires : goal.node_at-requires
 node_at-requires c = (

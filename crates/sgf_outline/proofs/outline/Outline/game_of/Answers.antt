@@ -1,14 +1,11 @@
 use Rattle.sgf_outline.proofs.Common.{common_steps, outer_by}
-use Rattle.std.proofs.Common.{◌≡◌, None, sym, ◌∙◌, arith}
-use Rattle.sgf_outline.proofs.Outlined.{IsEntryOf, table-length, entry-in, game-outer, outer-none}
+use Rattle.std.proofs.Common.{◌≡◌, None, arith, rules}
+use Rattle.sgf_outline.proofs.Outlined.{IsEntryOf, entry-in, game-outer, outer-none}
 use Rattle.sgf_outline.proofs.outline.Outline.game_of.Goals as goal
 use Rattle.sgf_outline.proofs.outline.Outline.game_of.Goals.{After-index}
 
 pub climb-preserved : goal.climb-preserved
 climb-preserved c = grind (arith, common_steps, game-outer)
-
-pub index-requires : goal.index-requires
-index-requires c = omega (arith, c.climb.invariant.within, table-length c.self.inside.text.now c.self.inside.sequences c.self.invariant.0 _ c.self.view_is)
 
 entry : (c : After-index) → IsEntryOf c.self.inside.text.now c.self.inside.sequences.segments.items c.args.self.now c.climb.at c.index.result.now
 entry c = entry-in c.self.inside.text.now c.self.inside.sequences c.self.invariant.0 _ c.self.view_is c.climb.at c.index.result.now c.climb.invariant.within c.index.ensures
@@ -20,6 +17,4 @@ pub game-requires : goal.game-requires
 game-requires c = root (goal.at.game-requires c).After-index
 
 pub returns : goal.returns
-returns c =
-    let at = (goal.at.returns c).After-index in
-    c.game.ensures ∙ sym ((entry at).root_is (root at)).1 ∙ c.climb.invariant.same
+returns c = search (rules, entry, root)

@@ -1,4 +1,4 @@
-use Rattle.std.proofs.Common.{◌≤◌, length, arith}
+use Rattle.std.proofs.Common.{◌≤◌, length, arith, rules}
 use Rattle.sgf_properties.proofs.KeptLengths.{kept-drop}
 use Rattle.sgf_outline.proofs.Outlined.{node-in}
 use Rattle.sgf_outline.proofs.outline.Outline.node_at.Goals as goal
@@ -16,6 +16,4 @@ invariant_of-result c =
     rw c.rest_from.ensures (node.1, kept-drop s.text.now c.args.place _ within c.self.invariant.1)
 
 pub returns : goal.returns
-returns c i at =
-    let s = c.self.inside in
-    rw c.rest_from.ensures (node-in s.text.now s.sequences c.self.invariant.0 c.args.self.now c.self.view_is i c.args.place at).0
+returns c i at = search (rules, node-in)

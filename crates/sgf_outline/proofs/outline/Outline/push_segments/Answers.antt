@@ -1,12 +1,9 @@
 use Rattle.std.proofs.Common.{◌+◌, ◌∙◌, [], ◌∷◌, drop, slice_range, refl, sym, arith, append_assoc, append-nil, rules, flat_map}
 use Rattle.sgf_outline.proofs.Common.{nodes_at, sequence_numbers, AreWhole, node_text}
-use Rattle.sgf_outline.proofs.Outlined.{IsEntryOf, table-length, entry-in}
+use Rattle.sgf_outline.proofs.Outlined.{IsEntryOf, entry-in}
 use Rattle.sgf_outline.proofs.SegmentsKept.{whole-first}
 use Rattle.sgf_outline.proofs.outline.Outline.push_segments.Goals as goal
 use Rattle.sgf_outline.proofs.outline.Outline.push_segments.Goals.{After-index-sequence, After-index-segment}
-
-pub index-sequence-requires : goal.index-sequence-requires
-index-sequence-requires c = omega (arith, c.requires, table-length c.self.inside.text.now c.self.inside.sequences c.self.invariant.0 _ c.self.view_is)
 
 -- what the entry says of the sequence
 entry : (c : After-index-sequence) → IsEntryOf c.self.inside.text.now c.self.inside.sequences.segments.items c.args.self.now c.args.i c.index-sequence.result.now

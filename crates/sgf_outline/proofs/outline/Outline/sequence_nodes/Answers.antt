@@ -1,11 +1,7 @@
-use Rattle.std.proofs.Common.{◌<◌, [], arith, ap, length, sym, subst, ◌∙◌, rules}
+use Rattle.std.proofs.Common.{◌<◌, [], ap, length, sym, subst, ◌∙◌, rules}
 use Rattle.sgf_outline.proofs.Common.{sequence_starts, sequence_start, sequence_end, games_in, nodes_between}
-use Rattle.sgf_outline.proofs.Outlined.{table-length}
 use Rattle.sgf_outline.proofs.Traversing.{sequence-traversal}
 use Rattle.sgf_outline.proofs.outline.Outline.sequence_nodes.Goals as goal
-
-pub index-requires : goal.index-requires
-index-requires c = omega (arith, c.requires, table-length c.self.inside.text.now c.self.inside.sequences c.self.invariant.0 _ c.self.view_is)
 
 pub invariant_of-result : goal.invariant_of-result
 invariant_of-result c =

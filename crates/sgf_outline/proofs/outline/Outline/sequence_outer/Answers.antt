@@ -1,10 +1,7 @@
-use Rattle.std.proofs.Common.{sym, ◌∙◌, arith}
-use Rattle.sgf_outline.proofs.Outlined.{IsEntryOf, table-length, entry-in}
+use Rattle.std.proofs.Common.{sym, ◌∙◌}
+use Rattle.sgf_outline.proofs.Outlined.{IsEntryOf, entry-in}
 use Rattle.sgf_outline.proofs.outline.Outline.sequence_outer.Goals as goal
 use Rattle.sgf_outline.proofs.outline.Outline.sequence_outer.Goals.{After-outer}
-
-pub index-requires : goal.index-requires
-index-requires c = omega (arith, c.requires, table-length c.self.inside.text.now c.self.inside.sequences c.self.invariant.0 _ c.self.view_is)
 
 entry : (c : After-outer) → IsEntryOf c.self.inside.text.now c.self.inside.sequences.segments.items c.args.self.now c.args.i c.index.result.now
 entry c = entry-in c.self.inside.text.now c.self.inside.sequences c.self.invariant.0 _ c.self.view_is c.args.i c.index.result.now c.requires c.index.ensures
