@@ -1,5 +1,5 @@
 -- What the words of bits around a point tell of a stone on it.
-use Rattle.std.proofs.Common.{◌≡◌, ◌≢◌, inl, inr, ℕ, zero, suc, ◌+◌, ◌-◌, ◌*◌, ◌/◌, ◌%◌, ◌^◌, ◌<◌, ◌==◌, ◌||◌, Bool, true, false, not, List, length, get_or, bit_and, bit_or, w64, refl, sym, ap, ◌∙◌, arith, subst, rules}
+use Rattle.std.proofs.Common.{◌≡◌, ◌≢◌, inl, inr, ℕ, zero, suc, ◌+◌, ◌-◌, ◌*◌, ◌/◌, ◌%◌, ◌^◌, ◌<◌, ◌==◌, ◌||◌, Bool, true, false, List, length, get_or, bit_and, bit_or, w64, refl, sym, ap, ◌∙◌, arith, subst, rules}
 use Rattle.board_points.proofs.Common.{bit_not, or_parts, and_parts, and_cases, and_from, not-true, false≢true, false_from_ne_true, common_steps, bit_at_ones, RowStones, Point, KeepsLiberty, Lives, IsOn, DifferByOne, AreAdjacent, has_bit, is_set, IsOpenBeside, AreColumnsOff, IsInRowAround, IsRowAt, IsNextRow, AreFree, IsLookedAt}
 use Rattle.board_points.proofs.WordLemmas.{has_bit-or, has_bit-and, has_bit-left, has_bit-right, has_bit-without, has_bit-zero, column_below}
 

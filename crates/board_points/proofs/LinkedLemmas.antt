@@ -1,8 +1,8 @@
 -- The group of a stone, and the points beside it.
 use Rattle.std.proofs.Common.{◌≡◌, ◌≢◌, inl, inr, ℕ, zero, suc, ◌+◌, ◌*◌, ◌/◌, ◌%◌, ◌^◌, ◌<◌, subst, Bool, not, ◌&&◌, ◌||◌, true, false, w64, List, length, set, take, replicate, bit_and, bit_or, slice_index, refl, sym, ap, ◌∙◌, arith, rules}
-use Rattle.board_points.proofs.Common.{bit_not, trailing_zeros, or_cases, or_left, or_right, or_parts, and_parts, and_from, false≢true, cases_Bool, common_steps, RowStones, Point, HasLiberty, HaveLiberty, IsLinked, IsLiberty, IsOn, DifferByOne, AreAdjacent, has_bit, is_set, IsAmong, IsClosed, Grows, IsPart, IsInOrBeside, HasOneAlive, IsRowAt}
+use Rattle.board_points.proofs.Common.{bit_not, trailing_zeros, or_cases, or_left, or_right, or_parts, and_parts, and_from, false≢true, cases_Bool, common_steps, RowStones, Point, HasLiberty, IsLinked, IsLiberty, IsOn, DifferByOne, AreAdjacent, has_bit, is_set, IsAmong, IsClosed, Grows, IsPart, IsInOrBeside, HasOneAlive, IsRowAt}
 use Rattle.board_points.proofs.PointLemmas.{AreAdjacent-sym, DifferByOne-sym}
-use Rattle.board_points.proofs.GrowLemmas.{set_there, set_elsewhere, row_below}
+use Rattle.board_points.proofs.GrowLemmas.{set_there, set_elsewhere}
 use Rattle.board_points.proofs.WordLemmas.{has_bit-not, in_complement, has_bit-or, has_bit-and, has_bit-left, from_left, has_bit-right, has_bit-zero, column_below}
 use Rattle.board_points.proofs.ColumnLemmas.{lowest_left}
 
