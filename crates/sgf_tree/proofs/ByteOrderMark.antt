@@ -1,10 +1,8 @@
 -- The byte order mark, by the machine, and the white space after it.
 use Rattle.std.proofs.Common.{rules, ◌≡◌, ◌≢◌, ℕ, ◌+◌, ◌<◌, ◌≤◌, inl, inr, List, [], length, get_or, refl, ◌∙◌, arith, ne_eqb}
 use Rattle.sgf_tree.proofs.Common.{cases_lt, IsSpan, Stack, start, first_of_mark, second_of_mark, after_game, next_state, accepted, is_white_space, no_games, IsFaultyAt, StandsBetween, IsByteOrderMarkRead, ComesTo}
-use Rattle.sgf_tree.proofs.GamesLoop.{game-next}
+use Rattle.sgf_tree.proofs.GamesLoop.{stands-after}
 use Rattle.sgf_tree.proofs.Run.{run-take-none, run-take-step}
-use Rattle.sgf_tree.proofs.Skipping.{stays-after_game}
-use Rattle.sgf_tree.proofs.Spans.{run-white}
 use Rattle.sgf_tree.proofs.ValueEnds.{stops-faulty}
 
 -- no game yet
@@ -55,12 +53,7 @@ module _ (t : List ℕ) where
             let short : mark < length t = omega (arith, white.within) in
             let first : ComesTo t (mark + 1) (after_game nothing) =
             run-take-step t mark read.state (after_game nothing) read.reached short (read.next short ∙ (let space = white.passing mark (omega arith) lt in rw space)) in
-            record {
-              state = after_game nothing;
-              reached = run-white t (mark + 1) at (after_game nothing) (stays-after_game nothing) (omega arith) white.within (λ i lo hi. white.passing i (omega arith) hi) first;
-              next = λ _. game-next at nothing (get_or t at 0);
-              end = refl;
-              not_white_space = white.stops;
-            }
+            stands-after t (mark + 1) at nothing
+            (record { rises = omega arith; within = white.within; passing = λ i lo hi. white.passing i (omega arith) hi; stops = white.stops }) first
         | inr ge ↦ search rules
       ]

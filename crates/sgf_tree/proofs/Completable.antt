@@ -125,16 +125,13 @@ complete-game no_games [] = via (after_game no_stack) 40 (opened no_stack) (lit<
 complete-game (game f m b h) [] = ([], All-nil (λ b. b < 256), λ at. (game f m b h, refl))
 complete-game closed (g ∷ gs) = complete-unclosed (after_game (record { closed = closed; unclosed = g ∷ gs })) closed (g ∷ gs) (λ _. refl) tt
 
-complete-mark : Completable second_of_mark
-unfolding next_state
-complete-mark = via second_of_mark 191 (after_game no_stack) (lit< tt) (λ _. refl) (complete-game no_games [])
-
 -- each of them can be completed
 pub complete : (z : MachineState) → Reached z → Completable z
 unfolding next_state
 complete start h = via start 40 (opened no_stack) (lit< tt) (λ _. refl) (complete-opened no_stack)
-complete first_of_mark h = via first_of_mark 187 second_of_mark (lit< tt) (λ _. refl) complete-mark
-complete second_of_mark h = complete-mark
+complete first_of_mark h =
+    via first_of_mark 187 second_of_mark (lit< tt) (λ _. refl) (via second_of_mark 191 (after_game no_stack) (lit< tt) (λ _. refl) (complete-game no_games []))
+complete second_of_mark h = via second_of_mark 191 (after_game no_stack) (lit< tt) (λ _. refl) (complete-game no_games [])
 complete (opened k) h = complete-opened k
 complete (in_node n) h =
     let whole : Node = record { place = n.place; properties = n.properties } in

@@ -37,14 +37,7 @@ pub refused-fault : (t : List ℕ) (at : ℕ) (z : MachineState) → at < length
     → next_state at z (get_or t at 0) ≡ None → IsFirstFault t at × ((c : Games) → Spells c t → ⊥)
 unfolding collection_of
 refused-fault t at z lt h s =
-    let r : run 0 start (take (at + 1) t) ≡ None = run-take-more t at z lt h ∙ s in (
-      record {
-        within = omega arith;
-        begins = runs-begins (take at t) z h;
-        greatest = λ n _ b. begins-below t at r n b;
-      },
-      λ c i. none-some c (sym (ap (option_and_then accepted) (refused-front (at + 1) t r)) ∙ spelled-accepted c t i),
-    )
+    let r : run 0 start (take (at + 1) t) ≡ None = run-take-more t at z lt h ∙ s in grind (arith, common_steps, run-take-more, runs-begins, begins-below, none-some, refused-front, spelled-accepted)
 
 pub ended-fault : (t : List ℕ) (z : MachineState) → run 0 start t ≡ Some z → accepted z ≡ None
     → IsFirstFault t (length t) × ((c : Games) → Spells c t → ⊥)

@@ -1,15 +1,10 @@
 -- How the machine goes from game to game.
 use Rattle.sgf_tree.proofs.Common.{common_steps, IsSpan, UnclosedGame, Stack, opened, after_game, between_games, close_in, whole_game, next_state, accepted, is_white_space, Games, no_games, game, game_count, unclosed_count, IsFaultyAt, StandsBetween, ComesTo}
-use Rattle.std.proofs.Common.{◌≡◌, ◌≢◌, ℕ, ◌+◌, ◌<◌, ◌≤◌, false, List, [], ◌∷◌, length, get_or, Some, None, refl, ap, subst, ◌∙◌, arith, ne_eqb}
-use Rattle.sgf_outline.proofs.GameEnds.{add_games, closed-in, node_count-followed}
+use Rattle.std.proofs.Common.{◌≡◌, ◌≢◌, ℕ, ◌+◌, ◌<◌, ◌≤◌, false, List, [], ◌∷◌, length, get_or, Some, None, refl, ap, subst, ◌∙◌, arith, ne_eqb, rules}
+use Rattle.sgf_outline.proofs.GameEnds.{add_games, closed-in}
 use Rattle.sgf_tree.proofs.Run.{run-take-step}
-use Rattle.sgf_tree.proofs.Skipping.{stays-after_game}
 use Rattle.sgf_tree.proofs.Spans.{run-white}
 use Rattle.sgf_tree.proofs.ValueEnds.{ends-faulty, refused-faulty}
-
-pub game-next : (at : ℕ) (k : Stack) (b : ℕ) → next_state at (after_game k) b ≡ between_games k b
-unfolding next_state
-game-next at k b = refl
 
 pub none-accepted : (closed : Games) → game_count closed ≡ 0 → accepted (after_game (record { closed = closed; unclosed = [] })) ≡ None
 unfolding accepted
@@ -25,20 +20,24 @@ some-accepted (game first more below after) h = refl
 between-refused : (k : Stack) (b : ℕ) → is_white_space b ≡ false → b ≢ 40 → b ≢ 41 → between_games k b ≡ None
 between-refused k b white ne40 ne41 = rw (white, ne_eqb b 40 ne40, ne_eqb b 41 ne41)
 
--- how many nodes there are, and how many games are unclosed, after a game ends
-pub unclosed_count-closed : (closed : Games) (g : UnclosedGame) (gs : List UnclosedGame)
-    → unclosed_count (add_games closed gs (whole_game g)).closed (add_games closed gs (whole_game g)).unclosed ≡ unclosed_count closed (g ∷ gs)
-unclosed_count-closed closed g [] = omega (arith, node_count-followed closed (whole_game g))
-unclosed_count-closed closed g (h ∷ hs) = omega (arith, node_count-followed h.below (whole_game g))
-
 pub depth-closed : (closed : Games) (g : UnclosedGame) (gs : List UnclosedGame) → length (add_games closed gs (whole_game g)).unclosed ≡ length gs
-depth-closed closed g [] = refl
-depth-closed closed g (h ∷ hs) = refl
+depth-closed closed g gs = search rules
 
 -- an unclosed game has a node
 pub depth-within : (closed : Games) (gs : List UnclosedGame) → length gs ≤ unclosed_count closed gs
 depth-within closed [] = omega arith
 depth-within closed (g ∷ gs) = omega (arith, depth-within closed gs)
+
+-- after a game and white space
+pub stands-after : (t : List ℕ) (from at : ℕ) (k : Stack) → IsSpan is_white_space t from at → ComesTo t from (after_game k) → StandsBetween t at k
+unfolding next_state
+stands-after t from at k white reached = record {
+  state = after_game k;
+  reached = run-white t from at (after_game k) (λ b at h. rw h) white.rises white.within white.passing reached;
+  next = λ _. refl;
+  end = refl;
+  not_white_space = white.stops;
+}
 
 module _ (t : List ℕ) where
   module _ (at : ℕ) (k : Stack) (stands : StandsBetween t at k) where
@@ -61,13 +60,7 @@ module _ (t : List ℕ) where
         let k' : Stack = add_games k.closed gs (whole_game g) in
         let step_is : next_state at stands.state (get_or t at 0) ≡ Some (after_game k') =
         stands.next lt ∙ ap (between_games k) e ∙ ap (close_in k.closed) is ∙ closed-in k.closed g gs in
-        record {
-          state = after_game k';
-          reached = run-white t (at + 1) next (after_game k') (stays-after_game k') white.rises white.within white.passing (run-take-step t at stands.state (after_game k') stands.reached lt step_is);
-          next = λ _. game-next next k' (get_or t next 0);
-          end = refl;
-          not_white_space = white.stops;
-        }
+        stands-after t (at + 1) next k' white (run-take-step t at stands.state (after_game k') stands.reached lt step_is)
 
     -- the end of the text
     module _ (ends : at ≡ length t) where

@@ -1,5 +1,5 @@
 -- What is kept of all nodes: with one more unclosed game, and after a game that ends.
-use Rattle.sgf_tree.proofs.Common.{common_steps, length-map, map-append, set_at, further_nodes, UnclosedGame, Stack, after_game, whole_game, close, HoldsSequences, Coming, nothing, own_of, places_of, coming_of, with_game, Node, Games, no_games, node_count, unclosed_count, Numbered, unclosed_nodes, lasts, unclosed_lasts, ordered_places, HoldsNodes}
+use Rattle.sgf_tree.proofs.Common.{common_steps, length-map, map-append, set_at, further_nodes, UnclosedGame, Stack, after_game, whole_game, close, HoldsSequences, Coming, nothing, own_of, places_of, coming_of, with_game, Node, Games, no_games, node_count, unclosed_count, Numbered, unclosed_nodes, lasts, ordered_places, HoldsNodes}
 use Rattle.std.proofs.Common.{◌≡◌, ℕ, ◌+◌, ◌-◌, List, [], ◌∷◌, ◌++◌, length, set, Some, refl, sym, ap, ◌∙◌, arith, append-nil}
 use Rattle.sgf_outline.proofs.GameEnds.{add_games, game-ends}
 use Rattle.sgf_outline.proofs.Listed.{before}
@@ -44,15 +44,7 @@ module _ (text : List ℕ) (kept : Numbered) where
         let last : length kept.places.items - 1 ≡ at + length g.more + node_count g.below =
         omega (arith, length-places (record { closed = closed; unclosed = g ∷ gs }) holds) in
         let (places, lasts_are) = closes i holds.sequences.innermost_is in
-        record {
-          sequences = sequences;
-          places_are = rw places (holds.places_are ∙ ap (λ ns. ordered_places ns ++ []) (sym (unclosed_nodes-closed closed g gs)));
-          places_within = rw places holds.places_within;
-          lasts_are =
-              lasts_are ∙ ap (λ ls. set ls i (length kept.places.items - 1)) holds.lasts_are
-              ∙ set_at (unclosed_lasts closed gs) 0 later (length kept.places.items - 1) i (unclosed_lasts-listed closed gs)
-              ∙ ap (λ n. unclosed_lasts closed gs ++ n ∷ later) last ∙ sym (unclosed_lasts-closed closed g gs);
-        }
+        grind (arith, common_steps, unclosed_nodes-closed, set_at, unclosed_lasts-listed, unclosed_lasts-closed)
 
     pub nodes-ended : (k next : Stack) → close k ≡ Some (after_game next) → Ends k next
     nodes-ended = game-ends Ends each-ended

@@ -24,7 +24,6 @@ pub mod Reading
 pub mod ReadingGames
 pub mod SpelledAccepted
 pub mod Faults
-pub mod Skipping
 pub mod Spans
 pub mod Examples
 pub mod PlacesKept

@@ -1,9 +1,8 @@
 -- How the name of a property is read, up to the `[` after it.
-use Rattle.sgf_tree.proofs.Common.{cases_lt, or_cases, or_parts, common_steps, filter-append, is_letter, name_in, IsSpan, IsBracket, Started, MachineState, in_name, after_name, in_value, next_state, accepted, is_white_space, is_upper, is_lower, IsFaultyAt, ComesTo, IsNameRead}
+use Rattle.sgf_tree.proofs.Common.{cases_lt, or_cases, or_parts, common_steps, filter-append, is_letter, name_in, IsSpan, IsBracket, Started, MachineState, in_name, after_name, in_value, next_state, accepted, is_white_space, is_upper, IsFaultyAt, ComesTo, IsNameRead}
 use Rattle.std.proofs.Common.{◌≡◌, ◌≢◌, ℕ, zero, suc, ◌+◌, ◌-◌, ◌<◌, ◌≤◌, false, inl, inr, IsTrue, List, [], ◌∷◌, ◌++◌, length, get_or, slice_range, Some, None, refl, sym, ap, subst, ◌∙◌, arith, if◌then◌else◌, ne_eqb, rules}
 use Rattle.sgf_properties.proofs.Classes.{white-not_upper, white-not_lower}
 use Rattle.sgf_tree.proofs.Run.{run-take-step}
-use Rattle.sgf_tree.proofs.Skipping.{stays-after_name}
 use Rattle.sgf_properties.proofs.Spans.{span-none}
 use Rattle.sgf_tree.proofs.Spans.{run-white, run-letters}
 use Rattle.sgf_properties.proofs.ValueEnds.{span-join}
@@ -16,12 +15,7 @@ name-reached t start end n lt capital letters h =
     let b : ℕ = get_or t start 0 in
     let longer : start < end = name-longer t start end lt capital letters in
     let parts : slice_range t start end ≡ (b ∷ []) ++ slice_range t (start + 1) end = name-begins t start end lt capital letters in
-    let name : name_in (slice_range t start end) ≡ (b ∷ []) ++ name_in (slice_range t (start + 1) end) =
-    ap name_in parts ∙ filter-append is_upper (b ∷ []) (slice_range t (start + 1) end)
-    ∙ ap (λ c. (if c then b ∷ [] else []) ++ name_in (slice_range t (start + 1) end)) capital in
-    rw name
-    (run-letters t (start + 1) end n (b ∷ []) (omega arith) letters.within
-    (λ i low high. or_cases (is_upper (get_or t i 0)) (is_lower (get_or t i 0)) (letters.passing i (omega arith) high)) h)
+    search (rules, filter-append, run-letters, or_cases)
 
 -- the state after a name and the white space there
 pub record StandsAfterName (t : List ℕ) (at : ℕ) (n : Started) (name : List ℕ) : Type 0 where
@@ -49,7 +43,7 @@ name-after t start end at n inside capital letters white begins =
           (let space = white.passing end (omega arith) lt in rw (white-not_upper (get_or t end 0) space, white-not_lower (get_or t end 0) space, space)) in
           record {
             state = after_name n name;
-            reached = run-white t (end + 1) at (after_name n name) (stays-after_name n name) (omega arith) white.within (λ i low high. white.passing i (omega arith) high) first;
+            reached = run-white t (end + 1) at (after_name n name) (λ b at h. rw h) (omega arith) white.within (λ i low high. white.passing i (omega arith) high) first;
             bracket = refl;
             refused = λ lt' ne. rw (white.stops lt', ne_eqb (get_or t at 0) 91 ne);
             unaccepted = refl;
@@ -79,11 +73,7 @@ name-read Wrote t start end at inside capital letters white stands wrote =
     record {
       rises = omega (arith, white.rises, name-longer t start end inside capital letters);
       stands = stands;
-      reached = λ n h. (
-        name_in (slice_range t start end),
-        name-value t at n (name_in (slice_range t start end)) (name-after t start end at n inside capital letters white h) stands.within stands.bracket,
-        wrote,
-      );
+      reached = search (rules, name-value, name-after);
     }
 
 -- a letter of a name

@@ -1,5 +1,5 @@
 -- How the own nodes of a game are read one by one, and what a visitor keeps of them.
-use Rattle.sgf_tree.proofs.Common.{flat_map-append, map-append, IsSpan, OwnNodes, UnclosedGame, Stack, Started, opened, in_node, IsMoveNode, EndsNode, Coming, nothing, coming_of, places_of, own_of, with_game, IsCopied, Copies, CopiesNode, AreOwnNodes, is_white_space, Property, Node, no_games, unclosed_count, property_text, node_text, NodesRead, IsFaultyAt, IsGameRead, NodesSoFar, AreReadTo, AreOwnRead, AreNodesRead, ComesTo, StandsIn, ArePropertiesRead}
+use Rattle.sgf_tree.proofs.Common.{flat_map-append, map-append, IsSpan, OwnNodes, UnclosedGame, Stack, Started, opened, in_node, IsMoveNode, EndsNode, Coming, nothing, coming_of, places_of, own_of, with_game, IsCopied, Copies, CopiesNode, AreOwnNodes, is_white_space, Property, Node, no_games, unclosed_count, property_text, node_text, NodesRead, IsFaultyAt, IsGameRead, NodesSoFar, AreReadTo, AreOwnRead, AreNodesRead, ComesTo, StandsIn, ArePropertiesRead, common_steps}
 use Rattle.std.proofs.Common.{◌≡◌, ◌≢◌, ℕ, ◌+◌, ◌-◌, ◌<◌, ◌≤◌, true, List, [], ◌∷◌, ◌++◌, length, get_or, slice_range, refl, sym, ap, subst, ◌∙◌, arith, length-append, append_assoc, append-nil, rules, flat_map}
 use Rattle.std.proofs.Math.Seq.{get_or-append_seam}
 use Rattle.sgf_outline.specs.declared.layout.Segment.{Segment}
@@ -26,9 +26,7 @@ first-of [] node default first alone before = alone refl
 first-of (x ∷ nodes) node default first alone before = before (omega arith)
 
 last-of : (nodes : List Node) (node default : Node) → get_or (nodes ++ node ∷ []) (length (nodes ++ node ∷ []) - 1) default ≡ node
-last-of nodes node default =
-    let last : length (nodes ++ node ∷ []) - 1 ≡ length nodes = omega (arith, length-append nodes (node ∷ [])) in
-    rw last (get_or-append_seam nodes node [] default)
+last-of nodes node default = grind (arith, common_steps, length-append, get_or-append_seam)
 
 -- How a node is copied: `part` is what the sgf form writes for its properties.
 module _ (t : List ℕ) (place : ℕ) (lt : place < length t) (semicolon : get_or t place 0 ≡ 59) (kept keeps : Stack → Coming → Type 0) (before after : Segment) where
@@ -104,12 +102,7 @@ module _ (t : List ℕ) where
                 after = read.after;
                 nodes = nodes ++ n ∷ [];
                 to = to;
-                are = record {
-                  counted = omega (arith, read.are.counted, count_is, length-append nodes (n ∷ []));
-                  first_is = λ default _. first-of nodes n default own'.first first (λ some. read.are.first_is default some ∙ sym first_is);
-                  last_is = λ default _. ap (λ (m : Node). m.place) (last-of nodes n default) ∙ sym last_is;
-                  ends = omega (arith, last_is, end_is, properties.rises);
-                };
+                are = grind (arith, common_steps, length-append, first-of, last-of);
                 copied =
                     subst (λ first. IsCopied (λ told. keeps k (coming_of (nodes ++ n ∷ []) told)) t first own'.segment (flat_map node_text (nodes ++ n ∷ []))) (sym first_is)
                     (subst (IsCopied (λ told. keeps k (coming_of (nodes ++ n ∷ []) told)) t own.first own'.segment) texts
@@ -133,13 +126,7 @@ module _ (t : List ℕ) where
       pub copied : IsCopied (λ told. keeps k (coming_of (own_of game) told)) t read.own.first read.own.segment (flat_map node_text (own_of game))
 
     pub own-game : 0 < read.own.count → IsOwnGame
-    own-game some = of own.nodes own.to own.are own.copied
-      where
-        of : (nodes : List Node) → AreReadTo t at k read.end nodes → AreOwnNodes read.own nodes
-            → IsCopied (λ told. keeps k (coming_of nodes told)) t read.own.first read.own.segment (flat_map node_text nodes) → IsOwnGame
-        of [] to are copied = absurd (omega (arith, some, are.counted))
-        of (first ∷ more) to are copied =
-            record { game = record { first = first; more = more; below = no_games }; nothing_below = refl; nodes = to; are = are; copied = copied }
+    own-game some = grind (arith, common_steps)
 
     -- no further node follows
     pub own-done : (told : Stack → Coming → Type 0) → 0 < read.own.count → (read.end < length t → get_or t read.end 0 ≢ 59)

@@ -2,7 +2,7 @@
 use Rattle.std.proofs.Common.{◌≡◌, ℕ, ◌+◌, IsTrue, List, [], ◌∷◌, length, Some, refl, sym, ap, ◌∙◌, subst, append_assoc, append-nil}
 use Rattle.sgf_tree.proofs.Common.{none-some, same_Some, no_unit, ordinary, escaped, UnclosedGame, Stack, Started, MachineState, after_game, with_property, ended, whole_game, close_in, is_white_space, is_upper, WhiteSpace, no_white_space, white_space, no_letter, upper, lower, prop_value, no_value, value, property, no_property, properties, IsNode, node, AreNodes, no_node, nodes, AreGames, no_game, games, no_byte_order_mark, byte_order_mark, Property, Node, Games, no_games, game}
 use Rattle.sgf_tree.proofs.Transitions.{Between, white_between, opens_game, closes_game, AfterNode, next_node, opens_below, closes_nodes, no_stack, IsTransition, mark_first, mark_second, mark_third, at_start, at_game, white_opened, first_node, white_node, first_name, ends_bare, upper_name, lower_name, white_name, first_value, white_after_name, later_value, ends_value, escapes, ordinary_byte, escaped_byte, white_value, next_value, next_name, ends_node}
-use Rattle.sgf_tree.proofs.Completion.{followed-none, followed_assoc, nodes-none, nodes-more, with_values, with_properties, Rest, ends, closes, After_node, In_node, Opened, After_value, After_name, In_name, Completes}
+use Rattle.sgf_tree.proofs.Completion.{followed-none, followed_assoc, nodes-none, nodes-more, with_values, with_properties, Rest, ends, closes, After_node, In_node, Opened, After_value, In_name, Completes}
 use Rattle.sgf_outline.proofs.GameEnds.{closed-in, add_games}
 
 module _ (whole : ℕ) (c : Games) where
@@ -47,18 +47,12 @@ module _ (whole : ℕ) (c : Games) where
   between k t opens_game r = opened-rest k t r
   between k t (closes_game {y} e) r = close-rest k.closed k.unclosed t y e r
 
-  bare : (k : Stack) (t : List ℕ) → Rest whole c k.closed k.unclosed t → After_node whole c k t
-  bare k t r = ([], t, no_node, rw nodes-none r)
-
   after : (at : ℕ) (k : Stack) {b : ℕ} {y : MachineState} (t : List ℕ) → at + length (b ∷ t) ≡ whole → AfterNode at k b y → Completes whole c y t
       → After_node whole c k (b ∷ t)
   after at k t e next_node (ps, u, are, (ns, v, more, r)) =
       (record { place = at; properties = ps } ∷ ns, v, nodes (node no_white_space e are) more, rw nodes-more at r)
-  after at k t e opens_below r = bare k (40 ∷ t) (opened-rest k t r)
-  after at k t e (closes_nodes {y} h) r = bare k (41 ∷ t) (close-rest k.closed k.unclosed t y h r)
-
-  after-bare : (n : Started) (t : List ℕ) → After_node whole c (ended n) t → In_node whole c n t
-  after-bare n t r = ([], t, no_property, rw append-nil r)
+  after at k t e opens_below r = ([], 40 ∷ t, no_node, rw nodes-none (opened-rest k t r))
+  after at k t e (closes_nodes {y} h) r = ([], 41 ∷ t, no_node, rw nodes-none (close-rest k.closed k.unclosed t y h r))
 
   named : (n : Started) (b : ℕ) (t : List ℕ) → IsTrue (is_upper b) → In_name whole c n (b ∷ []) t → In_node whole c n (b ∷ t)
   named n b t h (more, u, letters, (v, w, (first, x, units, (vs, y, are, (ps, z, others, r))))) = (
@@ -67,12 +61,6 @@ module _ (whole : ℕ) (c : Games) where
     properties (property no_white_space h letters (prop_value w units) are) others,
     rw append_assoc at r,
   )
-
-  value-bare : (n : Started) (p : Property) (t : List ℕ) → In_node whole c (with_property n p) t → After_value whole c n p t
-  value-bare n p t r = ([], t, no_value, rw append-nil r)
-
-  name-bare : (n : Started) (name : List ℕ) (t : List ℕ) → After_name whole c n name t → In_name whole c n name t
-  name-bare n name t r = ([], t, no_letter, rw append-nil r)
 
   white-value : (n : Started) (p : Property) (b : ℕ) (t : List ℕ) → IsTrue (is_white_space b)
       → After_value whole c n p t → After_value whole c n p (b ∷ t)
@@ -91,11 +79,11 @@ module _ (whole : ℕ) (c : Games) where
   prepend at z b y t first_node e r = (at, t, no_white_space, e, r)
   prepend at z b y t (white_node {n} h) e r = in_node-white n b t h r
   prepend at z b y t (first_name {n} h) e r = named n b t h r
-  prepend at z b y t (ends_bare {n} h) e r = after-bare n (b ∷ t) (after at (ended n) t e h r)
+  prepend at z b y t (ends_bare {n} h) e r = ([], b ∷ t, no_property, rw append-nil (after at (ended n) t e h r))
   prepend at z b y t (upper_name h) e (more, u, l, r) = (b ∷ more, u, upper h l, rw append_assoc at r)
   prepend at z b y t (lower_name h) e (more, u, l, r) = (more, u, lower h l, r)
-  prepend at z b y t (white_name {n} {name} h) e (u, w, r) = name-bare n name (b ∷ t) (u, white_space h w, r)
-  prepend at z b y t (first_value {n} {name}) e r = name-bare n name (91 ∷ t) (t, no_white_space, r)
+  prepend at z b y t (white_name h) e (u, w, r) = ([], b ∷ t, no_letter, rw append-nil (u, white_space h w, r))
+  prepend at z b y t first_value e r = ([], 91 ∷ t, no_letter, rw append-nil (t, no_white_space, r))
   prepend at z b y t (white_after_name h) e (u, w, r) = (u, white_space h w, r)
   prepend at z b y t later_value e r = (t, no_white_space, r)
   prepend at z b y t ends_value e r = ([], t, no_unit, rw append-nil r)
@@ -104,6 +92,6 @@ module _ (whole : ℕ) (c : Games) where
   prepend at z b y t escaped_byte e r = (b, t, refl, r)
   prepend at z b y t (white_value {n} {p} h) e r = white-value n p b t h r
   prepend at z b y t next_value e (v, u, units, (vs, w, are, r)) = (v ∷ vs, w, value (prop_value no_white_space units) are, rw append_assoc at r)
-  prepend at z b y t (next_name {n} {p} h) e r = value-bare n p (b ∷ t) (named (with_property n p) b t h r)
+  prepend at z b y t (next_name {n} {p} h) e r = ([], b ∷ t, no_value, rw append-nil (named (with_property n p) b t h r))
   prepend at z b y t (ends_node {n} {p} h) e r =
-      value-bare n p (b ∷ t) (after-bare (with_property n p) (b ∷ t) (after at (ended (with_property n p)) t e h r))
+      ([], b ∷ t, no_value, rw append-nil ([], b ∷ t, no_property, rw append-nil (after at (ended (with_property n p)) t e h r)))

@@ -1,8 +1,8 @@
 -- How the machine reads the parts of a text, up to the properties of a node.
-use Rattle.sgf_tree.proofs.Common.{common_steps, IsValue, no_unit, ordinary, escaped, Stack, Started, MachineState, start, in_name, after_name, in_value, after_escape, after_value, property_of, new_node, next_state, run, WhiteSpace, no_white_space, white_space, Letters, no_letter, upper, lower, prop_value, ArePropValues, no_value, value, Property, values}
+use Rattle.sgf_tree.proofs.Common.{common_steps, IsValue, no_unit, ordinary, escaped, Stack, Started, MachineState, start, in_name, after_name, in_value, after_value, property_of, new_node, next_state, run, WhiteSpace, no_white_space, white_space, Letters, no_letter, upper, lower, prop_value, ArePropValues, no_value, value, Property, values}
 use Rattle.std.proofs.Common.{◌≡◌, ℕ, ◌+◌, ◌-◌, Bool, List, [], ◌∷◌, ◌++◌, length, Option, Some, None, option_and_then, refl, ap, ◌∙◌, append_assoc, append-nil, arith, ne_eqb, rules}
 use Rattle.sgf_properties.proofs.Classes.{white-not_upper, white-not_lower, lower-not_upper}
-use Rattle.sgf_tree.proofs.Skipping.{Stays, stays-after_name, stays-after_value}
+use Rattle.sgf_tree.proofs.Spans.{Stays}
 use Rattle.sgf_tree.proofs.Completion.{with_values}
 
 -- the machine over what is left of a text of `whole` bytes
@@ -15,12 +15,10 @@ unfolding run read
 run-read whole at z [] e = refl
 run-read whole at z (b ∷ t) e =
     let f : whole - length (b ∷ t) ≡ at = omega arith in
-    rw f (also (λ y. run-read whole (at + 1) y t (omega arith)) (next_state at z b))
-  where
-    also : ((y : MachineState) → run (at + 1) y t ≡ read whole y t) → (o : Option MachineState)
-        → option_and_then (λ next. run (at + 1) next t) o ≡ option_and_then (λ y. read whole y t) o
-    also h None = refl
-    also h (Some y) = h y
+    rw f (elim (next_state at z b) as (λ o. option_and_then (λ next. run (at + 1) next t) o ≡ option_and_then (λ y. read whole y t) o) [
+      | None ↦ refl
+      | Some y ↦ run-read whole (at + 1) y t (omega arith)
+    ])
 
 -- a text as a whole
 pub run-whole : (t : List ℕ) → run 0 start t ≡ read (length t) start t
@@ -43,32 +41,23 @@ module _ (whole : ℕ) where
   over-white z h no_white_space = refl
   over-white z h (white_space {b} {s} i w) = one-byte z z b s (λ at. h b at i) ∙ over-white z h w
 
-  over-units : {v t r : List ℕ} (n : Started) (name : List ℕ) (before : List (List ℕ)) (so_far : List ℕ) → IsValue v t r
+  -- a value after its `[`
+  pub over-units : {v t r : List ℕ} (n : Started) (name : List ℕ) (before : List (List ℕ)) (so_far : List ℕ) → IsValue v t r
       → read whole (in_value n name before so_far) t ≡ read whole (in_value n name before (so_far ++ v)) r
-  unfolding next_state
+  unfolding read next_state
   over-units n name before so_far no_unit = rw append-nil
-  over-units n name before so_far (ordinary {b} {s} x y u) = search (rules, one-byte, ne_eqb, append_assoc, (over-units n name before (so_far ++ b ∷ []) u))
-  over-units n name before so_far (escaped {b} {s} u) =
-      one-byte (in_value n name before so_far) (after_escape n name before so_far) 92 (b ∷ s) (λ at. refl)
-      ∙ one-byte (after_escape n name before so_far) (in_value n name before (so_far ++ 92 ∷ b ∷ [])) b s (λ at. refl)
-      ∙ rw append_assoc at (over-units n name before (so_far ++ 92 ∷ b ∷ []) u)
-
-  -- a value after its `[`, with its `]`
-  pub over-value : {v t r : List ℕ} (n : Started) (name : List ℕ) (before : List (List ℕ)) → IsValue v t (93 ∷ r)
-      → read whole (in_value n name before []) t ≡ read whole (after_value n (property_of name before v)) r
-  unfolding next_state
-  over-value {v} {t} {r} n name before u =
-      over-units n name before [] u
-      ∙ one-byte (in_value n name before v) (after_value n (property_of name before v)) 93 r (λ at. refl)
+  over-units n name before so_far (ordinary {b} {s} x y u) =
+      one-byte (in_value n name before so_far) (in_value n name before (so_far ++ b ∷ [])) b s (λ at. search (rules, ne_eqb))
+      ∙ rw append_assoc at (over-units n name before (so_far ++ b ∷ []) u)
+  over-units n name before so_far (escaped {b} u) = rw append_assoc at (over-units n name before (so_far ++ 92 ∷ b ∷ []) u)
 
   pub over-values : {vs : List (List ℕ)} {t r : List ℕ} (n : Started) (p : Property) → ArePropValues vs t r
       → read whole (after_value n p) t ≡ read whole (after_value n (with_values p vs)) r
-  unfolding next_state
+  unfolding read next_state
   over-values n p no_value = rw append-nil
-  over-values n p (value (prop_value {value = v} {t} w u) are) =
-      over-white (after_value n p) (stays-after_value n p) w
-      ∙ one-byte (after_value n p) (in_value n p.name (values p) []) 91 t (λ at. refl)
-      ∙ over-value n p.name (values p) u
+  over-values n p (value (prop_value {value = v} w u) are) =
+      over-white (after_value n p) (λ b at h. rw h) w
+      ∙ over-units n p.name (values p) [] u
       ∙ rw append_assoc at (over-values n (property_of p.name (values p) v) are)
 
   pub over-letters : {more t r : List ℕ} (n : Started) (name : List ℕ) → Letters more t r
@@ -81,9 +70,8 @@ module _ (whole : ℕ) where
   -- after a name, up to the first value
   pub to-value : {s t : List ℕ} (n : Started) (name : List ℕ) → WhiteSpace s (91 ∷ t)
       → read whole (in_name n name) s ≡ read whole (in_value n name [] []) t
-  unfolding next_state
-  to-value {s} {t} n name no_white_space = one-byte (in_name n name) (in_value n name [] []) 91 t (λ at. refl)
-  to-value {s} {t} n name (white_space {b} {s = u} h w) =
-      one-byte (in_name n name) (after_name n name) b u (λ at. rw (white-not_upper b h, white-not_lower b h, h))
-      ∙ over-white (after_name n name) (stays-after_name n name) w
-      ∙ one-byte (after_name n name) (in_value n name [] []) 91 t (λ at. refl)
+  unfolding read next_state
+  to-value n name no_white_space = refl
+  to-value n name (white_space {b} {s} h w) =
+      one-byte (in_name n name) (after_name n name) b s (λ at. rw (white-not_upper b h, white-not_lower b h, h))
+      ∙ over-white (after_name n name) (λ b at h. rw h) w

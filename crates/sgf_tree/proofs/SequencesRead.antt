@@ -2,7 +2,6 @@
 use Rattle.sgf_tree.proofs.Common.{common_steps, IsSpan, UnclosedGame, Stack, Started, opened, in_node, after_game, after_node, between_games, ended, new_game, new_node, next_state, accepted, is_white_space, Property, Node, Games, no_games, game, property_text, IsFaultyAt, StandsBetween, NodesSoFar, ComesTo, StandsAfterNode, ArePropertiesRead}
 use Rattle.std.proofs.Common.{◌≡◌, ◌≢◌, ℕ, ◌+◌, ◌<◌, true, false, List, [], ◌∷◌, ◌++◌, length, get_or, None, refl, arith, ne_eqb, rules, flat_map}
 use Rattle.sgf_tree.proofs.Run.{run-take-step}
-use Rattle.sgf_tree.proofs.Skipping.{stays-opened}
 use Rattle.sgf_tree.proofs.Spans.{run-white}
 use Rattle.sgf_tree.proofs.ValueEnds.{stops-faulty}
 
@@ -19,7 +18,8 @@ node-between at k b white ne = rw (white, ne_eqb b 59 ne)
 module _ (t : List ℕ) where
   module _ (at place : ℕ) (k : Stack) (white : IsSpan is_white_space t at place) (after : ComesTo t at (opened k)) where
     pub place-reached : ComesTo t place (opened k)
-    place-reached = run-white t at place (opened k) (stays-opened k) white.rises white.within white.passing after
+    unfolding next_state
+    place-reached = run-white t at place (opened k) (λ b at h. rw h) white.rises white.within white.passing after
 
     -- no `;` after the `(`
     pub place-faulty : (place < length t → get_or t place 0 ≢ 59) → IsFaultyAt t place

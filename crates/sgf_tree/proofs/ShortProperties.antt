@@ -1,5 +1,5 @@
 -- A property with one value, as the code tells it.
-use Rattle.sgf_tree.proofs.Common.{or_left, common_steps, flat_map-append, is_letter, IsSpan, IsBracket, IsValueEnd, Started, in_node, IsMove, EndsNode, IsShortProperty, is_white_space, is_upper, is_lower, Property, values, property_text, ComesTo, AreValuesEnded, StandsIn, IsNameRead, IsPropertyRead, ArePropertiesRead, with_properties}
+use Rattle.sgf_tree.proofs.Common.{or_left, common_steps, flat_map-append, is_letter, IsSpan, IsBracket, IsValueEnd, Started, in_node, IsMove, EndsNode, IsShortProperty, is_white_space, is_upper, is_lower, Property, values, property_text, ComesTo, AreValuesEnded, StandsIn, IsNameRead, IsPropertyRead, ArePropertiesRead, with_properties, next_state}
 use Rattle.std.proofs.Common.{◌≡◌, ◌≢◌, ℕ, ◌+◌, ◌<◌, ◌≤◌, Bool, false, IsTrue, List, [], ◌∷◌, ◌++◌, length, get_or, slice_range, Some, None, refl, sym, ap, subst, ◌∙◌, arith, append-nil, rules, flat_map}
 use Rattle.sgf_properties.proofs.Classes.{upper-range, between-not_upper}
 use Rattle.sgf_tree.proofs.NameEnds.{name-read, capitals-are}
@@ -7,7 +7,6 @@ use Rattle.sgf_properties.proofs.NameEnds.{bracket-here}
 use Rattle.sgf_tree.proofs.NodeEnds.{StandsInNode, node-done, node-name}
 use Rattle.sgf_outline.proofs.LoneNodes.{nothing-skipped}
 use Rattle.sgf_outline.proofs.ShortBytes.{two-name, two-letters, two-value}
-use Rattle.sgf_tree.proofs.Skipping.{stays-in_node}
 use Rattle.sgf_tree.proofs.Spans.{run-white}
 use Rattle.sgf_properties.proofs.Spans.{span-none}
 use Rattle.sgf_properties.proofs.ValueEnds.{span-join}
@@ -55,6 +54,7 @@ pub record ReadSoFar (Wrote : List ℕ → Type 0) (t : List ℕ) (at text_end e
 module _ (t : List ℕ) (at : ℕ) where
   -- none yet
   pub so-far-begin : (Wrote : List ℕ → Type 0) (end : ℕ) → IsSpan is_white_space t at end → Wrote [] → ReadSoFar Wrote t at at end
+  unfolding next_state
   so-far-begin Wrote end white wrote =
       record {
         rises = omega arith;
@@ -64,7 +64,7 @@ module _ (t : List ℕ) (at : ℕ) where
           record {
             done = n;
             last = None;
-            reached = run-white t at end (in_node n) (stays-in_node n) white.rises white.within white.passing h;
+            reached = run-white t at end (in_node n) (λ b at h. rw h) white.rises white.within white.passing h;
             whole_is = ap (with_properties n) none;
             other = λ lt. tt;
           },

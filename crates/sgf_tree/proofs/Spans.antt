@@ -3,8 +3,11 @@ use Rattle.std.proofs.Common.{◌≡◌, ℕ, zero, suc, ◌+◌, ◌-◌, ◌<�
 use Rattle.sgf_tree.proofs.Common.{filter-append, Started, MachineState, start, in_name, next_state, run, is_white_space, is_upper, is_lower}
 use Rattle.sgf_properties.proofs.Classes.{lower-not_upper}
 use Rattle.sgf_tree.proofs.Run.{run-take-step}
-use Rattle.sgf_tree.proofs.Skipping.{Stays}
 use Rattle.sgf_properties.proofs.Spans.{span-none, span-more}
+
+-- the state skips white space
+abbrev pub Stays : MachineState → Type 0
+Stays z = (b at : ℕ) → IsTrue (is_white_space b) → next_state at z b ≡ Some z
 
 -- a letter, which goes on the name where it is an upper-case one
 one-letter : (at : ℕ) (n : Started) (name : List ℕ) (b : ℕ) → IsTrue (is_upper b) ⊎ IsTrue (is_lower b)

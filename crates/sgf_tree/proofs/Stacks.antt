@@ -10,16 +10,11 @@ use Rattle.sgf_outline.proofs.OrderedNodes.{length-further_nodes, length-nodes_f
 -- games after others have their nodes after theirs
 pub ordered-followed : (at : ℕ) (parent : Option ℕ) (a b : Games) → nodes_from at parent (joined a b) ≡ nodes_from at parent a ++ nodes_from (at + node_count a) parent b
 ordered-followed at parent no_games b = let e : at + 0 ≡ at = omega arith in rw e
-ordered-followed at parent (game first more below after) b =
-    let last : ℕ = at + length more in
-    let next : ℕ = last + 1 + node_count below in
-    grind (arith, common_steps, append_assoc, (ordered-followed next parent after b))
+ordered-followed at parent (game first more below after) b = grind (arith, common_steps, append_assoc, (ordered-followed (at + length more + 1 + node_count below) parent after b))
 
 pub lasts-followed : (at : ℕ) (a b : Games) → lasts at (joined a b) ≡ lasts at a ++ lasts (at + node_count a) b
 lasts-followed at no_games b = let e : at + 0 ≡ at = omega arith in rw e
-lasts-followed at (game first more below after) b =
-    let next : ℕ = at + 1 + length more in
-    grind (arith, common_steps, append_assoc, (lasts-followed (next + node_count below) after b))
+lasts-followed at (game first more below after) b = grind (arith, common_steps, append_assoc, (lasts-followed (at + 1 + length more + node_count below) after b))
 
 length-own_nodes : (at : ℕ) (parent : Option ℕ) (g : UnclosedGame) → length (own_nodes at parent g) ≡ 1 + length g.more + node_count g.below
 length-own_nodes at parent g = grind (arith, common_steps, length-append, length-further_nodes, length-nodes_from)

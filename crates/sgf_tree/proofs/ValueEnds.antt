@@ -34,24 +34,17 @@ run-units at n name before so_far no_unit = rw append-nil
 run-units at n name before so_far (ordinary {b} x y u) = search (rules, ne_eqb, append_assoc, (run-units (at + 1) n name before (so_far ++ b ∷ []) u))
 run-units at n name before so_far (escaped {b} u) = rw append_assoc at (run-units (at + 1 + 1) n name before (so_far ++ 92 ∷ b ∷ []) u)
 
-module _ (t : List ℕ) (at end : ℕ) (low : at ≤ end) (within : end ≤ length t) (spelled : SpellsValue t at end) (n : Started) (name : List ℕ) (before : List (List ℕ))
-    (from : ComesTo t at (in_value n name before [])) where
-  pub units-read : ComesTo t end (in_value n name before (slice_range t at end))
-  units-read = run-take-span t at end (in_value n name before []) (in_value n name before (slice_range t at end)) low within from (run-units at n name before [] spelled)
-
-  -- the text ends in the value
-  pub units-end : end ≡ length t → IsFaultyAt t (length t)
-  unfolding accepted
-  units-end e = let z : MachineState = in_value n name before (slice_range t at end) in ends-faulty t z (subst (λ i. ComesTo t i z) e units-read) refl
-
-  -- or after a `\`
-  pub escape-end : end + 1 ≡ length t → get_or t end 0 ≡ 92 → IsFaultyAt t (length t)
-  unfolding accepted next_state
-  escape-end e f =
-      let z : MachineState = after_escape n name before (slice_range t at end) in
-      ends-faulty t z (subst (λ i. ComesTo t i z) e (run-take-step t end (in_value n name before (slice_range t at end)) z units-read (omega arith) (rw f))) refl
+pub units-read : (t : List ℕ) (at end : ℕ) → at ≤ end → end ≤ length t → SpellsValue t at end → (n : Started) (name : List ℕ) (before : List (List ℕ))
+    → ComesTo t at (in_value n name before []) → ComesTo t end (in_value n name before (slice_range t at end))
+units-read t at end low within spelled n name before from =
+    run-take-span t at end (in_value n name before []) (in_value n name before (slice_range t at end)) low within from (run-units at n name before [] spelled)
 
 -- a value that is unended
 pub unended-fault : (t : List ℕ) (at : ℕ) → at ≤ length t → IsUnended t at → (n : Started) (name : List ℕ) (before : List (List ℕ)) → ComesTo t at (in_value n name before []) → IsFaultyAt t (length t)
-unended-fault t at within (in_units all) n name before h = units-end t at (length t) within (omega arith) all n name before h refl
-unended-fault t at within (in_escape last rises next escape units) n name before h = escape-end t at last rises (omega (arith, next)) units n name before h next escape
+unfolding accepted next_state
+unended-fault t at within (in_units all) n name before h =
+    ends-faulty t (in_value n name before (slice_range t at (length t))) (units-read t at (length t) within (omega arith) all n name before h) refl
+unended-fault t at within (in_escape last rises next escape units) n name before h =
+    let z : MachineState = after_escape n name before (slice_range t at last) in
+    let units_are = units-read t at last rises (omega (arith, next)) units n name before h in
+    ends-faulty t z (subst (λ i. ComesTo t i z) next (run-take-step t last (in_value n name before (slice_range t at last)) z units_are (omega arith) (rw escape))) refl

@@ -3,7 +3,6 @@ use Rattle.std.proofs.Common.{◌≡◌, ℕ, ◌+◌, ◌<◌, ◌≤◌, List,
 use Rattle.sgf_tree.proofs.Common.{flat_map-append, IsSpan, IsBracket, IsValueEnd, Started, in_value, after_value, property_of, next_state, is_white_space, Property, values, value_text, ComesTo}
 use Rattle.sgf_properties.proofs.NameEnds.{span-one}
 use Rattle.sgf_tree.proofs.Run.{run-take-step}
-use Rattle.sgf_tree.proofs.Skipping.{stays-after_value}
 use Rattle.sgf_tree.proofs.Spans.{run-white}
 use Rattle.sgf_properties.proofs.Spans.{span-none}
 use Rattle.sgf_properties.proofs.ValueEnds.{span-join}
@@ -73,7 +72,7 @@ module _ (t : List ℕ) where
             ap (λ s. flat_map value_text before ++ s) (value-stands at end stands is_end ∙ sym (append-nil (value_text raw)))
             ∙ sym (flat_map-append value_text before (raw ∷ [])) ∙ ap (flat_map value_text) (sym more) in (
               p,
-              run-white t (end + 1) next (after_value n p) (stays-after_value n p) white.rises white.within white.passing closed,
+              run-white t (end + 1) next (after_value n p) (λ b at h. rw h) white.rises white.within white.passing closed,
               named,
               subst (After Wrote t from (end + 1)) texts (after-more Wrote t from at (end + 1) low (omega (arith, is_end.rises)) (flat_map value_text before) wrote),
             );
