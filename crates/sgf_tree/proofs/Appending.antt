@@ -1,5 +1,5 @@
 -- What a text spells, it spells before and after another text too, with the places counted anew.
-use Rattle.std.proofs.Common.{◌≡◌, ℕ, ◌+◌, List, ◌++◌, length, map, refl, sym, subst, arith, length-append}
+use Rattle.std.proofs.Common.{ℕ, ◌+◌, List, ◌++◌, length, map, refl, sym, subst, arith, length-append}
 use Rattle.sgf_tree.proofs.Common.{IsValue, no_unit, ordinary, escaped, joined, WhiteSpace, no_white_space, white_space, Letters, no_letter, upper, lower, IsPropValue, prop_value, ArePropValues, no_value, value, IsProperty, property, AreProperties, no_property, properties, IsNode, node, AreNodes, no_node, nodes, AreGames, no_game, games, ByteOrderMark, no_byte_order_mark, byte_order_mark, Spells, spells, Property, Node, Games, game}
 use Rattle.sgf_tree.specs.Appending.{raised_node, raised, BeginsWithByteOrderMark}
 use Rattle.sgf_properties.proofs.FrontSpelled.{white-join}
@@ -81,7 +81,6 @@ AreGames-after_white w (games v n ns g x h) = games (white-join w v) n ns g x h
 pub spells_append : (c d : Games) (t u : List ℕ) → Spells c t → Spells d u → ¬ BeginsWithByteOrderMark u → Spells (joined c (raised (length t) d)) (t ++ u)
 spells_append c d t u (spells m g w) (spells byte_order_mark h v) unmarked = absurd (unmarked refl)
 spells_append c d t u (spells {first} {more} {below} {after} {s = s} {r = r} m g w) (spells {first = first'} {more = more'} {below = below'} {after = after'} {r = r'} no_byte_order_mark h v) unmarked =
-    let whole : length t + length u ≡ length (t ++ u) = sym (length-append t u) in
     let later = AreGames-after_white (WhiteSpace-before u w) (AreGames-raised (length t) h) in
     let both = AreGames-joined (AreGames-before u g) later in
-    spells (ByteOrderMark-before u m) (subst (λ n. AreGames n (joined c (raised (length t) d)) (s ++ u) r') whole both) v
+    spells (ByteOrderMark-before u m) (subst (λ n. AreGames n (joined c (raised (length t) d)) (s ++ u) r') (sym (length-append t u)) both) v

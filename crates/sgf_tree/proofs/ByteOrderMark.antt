@@ -1,5 +1,5 @@
 -- The byte order mark, by the machine, and the white space after it.
-use Rattle.std.proofs.Common.{rules, ◌≡◌, ◌≢◌, ℕ, ◌+◌, ◌<◌, ◌≤◌, inl, inr, List, [], length, get_or, refl, ◌∙◌, arith, ne_eqb}
+use Rattle.std.proofs.Common.{rules, ◌≡◌, ◌≢◌, ℕ, ◌+◌, ◌<◌, inl, inr, List, [], length, get_or, refl, ◌∙◌, arith, ne_eqb}
 use Rattle.sgf_tree.proofs.Common.{cases_lt, IsSpan, Stack, start, first_of_mark, second_of_mark, after_game, next_state, accepted, is_white_space, no_games, IsFaultyAt, StandsBetween, IsByteOrderMarkRead, ComesTo}
 use Rattle.sgf_tree.proofs.GamesLoop.{stands-after}
 use Rattle.sgf_tree.proofs.Run.{run-take-none, run-take-step}
@@ -47,7 +47,6 @@ module _ (t : List ℕ) where
   -- the white space before the first game
   pub games_begin : (mark at : ℕ) → IsByteOrderMarkRead t mark → IsSpan is_white_space t mark at → StandsBetween t at nothing
   games_begin mark at read white =
-      let low : mark ≤ at = white.rises in
       elim (cases_lt mark at) [
         | inl lt ↦
             let short : mark < length t = omega (arith, white.within) in

@@ -1,7 +1,7 @@
 -- What the proofs of this crate import together: words of specs, types, and lemmas of the standard library.
 pub use Rattle.std.proofs.lemmas.Bool.{cases_lt, eqb-false, or_cases, or_left, or_parts}
 pub use Rattle.std.proofs.lemmas.Grind.{common_steps, flat_map-append}
-pub use Rattle.std.proofs.lemmas.List.{get_or-append_right, get_or_append_left, length-map, map-append, set_at, take_more}
+pub use Rattle.std.proofs.lemmas.List.{get_or-append_right, get_or_append_left, length-map, map-append, nil_from_length, set_at, take_more}
 pub use Rattle.std.proofs.lemmas.List.Elements.{All-append, All-cons, All-nil, All-replicate, filter-append}
 pub use Rattle.std.proofs.lemmas.Option.{none-some, option_and_then_some, same_Some, slice_get-get_or, slice_get-map, slice_get_read}
 pub use Rattle.std.proofs.lemmas.Result.{err_from_is_err_and}

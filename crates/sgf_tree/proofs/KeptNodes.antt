@@ -1,5 +1,5 @@
 -- What is kept of all nodes: with one more unclosed game, and after a game that ends.
-use Rattle.sgf_tree.proofs.Common.{common_steps, length-map, map-append, set_at, further_nodes, UnclosedGame, Stack, after_game, whole_game, close, HoldsSequences, Coming, nothing, own_of, places_of, coming_of, with_game, Node, Games, no_games, node_count, unclosed_count, Numbered, unclosed_nodes, lasts, ordered_places, HoldsNodes}
+use Rattle.sgf_tree.proofs.Common.{common_steps, length-map, map-append, set_at, further_nodes, UnclosedGame, Stack, after_game, whole_game, close, HoldsSequences, Coming, nothing, own_of, places_of, coming_of, with_game, Node, Games, no_games, node_count, unclosed_count, Numbered, unclosed_nodes, ordered_places, HoldsNodes}
 use Rattle.std.proofs.Common.{◌≡◌, ℕ, ◌+◌, ◌-◌, List, [], ◌∷◌, ◌++◌, length, set, Some, refl, sym, ap, ◌∙◌, arith, append-nil}
 use Rattle.sgf_outline.proofs.GameEnds.{add_games, game-ends}
 use Rattle.sgf_outline.proofs.Listed.{before}
@@ -40,7 +40,6 @@ module _ (text : List ℕ) (kept : Numbered) where
     each-ended closed g gs holds sequences =
         let i : ℕ = length (before closed gs) in
         let at : ℕ = unclosed_count closed gs in
-        let later : List ℕ = lasts (at + 1 + length g.more) g.below in
         let last : length kept.places.items - 1 ≡ at + length g.more + node_count g.below =
         omega (arith, length-places (record { closed = closed; unclosed = g ∷ gs }) holds) in
         let (places, lasts_are) = closes i holds.sequences.innermost_is in

@@ -174,16 +174,14 @@ module _ (c : Games) (n last : ℕ) (span : IsSpanBelow 0 (ordered_nodes c) n la
   span-greatest j itself = (omega arith, span.rises)
   span-greatest j (below {parent = q} h under) =
       let up = span-greatest q under in
-      let lt : q < j = parent_at-lt c j q h in
       elim (cases_lt last j) [
         | inl past ↦ elim (span.outside j q (omega arith) h) [ inl lo ↦ absurd (omega (arith, up.0)) | inr hi ↦ absurd (omega (arith, up.1)) ]
-        | inr le ↦ (omega (arith, up.0), le)
+        | inr le ↦ (omega (arith, up.0, parent_at-lt), le)
       ]
 
 pub lasts-below : (c : Games) (k l n : ℕ) → get_or (starts_from 0 c) k 0 ≤ n → n < get_or (starts_from 0 c) (k + 1) (node_count c) → slice_get (lasts 0 c) k ≡ Some l → IsLastBelow c n l
 lasts-below c k l n from to h =
-    let all : node_count c ≡ 0 + node_count c = omega arith in
-    let span = lasts-are 0 None c (λ q same. absurd (cc)) k l n from (subst (λ e. n < get_or (starts_from 0 c) (k + 1) e) all to) h in
+    let span = lasts-are 0 None c (λ q same. absurd (cc)) k l n from (subst (λ e. n < get_or (starts_from 0 c) (k + 1) e) (omega arith) to) h in
     record {
       under = span-under c n l span (l - n) l (omega (arith, span.rises)) span.rises (omega arith);
       greatest = λ j under. (span-greatest c n l span j under).1;

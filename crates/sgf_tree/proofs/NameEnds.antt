@@ -36,7 +36,6 @@ name-after t start end at n inside capital letters white begins =
     let name : List ℕ = name_in (slice_range t start end) in
     let h : ComesTo t end (in_name n name) = name-reached t start end n inside capital letters begins in
     let low : end ≤ at = white.rises in
-    let within : at ≤ length t = white.within in
     elim (cases_lt end at) [
       | inl lt ↦
           let first : ComesTo t (end + 1) (after_name n name) = run-take-step t end (in_name n name) (after_name n name) h (omega arith)

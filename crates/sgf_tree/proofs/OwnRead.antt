@@ -87,7 +87,6 @@ module _ (t : List ℕ) where
         let own' : OwnNodes = after.own in
         let place : ℕ = before.end in
         let first_is : own'.first ≡ own.first = ap (λ (o : OwnNodes). o.first) is in
-        let last_is : own'.last ≡ place = ap (λ (o : OwnNodes). o.last) is in
         let count_is : own'.count ≡ own.count + 1 = ap (λ (o : OwnNodes). o.count) is in
         record {
           rises = omega (arith, properties.rises, properties.white_space.rises);

@@ -34,5 +34,4 @@ module _ (t : List ℕ) where
       → ValuesBefore t Other bracket next
   values-run Wrote Other bracket from last close next so_far points stands is_end white to =
       let run = points-read Wrote from bracket from last (omega arith) (values-as t Wrote (After Wrote t from from) bracket from (after-none Wrote t from) so_far) points stands in
-      let all = values-step t Wrote from bracket last close next run (omega (arith, points.ends)) stands is_end white in
-      search (rules, points-read, values-as, after-none, values-step)
+      search (rules, points-read, values-as, after-none, values-step, values-step t Wrote from bracket last close next run (omega (arith, points.ends)) stands is_end white)

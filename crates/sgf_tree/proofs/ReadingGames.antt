@@ -111,8 +111,7 @@ module _ (whole : ℕ) where
       → read whole z s ≡ read whole (after_game (add_games closed gs (game g.first g.more (joined g.below below) no_games))) t
   over-below closed g gs z h no_game ih last = rw followed-none (end-closed closed g gs z h last)
   over-below {below} closed g gs z h (games w n ns bs l hs) ih last =
-      let k : Stack = record { closed = closed; unclosed = g ∷ gs } in
-      to-game k z h w ∙ ih
+      to-game (record { closed = closed; unclosed = g ∷ gs }) z h w ∙ ih
       ∙ to-closed closed (record { first = g.first; more = g.more; below = joined g.below below }) gs last
 
   pub over-games : {others : Games} {s r : List ℕ} (closed : Games) (unclosed : List UnclosedGame) → AreGames whole others s r

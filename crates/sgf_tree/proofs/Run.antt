@@ -1,21 +1,16 @@
 -- How the machine goes over one text and then another, and over one byte more.
 use Rattle.sgf_tree.proofs.Common.{common_steps, take_more, option_and_then_some, MachineState, start, next_state, run, accepted, collection_of}
-use Rattle.std.proofs.Common.{◌≡◌, ℕ, ◌+◌, ◌-◌, ◌<◌, ◌≤◌, List, [], ◌∷◌, ◌++◌, length, get_or, take, drop, slice_range, Option, Some, None, option_and_then, refl, sym, ap, ◌∙◌, add-zero, arith, rules, take-add, length-take-le, take-append-drop}
-
--- a byte is taken, and then the text after it
-then_run : (at : ℕ) (x : ℕ) (a b : List ℕ)
-    → ((y : MachineState) → run (at + 1) y (a ++ b) ≡ option_and_then (λ next. run (at + 1 + length a) next b) (run (at + 1) y a))
-    → (o : Option MachineState)
-    → option_and_then (λ next. run (at + 1) next (a ++ b)) o
-    ≡ option_and_then (λ next. run (at + length (x ∷ a)) next b) (option_and_then (λ next. run (at + 1) next a) o)
-then_run at x a b h o = search rules
+use Rattle.std.proofs.Common.{◌≡◌, ℕ, ◌+◌, ◌-◌, ◌<◌, ◌≤◌, List, [], ◌∷◌, ◌++◌, length, get_or, take, drop, slice_range, Some, None, option_and_then, refl, sym, ap, ◌∙◌, add-zero, arith, rules, take-add, length-take-le, take-append-drop}
 
 -- the machine goes over a, and then over b from where it stands
 pub run-append : (at : ℕ) (z : MachineState) (a b : List ℕ)
     → run at z (a ++ b) ≡ option_and_then (λ next. run (at + length a) next b) (run at z a)
 unfolding run
 run-append at z [] b = rw add-zero
-run-append at z (x ∷ a) b = then_run at x a b (λ y. run-append (at + 1) y a b) (next_state at z x)
+run-append at z (x ∷ a) b =
+    let e : at + length (x ∷ a) ≡ at + 1 + length a = omega arith in
+    rw e (elim (next_state at z x) as (λ o. option_and_then (λ next. run (at + 1) next (a ++ b)) o
+      ≡ option_and_then (λ next. run (at + 1 + length a) next b) (option_and_then (λ next. run (at + 1) next a) o)) [ | None ↦ refl | Some y ↦ run-append (at + 1) y a b ])
 
 -- what a run of two texts says of the first and the second
 pub run-through : (at : ℕ) (z y : MachineState) (a b : List ℕ) → run at z a ≡ Some y → run at z (a ++ b) ≡ run (at + length a) y b

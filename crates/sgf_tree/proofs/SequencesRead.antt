@@ -42,8 +42,7 @@ module _ (t : List ℕ) where
   pub nodes-first : (Wrote : List ℕ → Type 0) (at place text_end end : ℕ) (k : Stack) → IsSpan is_white_space t at place → ComesTo t at (opened k) → place < length t → get_or t place 0 ≡ 59
       → ArePropertiesRead Wrote t (place + 1) text_end end → (ps : List Property) × NodesSoFar t end k (new_game (record { place = place; properties = ps })) × Wrote (flat_map property_text ps)
   nodes-first Wrote at place text_end end k white after lt e read =
-      let n : Started = record { stack = k; opens = true; place = place; properties = [] } in
-      let (ps, stands, wrote) = read.reached n refl (place-node at place k white after lt e) in
+      let (ps, stands, wrote) = read.reached (record { stack = k; opens = true; place = place; properties = [] }) refl (place-node at place k white after lt e) in
       search rules
 
   pub nodes-next : (Wrote : List ℕ → Type 0) (place text_end end : ℕ) (k : Stack) (last : UnclosedGame) → NodesSoFar t place k last → place < length t → get_or t place 0 ≡ 59

@@ -1,7 +1,7 @@
 -- A property with one value, as the code tells it.
-use Rattle.sgf_tree.proofs.Common.{or_left, common_steps, flat_map-append, is_letter, IsSpan, IsBracket, IsValueEnd, Started, in_node, IsMove, EndsNode, IsShortProperty, is_white_space, is_upper, is_lower, Property, values, property_text, ComesTo, AreValuesEnded, StandsIn, IsNameRead, IsPropertyRead, ArePropertiesRead, with_properties, next_state}
-use Rattle.std.proofs.Common.{◌≡◌, ◌≢◌, ℕ, ◌+◌, ◌<◌, ◌≤◌, Bool, false, IsTrue, List, [], ◌∷◌, ◌++◌, length, get_or, slice_range, Some, None, refl, sym, ap, subst, ◌∙◌, arith, append-nil, rules, flat_map}
-use Rattle.sgf_properties.proofs.Classes.{upper-range, between-not_upper}
+use Rattle.sgf_tree.proofs.Common.{or_left, common_steps, flat_map-append, is_letter, IsSpan, IsBracket, IsValueEnd, Started, in_node, IsMove, EndsNode, IsShortProperty, is_white_space, is_upper, is_lower, Property, values, property_text, ComesTo, AreValuesEnded, StandsIn, IsNameRead, IsPropertyRead, ArePropertiesRead, with_properties, next_state, accepted, after_value}
+use Rattle.std.proofs.Common.{◌≡◌, ◌≢◌, ℕ, ◌+◌, ◌<◌, ◌≤◌, Bool, false, IsTrue, List, [], ◌∷◌, ◌++◌, length, get_or, slice_range, None, refl, sym, ap, subst, ◌∙◌, arith, append-nil, rules, flat_map, ne_eqb}
+use Rattle.sgf_properties.proofs.Classes.{upper-range, between-not_upper, upper-not_white_space, upper-not_bracket}
 use Rattle.sgf_tree.proofs.NameEnds.{name-read, capitals-are}
 use Rattle.sgf_properties.proofs.NameEnds.{bracket-here}
 use Rattle.sgf_tree.proofs.NodeEnds.{StandsInNode, node-done, node-name}
@@ -54,20 +54,20 @@ pub record ReadSoFar (Wrote : List ℕ → Type 0) (t : List ℕ) (at text_end e
 module _ (t : List ℕ) (at : ℕ) where
   -- none yet
   pub so-far-begin : (Wrote : List ℕ → Type 0) (end : ℕ) → IsSpan is_white_space t at end → Wrote [] → ReadSoFar Wrote t at at end
-  unfolding next_state
+  unfolding next_state accepted
   so-far-begin Wrote end white wrote =
       record {
         rises = omega arith;
         white_space = white;
         reached = λ n none h. (
           [],
-          record {
-            done = n;
-            last = None;
+          subst (StandsInNode t end) (ap (with_properties n) none) (record {
+            state = in_node n;
             reached = run-white t at end (in_node n) (λ b at h. rw h) white.rises white.within white.passing h;
-            whole_is = ap (with_properties n) none;
-            other = λ lt. tt;
-          },
+            name = λ b capital. rw (upper-not_white_space b capital, capital);
+            next = λ lt other small. rw (other, small);
+            unaccepted = refl;
+          }),
           wrote,
         );
       }
@@ -75,6 +75,7 @@ module _ (t : List ℕ) (at : ℕ) where
   -- one more property
   pub so-far-more : (Wrote Next All : List ℕ → Type 0) (text_end end next_text next : ℕ) → ReadSoFar Wrote t at text_end end → end < length t → IsTrue (is_upper (get_or t end 0))
       → IsPropertyRead Next t end next_text next → ((u v : List ℕ) → Wrote u → Next v → All (u ++ v)) → ReadSoFar All t at next_text next
+  unfolding next_state accepted
   so-far-more Wrote Next All text_end end next_text next so_far lt capital property join =
       record {
         rises = omega (arith, so_far.rises, so_far.white_space.rises, property.rises);
@@ -87,11 +88,11 @@ module _ (t : List ℕ) (at : ℕ) where
             ap (λ s. flat_map property_text ps ++ s) (sym (append-nil (property_text p))) ∙ sym (flat_map-append property_text ps (p ∷ [])) in (
               ps ++ p ∷ [],
               record {
-                done = done;
-                last = Some p;
+                state = after_value done p;
                 reached = after;
-                whole_is = refl;
-                other = property.no_value;
+                name = λ b capital. rw (upper-not_white_space b capital, upper-not_bracket b capital, capital);
+                next = λ lt other small. rw (other, ne_eqb (get_or t next 0) 91 (property.no_value lt), small);
+                unaccepted = refl;
               },
               subst All texts (join (flat_map property_text ps) (property_text p) wrote last),
             );

@@ -28,8 +28,7 @@ module _ (t : List ℕ) where
       → ((i : ℕ) → at ≤ i → i < to → next_state i (f i) (get_or t i 0) ≡ Some (f (i + 1)))
       → run 0 start (take at t) ≡ Some (f at) → run 0 start (take to t) ≡ Some (f to)
   run-span at to f le within s h =
-      let e : at + (to - at) ≡ to = omega arith in
-      subst (λ i. run 0 start (take i t) ≡ Some (f i)) e (run-bytes at to (to - at) f within s h (omega arith))
+      subst (λ i. run 0 start (take i t) ≡ Some (f i)) (omega arith) (run-bytes at to (to - at) f within s h (omega arith))
 
   -- white space, where the state stays
   pub run-white : (at to : ℕ) (z : MachineState) → Stays z → at ≤ to → to ≤ length t

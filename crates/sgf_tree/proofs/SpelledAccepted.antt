@@ -22,10 +22,9 @@ spelled-read : (c : Games) (t : List ℕ) → Spells c t
     → read (length t) start t ≡ Some (after_game (record { closed = c; unclosed = [] }))
 unfolding read next_state
 spelled-read c t (spells {first} {more} {below} {after} m (games w n ns bs last hs) end) =
-    let k = record no_stack { closed = game first more below after } in
     over-mark (length t) m w
     ∙ over-games (length t) no_games [] (games w n ns bs last hs)
-    ∙ over-white (length t) (after_game k) (λ b at h. rw h) end
+    ∙ over-white (length t) (after_game (record no_stack { closed = game first more below after })) (λ b at h. rw h) end
 
 pub spelled-accepted : (c : Games) (t : List ℕ) → Spells c t → collection_of t ≡ Some c
 unfolding collection_of accepted

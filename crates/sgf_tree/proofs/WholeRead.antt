@@ -1,5 +1,5 @@
 -- How all games of a text are read, and what holds then.
-use Rattle.sgf_tree.proofs.Common.{common_steps, IsSpan, UnclosedGame, Stack, MachineState, after_game, close, accepted, collection_of, Coming, nothing, is_white_space, Games, no_games, game, game_count, node_count, unclosed_count, IsFaultyAt, StandsBetween, IsGameRead, ReadsWhole, ComesTo}
+use Rattle.sgf_tree.proofs.Common.{common_steps, nil_from_length, IsSpan, UnclosedGame, Stack, MachineState, after_game, close, accepted, collection_of, Coming, nothing, is_white_space, Games, no_games, game, game_count, node_count, unclosed_count, IsFaultyAt, StandsBetween, IsGameRead, ReadsWhole, ComesTo}
 use Rattle.std.proofs.Common.{◌≡◌, ℕ, ◌+◌, ◌-◌, ◌<◌, ◌≤◌, ◌⊎◌, inl, inr, List, [], ◌∷◌, length, get_or, Some, None, unwrap_or, sym, ap, subst, ◌∙◌, arith, rules}
 use Rattle.sgf_tree.proofs.AcceptedSpelled.{accepted-spelled}
 use Rattle.sgf_outline.proofs.GameEnds.{closed-in, unclosed_count-closed}
@@ -7,9 +7,6 @@ use Rattle.sgf_tree.proofs.GamesLoop.{none-accepted, close-faulty, close-stands,
 use Rattle.sgf_tree.proofs.Run.{collection-run}
 use Rattle.sgf_tree.proofs.SequencesRead.{unclosed-unaccepted}
 use Rattle.sgf_tree.proofs.ValueEnds.{reaches-all}
-
-no-game : (gs : List UnclosedGame) → length gs ≡ 0 → gs ≡ []
-no-game gs h = grind (arith, common_steps)
 
 some-game : (games : Games) → 0 < node_count games → 0 < game_count games
 some-game no_games some = some
@@ -39,7 +36,7 @@ module _ (t : List ℕ) where
   -- a `)`
   module _ (keeps : Stack → Coming → Type 0) (start at depth : ℕ) (so_far : GamesSoFar keeps start at depth) where
     pub unopened-faulty : at < length t → get_or t at 0 ≡ 41 → depth ≡ 0 → IsFaultyAt t at
-    unopened-faulty lt e none = close-faulty t at so_far.stack so_far.stands lt e (no-game so_far.stack.unclosed (so_far.depth_is ∙ none))
+    unopened-faulty lt e none = close-faulty t at so_far.stack so_far.stands lt e (nil_from_length so_far.stack.unclosed (so_far.depth_is ∙ none))
 
     pub games-closed : (keeps' : Stack → Coming → Type 0) (next : ℕ) → 0 < depth → at < length t → get_or t at 0 ≡ 41 → IsSpan is_white_space t (at + 1) next
         → ((k k' : Stack) → keeps k nothing → length k.unclosed ≡ depth - 1 + 1 → close k ≡ Some (after_game k') → keeps' k' nothing) → GamesSoFar keeps' start next (depth - 1)
@@ -60,7 +57,6 @@ module _ (t : List ℕ) where
       pub games-read : depth ≡ 0 → start < at → ReadsWhole keeps t
       games-read none some =
           let k : Stack = so_far.stack in
-          let all : k.unclosed ≡ [] = no-game k.unclosed (so_far.depth_is ∙ none) in
+          let all : k.unclosed ≡ [] = nil_from_length k.unclosed (so_far.depth_is ∙ none) in
           let count : unclosed_count k.closed k.unclosed ≡ node_count k.closed = ap (unclosed_count k.closed) all in
-          let accepts = games-accepted t at k so_far.stands ends all (some-game k.closed (omega (arith, so_far.some some))) in
-          search (rules, collection-reached, games-whole, unwrap_or, accepted-spelled)
+          search (rules, collection-reached, games-whole, unwrap_or, accepted-spelled, games-accepted t at k so_far.stands ends all (some-game k.closed (omega (arith, so_far.some some))))
