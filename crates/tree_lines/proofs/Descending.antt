@@ -2,10 +2,10 @@
 use Rattle.tree_lines.proofs.Common.{range_with_len, take-append_seam, cases_lt, common_steps, slice_get_within, parent_at, Games, CursorState, lines_before, first_after, Continues, numbers_before, path_before, paths, IsPathTo, IsNextLeaf, IsCutBack, IsAfterLeaf}
 use Rattle.std.proofs.Common.{◌≡◌, ℕ, zero, suc, ◌+◌, ◌-◌, ◌<◌, ◌≤◌, List, [], ◌∷◌, ◌++◌, length, take, slice_get, Option, Some, None, inl, inr, refl, sym, ap, ◌∙◌, arith, length-append, rules}
 use Rattle.sgf_outline.proofs.Lists.{slice_get-right}
-use Rattle.sgf_outline.proofs.Rises.{Rises, rises-pair}
+use Rattle.sgf_outline.proofs.Rises.{Rises, rises-count, rises-pair}
 use Rattle.tree_lines.specs.inner.PathTo.{step}
 use Rattle.tree_lines.proofs.Lists.{get_left}
-use Rattle.tree_lines.proofs.Visits.{none_above, way_rises, rises_parts, GoesOn, goes_on_there, after_way}
+use Rattle.tree_lines.proofs.Visits.{none_above, way_rises, GoesOn, goes_on_there, after_way}
 use Rattle.tree_lines.proofs.CursorStates.{before_none, next_line, given_line, before}
 use Rattle.tree_lines.proofs.Seeking.{stands_after}
 
@@ -34,7 +34,7 @@ module _ (c : Games) (next : ℕ) (path : List ℕ) (stands : IsAfterLeaf c next
   path_is = is_last.path_is
 
   pub short : length path ≤ next
-  short = omega (arith, (rises_parts 0 path next is_last.rises).1)
+  short = omega (arith, rises-count 0 next path is_last.rises)
 
   module _ (leaf : ℕ) (parent : Option ℕ) (r : ℕ) (h : IsNextLeaf c next leaf) (parent_is : parent_at c next ≡ Some parent) (cut : IsCutBack path parent r) where
     -- the path of the next line goes on from this one
@@ -67,10 +67,7 @@ module _ (c : Games) (next : ℕ) (path : List ℕ) (stands : IsAfterLeaf c next
 
     -- the path that is made leads to the leaf
     pub way_made : IsPathTo c (Some leaf) (take r path ++ range_with_len next (leaf + 1 - next))
-    way_made =
-        let n = next_way in
-        let g = n.2 in
-        grind (arith, common_steps, same_cut, take-append_seam)
+    way_made = grind (arith, common_steps, next_way, same_cut, take-append_seam)
 
     pub stands_next : (new : List ℕ) → new ≡ take r path ++ range_with_len next (leaf + 1 - next) → IsAfterLeaf c (leaf + 1) new
     stands_next new e = stands_after c leaf new h.within h.is_leaf (rw e way_made)

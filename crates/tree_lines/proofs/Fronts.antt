@@ -1,6 +1,6 @@
 -- Nodes in sequences, by the indices where these end.
-use Rattle.tree_lines.proofs.Common.{concat, take-append_seam, common_steps, flat_map-append, drop-take, drop_all, Continues, RiseTo, nodes_in, parts_from}
-use Rattle.std.proofs.Common.{◌≡◌, ℕ, zero, suc, ◌+◌, ◌-◌, ◌<◌, ◌≤◌, List, [], ◌∷◌, ◌++◌, length, get_or, take, drop, map, slice_get, Some, refl, sym, ap, ◌∙◌, arith, add-one, flat_map, take-append-drop, length-drop, length-take-le, drop-drop}
+use Rattle.tree_lines.proofs.Common.{concat, take-append_seam, common_steps, slice_get_within, flat_map-append, drop-take, drop_all, Continues, RiseTo, nodes_in, parts_from}
+use Rattle.std.proofs.Common.{◌≡◌, ℕ, zero, suc, ◌+◌, ◌-◌, ◌≤◌, List, [], ◌∷◌, ◌++◌, length, get_or, take, drop, map, slice_get, Some, refl, sym, ap, ◌∙◌, arith, add-one, flat_map, take-append-drop, take-take, length-drop, length-take-le, drop-drop}
 
 -- where the first `k` parts end
 abbrev pub end_of : ℕ → List ℕ → ℕ → ℕ
@@ -30,19 +30,8 @@ part_then : {A : Type 0} (start : ℕ) (ends : List ℕ) (xs : List A) (count k 
 part_then start [] xs count k part h e = absurd cc
 part_then start (end ∷ ends) xs count zero part h e = grind (arith, common_steps, take-append-drop)
 part_then start (end ∷ ends) xs count (suc k) part h e =
-    let len = length_of (parts_from end ends (drop (end - start) xs)) k part e in
-    let many : length (parts_from end ends (drop (end - start) xs)) ≡ length ends = as_many_parts end ends (drop (end - start) xs) in
-    let here = rises_through end ends count k h.1 (omega arith) in
-    let next = rises_through end ends count (suc k) h.1 (omega arith) in
-    let here_is : end - start + (end_of end ends k - end) ≡ end_of end ends k - start = omega (arith, h.0, here.0) in
-    let next_is : end - start + (end_of end ends (suc k) - end) ≡ end_of end ends (suc k) - start = omega (arith, h.0, next.0) in
-    let rest = part_then end ends (drop (end - start) xs) count k part h.1 e in
-    grind (arith, common_steps, drop-drop)
-  where
-    length_of : {B : Type 0} (ys : List B) (k : ℕ) (y : B) → slice_get ys k ≡ Some y → k < length ys
-    length_of [] k y e = absurd cc
-    length_of (z ∷ ys) zero y e = omega arith
-    length_of (z ∷ ys) (suc k) y e = omega (arith, length_of ys k y e)
+    let len = slice_get_within (parts_from end ends (drop (end - start) xs)) k part e in
+    grind (arith, common_steps, as_many_parts, rises_through, drop-drop, (part_then end ends (drop (end - start) xs) count k part h.1 e))
 
 -- the same of the parts of a line
 pub next_part : {A : Type 0} (ends : List ℕ) (xs : List A) (count k : ℕ) (part : List A) → RiseTo 0 ends count → Some part ≡ slice_get (parts_from 0 ends xs) k
@@ -69,16 +58,10 @@ alike start (end ∷ ends) (other ∷ others) xs ys count (suc k) h le same e =
     let sum : g - start ≡ end - start + (g - end) = omega (arith, within.0, h.0) in
     let whole : take (end - start + (g - end)) xs ≡ take (end - start + (g - end)) ys = rw (← sum) e in
     let fronts : take (end - start) xs ≡ take (end - start) ys =
-    sym (front (end - start) (g - end) xs) ∙ ap (take (end - start)) whole ∙ front (end - start) (g - end) ys in
+    sym (take-take (end - start) (end - start + (g - end)) xs (omega arith)) ∙ ap (take (end - start)) whole ∙ take-take (end - start) (end - start + (g - end)) ys (omega arith) in
     let backs : take (g - end) (drop (end - start) xs) ≡ take (g - end) (drop (end - start) ys) =
     sym (drop-take (end - start) (g - end) xs) ∙ ap (drop (end - start)) whole ∙ drop-take (end - start) (g - end) ys in
-    let more = alike end ends others (drop (end - start) xs) (drop (end - start) ys) count k h.1 (omega arith) rest backs in
-    rw (← first) (ap (λ p. p ∷ take k (parts_from end ends (drop (end - start) xs))) fronts ∙ ap (λ ps. take (end - start) ys ∷ ps) more)
-  where
-    front : {B : Type 0} (n m : ℕ) (zs : List B) → take n (take (n + m) zs) ≡ take n zs
-    front zero m zs = refl
-    front (suc n) m [] = let same : suc n + m ≡ suc (n + m) = omega arith in rw same refl
-    front (suc n) m (z ∷ zs) = let same : suc n + m ≡ suc (n + m) = omega arith in rw same (ap (λ l. z ∷ l) (front n m zs))
+    grind (arith, common_steps, (alike end ends others (drop (end - start) xs) (drop (end - start) ys) count k h.1 (omega arith) rest backs))
 
 -- the texts of the parts are that of all elements
 pub parts_text : {A : Type 0} (f : A → List ℕ) (start : ℕ) (ends : List ℕ) (xs : List A) (count : ℕ) → count ≡ start + length xs → RiseTo start ends count

@@ -1,7 +1,8 @@
 -- A line ends at each leaf, so there are as many lines as leaves, and no more lines than nodes.
 use Rattle.tree_lines.proofs.Common.{common_steps, length-map, Node, Games, no_games, game, leaf_count, node_count, lines, lines_from, node_lines, through, paths, leaf_of}
 use Rattle.std.proofs.Common.{◌≡◌, ℕ, ◌+◌, ◌<◌, ◌≤◌, List, [], ◌∷◌, ◌++◌, length, map, refl, arith, length-append}
-use Rattle.tree_lines.proofs.Visits.{rises_parts, leaves_in_order}
+use Rattle.sgf_outline.proofs.Rises.{rises-count}
+use Rattle.tree_lines.proofs.Visits.{leaves_in_order}
 use Rattle.tree_lines.proofs.Named.{length-paths}
 
 -- nothing is lost where lists go on from a branch
@@ -29,4 +30,4 @@ lines_leaves games = lines_from_leaves 1 games
 
 -- no more lines than nodes
 pub lines_within : (c : Games) → length (lines c) ≤ node_count c
-lines_within c = omega (arith, (rises_parts 0 (map leaf_of (paths c)) (node_count c) (leaves_in_order c)).1, length-map (paths c) leaf_of, length-paths c)
+lines_within c = omega (arith, rises-count 0 (node_count c) (map leaf_of (paths c)) (leaves_in_order c), length-map (paths c) leaf_of, length-paths c)

@@ -1,5 +1,5 @@
 -- The nodes of the line before a cursor, by its path.
-use Rattle.tree_lines.proofs.Common.{drop-map, cases_lt, common_steps, length-map, slice_get_past, node_at, nodes_at, Node, Games, CursorState, nodes_of, line_in, line_before, nodes_before, path_before, numbers_before, lines_before, lines, paths, IsAfterLeaf}
+use Rattle.tree_lines.proofs.Common.{drop-map, cases_lt, common_steps, length-map, slice_get_past, node_at, nodes_at, Node, Games, CursorState, nodes_of, line_in, line_before, nodes_before, path_before, numbers_before, lines_before, lines, paths, IsAfterLeaf, slice_get-map, slice_get-get_or}
 use Rattle.std.proofs.Common.{◌≡◌, ℕ, zero, suc, ◌-◌, ◌<◌, List, [], ◌∷◌, length, map, drop, get_or, slice_get, Option, Some, refl, sym, ap, ◌∙◌, inl, inr, arith, option_to_list, flat_map}
 use Rattle.tree_lines.proofs.Lists.{element}
 use Rattle.tree_lines.proofs.Named.{line_at, length-paths}
@@ -11,17 +11,10 @@ pub as_many : {X : Type 0} (f : ℕ → Option X) (nodes : List X) (path : List 
 as_many f nodes path e = sym (length-map nodes Some) ∙ ap length e ∙ length-map path f
 
 -- the node that a path names at an index
-named_at : {X : Type 0} (f : ℕ → Option X) (nodes : List X) (path : List ℕ) (i d : ℕ) → map Some nodes ≡ map f path → i < length path
-    → (x : X) × (slice_get nodes i ≡ Some x) × (f (get_or path i d) ≡ Some x)
-named_at f [] [] i d e lt = absurd (omega arith)
-named_at f [] (p ∷ ps) i d e lt = absurd cc
-named_at f (m ∷ ms) [] i d e lt = absurd (omega arith)
-named_at f (m ∷ ms) (p ∷ ps) zero d e lt = let here : f p ≡ Some m = cc in (m, refl, here)
-named_at f (m ∷ ms) (p ∷ ps) (suc i) d e lt = named_at f ms ps i d (cc) (omega arith)
-
 node_named : {X : Type 0} (f : ℕ → Option X) (nodes : List X) (path : List ℕ) (i d : ℕ) (x : X) → map Some nodes ≡ map f path → i < length path
     → f (get_or path i d) ≡ Some x → slice_get nodes i ≡ Some x
-node_named f nodes path i d x e lt is = let n = named_at f nodes path i d e lt in n.1 ∙ sym n.2 ∙ is
+node_named f nodes path i d x e lt is =
+    grind (arith, common_steps, ap (λ xs. slice_get xs i) e, slice_get-map Some nodes i, slice_get-map f path i, slice_get-get_or path i d lt)
 
 -- nodes that numbers name
 named_nodes : (f : ℕ → Option Node) (nodes : List Node) (numbers : List ℕ) → map Some nodes ≡ map f numbers → flat_map (λ k. option_to_list (f k)) numbers ≡ nodes

@@ -1,7 +1,7 @@
 -- The places of the lines rise, if those of the nodes do.
 use Rattle.std.proofs.Common.{◌≡◌, ℕ, suc, length, map, slice_get, Some, option_map, sym, ap, ◌∙◌, slice_index, add-one, arith}
 use Rattle.std.specs.List.Sorted.{IsStrictlyIncreasing}
-use Rattle.tree_lines.proofs.Common.{length-map, slice_get-map, get_or_from_slice_get, PlacesRise, Games, Line, lines, place_of, paths, leaf_of}
+use Rattle.tree_lines.proofs.Common.{common_steps, length-map, slice_get-map, get_or_from_slice_get, PlacesRise, Games, Line, lines, place_of, paths}
 use Rattle.tree_lines.proofs.Lists.{element}
 use Rattle.tree_lines.proofs.Named.{line_at, length-paths}
 use Rattle.tree_lines.proofs.CursorStates.{leaf_rises}
@@ -16,7 +16,4 @@ module _ (c : Games) where
       let count : length (paths c) ≡ length (map place_of (lines c)) = length-paths c ∙ sym (length-map (lines c) place_of) in
       let p = element (paths c) k (omega arith) in
       let q = element (paths c) (suc k) (omega arith) in
-      let l = line_at c k p.0 p.1 in
-      let m = line_at c (suc k) q.0 q.1 in
-      let below = rise (leaf_of p.0) (leaf_of q.0) (place_of l.0) (place_of m.0) (leaf_rises c k (suc k) p.0 q.0 (omega arith) p.1 q.1) l.1.place m.1.place in
-      rw (add-one, place_at_line k l.0 l.1.found, place_at_line (suc k) m.0 m.1.found) below
+      grind (arith, common_steps, line_at, leaf_rises, add-one, place_at_line)

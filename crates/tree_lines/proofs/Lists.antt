@@ -47,13 +47,10 @@ each_through P Q own [] alone before h = (alone refl, tt)
 each_through P Q own (l ∷ ls) alone before h = each_map P (λ rest. own ++ rest) (l ∷ ls) (each_weaker Q (λ rest. P (own ++ rest)) before (l ∷ ls) h)
 
 -- what goes through images is the image of what goes through them
-map-after : {A B : Type 0} (f : A → B) (own : List A) (ls : List (List A)) → map (map f) (map (λ rest. own ++ rest) ls) ≡ map (λ rest. map f own ++ rest) (map (map f) ls)
-map-after f own [] = refl
-map-after f own (l ∷ ls) = let one = map-append f own l in let rest = map-after f own ls in cc
-
 pub map-through : {A B : Type 0} (f : A → B) (own : List A) (ls : List (List A)) → map (map f) (through own ls) ≡ through (map f own) (map (map f) ls)
 map-through f own [] = refl
-map-through f own (l ∷ ls) = map-after f own (l ∷ ls)
+map-through f own (l ∷ []) = let one = map-append f own l in cc
+map-through f own (l ∷ m ∷ ls) = let one = map-append f own l in let rest = map-through f own (m ∷ ls) in cc
 
 pub element : {A : Type 0} (xs : List A) (k : ℕ) → k < length xs → (x : A) × (slice_get xs k ≡ Some x)
 element [] k lt = absurd (omega arith)

@@ -1,10 +1,10 @@
 -- The paths of a collection name the nodes of its lines, and begin in their games.
-use Rattle.tree_lines.proofs.Common.{AllZip, common_steps, map-append, OrderedNode, further_nodes, ordered_nodes, node_at, place_at, game_of, Node, Games, no_games, game, node_count, Line, through, node_lines, lines_of_game, lines_from, lines, last_number, place_of, Path, numbered_nodes, numbered, path_of, paths, leaf_of, IsPathOf}
-use Rattle.std.proofs.Common.{◌≡◌, ℕ, suc, ◌+◌, ◌<◌, List, [], ◌∷◌, ◌++◌, length, map, slice_get, Option, Some, None, refl, sym, ap, ◌∙◌, arith, zero, false, add-zero, ◌-◌, ◌≤◌, get_or, rules, lt-ltb, le-ltb}
+use Rattle.tree_lines.proofs.Common.{AllZip, common_steps, map-append, OrderedNode, further_nodes, ordered_nodes, node_at, place_at, game_of, Node, Games, no_games, game, node_count, Line, through, node_lines, lines_of_game, lines_from, lines, last_number, place_of, Path, numbered_nodes, numbered, path_of, paths, leaf_of, IsPathOf, slice_get_within}
+use Rattle.std.proofs.Common.{◌≡◌, ℕ, ◌+◌, ◌<◌, List, [], ◌∷◌, ◌++◌, length, map, slice_get, Option, Some, None, refl, sym, ap, ◌∙◌, arith, false, add-zero, ◌-◌, ◌≤◌, get_or, rules, lt-ltb, le-ltb}
 use mathlib.Core.List.{map-map}
-use Rattle.std.proofs.lemmas.Slice.Zip.{AllZip-long}
+use Rattle.std.proofs.lemmas.Slice.Zip.{AllZip-long, AllZip-right}
 use Rattle.tree_lines.proofs.Visits.{StandsAt, Stands, stands_whole, stands_get, stands_right, stands_own, stands_below, stands_after, first_ordered, some_node, leads}
-use Rattle.tree_lines.proofs.Lists.{Each, each_append, each_weaker, map-through}
+use Rattle.tree_lines.proofs.Lists.{Each, each_append, each_weaker, map-through, element}
 
 zip_append : {A B : Type 0} (R : A → B → Type 0) (xs us : List A) (ys vs : List B) → AllZip R xs ys → AllZip R us vs → AllZip R (xs ++ us) (ys ++ vs)
 zip_append R [] us [] vs h k = k
@@ -81,14 +81,6 @@ module _ (c : Games) where
     pub nodes : map Some line.nodes ≡ map (node_at c) path.numbers
     pub place : place_at c (leaf_of path) ≡ Some (place_of line)
 
-  line_in : (ls : List Line) (ps : List Path) (k : ℕ) (path : Path) → AllZip (IsPathOf c) ls ps → slice_get ps k ≡ Some path
-      → (line : Line) × (slice_get ls k ≡ Some line) × IsPathOf c line path
-  line_in [] [] k path z e = absurd cc
-  line_in [] (p ∷ ps) k path z e = absurd z
-  line_in (l ∷ ls) [] k path z e = absurd z
-  line_in (l ∷ ls) (p ∷ ps) zero path z e = let same : p ≡ path = cc in (l, refl, rw same at z.0)
-  line_in (l ∷ ls) (p ∷ ps) (suc k) path z e = line_in ls ps k path z.1 e
-
   -- the place of a line is that of the last node on its path
   pub place_of_node : (i : ℕ) (n : Node) → Some n ≡ node_at c i → place_at c i ≡ Some n.place
   place_of_node i n e = grind (arith, common_steps)
@@ -103,8 +95,9 @@ module _ (c : Games) where
 
   pub line_at : (k : ℕ) (path : Path) → slice_get (paths c) k ≡ Some path → (line : Line) × IsNamed k path line
   line_at k path e =
-      let f = line_in (lines c) (paths c) k path each_named e in
-      grind (arith, common_steps, place_of_last f.0.nodes path.numbers (some_node (leads c k path e).up) (sym f.2.nodes), some_node (leads c k path e).up, leads c k path e)
+      let f = element (lines c) k (omega (arith, length-paths, slice_get_within (paths c) k path e)) in
+      let is : IsPathOf c f.0 path = rw (e, f.1) at (AllZip-right (IsPathOf c) (lines c) (paths c) each_named k) in
+      grind (arith, common_steps, place_of_last f.0.nodes path.numbers (some_node (leads c k path e).up) (sym is.nodes), some_node (leads c k path e).up, leads c k path e)
 
 -- the game of node n is that of this number, if games from node `at` on begin with the game of the number `from`
 abbrev IsOfGame : ℕ → ℕ → Games → ℕ → ℕ → Type 0
@@ -113,15 +106,11 @@ IsOfGame from at g number n = (at ≤ n) × (number + 1 ≡ from + game_of g (n 
 abbrev BeginsIn : ℕ → ℕ → Games → Path → Type 0
 BeginsIn from at g path = (d : ℕ) → IsOfGame from at g path.game_number (get_or path.numbers 0 d)
 
-begins_here : (number at : ℕ) (g : Games) (own : Node) (more : List Node) (ls : List (List Node)) → IsOfGame number at g number own.place
-    → Each (BeginsIn number at g) (map path_of (lines_of_game number (map (λ rest. (own ∷ more) ++ rest) ls)))
-begins_here number at g own more [] h = tt
-begins_here number at g own more (l ∷ ls) h = (λ d. h, begins_here number at g own more ls h)
-
 begins_game : (number at : ℕ) (g : Games) (own : Node) (more : List Node) (ls : List (List Node)) → IsOfGame number at g number own.place
     → Each (BeginsIn number at g) (map path_of (lines_of_game number (through (own ∷ more) ls)))
 begins_game number at g own more [] h = (λ d. h, tt)
-begins_game number at g own more (l ∷ ls) h = begins_here number at g own more (l ∷ ls) h
+begins_game number at g own more (l ∷ []) h = (λ d. h, tt)
+begins_game number at g own more (l ∷ m ∷ ls) h = (λ d. h, begins_game number at g own more (m ∷ ls) h)
 
 in_later : (from at : ℕ) (first : Node) (more : List Node) (below after : Games) (number n : ℕ)
     → IsOfGame (from + 1) (at + length more + 1 + node_count below) after number n → IsOfGame from at (game first more below after) number n

@@ -55,8 +55,7 @@ module _ (c : Games) where
         short = omega (arith, h.short, ap reach e, reach_falls k above lt is, length_is c k lt);
         count = λ front way.
             let here : ArePartsTo c current (front ++ part_after c front k ∷ []) = rw e (step lt is way refl) in
-            let n = h.count (front ++ part_after c front k ∷ []) here in
-            (n.0, n.1, omega (arith, n.2, length-append front (part_after c front k ∷ [])), omega (arith, n.3, nodes_more front k));
+            grind (arith, common_steps, part_after, length-append, nodes_more);
       }
 
   -- the counts fit

@@ -2,6 +2,7 @@
 use Rattle.tree_lines.proofs.Common.{range_with_len, take-append_seam, cases_lt, common_steps, length-map, take-map, get_or-range_with_len, length-range_with_len, slice_get-get_or, parent_at, place_at, node_at, nodes_at, game_of, IsLeaf, sequence_starts, sequence_start, sequence_end, sequence_numbers, Node, Games, node_count, Front, CursorState, advanced, IsAfterPlace, lines_before, Continues, path_before, nodes_before, line_before, line_in, nodes_of, lines, place_of, Line, HasNoLineAt, SequencesState, SharesFront, RiseTo, sequences_of, parts_from, Part, first_of, parts_of, part_numbers, part_ends, AreParts, IsAfterSequences, IsCursorKept, IsWayTo, IsNextEnd, IsFrontUpTo, GoesDown, IsAbove, ArePartsTo, HasNoLeaf, IsNextLeaf, IsCutBack, IsAfterLeaf}
 use Rattle.std.proofs.Common.{◌≡◌, ◌≢◌, ℕ, suc, ◌+◌, ◌-◌, ◌<◌, ◌≤◌, inl, inr, List, [], ◌∷◌, ◌++◌, length, get_or, take, slice_get, Option, Some, None, option_map, refl, sym, ap, ◌∙◌, arith, add-one, length-append, rules, length-take-le}
 use Rattle.std.proofs.Math.ListN.{get_or-append}
+use Rattle.tree_lines.proofs.Fronts.{rises_over}
 use Rattle.tree_lines.proofs.Named.{line_at}
 use Rattle.tree_lines.proofs.LineNodes.{as_many_nodes, nodes_after, node_is, some_before, line_is}
 use Rattle.tree_lines.proofs.CursorStates.{before, starts, IsShown, shows_line, advances, none_is_left}
@@ -30,12 +31,7 @@ first_number c [] d part are e = absurd cc
 first_number c (p ∷ ps) d part are e = grind (arith, common_steps, never_empty, get_or-append, length-range_with_len, get_or-range_with_len)
 
 pub some_end : (ends : List ℕ) (count : ℕ) → RiseTo 0 ends count → 0 < length ends → 0 < count
-some_end [] count rise some = absurd (omega arith)
-some_end (end ∷ ends) count rise some = omega (arith, rise.0, no_less end ends count rise.1)
-  where
-    no_less : (start : ℕ) (ends : List ℕ) (count : ℕ) → RiseTo start ends count → start ≤ count
-    no_less start [] count rise = omega (arith, rise)
-    no_less start (end ∷ ends) count rise = omega (arith, rise.0, no_less end ends count rise.1)
+some_end ends count rise some = omega (arith, rises_over 0 ends count rise)
 
 pub some_ends : (ends : List ℕ) (count : ℕ) → RiseTo 0 ends count → 0 < count → 0 < length ends
 some_ends [] count rise some = absurd (omega (arith, rise))
@@ -87,8 +83,7 @@ module _ (c : Games) (next : ℕ) (path : List ℕ) (h : IsAfterSequences c next
   sequence_nodes i k e =
       let nodes : nodes_at c (part_numbers c parts) ≡ nodes_before state.at = nodes_after c (first_of c next) state.at at_is (part_numbers c parts) h.stands 0 in
       let p = part_at c 0 path i k e in
-      let there = rw p.2 at (sym (part_nodes c 0 parts i p.0 h.are p.1)) in
-      ap (λ (games : Games). Some (nodes_at games (sequence_numbers games k))) (sym games_are) ∙ rw (← ends_are, ← nodes) there
+      grind (arith, common_steps, part_nodes, games_are, ends_are)
 
   pub part_path : (i k : ℕ) → slice_get path i ≡ Some k
       → Some (sequence_numbers state.at.games k) ≡ slice_get (parts_from 0 state.ends (path_before state.at)) i
@@ -221,14 +216,10 @@ module _ (c : Games) (next : ℕ) (path : List ℕ) (h : IsAfterSequences c next
       stands_further = grind (arith, common_steps, after_leaf, stands_there)
 
       nodes_made : (first end : ℕ) → first ≡ sequence_start c next → end ≡ sequence_end c leaf → front.nodes + (end - first) ≡ length (part_numbers c new)
-      nodes_made first end first_is end_is =
-          next_long first end first_is end_is
-          ∙ as_many_nodes c (leaf_node + 1) (advanced state.at) (advances c (first_of c next) state.at at_is leaf_node next_leaf) (part_numbers c new) stands_there
+      nodes_made first end first_is end_is = search (rules, next_long, as_many_nodes, advances, at_is, next_leaf, stands_there)
 
       continued : Continues (path_before state.at) front.nodes (path_before (before c (leaf_node + 1)))
-      continued =
-          shares c (first_of c next) (part_numbers c parts) h.stands state.at leaf_node front.nodes (part_numbers c new) at_is
-          (continues_made c (first_of c next) (part_numbers c parts) h.stands leaf_node parent front.nodes next_leaf parent_there node_cut (part_numbers c new) numbers_made) stands_there
+      continued = search (rules, shares, at_is, continues_made, next_leaf, parent_there, node_cut, numbers_made, stands_there)
 
       pub shares_front : SharesFront state (seen c (leaf + 1) new) front
       shares_front = grind (arith, common_steps, front_within, before, after_leaf, continued, parts_long, take-map, ends_are, length-map)

@@ -1,6 +1,6 @@
 -- From the parts of a line to those of the next line.
 use Rattle.tree_lines.proofs.Common.{range_with_len, common_steps, flat_map-append, take-append-le, get_or-range_with_len, length-range_with_len, slice_get-get_or, sequence_starts, sequence_start, sequence_end, sequence_numbers, Games, Front, nodes_in, Part, first_of, sequence_length, parts_of, part_numbers, part_ends, AreParts, IsUpTo, IsFrontUpTo, GoesDown, IsCutBack}
-use Rattle.std.proofs.Common.{◌≡◌, ◌≢◌, ℕ, zero, suc, ◌+◌, ◌-◌, ◌<◌, ◌≤◌, List, [], ◌∷◌, ◌++◌, length, take, drop, slice_get, Option, Some, refl, sym, ap, subst, ◌∙◌, arith, append_assoc, append-nil, length-append, take-append-drop, length-take-le}
+use Rattle.std.proofs.Common.{◌≡◌, ◌≢◌, ℕ, zero, suc, ◌+◌, ◌-◌, ◌<◌, ◌≤◌, List, [], ◌∷◌, ◌++◌, length, take, drop, slice_get, Option, Some, refl, sym, ap, ◌∙◌, arith, append_assoc, append-nil, length-append, take-append-drop, length-take-le}
 use Rattle.sgf_outline.proofs.Lists.{slice_get-left, slice_get-right}
 use Rattle.tree_lines.proofs.Lists.{Each, each_append, each_get, element, front_more, range_append}
 use Rattle.tree_lines.proofs.SequenceStarts.{first_no_less, never_empty, same_sequence, last_in, start_is, length_is}
@@ -56,7 +56,9 @@ module _ (c : Games) where
         let both : part_numbers c parts ≡ before ++ behind = split_numbers k parts in
         let long : length (part_numbers c parts) ≡ length before + length behind = ap length both ∙ length-append before behind in
         let others : Each (λ n. n ≢ p) behind = no_such_part outer (drop k parts) there
-        (λ i part e. let here : slice_get parts (k + i) ≡ Some part = sym (get_dropped k parts i) ∙ e in (part_within c 0 parts (k + i) part are here, h.others (k + i) part (omega arith) here)) in (
+        (λ i part e.
+        let here : slice_get parts (k + i) ≡ Some part = (rw take-append-drop at (slice_get-right (take k parts) (drop k parts) (k + i) i (omega (arith, length-take-le k parts h.within)))) ∙ e in
+        (part_within c 0 parts (k + i) part are here, h.others (k + i) part (omega arith) here)) in (
           omega arith,
           λ i ge lt e.
               let here : slice_get behind (i - length before) ≡ Some p = sym (slice_get-right before behind i (i - length before) (omega arith)) ∙ ap (λ ns. slice_get ns i) (sym both) ∙ e in
@@ -107,9 +109,7 @@ module _ (c : Games) where
       let there = start_is c end lt in
       let own : sequence_numbers c end ≡ range_with_len e (sequence_length c end) = ap (λ n. range_with_len n (sequence_length c end)) there in
       let reach : f + (e - f) ≡ e = omega arith in
-      let sum : (e - f) + sequence_length c end ≡ first_of c (end + 1) - f = omega (arith, length_is c end lt) in
-      let joined : range_with_len f (e - f) ++ range_with_len e (sequence_length c end) ≡ range_with_len f (first_of c (end + 1) - f) = rw (reach, sum) at (range_append f (e - f) (sequence_length c end)) in
-      grind (arith, common_steps, take-append-le, length-append, numbers_more, append_assoc, parts_more)
+      grind (arith, common_steps, length_is, range_append, take-append-le, length-append, numbers_more, append_assoc, parts_more)
 
   -- a front of the path, and the sequences down to a leaf
   pub goes_down : (path : List ℕ) (kept first count : ℕ) → AreParts c 0 (parts_of c 0 path) → kept ≤ length path → first + count ≤ length (sequence_starts c)
@@ -125,8 +125,4 @@ module _ (c : Games) where
       let end : first + n + 1 ≡ first + suc n = omega arith in
       let longer : take kept path ++ range_with_len first (suc n) ≡ so_far ++ (first + n) ∷ [] =
       ap (λ ns. take kept path ++ ns) (ap (range_with_len first) (sym one) ∙ sym (range_append first n 1)) ∙ sym (append_assoc (take kept path) (range_with_len first n) ((first + n) ∷ [])) in
-      let start : 0 + length (part_numbers c (parts_of c 0 so_far)) ≡ length (part_numbers c (parts_of c 0 so_far)) = omega arith in
-      let made : parts_of c 0 (take kept path ++ range_with_len first (suc n)) ≡ parts_of c 0 so_far ++ part_after c (parts_of c 0 so_far) (first + n) ∷ [] =
-      ap (parts_of c 0) longer ∙ parts_of-append c 0 so_far ((first + n) ∷ []) ∙ ap (λ m. parts_of c 0 so_far ++ parts_of c m ((first + n) ∷ [])) start in
-      subst (GoesDown c old kept first (first + suc n)) (sym made)
-      (subst (λ m. GoesDown c old kept first m (parts_of c 0 so_far ++ part_after c (parts_of c 0 so_far) (first + n) ∷ [])) end down)
+      grind (arith, common_steps, part_after, parts_of-append)

@@ -5,9 +5,8 @@ use Rattle.sgf_outline.proofs.OrderedNodes.{length-ordered_nodes}
 use Rattle.sgf_outline.proofs.Starts.{starts-are, first-start}
 use Rattle.sgf_outline.proofs.ListedNodes.{starts-rise}
 use Rattle.sgf_outline.proofs.Outlined.{sequence-further}
-use Rattle.sgf_outline.proofs.Rises.{Rises, rises-get, rises-pair}
+use Rattle.sgf_outline.proofs.Rises.{Rises, rises-count, rises-get, rises-pair}
 use Rattle.tree_lines.proofs.Lists.{element}
-use Rattle.tree_lines.proofs.Visits.{rises_parts}
 
 module _ (c : Games) where
   pub ordered_there : (n : ℕ) → n < node_count c → (r : OrderedNode) × (slice_get (ordered_nodes c) n ≡ Some r)
@@ -23,7 +22,7 @@ module _ (c : Games) where
 
   -- there are no more sequences than nodes
   pub fewer : length starts ≤ node_count c
-  fewer = omega (arith, (rises_parts 0 starts (node_count c) starts_rise).1)
+  fewer = omega (arith, rises-count 0 (node_count c) starts starts_rise)
 
   at_start : (k : ℕ) → k < length starts → slice_get starts k ≡ Some (first_of c k)
   at_start k lt = slice_get-get_or starts k (node_count c) lt

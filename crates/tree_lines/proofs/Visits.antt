@@ -6,7 +6,7 @@ use Rattle.sgf_outline.proofs.Rises.{Rises, rises-append}
 use Rattle.tree_lines.specs.inner.PathTo.{top, step}
 use Rattle.tree_lines.proofs.Lists.{Each, range_append, map-through, each_weaker, each_get, element}
 use Rattle.sgf_outline.proofs.Lists.{slice_get-left, slice_get-right}
-use mathlib.Core.List.{map-map}
+use mathlib.Core.List.{map-id, map-map}
 
 pub last_number-append : (ns : List ℕ) (m : ℕ) (ms : List ℕ) → last_number (ns ++ m ∷ ms) ≡ last_number (m ∷ ms)
 last_number-append [] m ms = refl
@@ -41,10 +41,6 @@ some_node {i = i} (step {above = above} e up is) = omega (arith, ap length is, l
 pub way_within : {c : Games} {i : ℕ} {way : List ℕ} → IsPathTo c (Some i) way → i < node_count c
 way_within {c = c} (step {number = i} {parent = p} e up is) = node_within c i p e
 
-rises_high : (low : ℕ) (ns : List ℕ) (high end : ℕ) → high ≤ end → Rises low ns high → Rises low ns end
-rises_high low [] high end le h = omega (arith, h)
-rises_high low (n ∷ ns) high end le h = (h.0, rises_high (n + 1) ns high end le h.1)
-
 -- numbers that rise are below their end, and no more than the numbers there
 pub rises_parts : (low : ℕ) (ns : List ℕ) (high : ℕ) → Rises low ns high → Each (λ n. n < high) ns × (length ns + low ≤ high)
 rises_parts low [] high h = (tt, omega arith)
@@ -53,7 +49,7 @@ rises_parts low (n ∷ ns) high h = let r = rises_parts (n + 1) ns high h.1 in (
 -- the nodes of a way rise
 pub way_rises : {c : Games} {i : ℕ} {way : List ℕ} → IsPathTo c (Some i) way → Rises 0 way (i + 1)
 way_rises {c = c} {i = i} (step {parent = None} {above = above} e up is) = grind (arith, common_steps, none_above)
-way_rises {c = c} {i = i} (step {parent = Some n} {above = above} e up is) = search (rules, rises_high, parent_at-lt, rises-append, (way_rises up))
+way_rises {c = c} {i = i} (step {parent = Some n} {above = above} e up is) = rw is (rises-append 0 (n + 1) (i + 1) above (i ∷ []) (way_rises up) (omega (arith, parent_at-lt c i n e), omega arith))
 
 -- xs stand in `all` from the index `at` on
 pub record StandsAt (all : List OrderedNode) (at : ℕ) (xs : List OrderedNode) : Type 0 where
@@ -326,10 +322,6 @@ paths_follow c =
     let are : rows [] (ways 0 c) ++ [] ≡ map (λ p. p.numbers) (paths c) =
     append-nil (rows [] (ways 0 c)) ∙ map-id (ways 0 c) ∙ sym (all_numbers 1 (numbered 0 c) ∙ ways_are 0 c) in
     rw are at (follows c c 0 0 None [] [] [] (node_count c) all top (λ some. begin_down c 0 None [] [] [] c (stands_whole c) some top refl) (λ e. sym e) (λ last rest is. omega arith))
-  where
-    map-id : (ls : List (List ℕ)) → map (λ l. [] ++ l) ls ≡ ls
-    map-id [] = refl
-    map-id (l ∷ ls) = ap (λ ms. l ∷ ms) (map-id ls)
 
 -- numbers down to a leaf
 pub record LeadsToLeaf (c : Games) (numbers : List ℕ) : Type 0 where
