@@ -113,6 +113,7 @@ impl<'c, 'a> SequenceCursor<'c, 'a> {
     }
 
     /// Moves the cursor to just after the line that ends with a sequence. After a refusal of memory the cursor is unchanged.
+    #[tactic(auto, using(crate::proofs::SequenceStarts::fewer, crate::proofs::SequenceCursors::games_are, crate::proofs::SequenceCursors::kept_sought))]
     fn seek_end(&mut self, sequence: usize) -> Result<(), MemoryFault>
         requires within { sequence < length (sequence_starts self.old.at.games) }
         requires is_leaf { IsLeaf self.old.at.games (sequence_end self.old.at.games sequence - 1) }
@@ -130,6 +131,7 @@ impl<'c, 'a> SequenceCursor<'c, 'a> {
     /// the cursor is unchanged. `MemoryFault` comes only if memory was refused; then the cursor is unchanged, too.
     // Inlined: each form calls it once for each line. Else sgf form takes 3 percent more instructions.
     #[inline(always)]
+    #[tactic(auto, using(crate::proofs::SequenceStarts::fewer, crate::proofs::SequenceCursors::no_more))]
     pub fn advance(&mut self) -> Result<Option<Front>, MemoryFault>
         ensures moved { IfOk result (λ shared. MatchOption shared (self.new ≡ self.old) (λ _. self.new.at ≡ advanced self.old.at)) }
         ensures none_left { IfOk result (λ shared. IfNone shared (slice_get (lines self.old.at.games) self.old.at.index ≡ None)) }
@@ -170,6 +172,7 @@ impl<'c, 'a> SequenceCursor<'c, 'a> {
     }
 
     /// The number of sequences of the line before the cursor; 0 before the first line.
+    #[tactic(auto, using(crate::proofs::SequenceCursors::divided, crate::proofs::SequenceCursors::as_many_parts))]
     pub fn sequences(&self) -> usize
         ensures count { result ≡ length self.now.ends }
         ensures divided { RiseTo 0 self.now.ends (length (nodes_before self.now.at)) }
@@ -191,6 +194,7 @@ impl<'c, 'a> SequenceCursor<'c, 'a> {
 
     /// The number that a sequence of the line before the cursor has in the collection. Both count from 0; the root's sequence is the first of
     /// the line.
+    #[tactic(auto, using(crate::proofs::SequenceCursors::part_there, crate::proofs::SequenceCursors::as_many_parts, crate::proofs::SequenceCursors::sequence_nodes, crate::proofs::SequenceCursors::part_path))]
     fn sequence(&self, index: usize) -> usize
         requires { index < length self.now.ends }
         ensures within { result < length (sequence_starts self.now.at.games) }
@@ -402,7 +406,7 @@ fn measure(outline: &Outline<'_>, last: usize) -> Front
 
 /// Writes the numbers of the sequences from the root to the end of a sequence. The line to there has the measure `line`, and `path` must have
 /// room for exactly these numbers.
-#[tactic(auto, using(crate::proofs::SequenceStarts::fewer, crate::proofs::SequenceClimbing::fills))]
+#[tactic(auto, using(crate::proofs::SequenceStarts::fewer, crate::proofs::SequenceClimbing::fills, crate::proofs::SequenceClimbing::room_for, crate::proofs::SequenceClimbing::fill_begins))]
 fn fill_path(outline: &Outline<'_>, last: usize, line: Front, path: &mut [u32])
     requires within { last < length (sequence_starts outline.now) }
     requires few { node_count outline.now ≤ MAX_LENGTH }

@@ -1,12 +1,8 @@
 -- The cursor stands after the next leaf.
-use Rattle.tree_lines.proofs.Common.{common_steps, parts_of}
+use Rattle.tree_lines.proofs.Common.{parts_of}
 use Rattle.std.proofs.Common.{arith}
-use Rattle.tree_lines.proofs.SequenceStarts.{fewer}
-use Rattle.tree_lines.proofs.SequenceCursors.{no_more, front_kept, next_rises, next_few, goes_on, kept_further, moved, shares_front}
+use Rattle.tree_lines.proofs.SequenceCursors.{front_kept, next_rises, next_few, goes_on, kept_further, moved, shares_front}
 use Rattle.tree_lines.proofs.sequence_cursor.SequenceCursor.advance.Goals as goal
-
-pub returns-in_default-clause-none_left : goal.returns-in_default-clause-none_left
-returns-in_default-clause-none_left c = no_more c.self.inside.outline.now c.self.inside.next c.self.inside.path.items c.self.invariant.after c.args.self.now c.self.view_is c.in_default.ensures.first
 
 pub go_down-requires-clause-kept : goal.go_down-requires-clause-kept
 go_down-requires-clause-kept c =
@@ -16,12 +12,6 @@ go_down-requires-clause-kept c =
       front_kept c.self.inside.outline.now c.self.inside.next c.self.inside.path.items c.self.invariant.after c.args.self.now c.self.view_is c.in-Some.leaf c.sequence_outer-outer.result c.front_up_to-front.result c.in-Some.ensures.first c.sequence_outer-outer.ensures
           (rw c.deref.ensures.value at c.front_up_to-front.ensures),
     )
-
-pub go_down-requires-clause-down : goal.go_down-requires-clause-down
-go_down-requires-clause-down c = c.in-Some.ensures.first.from_there
-
-pub go_down-requires-clause-few : goal.go_down-requires-clause-few
-go_down-requires-clause-few c = omega (arith, fewer c.self.inside.outline.now, c.in-Some.ensures.few, c.in-Some.ensures.first.within)
 
 pub overflow_sub-self : goal.overflow_sub-self
 overflow_sub-self c =
@@ -42,9 +32,6 @@ overflow_add-self c =
           (rw c.deref.ensures.value at c.front_up_to-front.ensures)
           c.sequence_start-first.result c.sequence_end-end.result c.sequence_start-first.ensures c.sequence_end-end.ensures.end,
     )
-
-pub invariant_of-self : goal.invariant_of-self
-invariant_of-self c = grind (arith, common_steps)
 
 pub invariant_of-self-2 : goal.invariant_of-self-2
 invariant_of-self-2 c =
