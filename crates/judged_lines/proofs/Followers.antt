@@ -1,8 +1,8 @@
 -- A follower goes on by a line: the verdict that it gives, and the nodes that it plays for the lines of its streak.
-use Rattle.std.proofs.Common.{◌≡◌, ℕ, ◌+◌, ◌-◌, ◌<◌, ◌≤◌, length, take, drop, slice_get, Some, refl, sym, ap, subst, ◌∙◌, arith, rules, option_map, take-take}
-use Rattle.judged_lines.proofs.Common.{common_steps, slice_get_within, PlacesRise, node_count, CursorState, advanced, nodes_of, line_before, nodes_before, lines, Before, Unheld, Held, Refused, Verdict, FollowerState, AreHeld, HasPlays, StandsBy, index_by, all_judged_places, verdict, verdict_of, judged_nodes}
+use Rattle.std.proofs.Common.{◌≡◌, ℕ, ◌+◌, ◌-◌, ◌<◌, ◌≤◌, length, take, drop, slice_get, Some, sym, ap, ◌∙◌, arith, rules, option_map, take-take}
+use Rattle.judged_lines.proofs.Common.{common_steps, slice_get_within, PlacesRise, node_count, CursorState, advanced, nodes_of, line_before, nodes_before, lines, Before, Held, Verdict, FollowerState, HasPlays, StandsBy, index_by, all_judged_places, verdict, verdict_of, judged_nodes}
 use Rattle.judged_lines.specs.GoingOn.{next_by}
-use Rattle.judged_lines.specs.inner.Followers.{state_by, IsStreak, Follows}
+use Rattle.judged_lines.specs.inner.Followers.{state_by, Follows}
 use Rattle.judged_lines.proofs.Keeping.{line_next}
 use Rattle.tree_lines.proofs.LeafLines.{lines_within}
 use Rattle.judged_lines.proofs.Lists.{get_dropped, get_taken}
@@ -36,14 +36,7 @@ module _ (before : Before) (old : CursorState) (holds : Type 0) (plays streak : 
 
       module _ (rise : PlacesRise old.games) where
         shares : Shares old.games rise first (streak + 1) streak p.held
-        shares = by before h.is_streak p.are_held refl
-          where
-            by : (b : Before) → IsStreak b old.index streak → AreHeld b old p.held → before ≡ b → Shares old.games rise first (streak + 1) streak p.held
-            by Unheld is held same = subst (λ k. Shares old.games rise first (streak + 1) k p.held) (sym is) held
-            by Refused is held same = subst (λ k. Shares old.games rise first (streak + 1) k p.held) (sym is) held
-            by Held is held same =
-                let there : old.index ≡ first + streak = omega (arith, is.1, ap (λ b. index_by b old.index) same) in
-                shares_by old.games rise first (streak + 1) streak Held old p.held refl there (λ none. absurd (omega (arith, is.0, none))) (λ _. refl) held
+        shares = search (rules, shares_by)
 
         -- it was played from where it leaves the line before it
         pub follows_on : (new_holds : Type 0) (new_plays : ℕ) → StandsBy Held (nodes_before new) new_holds → new_plays ≡ plays + count → Follows Held new new_holds new_plays (streak + 1)

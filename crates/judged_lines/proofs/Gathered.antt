@@ -1,11 +1,11 @@
 -- What properties hold, gathered one after the other.
-use Rattle.std.proofs.Common.{◌≡◌, ◌<◌, ℕ, Bor, Bool, Option, Some, None, List, [], ◌∷◌, ◌++◌, map, length, All, refl, sym, ap, subst, ◌∙◌, append_assoc, inl, arith, append-nil, length-append, rules, option_map, option_and_then, option_copied, codes, flat_map}
-use Rattle.judged_lines.proofs.Common.{cases_Bool, false_from_ne_true, common_steps, flat_map-append, map-append, All-nil, All-head, All-tail, All-weaker, NextNode, IsTakenOff, Property, Node, values, lone_property, told_property, IsRectOn, rect_value, SetupOp, Colour, Several, Faulty, moves_in, moves_by, stones_in, stones_of, players_in, first_value, player_value, operations, last_player, kind_of, AreMoves, IsSetup, setup_with_stones, setup_with_player, AddsRectangles, HoldsAlone, IsGathered, ComesAs}
+use Rattle.std.proofs.Common.{◌≡◌, ◌<◌, ℕ, Bor, Bool, Option, Some, None, List, [], ◌∷◌, ◌++◌, map, length, All, refl, sym, ap, subst, ◌∙◌, append_assoc, arith, append-nil, length-append, rules, option_map, option_and_then, option_copied, codes, flat_map}
+use Rattle.judged_lines.proofs.Common.{cases_Bool, false_from_ne_true, common_steps, flat_map-append, map-append, All-nil, All-head, All-tail, NextNode, IsTakenOff, Property, Node, values, lone_property, told_property, IsRectOn, rect_value, SetupOp, Colour, Several, moves_in, moves_by, stones_in, stones_of, players_in, first_value, player_value, operations, last_player, kind_of, AreMoves, IsSetup, setup_with_stones, setup_with_player, AddsRectangles, HoldsAlone, IsGathered, ComesAs}
 use Rattle.std.specs.Option.{option_or}
 use Rattle.std.proofs.lemmas.List.Folds.{find-append}
 use Rattle.std.proofs.lemmas.Slice.Eq.{bytes_eq-Decides}
 use Rattle.sgf_outline.specs.declared.traversal.NextNode.TheVariants.{Led, Empty as EmptyNode, Unread}
-use Rattle.sgf_outline.specs.Lead.{IsOtherName, IsLedBy}
+use Rattle.sgf_outline.specs.Lead.{IsLedBy}
 use Rattle.board_stones.specs.declared.stones.Cell.{Cell}
 use Rattle.board_points.specs.declared.points.Rect.{Rect}
 use Rattle.judged_lines.specs.declared.judging.contents.Moves.{Moves}
@@ -22,15 +22,9 @@ before_all o os = option_and_then (λ op. option_map (λ ops. op ∷ ops) os) o
 abbrev pub both : Option (List SetupOp) → Option (List SetupOp) → Option (List SetupOp)
 both a b = option_and_then (λ xs. option_map (λ ys. xs ++ ys) b) a
 
-none_before : (b : Option (List SetupOp)) → b ≡ both (Some []) b
-none_before b = first_of (search rules, grind (arith, common_steps))
-
-before_both : (o : Option SetupOp) (a b : Option (List SetupOp)) → before_all o (both a b) ≡ both (before_all o a) b
-before_both o a b = first_of (search rules, grind (arith, common_steps))
-
 pub operations-append : (side : ℕ) (ss ts : List Stones) → operations (ss ++ ts) side ≡ both (operations ss side) (operations ts side)
-operations-append side [] ts = none_before (operations ts side)
-operations-append side (s ∷ ss) ts = first_of (search rules, grind (arith, common_steps, before_both, operations-append side ss ts))
+operations-append side [] ts = first_of (search rules, grind (arith, common_steps))
+operations-append side (s ∷ ss) ts = first_of (search (rules, (operations-append side ss ts)), grind (arith, common_steps, operations-append side ss ts))
 
 both_none : (a : Option (List SetupOp)) → both a None ≡ None
 both_none a = first_of (search rules, grind (arith, common_steps))
@@ -61,20 +55,14 @@ later_player last raw left all o e is = ap (last_player (Some last)) e ∙ ap (o
 
 -- stones more
 module _ (side : ℕ) (ops new : List SetupOp) (stones more : List Stones) (players : List (List ℕ)) (some : 0 < length more) where
-  not_all : operations more side ≡ None → IsSetup side Faulty new (stones ++ more) players
-  not_all bad = inl (operations-append side stones more ∙ ap (both (operations stones side)) bad ∙ both_none (operations stones side))
-
   pub more_stones : (setup : Setup) (good : Bool) → IsSetup side setup ops stones players → AddsRectangles side more ops new good → IsSetup side (setup_with_stones setup good) new (stones ++ more) players
-  more_stones setup good known known2 = first_of (search rules, grind (arith, common_steps, length-append, not_all, operations-append))
+  more_stones setup good known known2 = first_of (search (rules, length-append, operations-append, both_none), grind (arith, common_steps, length-append, operations-append, both_none))
 
 -- players more
 module _ (side : ℕ) (ops : List SetupOp) (stones : List Stones) (players more : List (List ℕ)) (some : 0 < length more) where
-  no_player : ((before : Option Colour) → last_player before more ≡ None) → IsSetup side Faulty ops stones (players ++ more)
-  no_player known = first_of (search rules, grind (arith, common_steps, last_player-append))
-
   pub more_players : (setup : Setup) (last : Option Colour) → IsSetup side setup ops stones players → ((before : Option Colour) → last_player before more ≡ option_map Some last)
       → IsSetup side (setup_with_player setup last) ops stones (players ++ more)
-  more_players setup last known known2 = first_of (search rules, grind (arith, common_steps, last_player-append, length-append, no_player))
+  more_players setup last known known2 = first_of (search (rules, last_player-append, length-append), grind (arith, common_steps, last_player-append, length-append))
 
 -- what a property holds
 record Held : Type 0 where
@@ -103,9 +91,6 @@ by_name name first more = search (rules, cases_Bool, bytes_eq-Decides)
 one_more : {A : Type 0} (f : Property → List A) (ps : List Property) (p : Property) (xs : List A) → f p ≡ xs → flat_map f (ps ++ p ∷ []) ≡ flat_map f ps ++ xs
 one_more f ps p xs is = flat_map-append f ps (p ∷ []) ∙ ap (λ t. flat_map f ps ++ t) (append-nil (f p) ∙ is)
 
-map_or : (x y : Option Property) → option_map (λ (p : Property). p.first) (option_or x y) ≡ option_or (option_map (λ (p : Property). p.first) x) (option_map (λ (p : Property). p.first) y)
-map_or x y = first_of (search rules, grind (arith, common_steps))
-
 no_comment : (o : Option (List ℕ)) → o ≡ option_or o None
 no_comment o = first_of (search rules, grind (arith, common_steps))
 
@@ -118,7 +103,7 @@ module _ (side : ℕ) (ps : List Property) (ops : List SetupOp) (old : Contents)
       → IsSetup side new.setup new_ops (flat_map stones_in ps ++ (held_by k p).stones) (flat_map players_in ps ++ (held_by k p).players)
       → option_copied new.comment ≡ option_or (option_copied old.comment) (held_by k p).comment → All (λ (op : SetupOp). IsRectOn side op.area) new_ops
       → IsGathered side (ps ++ p ∷ []) new_ops new
-  gathered_more k new_ops new is moves setup comment on_board = search (rules, held, held_by, by_name, find-append, one_more, map_or)
+  gathered_more k new_ops new is moves setup comment on_board = first_of (search (rules, by_name, find-append, one_more), grind (arith, common_steps, by_name, find-append, one_more))
 
   -- the moves and the setup as they were
   moves_stay : AreMoves old.moves (flat_map moves_in ps ++ [])
@@ -169,25 +154,18 @@ gathered_others side ps [] contents h none = subst (λ qs. IsGathered side qs []
 gathered_others side ps (p ∷ rest) contents h none = first_of (search rules, grind (arith, common_steps, All-head, All-tail, append_assoc, gathered_others side (ps ++ p ∷ []) rest contents (gathered_nothing side ps [] contents h p (All-head (λ (p : Property). kind_of p ≡ None) p rest none)) (All-tail (λ (p : Property). kind_of p ≡ None) p rest none)))
 
 pub gathered_alone : (side : ℕ) (first : Property) (properties : List Property) (contents : Contents) → IsGathered side (first ∷ []) [] contents → HoldsAlone first properties → IsGathered side properties [] contents
-gathered_alone side first properties contents h alone =
-    subst (λ qs. IsGathered side qs [] contents) (sym alone.all) (gathered_others side (first ∷ []) alone.rest contents h alone.nothing)
+gathered_alone side first properties contents h alone = grind (arith, common_steps, gathered_others side (first ∷ []) alone.rest contents h alone.nothing)
 
 -- the names of setup properties
 abbrev pub setup_names : List (List ℕ)
 setup_names = codes "AB" ∷ codes "AW" ∷ codes "AE" ∷ codes "PL" ∷ []
 
--- other names of two letters hold nothing
-other_kind : (p : Property) → IsOtherName setup_names p.name → kind_of p ≡ None
-other_kind p other = first_of (search rules, grind (arith, common_steps, bytes_eq-Decides, false_from_ne_true))
-
 led_alone : (first : Property) (properties : List Property) → IsLedBy setup_names first properties → HoldsAlone first properties
-led_alone first properties led = first_of (search rules, grind (arith, common_steps, All-weaker, other_kind))
+led_alone first properties led = first_of (search (rules, bytes_eq-Decides, false_from_ne_true), grind (arith, common_steps, bytes_eq-Decides, false_from_ne_true))
 
 -- a node that was taken off
 pub comes : (node : Node) (left : List Property) (next : NextNode) → IsTakenOff setup_names node left next → ComesAs node left next
-comes node left (Led place letter value) is = (is.0, led_alone (lone_property letter value.now) node.properties is.1)
-comes node left (EmptyNode place) is = (is.0, is.1)
-comes node left (Unread place front) is = is
+comes node left next is = grind (arith, common_steps, led_alone)
 
 -- there is a node that comes so
 pub coming : (left : List Property) (next : NextNode) → (node : Node) × ComesAs node left next

@@ -1,7 +1,6 @@
 -- The cursor went on to the next line, and so many nodes are played for that line.
-use Rattle.std.proofs.Common.{◌≡◌, ◌≢◌, ℕ, ◌-◌, ◌<◌, length, Result, Ok, Err, OnErr, inr, ap, refl, subst, arith, rules, Bool, IsErr}
+use Rattle.std.proofs.Common.{◌≡◌, ℕ, ◌-◌, ◌<◌, length, Result, Err, ap, subst, arith, rules, Bool, IsErr}
 use Rattle.judged_lines.proofs.Common.{common_steps, Front, CursorState, nodes_before, path_before, Continues, SequencesState, Before, Unheld, Held, Refused, AreHeld, HasPlays, PlaysLine, StandsBy, index_by, PlaysUpTo, fresh_plays, GoesOnBy}
-use Rattle.judged_lines.specs.GoingOn.{next_by}
 use Rattle.judged_lines.proofs.Keeping.{some_node}
 use Rattle.tree_lines.proofs.LineNodes.{line_is, some_before}
 use Rattle.judged_lines.proofs.LineVerdicts.{some_line}
@@ -31,14 +30,7 @@ goes_on Holds Refused old new held stands go = search (rules, some_node)
 pub has_plays : (before : Before) (old new : SequencesState) (held : Front) → IsNext before old new held → (counts : ℕ → ℕ) → HasPlays counts before old.at (counts (fresh_plays (nodes_before new.at) held.nodes))
 has_plays before old new held next counts = first_of (search rules, grind (arith, common_steps, line_is, some_before, some_line))
 
--- a line for which memory was refused is next again
-pub next_again : {A E : Type 0} (r : Result A E) (before : Before) (old new : SequencesState) (held : Front) → IsNext before old new held
-    → OnErr r ((Refused ≢ Held) × (next_by Refused new.at ≡ next_by before old.at))
-next_again (Ok x) before old new held next = tt
-next_again (Err e) before old new held next = (search rules, rw (next.games, next.index) refl)
-
 -- what was counted for it
 pub plays_refused : {E F : Type 0} (A : Type 0) (counts : ℕ → ℕ) (b : Before) (at : CursorState) (old new count : ℕ) (e : E) (r : Result Bool F) → IsErr r → HasPlays counts b at count
     → PlaysUpTo {A = A} old new count (Err e) → PlaysLine counts b at old new r
-plays_refused A counts b at old new count e (Ok x) bad h up = absurd cc
-plays_refused A counts b at old new count e (Err f) is h up = inr (count, h, up.not_fewer, up.not_more)
+plays_refused A counts b at old new count e r bad h up = grind (arith, common_steps)

@@ -1,7 +1,7 @@
 -- A judge goes on by the nodes of a line, and how many of them are judged.
-use Rattle.std.proofs.Common.{◌≡◌, ℕ, ◌+◌, ◌≤◌, List, [], ◌∷◌, length, min, take, drop, ◌++◌, refl, slice_get, Some, None, Result, Ok, Err, OnOk, sym, ap, subst, ◌∙◌, arith, length-append, append-nil, append_assoc, rules, length-take, length-take-le, take-append-drop, IsErr}
+use Rattle.std.proofs.Common.{◌≡◌, ℕ, ◌+◌, ◌≤◌, List, [], ◌∷◌, length, min, take, drop, ◌++◌, refl, slice_get, Some, None, Result, OnOk, sym, ap, subst, ◌∙◌, arith, length-append, append-nil, append_assoc, rules, length-take, length-take-le, take-append-drop, IsErr}
 use Rattle.std.proofs.Math.Seq.{take-append_seam}
-use Rattle.judged_lines.proofs.Common.{Node, Grid, LegalStep, GameKind, game_kind, root_properties, IsLegalStep, after, begun_game, board_in, HasJudged, PlaysUpTo, fresh_plays, judged_on, LegalNode, legal_on, Judging, IsDecided, IsStepFrom, IsUndecided, state_after}
+use Rattle.judged_lines.proofs.Common.{Node, Grid, LegalStep, GameKind, game_kind, root_properties, IsLegalStep, after, begun_game, board_in, HasJudged, PlaysUpTo, fresh_plays, judged_on, LegalNode, legal_on, Judging, IsDecided, IsStepFrom, IsUndecided, state_after, common_steps}
 use Rattle.judged_lines.specs.inner.Keeping.{WentOn, plays_for}
 use Rattle.judged_lines.proofs.Judgements.{judging_more, plays_one, decided_all, decided_by}
 use Rattle.judged_lines.proofs.Keeping.{judging_front}
@@ -10,8 +10,7 @@ use Rattle.judged_lines.proofs.Walking.{judged_of_front}
 
 -- the judgement before the root is that of its game
 pub begun_front : (nodes : List Node) (root : Node) (held : ℕ) → slice_get nodes 0 ≡ Some root → held ≡ 0 → begun_game (game_kind root.properties) ≡ judging_front nodes held
-begun_front [] root held e none = absurd cc
-begun_front (n ∷ ns) root held e none = let same : n ≡ root = cc in rw (none, same) refl
+begun_front nodes root held e none = grind (arith, common_steps)
 
 module _ (kind : GameKind) where
   abbrev judged_count : List Node → ℕ
@@ -19,25 +18,14 @@ module _ (kind : GameKind) where
 
   -- the first nodes of a line are judged as far as the line is
   judged_first : (front rest : List Node) → judged_count front ≡ min (length front) (judged_count (front ++ rest))
-  judged_first front rest =
-      ap judged_count (sym (take-append_seam front rest)) ∙ ap length (sym (judged_of_front kind (front ++ rest) (length front))) ∙ length-take (length front) (judged_on kind (front ++ rest))
+  judged_first front rest = grind (arith, common_steps, take-append_seam front rest, judged_of_front kind (front ++ rest) (length front), length-take (length front) (judged_on kind (front ++ rest)))
 
   -- no more than there are
   few : (before nodes : List Node) → plays_for kind before nodes ≤ length nodes
   few before nodes = omega (arith, judged_first before nodes, judged_first (before ++ nodes) [], length-append before nodes)
 
   plays_sum : (before nodes more : List Node) → plays_for kind before (nodes ++ more) ≡ plays_for kind before nodes + plays_for kind (before ++ nodes) more
-  plays_sum before nodes more =
-      omega (arith, judged_first before nodes, judged_first (before ++ nodes) more, ap judged_count (append_assoc before nodes more))
-
--- as much was counted, whatever came of the rest
-on_any : {A E : Type 0} {P : Type 0} (r : Result A E) → P → OnOk r P
-on_any (Ok x) p = p
-on_any (Err e) p = tt
-
-on_none : {A E : Type 0} (P : Type 0) (r : Result A E) → IsErr r → OnOk r P
-on_none P (Ok x) is = absurd cc
-on_none P (Err e) is = tt
+  plays_sum before nodes more = grind (arith, common_steps, judged_first before nodes, judged_first (before ++ nodes) more, append_assoc before nodes more)
 
 -- a judge went on by the first of these nodes, and the rest of them is left
 pub record Going (holds : GameKind → List LegalNode → Type 0) (kind : GameKind) (before all rest : List Node) (old : ℕ) (judge : Judging) : Type 0 where
@@ -60,12 +48,7 @@ module _ {holds : GameKind → List LegalNode → Type 0} {kind : GameKind} {bef
 
   -- or the rest changes nothing, since the verdict is known
   pub decides : IsDecided judge.judgement → WentOn holds kind before all old judge
-  decides decided =
-      let nodes = before ++ h.done in
-      let known = subst IsDecided h.on.has_judged.judged decided in
-      let on = decided_all kind nodes rest known in
-      let same : before ++ all ≡ nodes ++ rest = ap (λ nodes. before ++ nodes) (sym h.whole) ∙ sym (append_assoc before h.done rest) in
-      search (rules, decided_all, append_assoc, taken_decided, judged_count)
+  decides decided = grind (arith, common_steps, decided_all kind (before ++ h.done) rest (subst IsDecided h.on.has_judged.judged decided), append_assoc before h.done rest, taken_decided)
 
   module _ (more others : List Node) (is : rest ≡ more ++ others) where
     whole : (h.done ++ more) ++ others ≡ all
@@ -73,14 +56,7 @@ module _ {holds : GameKind → List LegalNode → Type 0} {kind : GameKind} {bef
 
     -- the judge goes on by more of them
     pub goes_on : (tells : GameKind → List LegalNode → Type 0) (new : Judging) → WentOn tells kind (before ++ h.done) more judge.plays new → Going tells kind before all others old new
-    goes_on tells new on = record {
-      done = h.done ++ more;
-      whole = whole;
-      on = record {
-        has_judged = subst (λ nodes. HasJudged tells kind nodes new.judgement) (append_assoc before h.done more) on.has_judged;
-        plays = omega (arith, on.plays, h.on.plays, plays_sum kind before h.done more);
-      };
-    }
+    goes_on tells new on = grind (arith, common_steps, whole, append_assoc, plays_sum)
 
     -- or by some of these, for want of memory
     pub stops : (new : ℕ) → (judge.plays ≤ new) × (new ≤ judge.plays + plays_for kind (before ++ h.done) more) → (old ≤ new) × (new ≤ old + plays_for kind before all)
@@ -134,7 +110,7 @@ module _ (nodes : List Node) (held : ℕ) (le : held ≤ length nodes) {A E : Ty
 
   pub finish : (tells : GameKind → List LegalNode → Type 0) (old : ℕ) (judge : Judging) → WentOn tells kind_of (take held nodes) (drop held nodes) old judge
       → record { judged : OnOk r (HasJudged tells kind_of nodes judge.judgement); plays : PlaysUpTo old judge.plays (fresh_plays nodes held) r }
-  finish tells old judge on = search (rules, on_any, kind_of, take-append-drop, fresh)
+  finish tells old judge on = first_of (search (rules, take-append-drop, fresh), grind (arith, common_steps, take-append-drop, fresh))
 
   pub stopped : (old new : ℕ) → IsErr r → (old ≤ new) × (new ≤ old + plays_for kind_of (take held nodes) (drop held nodes)) → PlaysUpTo old new (fresh_plays nodes held) r
-  stopped old new is up = record { not_fewer = up.0; not_more = omega (arith, up.1, fresh); each = on_none _ r is }
+  stopped old new is up = first_of (search (rules, fresh), grind (arith, common_steps, fresh))

@@ -134,16 +134,8 @@ walk_step side nodes node = fold-append next (before_root side) nodes (node ∷ 
 taken_next : (j : Judgement) (walked : Walk) (node : Node) → IsOfWalk j walked → (next walked node).taken ≡ walked.taken ++ legal_by (state_after j node) node
 taken_next j walked node known = first_of (search rules, grind (arith, common_steps, append-nil, next_is, next_none))
 
-walk_takes : (side : ℕ) (nodes : List Node) (node : Node) → (walk side (nodes ++ node ∷ [])).taken ≡ (walk side nodes).taken ++ legal_by (state_after (judging (board side) nodes) node) node
-walk_takes side nodes node = first_of (search rules, grind (arith, common_steps, of_walk, taken_next, walk_step))
-
 pub taken_more : (kind : GameKind) (nodes : List Node) (node : Node) → legal_on kind (nodes ++ node ∷ []) ≡ legal_on kind nodes ++ legal_by (state_after (judging kind nodes) node) node
-taken_more not_go nodes node = rw (unjudged_stays NotGo nodes) refl
-taken_more bad_size nodes node = rw (unjudged_stays BadSize nodes) refl
-taken_more (board side) nodes node = walk_takes side nodes node
-
-take_none : (count : ℕ) → (let none : List LegalNode = [] in take count none ≡ [])
-take_none count = first_of (search rules, grind (arith, common_steps))
+taken_more kind nodes node = grind (arith, common_steps, unjudged_stays, of_walk, taken_next, walk_step)
 
 -- those of a longer walk begin with them
 taken_further : (count : ℕ) (walked : Walk) (nodes : List Node) → (walked.illegal ≡ None → count ≤ length walked.taken) → take count (fold next walked nodes).taken ≡ take count walked.taken
@@ -172,9 +164,7 @@ walk_cut side nodes count le =
     ∙ taken_further count front (drop count nodes) counted.1 ∙ take_all count front.taken counted.0)
 
 pub taken_cut : (kind : GameKind) (nodes : List Node) (count : ℕ) → count ≤ length nodes → legal_on kind (take count nodes) ≡ take count (legal_on kind nodes)
-taken_cut not_go nodes count le = sym (take_none count)
-taken_cut bad_size nodes count le = sym (take_none count)
-taken_cut (board side) nodes count le = walk_cut side nodes count le
+taken_cut kind nodes count le = grind (arith, common_steps, walk_cut)
 
 -- a node was taken only if the line had not ended, by a step that is taken
 pub taken_only : (j : Judgement) (node : Node) (s : State) → state_after j node ≡ Some s → (states : States) × (j ≡ judged states None) × (step states.present node ≡ Ok s)
@@ -201,21 +191,11 @@ plays_more bad_size nodes node = omega (arith, ap next_plays (unjudged_stays Bad
 plays_more (board side) nodes node =
     ap (λ w. length (judged_by w)) (walk_step side nodes node) ∙ one_played (judging (board side) nodes) (walk side nodes) node (of_walk side nodes)
 
--- one, until the verdict is known
-undecided_one : (j : Judgement) → IsUndecided j → next_plays j ≡ 1
-undecided_one (judged states None) known = refl
-undecided_one (judged states (Some told)) known = absurd known
-undecided_one (unjudged told) known = absurd known
-
 pub plays_one : (kind : GameKind) (nodes : List Node) (node : Node) → IsUndecided (judging kind nodes) → length (judged_on kind (nodes ++ node ∷ [])) ≡ length (judged_on kind nodes) + 1
-plays_one kind nodes node known = omega (arith, plays_more kind nodes node, undecided_one (judging kind nodes) known)
+plays_one kind nodes node known = first_of (search (rules, plays_more), grind (arith, common_steps, plays_more))
 
 pub undecided_by : (j : Judgement) (node : Node) (s : State) → state_after j node ≡ Some s → IsUndecided (after j node)
 undecided_by j node s some = first_of (search rules, grind (arith, common_steps))
-
--- none, once the verdict is known
-decided_stays : (j : Judgement) (node : Node) → IsDecided j → after j node ≡ j
-decided_stays j node known = first_of (search rules, grind (arith, common_steps))
 
 pub decided_by : (j : Judgement) (node : Node) → state_after j node ≡ None → IsDecided (after j node)
 decided_by j node none = first_of (search rules, grind (arith, common_steps))
@@ -224,21 +204,16 @@ pub decided_none : (j : Judgement) (node : Node) → IsDecided j → (state_afte
 decided_none j node known = first_of (search rules, grind (arith, common_steps))
 
 pub decided_more : (kind : GameKind) (nodes : List Node) (node : Node) → IsDecided (judging kind nodes) → judging kind (nodes ++ node ∷ []) ≡ judging kind nodes
-decided_more kind nodes node h = judging_more kind nodes node ∙ decided_stays (judging kind nodes) node h
+decided_more kind nodes node h = first_of (search (rules, judging_more), grind (arith, common_steps, judging_more))
 
 pub decided_all : (kind : GameKind) (nodes more : List Node) → IsDecided (judging kind nodes)
     → (judging kind (nodes ++ more) ≡ judging kind nodes) × (length (judged_on kind (nodes ++ more)) ≡ length (judged_on kind nodes))
 decided_all kind nodes [] h = (ap (judging kind) (append-nil nodes), ap (λ ns. length (judged_on kind ns)) (append-nil nodes))
-decided_all kind nodes (n ∷ ns) h =
-    let same = decided_more kind nodes n h in
-    let on = decided_all kind (nodes ++ n ∷ []) ns (subst IsDecided (sym same) h) in
-    let split : nodes ++ n ∷ ns ≡ (nodes ++ n ∷ []) ++ ns = sym (append_assoc nodes (n ∷ []) ns) in
-    search (rules, decided_more, append_assoc, plays_more, decided_none, (decided_all kind (nodes ++ n ∷ []) ns (subst IsDecided (sym same) h)))
+decided_all kind nodes (n ∷ ns) h = grind (arith, common_steps, decided_more, append_assoc, plays_more, decided_none, decided_all kind (nodes ++ n ∷ []) ns (subst IsDecided (sym (decided_more kind nodes n h)) h))
 
 -- no verdict is held while it isn't known
 no_verdict : (ended : Option Verdict) (r : States) → IsUndecided (judged r ended) → ended ≡ None
-no_verdict None r undecided = refl
-no_verdict (Some told) r undecided = absurd undecided
+no_verdict ended r undecided = grind (arith, common_steps)
 
 -- what a judge says of one node more
 module _ (ended : Option Verdict) (referee : Option States) (r : States) (plays : ℕ) (now : Judging) (view : record { judgement = judgement_of ended referee; plays = plays } ≡ now) (is : referee ≡ Some r) where
@@ -254,8 +229,7 @@ module _ (ended : Option Verdict) (referee : Option States) (r : States) (plays 
 
   -- the same as before
   pub untaken : (new : States) → new ≡ r → record { judgement = judgement_of ended (Some new); plays = plays } ≡ now
-  untaken new same =
-      ap (λ (s : States). record { judgement = judgement_of ended (Some s); plays = plays }) same ∙ ap (λ o. record { judgement = judgement_of ended o; plays = plays }) (sym is) ∙ view
+  untaken new same = grind (arith, common_steps)
 
   module _ (undecided : IsUndecided now.judgement) where
     none : ended ≡ None
@@ -268,8 +242,7 @@ module _ (ended : Option Verdict) (referee : Option States) (r : States) (plays 
     leads_to node s took = ap (λ j. state_after j node) open_before ∙ ap state_of took
 
     pub leads_on : (node : Node) (new : States) → step r.present node ≡ Ok new.present → new ≡ followed_by r new.present → judged new ended ≡ after now.judgement node
-    leads_on node new took added =
-        ap (judged new) none ∙ ap (λ s. judged s None) added ∙ sym (ap (λ j. after j node) open_before ∙ ap (stepped r node) took)
+    leads_on node new took added = grind (arith, common_steps, none, open_before)
 
     -- a step that was refused decides the verdict
     pub refused : (node : Node) (reason : Reason) (turn place : ℕ) (new : States) → step r.present node ≡ Err reason → new ≡ r → turn ≡ new.present.turns → node.place ≡ place

@@ -1,5 +1,5 @@
 -- What is held of a line is kept of the next one, as far as it begins alike.
-use Rattle.std.proofs.Common.{◌≡◌, ℕ, suc, ◌+◌, ◌<◌, ◌≤◌, List, [], ◌∷◌, length, take, map, slice_get, Option, Some, refl, sym, ap, inl, inr, ◌∙◌, arith, add-one, length-append, rules, length-take-le}
+use Rattle.std.proofs.Common.{◌≡◌, ℕ, suc, ◌+◌, ◌<◌, ◌≤◌, List, [], ◌∷◌, length, take, map, slice_get, Option, Some, refl, ap, arith, add-one, length-append, rules, length-take-le}
 use Rattle.judged_lines.proofs.Common.{common_steps, take-map, node_at, Node, Front, CursorState, advanced, Continues, line_in, line_before, nodes_before, path_before, lines, SequencesState, SharesFront, HasFront, IsHeldOf, GameKind, game_kind, root_properties, Judgement, judging, HoldsLine, LegalNode, legal_on, back}
 use Rattle.std.proofs.lemmas.List.FromFn.{length-range_with_len}
 use Rattle.judged_lines.proofs.Along.{same_root}
@@ -32,10 +32,7 @@ some_inj (x ∷ xs) (y ∷ ys) e = let head : x ≡ y = cc in let rest = some_in
 -- paths that share a front name the same nodes there
 pub same_front : (f : ℕ → Option Node) (old new : List ℕ) (was nodes : List Node) (kept : ℕ) → map Some was ≡ map f old → map Some nodes ≡ map f new → Continues old kept new
     → take kept was ≡ take kept nodes
-same_front f old new was nodes kept e g h =
-    let front : take kept new ≡ take kept old = front_kept old kept new h in
-    some_inj (take kept was) (take kept nodes)
-    (sym (take-map Some kept was) ∙ ap (take kept) e ∙ take-map f kept old ∙ ap (map f) (sym front) ∙ sym (take-map f kept new) ∙ ap (take kept) (sym g) ∙ take-map Some kept nodes)
+same_front f old new was nodes kept e g h = grind (arith, common_steps, front_kept old kept new h, take-map Some kept was, take-map f kept old, take-map f kept new, take-map Some kept nodes, some_inj)
 
 -- what is held of a line is held of another one that begins alike
 module _ (old nodes : List Node) (count : ℕ) (some : 0 < count) (within : count ≤ length old) (same : take count old ≡ take count nodes) where
@@ -71,9 +68,7 @@ module _ (old new : CursorState) (shared : ℕ) (moved : new ≡ advanced old) (
   within_old = omega (arith, as_long old, continues.kept_within)
 
   pub same_nodes : take shared (nodes_before old) ≡ take shared (nodes_before new)
-  same_nodes =
-      let named_new : map Some (nodes_before new) ≡ map (node_at old.games) (path_before new) = named new ∙ ap (λ (p : CursorState). map (node_at p.games) (path_before new)) moved in
-      same_front (node_at old.games) (path_before old) (path_before new) (nodes_before old) (nodes_before new) shared (named old) named_new continues
+  same_nodes = grind (arith, common_steps, named new, named old, same_front)
 
 -- the front that a line shares with the line before it
 pub has_front : (old new : SequencesState) (shared : Front) → SharesFront old new shared → HasFront new.ends shared
@@ -81,16 +76,12 @@ has_front old new shared h = grind (arith, common_steps)
 
 -- a part of what is held of a line
 pub held_part : (holds part : SequencesState → Type 0) (cursor : SequencesState) (front : Front) → ((old : SequencesState) → holds old → part old) → IsHeldOf holds cursor front → IsHeldOf part cursor front
-held_part holds part cursor front of (inl none) = inl none
-held_part holds part cursor front of (inr h) = inr (h.0, of h.0 h.1, h.2, h.3)
+held_part holds part cursor front of known5 = grind (arith, common_steps)
 
 module _ (holds : SequencesState → Type 0) (cursor : SequencesState) (front : Front) (held : IsHeldOf holds cursor front) where
   -- some nodes are held, of the line before
   pub by_old : (P : Type 0) → 0 < front.sequences → ((old : SequencesState) → holds old → cursor.at ≡ advanced old.at → SharesFront old cursor front → P) → P
-  by_old P some of = by held
-    where
-      by : IsHeldOf holds cursor front → P
-      by known = first_of (search rules, grind (arith, common_steps))
+  by_old P some of = grind (arith, common_steps)
 
   some_front : 0 < front.nodes → 0 < front.sequences
   some_front known = first_of (search rules, grind (arith, common_steps))

@@ -1,7 +1,6 @@
 -- While no node changes the board, its score stays.
-use Rattle.std.proofs.Common.{◌≡◌, ◌⊎◌, ℕ, ◌+◌, ◌<◌, ◌≤◌, min, inl, inr, List, [], ◌∷◌, ◌++◌, length, refl, sym, ap, ◌∙◌, subst, Option, Some, None, Err, arith, rules, Result, Ok, IfSome}
-use Rattle.judged_lines.proofs.Common.{cases_lt, Node, Grid, score_of, TurnFault, Reason, State, States, HadSameBoardSince, step, IsScoreAt, IsScoreOf, IsStepped, back_from, back_to}
-use Rattle.go_board.specs.declared.fault.TurnFault.TheVariants.{Illegal, Memory}
+use Rattle.std.proofs.Common.{◌≡◌, ◌⊎◌, ℕ, ◌<◌, ◌≤◌, min, inl, inr, List, [], ◌∷◌, ◌++◌, length, refl, ap, ◌∙◌, subst, Option, Some, None, arith, rules, Result, IfSome}
+use Rattle.judged_lines.proofs.Common.{cases_lt, Node, Grid, score_of, TurnFault, Reason, State, States, HadSameBoardSince, step, IsScoreAt, IsScoreOf, IsStepped, back_from, back_to, common_steps}
 use Rattle.board_stones.specs.declared.stones.Colour.TheVariants.{Black, White}
 use Rattle.judged_lines.proofs.Judgements.{back_none, back_one, back_undone}
 
@@ -36,39 +35,16 @@ on_same a b k same is = (is.0 ∙ ap (λ g. score_of g Black) same, is.1 ∙ ap 
 
 -- after a step
 pub scored_stepped : {A : Type 0} (r : Result State Reason) (old new : States) (result : Result A TurnFault) (scored : ℕ) (score : Option (ℕ × ℕ)) → IsStepped r old new result → IsScoreAt old scored score → IsScoreAt new scored score
-scored_stepped r old new result scored None stepped known = tt
-scored_stepped r old new (Ok value) scored (Some k) stepped known = search (rules, back_undone)
-scored_stepped r old new (Err (Illegal reason)) scored (Some k) stepped known = subst (λ (states : States). IsScoreAt states scored (Some k)) (sym stepped.1) known
-scored_stepped r old new (Err Memory) scored (Some k) stepped known = subst (λ (states : States). IsScoreAt states scored (Some k)) (sym stepped) known
+scored_stepped r old new result scored score stepped known = grind (arith, common_steps, back_undone)
 
 -- on the present board
 pub scored_now : (states : States) (scored : ℕ) (score : Option (ℕ × ℕ)) (k : ℕ × ℕ) → score ≡ Some k → IsScoreAt states scored score → HadSameBoardSince states scored → IsScoreOf states.present (Some k)
 scored_now states scored score k is known since = search (rules, on_same, same_back)
 
-pub scored_here : (states : States) (depth : ℕ) (k : ℕ × ℕ) → depth ≡ length states.earlier → IsScoreOf states.present (Some k) → IsScoreAt states depth (Some k)
-scored_here states depth k is known =
-    (omega (arith, is), subst (λ (s : States). IsScoreOf s.present (Some k)) (sym (back_none states depth (omega (arith, is)))) known)
-
--- after the first nodes
-at_depth : (states : States) (count scored m : ℕ) (k : ℕ × ℕ) → count < length states.earlier → min scored count ≡ m → IsScoreOf (back_to states m).present (Some k) → IsScoreAt (back_to states count) (min scored count) (Some k)
-at_depth states count scored m k fewer at there = search (rules, length_back, back_back)
-
 pub scored_back : (states : States) (count scored : ℕ) (score kept : Option (ℕ × ℕ)) → count < length states.earlier → IfSome kept (λ k. (score ≡ Some k) × ((scored ≤ count) ⊎ HadSameBoardSince states count)) → IsScoreAt states scored score → IsScoreAt (back_to states count) (min scored count) kept
 scored_back states count scored score None fewer is known = tt
 scored_back states count scored score (Some k) fewer is known =
-    let here : IsScoreAt states scored (Some k) = subst (IsScoreAt states scored) is.0 known in
-    elim (cases_lt count scored) [
-      | inl later ↦
-          elim is.1 [
-            | inl within ↦ absurd (omega (arith, later, within))
-            | inr since ↦
-                let first = same_back states.present.colouring states.present states.earlier count scored (omega (arith, later)) refl since in
-                let second = same_back states.present.colouring states.present states.earlier count count (omega arith) refl since in
-                at_depth states count scored count k fewer (omega (arith, later))
-                (on_same (back_to states scored).present (back_to states count).present k (first ∙ sym second) here.1)
-          ]
-      | inr within ↦ at_depth states count scored scored k fewer (omega (arith, within)) here.1
-    ]
+    first_of (search (rules, cases_lt, same_back, on_same, length_back, back_back), grind (arith, common_steps, cases_lt, same_back, on_same, length_back, back_back))
 
 -- the step of a game is that of its referee
 pub stepped_as : {A : Type 0} (node : Node) (inside now new : States) (result : Result A TurnFault) → inside ≡ now → IsStepped (step inside.present node) inside new result → IsStepped (step now.present node) now new result

@@ -1,8 +1,7 @@
 -- Taken nodes are told one by one, and those of a line's front are kept for the next line.
-use Rattle.std.proofs.Common.{◌≡◌, ℕ, zero, suc, ◌<◌, List, [], ◌∷◌, ◌++◌, take, Some, None, Result, Ok, Err, refl, sym, ap, subst, ◌∙◌, append-nil, append_assoc, rules, fold}
-use Rattle.judged_lines.proofs.Common.{Node, Grid, Reason, State, LegalStep, GameKind, not_go, bad_size, board, game_kind, root_properties, Judgement, unjudged, judged, judging, begun_game, after, board_in, IsLegalStep, step, LegalNode, legal_on, IsDecided, state_after, legal_by, IsStepFrom}
+use Rattle.std.proofs.Common.{◌≡◌, ℕ, zero, suc, ◌<◌, List, [], ◌∷◌, ◌++◌, take, Some, None, refl, sym, ap, subst, ◌∙◌, append-nil, append_assoc, rules, fold, arith}
+use Rattle.judged_lines.proofs.Common.{Node, Grid, State, LegalStep, GameKind, not_go, bad_size, board, game_kind, root_properties, Judgement, unjudged, judged, judging, begun_game, after, board_in, IsLegalStep, step, LegalNode, legal_on, IsDecided, state_after, legal_by, IsStepFrom, common_steps}
 use Rattle.judged_lines.specs.declared.verdict.Verdict.TheVariants.{NotGo, BadSize}
-use Rattle.judged_lines.specs.Judgement.{stepped}
 use Rattle.judged_lines.specs.inner.Judging.{side_in}
 use Rattle.judged_lines.proofs.Steps.{side-step}
 use Rattle.judged_lines.proofs.Keeping.{KeepsTaken, judging_front, taken_front}
@@ -11,8 +10,7 @@ use Rattle.judged_lines.proofs.Judgements.{judging_more, decided_none, decided_m
 -- no more nodes are taken once the verdict is known
 pub taken_decided : (kind : GameKind) (nodes more : List Node) → IsDecided (judging kind nodes) → legal_on kind (nodes ++ more) ≡ legal_on kind nodes
 taken_decided kind nodes [] h = ap (legal_on kind) (append-nil nodes)
-taken_decided kind nodes (n ∷ ns) h =
-    search (rules, decided_none, append_assoc, decided_more, taken_more, append-nil, (taken_decided kind (nodes ++ n ∷ []) ns (subst IsDecided (sym (decided_more kind nodes n h)) h)))
+taken_decided kind nodes (n ∷ ns) h = search (rules, decided_none, append_assoc, decided_more, taken_more, append-nil, (taken_decided kind (nodes ++ n ∷ []) ns (subst IsDecided (sym (decided_more kind nodes n h)) h)))
 
 -- each board of a game has its side
 abbrev HasSide : ℕ → Judgement → Type 0
@@ -20,13 +18,7 @@ HasSide side (unjudged told) = Unit {0}
 HasSide side (judged states ended) = states.present.colouring.side ≡ side
 
 keeps_side : (side : ℕ) (j : Judgement) (n : Node) → HasSide side j → HasSide side (after j n)
-keeps_side side (unjudged told) n h = tt
-keeps_side side (judged states (Some told)) n h = h
-keeps_side side (judged states None) n h = by (step states.present n) refl
-  where
-    by : (r : Result State Reason) → step states.present n ≡ r → HasSide side (stepped states n r)
-    by (Ok s) e = side-step states.present s n e ∙ h
-    by (Err reason) e = h
+keeps_side side j n h = search (rules, side-step)
 
 has_side : (side : ℕ) (j : Judgement) (nodes : List Node) → HasSide side j → HasSide side (fold after j nodes)
 has_side side j [] h = h
@@ -66,9 +58,7 @@ module _ (kind : GameKind) (nodes : List Node) (n : Node) (j : Judgement) (is : 
 
 -- what is kept of a line is told of its first nodes
 told_none : (kind : GameKind) → legal_on kind [] ≡ []
-told_none not_go = refl
-told_none bad_size = refl
-told_none (board side) = refl
+told_none kind = grind (arith, common_steps)
 
 pub told_front : (keeps tells : GameKind → List LegalNode → Type 0) (nodes : List Node) (held : ℕ) (j : Judgement) → j ≡ judging_front nodes held
     → (held ≡ 0 → (kind : GameKind) → board_in j ≡ board_in (begun_game kind) → tells kind []) → (0 < held → (kind : GameKind) (taken : List LegalNode) → keeps kind taken → tells kind (take held taken))

@@ -1,6 +1,6 @@
 -- The verdict of the line before a cursor, of the line that ends in a leaf, and of the line that has a place.
-use Rattle.std.proofs.Common.{◌≡◌, ℕ, ◌<◌, List, length, Option, Some, ap, ◌∙◌, arith, rules, ◌+◌, option_map, Result, Ok, Err, IfOk}
-use Rattle.judged_lines.proofs.Common.{common_steps, MemoryFault, IsLeaf, Node, Games, node_count, CursorState, IsAfterPlace, nodes_of, line_before, nodes_before, Line, Path, Verdict, game_kind, root_properties, Judgement, judging, verdict_of, verdict, IsVerdictAt, IsVerdictOf, verdict_in}
+use Rattle.std.proofs.Common.{◌≡◌, ℕ, ◌<◌, List, length, Option, Some, ap, ◌∙◌, arith, rules, ◌+◌, option_map, Result, IfOk}
+use Rattle.judged_lines.proofs.Common.{common_steps, MemoryFault, IsLeaf, Node, Games, node_count, CursorState, nodes_of, line_before, nodes_before, Line, Path, Verdict, game_kind, root_properties, Judgement, judging, verdict_of, verdict, IsVerdictAt, verdict_in}
 use Rattle.judged_lines.proofs.Judgements.{judging_verdict}
 use Rattle.tree_lines.proofs.CursorStates.{IsNextLine, next_line, before}
 use Rattle.tree_lines.proofs.Named.{line_at}
@@ -25,9 +25,4 @@ module _ (c : Games) (leaf : ℕ) (lt : leaf < node_count c) (is_leaf : IsLeaf c
 
   pub judged_at : (at : CursorState) → at ≡ before c (leaf + 1) → (told : Result Verdict MemoryFault) → IfOk told (λ v. option_map verdict (line_before at) ≡ Some v)
       → IfOk told (IsVerdictAt c leaf)
-  judged_at at is (Err fault) told = told
-  judged_at at is (Ok v) told = search (rules, line_at, own, verdict_is)
-
--- the line before a cursor that was moved to just after a place has that place
-pub verdict_before : (old at : CursorState) (place : ℕ) (told : Verdict) → IsAfterPlace place old at → option_map verdict (line_before at) ≡ Some told → IsVerdictOf old.games place told
-verdict_before old at place told after told_is = first_of (search rules, grind (arith, common_steps))
+  judged_at at is known2 told = grind (arith, common_steps, line_at, own, verdict_is)

@@ -1,6 +1,6 @@
 -- A node's step by what is gathered of it.
-use Rattle.std.proofs.Common.{◌≡◌, ◌⊎◌, ◌<◌, ℕ, Option, Some, None, List, [], ◌∷◌, length, Ok, Err, refl, sym, ap, ◌∙◌, inl, inr, arith, rules, Result, option_map, option_and_then, IsSome, IsErrOf, ◌↔◌}
-use Rattle.judged_lines.proofs.Common.{common_steps, Node, SetupOp, Colour, TurnFault, Reason, States, turned, followed_by, State, Nothing, Meant, IsEffectBy, moves, stones, players, player_value, operation, operations, last_player, turn_step, move_step, setup_step, step_by, step, AreMoves, IsSetup, IsStepped, setup_effect}
+use Rattle.std.proofs.Common.{◌≡◌, ◌⊎◌, ◌<◌, ℕ, Option, Some, None, List, [], ◌∷◌, length, Ok, Err, refl, sym, ap, ◌∙◌, arith, rules, Result, option_and_then, IsSome, IsErrOf, ◌↔◌}
+use Rattle.judged_lines.proofs.Common.{common_steps, Node, SetupOp, Colour, TurnFault, Reason, States, turned, followed_by, State, Nothing, Meant, IsEffectBy, moves, stones, players, player_value, operations, last_player, turn_step, move_step, setup_step, step_by, step, AreMoves, IsSetup, IsStepped, setup_effect}
 use Rattle.go_board.specs.declared.referee.plays.Play.{Play}
 use Rattle.go_board.specs.declared.fault.TurnFault.TheVariants.{Illegal, Memory}
 use Rattle.go_board.specs.Reason.{reason_of}
@@ -8,16 +8,9 @@ use Rattle.judged_lines.specs.NodeContents.{Move, Stones}
 use Rattle.judged_lines.specs.Step.{side_in}
 use Rattle.go_board.proofs.TurnLemmas.{side-set_up, side-turned}
 
--- stones are as many as their operations
-operations-cons : (side : ℕ) (o : Option SetupOp) (os : Option (List SetupOp)) (ops : List SetupOp) → option_and_then (λ op. option_map (λ ops. op ∷ ops) os) o ≡ Some ops → 0 < length ops
-operations-cons side o os ops known = first_of (search rules, grind (arith, common_steps))
-
 pub stones_none : (side : ℕ) (ts : List Stones) → operations ts side ≡ Some [] → ts ≡ []
 stones_none side [] e = refl
-stones_none side (t ∷ ts) e = absurd (omega (arith, operations-cons side (operation t side) (operations ts side) [] e))
-
-pub some_stones : (side : ℕ) (ts : List Stones) (ops : List SetupOp) → operations ts side ≡ Some ops → 0 < length ops → 0 < length ts
-some_stones side ts ops known known2 = first_of (search rules, grind (arith, common_steps))
+stones_none side (t ∷ ts) e = first_of (search rules, grind (arith, common_steps))
 
 -- once a player was named, one is the last
 some_last : (k : Colour) (raws : List (List ℕ)) → last_player (Some k) raws ≡ Some None → ⊥
@@ -38,14 +31,12 @@ no_reason o known = first_of (search rules, grind (arith, common_steps))
 
 -- what there is to set up
 pub something : (side : ℕ) (ops : List SetupOp) (player : Option Colour) (ts : List Stones) (ps : List (List ℕ)) → IsSetup side (Meant player) ops ts ps → (0 < length ops) ⊎ IsSome player
-something side [] None ts ps h = first_of (search rules, grind (arith, common_steps, players_none, stones_none))
-something side [] (Some k) ts ps h = inr refl
-something side (op ∷ ops) player ts ps h = inl (omega arith)
+something side ops player ts ps h = grind (arith, common_steps, players_none, stones_none)
 
 -- their effects
 pub meant_effect : (side : ℕ) (ms : List Move) (ops : List SetupOp) (player : Option Colour) (ts : List Stones) (ps : List (List ℕ)) → AreMoves Nothing ms → IsSetup side (Meant player) ops ts ps
     → IsEffectBy side ms ts (setup_effect ops)
-meant_effect side ms ops player ts ps known known2 = first_of (search rules, grind (arith, common_steps, some_stones, stones_none))
+meant_effect side ms ops player ts ps known known2 = first_of (search (rules, stones_none), grind (arith, common_steps, stones_none))
 
 -- a turn that was taken, or refused
 pub takes_turn : (old new : States) (k : Colour) (play : Play) (u : Unit {0}) → ((r : Reason) → IsErrOf (Ok u) (Illegal r) ↔ (reason_of old.present k play ≡ Some r))
@@ -67,11 +58,8 @@ refuses_turn A old new k play Memory h e = e
 side-same : (s t : State) (u : State) → side_in u ≡ side_in s → (let r : Result State Reason = Ok u in r ≡ Ok t) → side_in t ≡ side_in s
 side-same s t u side e = let same : u ≡ t = cc in ap side_in (sym same) ∙ side
 
-side-turn_step : (s t : State) (k : Colour) (x : Play) (r : Option Reason) → turn_step s k x r ≡ Ok t → side_in t ≡ side_in s
-side-turn_step s t k x r known = first_of (search rules, grind (arith, common_steps, side-same, side-turned))
-
 side-move : (s t : State) (k : Colour) (x : Option Play) → move_step s k x ≡ Ok t → side_in t ≡ side_in s
-side-move s t k x known = first_of (search rules, grind (arith, common_steps, side-turn_step))
+side-move s t k x known = first_of (search (rules, side-same, side-turned), grind (arith, common_steps, side-same, side-turned))
 
 side-setup : (s t : State) (o : Option (List SetupOp)) (last : Option (Option Colour)) → setup_step s o last ≡ Ok t → side_in t ≡ side_in s
 side-setup s t o last known = first_of (search rules, grind (arith, common_steps, side-same, side-set_up))

@@ -1,6 +1,6 @@
 -- How many nodes are judged on lines that follow each other: a line adds those of its judged nodes that it doesn't share with the line before.
 use Rattle.judged_lines.proofs.Common.{common_steps, length-map, slice_get_within, PlacesRise, Games, node_count, CursorState, Line, lines, Before, Unheld, Held, AreHeld, all_judged_places, judged_places, judged_nodes}
-use Rattle.std.proofs.Common.{◌≡◌, ℕ, zero, suc, ◌+◌, ◌<◌, ◌≤◌, List, length, take, refl, arith, ◌-◌, drop, slice_get, Some, length-append, add-one, append_assoc, take-append-drop, length-drop, length-take}
+use Rattle.std.proofs.Common.{◌≡◌, ℕ, ◌+◌, ◌<◌, ◌≤◌, List, length, take, arith, ◌-◌, drop, slice_get, Some, length-append, add-one, append_assoc, take-append-drop, length-drop, length-take}
 use Rattle.judged_lines.proofs.Touched.{SharesAfter, adds_fresh, judged_first, judged_shared, judged_few}
 use Rattle.judged_lines.proofs.Lists.{get_dropped, get_taken}
 
@@ -34,5 +34,4 @@ module _ (c : Games) (rise : PlacesRise c) (first limit : ℕ) where
 -- what a line shares with the one before it, by where the cursor stands
 pub shares_by : (c : Games) (rise : PlacesRise c) (first limit k : ℕ) (before : Before) (at : CursorState) (held : ℕ) → at.games ≡ c → at.index ≡ first + k → (k ≡ 0 → before ≡ Unheld) → (0 < k → before ≡ Held)
     → AreHeld before at held → Shares c rise first limit k held
-shares_by c rise first limit zero before at held same index first_line later h = rw (first_line refl) at h
-shares_by c rise first limit (suc k) before at held same index first_line later h = grind (arith, common_steps, add-one)
+shares_by c rise first limit k before at held same index first_line later h = grind (arith, common_steps, add-one)

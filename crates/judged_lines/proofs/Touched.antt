@@ -147,9 +147,7 @@ module _ (c : Games) where
   places_named [] [] e = refl
   places_named [] (i ∷ is) e = absurd cc
   places_named (n ∷ ns) [] e = absurd cc
-  places_named (n ∷ ns) (i ∷ is) e =
-      let rest : map Some ns ≡ map (node_at c) is = cc in
-      grind (arith, common_steps, place_of_node, (places_named ns is rest))
+  places_named (n ∷ ns) (i ∷ is) e = grind (arith, common_steps, place_of_node, places_named ns is (cc))
 
   places_range : (before rest : List OrderedNode) → ordered_nodes c ≡ before ++ rest → map (place_number c) (range_with_len (length before) (length rest)) ≡ map (λ r. r.node.place) rest
   places_range before [] e = refl
@@ -327,5 +325,4 @@ judged_touched ls = fewer_different (flat_map judged_places ls) (places_in ls) (
 
 -- and no more are judged than the collection has
 pub judged_few : (c : Games) → PlacesRise c → (before ls after : List Line) → lines c ≡ before ++ (ls ++ after) → length (all_judged_places ls) ≤ node_count c
-judged_few c rise before ls after is =
-    grind (arith, common_steps, flat_map-append, each_weaker, has_right, has_left, all_there ls, fewer_different, touched_all c rise, length-map, length-ordered_nodes c)
+judged_few c rise before ls after is = grind (arith, common_steps, all_there ls, touched_all c rise, length-ordered_nodes c, flat_map-append, each_weaker, has_right, has_left, fewer_different, length-map)

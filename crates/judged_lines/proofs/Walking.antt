@@ -107,11 +107,7 @@ judged_front (board side) nodes = (more_judged (before_root side) nodes, judged_
 
 -- and which of a front they are is seen in it
 pub judged_of_front : (said : GameKind) (nodes : List Node) (k : ℕ) → take k (judged_on said nodes) ≡ judged_on said (take k nodes)
-judged_of_front not_go nodes zero = refl
-judged_of_front not_go nodes (suc k) = refl
-judged_of_front bad_size nodes zero = refl
-judged_of_front bad_size nodes (suc k) = refl
-judged_of_front (board side) nodes k = grind (arith, common_steps, judged_fold, judged_take)
+judged_of_front said nodes k = grind (arith, common_steps, judged_fold, judged_take)
 
 -- what lines share is judged alike
 pub judged_alike : (old nodes : List Node) (k : ℕ) → k ≤ length old → take k old ≡ take k nodes

@@ -1,10 +1,7 @@
-use Rattle.go_board.specs.State.{starting}
+use Rattle.std.proofs.Common.{arith}
+use Rattle.std.proofs.lemmas.Grind.{common_steps}
 use Rattle.judged_lines.proofs.Walking.{scores, refuses, ends}
 use Rattle.judged_lines.proofs.laws.judged.Goals as goal
 
 pub returns : goal.returns
-returns c = record {
-  scored = scores;
-  illegal = refuses;
-  one_of_two = λ side nodes. ends (starting side) nodes;
-}
+returns c = grind (arith, common_steps, scores, refuses, ends)

@@ -1,6 +1,6 @@
 -- One sequence more is judged, until all are, or the verdict is known.
 use Rattle.std.proofs.Common.{◌≡◌, ◌+◌, ◌++◌, ◌≤◌, List, length, take, drop, refl, sym, ap, ◌∙◌, length-append, arith, rules, length-drop}
-use Rattle.judged_lines.proofs.Common.{Node, nodes_before, nodes_in, game_kind, root_properties}
+use Rattle.judged_lines.proofs.Common.{Node, nodes_before, nodes_in, game_kind, root_properties, common_steps}
 use Rattle.tree_lines.proofs.Fronts.{next_part, none_after, rises_through}
 use Rattle.judged_lines.proofs.JudgedLines.{Going, begun_front, countable, ends, finish, goes_on, decides, starts, stopped, stops}
 use Rattle.judged_lines.proofs.Keeping.{judgement_kept, judging_front, taken_kept}
@@ -48,9 +48,7 @@ module _ (g : Over) (c : After-nodes g) where
   rest = drop (nodes_in c.args.cursor.now.ends (c.loop-index.index + 1)) (nodes_before c.args.cursor.now.at)
 
   first : drop (nodes_in c.args.cursor.now.ends c.loop-index.index) (nodes_before c.args.cursor.now.at) ≡ c.nodes.result.nodes ++ rest
-  first =
-      let line = nodes_before c.args.cursor.now.at in
-      next_part c.args.cursor.now.ends line (length line) c.loop-index.index c.nodes.result.nodes c.sequences-end.ensures.divided c.nodes.ensures
+  first = grind (arith, common_steps, next_part)
 
 pub judge_sequence-requires-clause-known : goal.judge_sequence-requires-clause-known
 judge_sequence-requires-clause-known g c = (_, _, c.loop-index.invariant.going.on.has_judged)

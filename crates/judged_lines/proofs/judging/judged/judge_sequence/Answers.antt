@@ -1,6 +1,6 @@
 -- One node more is judged, and told if its step is taken, until all are, or the verdict is known.
-use Rattle.std.proofs.Common.{◌≡◌, ◌<◌, Bor, Option, Some, None, [], ◌∷◌, OnErr, Result, Ok, Err, refl, sym, ap, subst, ◌∙◌, length, arith, rules, IsSome, option_copied, eqb-true}
-use Rattle.judged_lines.proofs.Common.{nil_from_length, NextNode, IsTakenOff, Node, Grid, State, LegalStep, after, board_in, ComesAs, IsDecided, IsStepFrom, IsUndecided, Judging}
+use Rattle.std.proofs.Common.{◌≡◌, Bor, Option, Some, None, [], ◌∷◌, OnErr, Result, refl, sym, ap, subst, ◌∙◌, arith, rules, IsSome, option_copied, eqb-true}
+use Rattle.judged_lines.proofs.Common.{nil_from_length, NextNode, IsTakenOff, Node, Grid, State, LegalStep, after, ComesAs, IsStepFrom, IsUndecided, Judging, common_steps}
 use Rattle.sgf_outline.specs.NodesLeft.{NodesLeft}
 use Rattle.judged_lines.proofs.Gathered.{comes, setup_names}
 use Rattle.judged_lines.proofs.JudgedLines.{TookOne, countable, ends, refuses, said, starts, step_taken, stops, unsaid}
@@ -10,19 +10,14 @@ use Rattle.judged_lines.proofs.judging.judged.judge_sequence.Goals as goal
 use Rattle.judged_lines.proofs.judging.judged.judge_sequence.Goals.{In_ok-step}
 
 on_err : {A E : Type 0} {P : Type 0} (r : Result A E) → P → OnErr r P
-on_err (Ok x) p = tt
-on_err (Err e) p = p
+on_err r p = grind (arith, common_steps)
 
 some : (board : Option (Bor Grid)) (state : State) → option_copied board ≡ Some state.colouring → IsSome board
-some None state is = absurd cc
-some (Some board) state is = refl
+some board state is = grind (arith, common_steps)
 
 -- a node is taken off
 abbrev IsNext : NodesLeft → NodesLeft → NextNode → Type 0
 IsNext old new next = (node : Node) × (old.nodes ≡ node ∷ new.nodes) × IsTakenOff setup_names node new.properties next
-
-some_left : (old new : NodesLeft) (next : NextNode) → IsNext old new next → 0 < length old.nodes
-some_left old new next is = omega (arith, ap length is.1)
 
 -- the next node, and what is known of its step
 module _ (g : Over) (c : In_ok-step g) where
@@ -54,7 +49,7 @@ pub returns-clause-judged : goal.returns-clause-judged
 returns-clause-judged g c kind before h = ends (c.steps.invariant.going kind before h) (nil_from_length c.steps.nodes.nodes (eqb-true _ _ (sym c.is_empty.ensures ∙ c.steps-test.false)))
 
 pub take-requires-clause-countable : goal.take-requires-clause-countable
-take-requires-clause-countable g c = search (rules, some, some_left, next, countable)
+take-requires-clause-countable g c = first_of (search (rules, some, next, countable), grind (arith, common_steps, some, next, countable))
 
 pub returns-in_err-step-clause-refused : goal.returns-in_err-step-clause-refused
 returns-in_err-step-clause-refused g c kind before h =
@@ -68,14 +63,10 @@ returns-in_default-clause-judged g c kind before h =
 
 pub returns-in_default-clause-decided : goal.returns-in_default-clause-decided
 returns-in_default-clause-decided g c all =
-    let at = (goal.at.returns-in_default-clause-decided g c).In_ok-step in
-    subst IsDecided (sym (judged g at)) (decided_by c.steps.judge.judgement (node g at) (taken g at None c.in_default.is))
+    grind (arith, common_steps, judged g ((goal.at.returns-in_default-clause-decided g c).In_ok-step), taken g ((goal.at.returns-in_default-clause-decided g c).In_ok-step) None c.in_default.is, decided_by)
 
 pub unwrap-requires : goal.unwrap-requires
-unwrap-requires g c =
-    let at = (goal.at.unwrap-requires g c).In_ok-step in
-    let known = taken g at (Some c.in-Some.step) c.in-Some.is in
-    some c.board.result known.0 (c.board.ensures ∙ ap board_in (judged g at) ∙ board_after c.steps.judge.judgement (node g at) known.0 known.1)
+unwrap-requires g c = grind (arith, common_steps, taken g ((goal.at.unwrap-requires g c).In_ok-step) (Some c.in-Some.step) c.in-Some.is, judged g ((goal.at.unwrap-requires g c).In_ok-step), some, board_after)
 
 pub say-requires : goal.say-requires
 say-requires g c =

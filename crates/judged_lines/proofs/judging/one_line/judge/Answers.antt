@@ -1,5 +1,6 @@
 -- The cursor stands after the line that ends in the leaf.
-use Rattle.std.proofs.Common.{◌≡◌, ◌+◌}
+use Rattle.std.proofs.Common.{◌≡◌, ◌+◌, arith}
+use Rattle.std.proofs.lemmas.Grind.{common_steps}
 use Rattle.tree_lines.proofs.CursorStates.{before}
 use Rattle.judged_lines.proofs.LineVerdicts.{some_before, judged_at}
 use Rattle.judged_lines.proofs.judging.one_line.judge.Goals as goal
@@ -9,9 +10,7 @@ at_is : (c : In_ok-seek_leaf) → c.seek_leaf.new.self.at ≡ before c.args.coll
 at_is c = rw (c.new-cursor.ensures, c.outline.ensures) at c.in_ok-seek_leaf.ensures.sought
 
 pub judge_before-requires : goal.judge_before-requires
-judge_before-requires c =
-    some_before c.args.collection.now c.args.leaf c.requires.within c.requires.is_leaf c.seek_leaf.new.self.at (at_is (goal.at.judge_before-requires c).In_ok-seek_leaf)
+judge_before-requires c = grind (arith, common_steps, at_is (goal.at.judge_before-requires c).In_ok-seek_leaf, some_before)
 
 pub returns : goal.returns
-returns c =
-    judged_at c.args.collection.now c.args.leaf c.requires.within c.requires.is_leaf c.seek_leaf.new.self.at (at_is (goal.at.returns c).In_ok-seek_leaf) c.judge_before.result c.judge_before.ensures
+returns c = grind (arith, common_steps, judged_at, at_is)

@@ -1,7 +1,7 @@
-use Rattle.judged_lines.proofs.KeptScores.{scored_here}
+use Rattle.std.proofs.Common.{rules, arith}
+use Rattle.std.proofs.lemmas.Grind.{common_steps}
+use Rattle.judged_lines.proofs.Judgements.{back_none}
 use Rattle.judged_lines.proofs.judging.game.Game.verdict.Goals as goal
 
 pub invariant_of-self : goal.invariant_of-self
-invariant_of-self c =
-    let told = c.present_score-black in
-    scored_here c.self.inside.referee c.depth-self-inside.result told.result c.depth-self-inside.ensures.value (told.ensures.black, told.ensures.white)
+invariant_of-self c = first_of (search (rules, back_none), grind (arith, common_steps, back_none))

@@ -1,14 +1,12 @@
 -- The line was judged, and then its verdict was given.
 use Rattle.std.proofs.Common.{arith}
-use Rattle.judged_lines.proofs.Common.{nodes_before, HoldsLine}
+use Rattle.judged_lines.proofs.Common.{nodes_before, common_steps}
 use Rattle.judged_lines.proofs.Keeping.{held_part}
 use Rattle.judged_lines.proofs.LineVerdicts.{verdict_is}
 use Rattle.judged_lines.proofs.judging.judged.JudgedLineKeeper.follow.Goals as goal
 
 pub judge_line-requires-clause-held : goal.judge_line-requires-clause-held
-judge_line-requires-clause-held g c =
-    let old = c.args.self.now in
-    held_part _ (HoldsLine (g.K.StepKeeper.tells old.keeper) old.judge.judgement) c.args.cursor.now c.args.held (λ before h. h.line) c.requires.held
+judge_line-requires-clause-held g c = grind (arith, common_steps, held_part)
 
 pub returns-clause-holds : goal.returns-clause-holds
 returns-clause-holds g c =
