@@ -71,10 +71,7 @@ says_by bad_size ns ms h = another_size
 says_by (board side) ns ms h = walks_say (walk side ns) (walk side ms) ns ms (alike ns ms h [] [] (starting side))
 
 roots : (ns ms : List Node) → AllZip HaveSame ns ms → root_properties ns ≡ root_properties ms
-roots [] [] h = refl
-roots [] (m ∷ ms) h = absurd h
-roots (n ∷ ns) [] h = absurd h
-roots (n ∷ ns) (m ∷ ms) h = h.0
+roots ns ms h = grind (arith, common_steps)
 
 pub says_same : (ns ms : List Node) → AllZip HaveSame ns ms → SaysSame ns ms (verdict_of ns) (verdict_of ms)
 says_same ns ms h = grind (arith, common_steps, roots, says_by)

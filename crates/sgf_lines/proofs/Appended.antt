@@ -78,5 +78,4 @@ rows-raised by games (l ∷ ls) h = grind (arith, common_steps, place-raised, le
 
 pub rows_joined : (c d : Games) (by : ℕ) → flat_map (λ line. record_of list_form line) (lines (joined c (raised by d)))
     ≡ flat_map (λ line. record_of list_form line) (lines c) ++ flat_map (λ line. raised_record by (game_count c) line) (lines d)
-rows_joined c d by =
-    grind (arith, common_steps, lines-joined 1 c (raised by d), lines-raised, flat_map-append, rows-raised, filled_by d (lines d) (paths d) (each_named d) (each_path d), each_named d, each_path d)
+rows_joined c d by = grind (arith, common_steps, lines-joined 1 c (raised by d), filled_by d (lines d) (paths d) (each_named d) (each_path d), each_named d, each_path d, lines-raised, flat_map-append, rows-raised)

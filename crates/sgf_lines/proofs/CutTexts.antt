@@ -1,5 +1,5 @@
 -- A text that is cut where a test passes, by the first byte where it does.
-use Rattle.std.proofs.Common.{◌≡◌, ℕ, ◌<◌, ◌+◌, ◌-◌, ◌++◌, Option, Some, None, Bool, true, false, List, [], ◌∷◌, zero, suc, length, take, drop, get_or, refl, sym, ap, ◌∙◌, arith, length-append, rules, append_assoc, Result, Ok, Err, ◌==◌, is_some, filter, OnOk, flat_map, take_all, length-drop, append-nil}
+use Rattle.std.proofs.Common.{◌≡◌, ℕ, ◌<◌, ◌+◌, ◌-◌, ◌++◌, Option, Some, Bool, true, false, List, [], ◌∷◌, zero, suc, length, take, drop, get_or, refl, sym, ap, ◌∙◌, arith, length-append, rules, append_assoc, Result, ◌==◌, is_some, filter, OnOk, flat_map, take_all, length-drop, append-nil}
 use Rattle.sgf_lines.proofs.Common.{slice_split, drop-append_seam, false_from_ne_true, common_steps, Point, points, Colour, stone_of, same_cell, Grid, cell_at, Stone, text_rows, comment_row, play_command, stone_commands, commands_at}
 use Rattle.memchr.specs.Find.{IsFirstByte}
 
@@ -36,8 +36,7 @@ module _ (test : ℕ → Bool) where
 
   pub rows-none : (row : List ℕ → List ℕ) (t : List ℕ) (r : Option ℕ) → IsFirstByte test t r → ((end : ℕ) → r ≡ Some end → ⊥)
       → flat_map row (slice_split test t) ≡ row t
-  rows-none row t (Some end) first never = absurd (never end refl)
-  rows-none row t None first never = first_of (search rules, grind (arith, common_steps, append-nil, false_from_ne_true, pieces-none))
+  rows-none row t r first never = grind (arith, common_steps, append-nil, false_from_ne_true, pieces-none)
 
   -- so they are appended one after another
   pub rows-on : (row : List ℕ → List ℕ) (t : List ℕ) (end : ℕ) (old new whole : List ℕ) → IsFirstByte test t (Some end) → new ≡ old ++ row (take end t)
@@ -50,8 +49,7 @@ of_pieces bs known = first_of (search rules, grind (arith, common_steps))
 
 -- a text in which no line feed was found is one row
 pub one_row : (t : List ℕ) (r : Option ℕ) → (length t ≡ 0 → ⊥) → IsFirstByte (λ b. b == 10) t r → is_some r ≡ false → text_rows t ≡ comment_row t
-one_row t (Some end) some first never = cc
-one_row t None some first never = of_pieces t some ∙ rows-none (λ b. b == 10) comment_row t None first (λ end e. cc)
+one_row t r some first never = grind (arith, common_steps, of_pieces, rows-none)
 
 -- what was appended is the text from the offset on at which it was appended
 pub appended_last : (head text whole : List ℕ) (start : ℕ) → whole ≡ head ++ text → start ≡ length head → take (length whole - start) (drop start whole) ≡ text
@@ -70,8 +68,7 @@ stones-by_point g k = sym (lines_of_points g k (points g.side))
 
 -- two and three texts, appended one after another
 pub joins_two : {E : Type 0} (r : Result (Unit {0}) E) (old mid new a b : List ℕ) → mid ≡ old ++ a → OnOk r (new ≡ mid ++ b) → OnOk r (new ≡ old ++ (a ++ b))
-joins_two (Ok u) old mid new a b e f = f ∙ ap (λ t. t ++ b) e ∙ append_assoc old a b
-joins_two (Err fault) old mid new a b e f = tt
+joins_two r old mid new a b e f = grind (arith, common_steps, append_assoc)
 
 pub joins_three : {E : Type 0} (r : Result (Unit {0}) E) (old first second new a b d : List ℕ) → first ≡ old ++ a → second ≡ first ++ b → OnOk r (new ≡ second ++ d)
     → OnOk r (new ≡ old ++ ((a ++ b) ++ d))

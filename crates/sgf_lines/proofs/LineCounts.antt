@@ -9,8 +9,7 @@ same_counts c counts games nodes its_lines = grind (arith, common_steps)
 
 module _ (source new_source : SourceState) (text : List ℕ) (h : HasReadAll source new_source text) where
   pub count_of_games : (c : Games) (counts : Counts) → Spells c text → counts ≡ counts_of c → IsCount source new_source (Ok counts)
-  count_of_games c counts spelled is =
-      record { given = text; gives = h.read.gives; consumes = h.read.consumes; answers = (h.whole, (c, spelled, is)); source_failures = omega (arith, h.read.failures) }
+  count_of_games c counts spelled is = grind (arith, common_steps)
 
 -- two pieces are put as one
 pub both_put : {B F : Type 0} (old now new : SinkState) (first second : List ℕ) (result : Result B F) → Appends old.taken now.taken first → now.failures ≡ old.failures

@@ -36,9 +36,7 @@ seen ends text = record { pieces = pieces_from 0 ends text; begun = rest_from 0 
 -- the pieces and what is begun are the whole text
 pub whole : (start : ℕ) (ends text : List ℕ) → concat (pieces_from start ends text) ++ rest_from start ends text ≡ text
 whole start [] text = refl
-whole start (end ∷ ends) text =
-    let n = end - start in
-    search (rules, append_assoc, take-append-drop, (whole end ends (drop n text)))
+whole start (end ∷ ends) text = grind (arith, common_steps, append_assoc, take-append-drop, whole end ends (drop (end - start) text))
 
 pieces_again : (start : ℕ) (ps : List (List ℕ)) (begun : List ℕ) → pieces_from start (ends_from start ps) (concat ps ++ begun) ≡ ps
 pieces_again start [] begun = refl
@@ -72,11 +70,7 @@ module _ (ends text : List ℕ) (h : AreEnds ends text) where
   seen_pushed more = is_seen ends (text ++ more) ps (begun ++ more) h (ap (λ t. t ++ more) parts ∙ append_assoc (concat ps) begun more)
 
   pub seen_closed : (last : ℕ) → last ≡ length text → IsSeen (ends ++ last ∷ []) text (closed (seen ends text))
-  seen_closed last is =
-      let end : last ≡ 0 + length (concat ps) + length begun = omega (arith, is, ap length parts, length-append (concat ps) begun) in
-      is_seen (ends ++ last ∷ []) text (ps ++ begun ∷ []) []
-      (ap (λ es. es ++ last ∷ []) h ∙ ap (λ k. ends_from 0 ps ++ k ∷ []) end ∙ sym (ends-append 0 ps (begun ∷ [])))
-      (parts ∙ ap (λ t. concat ps ++ t) (sym (append-nil begun)) ∙ sym (concat-append ps (begun ∷ [])) ∙ sym (append-nil (concat (ps ++ begun ∷ []))))
+  seen_closed last is = grind (arith, common_steps, length-append (concat ps) begun, ends-append 0 ps (begun ∷ []), append-nil begun, append-nil (concat (ps ++ begun ∷ [])), concat-append ps (begun ∷ []), parts, is_seen)
 
   -- only the first pieces are left
   pub seen_cut : (count end : ℕ) → end ≡ unwrap_or (slice_get (take count ends) (length (take count ends) - 1)) 0 → IsSeen (take count ends) (take end text) (cut count (seen ends text))

@@ -1,6 +1,6 @@
 -- How many nodes a run plays for its page: a line adds those of its judged nodes that it doesn't share with the line before it.
 use Rattle.sgf_lines.proofs.Common.{Appends, Appends-trans, cases_Bool, common_steps, flat_map-append, slice_get_within, MemoryFault, PlacesRise, Games, node_count, CursorState, advanced, Line, lines, SinkState, TakesNothing, Unheld, Held, HasPlays, PlaysLine, index_by, all_judged_places, judged_nodes, RunFault, Form, IsCutShort, limited, record_of, output, plays_of, plays_in, ArePlaysFor, WritesLines}
-use Rattle.std.proofs.Common.{◌≡◌, ℕ, zero, suc, ◌+◌, ◌<◌, ◌≤◌, List, length, take, inl, inr, refl, ap, ◌∙◌, arith, ◌-◌, drop, slice_get, Some, sym, Option, None, Result, Ok, Err, rules, length-drop, take_all, length-take, take-add, true, unwrap_or}
+use Rattle.std.proofs.Common.{◌≡◌, ℕ, ◌+◌, ◌<◌, ◌≤◌, List, length, take, inl, inr, refl, ap, ◌∙◌, arith, ◌-◌, drop, slice_get, Some, sym, Option, None, Result, Ok, Err, rules, length-drop, take_all, length-take, take-add, true, unwrap_or}
 use Rattle.judged_lines.proofs.Touched.{fewer_in_front}
 use Rattle.judged_lines.proofs.Lists.{get_dropped, get_taken, get_none}
 use Rattle.sgf_lines.proofs.Pages.{limited_is}
@@ -73,9 +73,7 @@ module _ (c : Games) (rise : PlacesRise c) (first limit : ℕ) where
   -- a line adds its judged nodes that it doesn't share with the one before it
   pub adds : (form : Form) (k shared : ℕ) (line : Line) → slice_get (page_from c first limit) k ≡ Some line → Shares c rise first limit k shared
       → plays_of form (take (k + 1) (page_from c first limit)) ≡ plays_of form (take k (page_from c first limit)) + plays_in form (length (judged_nodes line) - shared)
-  adds form k shared line e h =
-      let page = page_from c first limit in
-      added_in form (length (all_judged_places (take (k + 1) page))) (length (all_judged_places (take k page))) (length (judged_nodes line) - shared) (adds_judged c rise first limit k shared line e h)
+  adds form k shared line e h = grind (arith, common_steps, added_in, adds_judged)
 
   -- no more than there are nodes
   pub few : (form : Form) (k : ℕ) → plays_of form (take k (page_from c first limit)) ≤ node_count c
@@ -92,8 +90,7 @@ module _ (c : Games) (rise : PlacesRise c) (first limit : ℕ) where
 
 -- a run never goes back to a line for which memory was refused
 pub goes_forth : (k : ℕ) (before : Before) (at : CursorState) → (k ≡ 0 → before ≡ Unheld) → (0 < k → before ≡ Held) → next_by before at ≡ at
-goes_forth zero before at first_line later = ap (λ b. next_by b at) (first_line refl)
-goes_forth (suc k) before at first_line later = ap (λ b. next_by b at) (later (omega arith))
+goes_forth k before at first_line later = grind (arith, common_steps)
 
 module _ (form : Form) (counts : ℕ → ℕ) (counts_are : (n : ℕ) → counts n ≡ plays_in form n) (c : Games) (rise : PlacesRise c) (first limit k : ℕ) (before : Before) (at : CursorState) (old sink : SinkState)
     (written : IsSoFar form c first limit old k at sink) (first_line : k ≡ 0 → before ≡ Unheld) (later : 0 < k → before ≡ Held) (lt : k < limit) (now : ℕ) (h : now ≡ plays_of form (take k (page_from c first limit))) where

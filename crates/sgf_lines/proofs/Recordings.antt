@@ -1,6 +1,6 @@
 -- A record in sgf form goes on by sequences, and back.
-use Rattle.std.proofs.Common.{◌≡◌, ℕ, suc, ◌+◌, ◌-◌, ◌<◌, List, [], ◌∷◌, ◌++◌, length, take, map, slice_get, Some, refl, sym, ap, ◌∙◌, add-one, arith, rules, codes, flat_map}
-use Rattle.sgf_lines.proofs.Common.{concat, take-map, map-append, Node, nodes_before, RiseTo, SequencesState, sequences_of, IsHeldOf, node_text, sgf_record, PiecesState, pushed, closed, cut, sequences_before, unclosed_record, whole_record}
+use Rattle.std.proofs.Common.{◌≡◌, ℕ, ◌+◌, ◌<◌, List, [], ◌∷◌, ◌++◌, length, take, map, slice_get, Some, refl, ap, add-one, arith, rules, codes, flat_map}
+use Rattle.sgf_lines.proofs.Common.{concat, take-map, map-append, Node, nodes_before, RiseTo, SequencesState, sequences_of, IsHeldOf, node_text, sgf_record, PiecesState, pushed, closed, cut, sequences_before, unclosed_record, whole_record, common_steps}
 use Rattle.tree_lines.specs.declared.sequence_cursor.Front.{Front}
 use Rattle.judged_lines.proofs.Keeping.{by_old, has_front, same_nodes}
 use Rattle.tree_lines.proofs.Fronts.{alike, end_of, parts_text}
@@ -13,15 +13,11 @@ of_pieces pieces = record { pieces = codes "(" ∷ pieces; begun = [] }
 -- one sequence more
 pub record_more : (sequences : List (List Node)) (i : ℕ) (nodes : List Node) → slice_get sequences i ≡ Some nodes
     → closed (pushed (unclosed_record (take i sequences)) (flat_map node_text nodes)) ≡ unclosed_record (take (i + 1) sequences)
-record_more sequences i nodes e =
-    let text = flat_map node_text in
-    ap of_pieces (sym (map-append text (take i sequences) (nodes ∷ [])) ∙ ap (map text) (sym (front_more sequences i nodes e)))
+record_more sequences i nodes e = grind (arith, common_steps, map-append (flat_map node_text) (take i sequences) (nodes ∷ []), front_more sequences i nodes e)
 
 -- back to the first sequences of a line
 pub record_back : (sequences : List (List Node)) (k : ℕ) → cut (k + 1) (whole_record sequences) ≡ unclosed_record (take k sequences)
-record_back sequences k =
-    let next : k + 1 ≡ suc k = add-one k in
-    ap (λ n. cut n (whole_record sequences)) next ∙ ap of_pieces (take-map (flat_map node_text) k sequences)
+record_back sequences k = grind (arith, common_steps, add-one, take-map)
 
 -- the record of a line is kept of the next one, as far as it begins alike
 pub record_kept : (holds : SequencesState → Type 0) (cursor : SequencesState) (front : Front) → IsHeldOf holds cursor front

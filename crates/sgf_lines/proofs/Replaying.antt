@@ -16,8 +16,7 @@ use Rattle.sgf_lines.proofs.Placing.{BoardLaws, is_same, takes_play, takes_board
 
 -- an element that isn't found doesn't pass
 not-found : {A : Type 0} (b : Bool) (y : A) (o : Option A) → cond b (Some y) o ≡ None → (b ≡ false) × (o ≡ None)
-not-found true y o h = absurd (cc)
-not-found false y o h = (refl, h)
+not-found b y o h = grind (arith, common_steps)
 
 any_append : {A : Type 0} (p : A → Bool) (xs ys : List A) → list_any p (xs ++ ys) ≡ false → (list_any p xs ≡ false) × (list_any p ys ≡ false)
 any_append p xs ys e = or_parts (list_any p xs) (list_any p ys) (sym (list_any-append p xs ys) ∙ e)

@@ -1,11 +1,11 @@
 -- What a run writes, and its answer for each way to end.
-use Rattle.std.proofs.Common.{◌≡◌, ℕ, ◌+◌, ◌<◌, List, ◌++◌, length, take, drop, slice_get, Some, Result, Ok, Err, sym, arith, add-one, append-nil, Option, Bor, ap, refl, inr, rules, take_all, take-append-drop, length-drop, option_map, OnOk}
+use Rattle.std.proofs.Common.{◌≡◌, ℕ, ◌+◌, ◌<◌, List, ◌++◌, length, take, drop, slice_get, Some, Result, Ok, Err, sym, arith, add-one, append-nil, Option, Bor, ap, rules, take_all, take-append-drop, length-drop, option_map, OnOk}
 use Rattle.sgf_lines.proofs.Common.{Appends, Appends-trans, common_steps, slice_get_past, slice_get_within, MAX_LENGTH, Spells, Games, Line, lines, SequencesState, SinkState, SourceState, GivesRest, HasDelivered, RunFault, Form, Options, IsCutShort, read_failures, IsWhole, IsGood, Answers, write_failures, unread, limited, record_of, output, AnswersPlays, IsRunWithPlays, WritesLines, IsReading, HasReadAll, IsStart}
 use Rattle.judged_lines.proofs.Joins.{more_texts}
 use Rattle.std.specs.Prelude.{⊤}
 use Rattle.sgf_tree.specs.Refusal.{IsFaultyWhereNotSgf}
 use Rattle.sgf_tree.specs.declared.fault.ReadFault.{ReadFault}
-use Rattle.sgf_tree.specs.declared.fault.ReadFault.TheVariants.{TooLong as TextTooLong, NotSgf as TextNotSgf, Memory as TextMemory}
+use Rattle.sgf_tree.specs.declared.fault.ReadFault.TheVariants.{TooLong as TextTooLong}
 
 pub no_read : (form : Form) (ls : List Line) (sink new_sink : SinkState) (plays : ℕ) (result : Result ℕ RunFault) → WritesLines form ls sink new_sink plays result → read_failures result ≡ 0
 no_read form ls sink new_sink plays result known = first_of (search rules, grind (arith, common_steps))
@@ -58,9 +58,7 @@ module _ (o : Options) (source new_source : SourceState) (text : List ℕ) (h : 
   -- the text isn't one of the grammar, or wasn't read whole
   pub unread_run : (fault : ReadFault) → (fault ≡ TextTooLong → MAX_LENGTH < length text) → IsFaultyWhereNotSgf text fault
       → IsRunWithPlays o source new_source sink sink old old (Err (unread fault (length text)))
-  unread_run TextTooLong long faulty = absurd (omega (arith, long refl, h.whole.within))
-  unread_run (TextNotSgf at) long faulty = run_of sink old _ 0 ((h.whole, faulty, refl, refl), refl) (omega arith) refl (omega arith)
-  unread_run TextMemory long faulty = run_of sink old _ 0 (inr (h.whole.within, refl, refl), inr (refl, refl)) (omega arith) refl (omega arith)
+  unread_run fault long faulty = grind (arith, common_steps, run_of)
 
   -- the lines of the page were written
   pub lines_run : (c : Games) (cursor : SequencesState) (new_sink : SinkState) (plays new : ℕ) (result : Result ℕ RunFault) → Spells c text → IsStart c o.after (Ok cursor)

@@ -1,12 +1,11 @@
 -- The rows of a script: the words of each, and what a text of whole rows does to the board, whatever follows it.
 use Rattle.std.proofs.Common.{◌≡◌, ℕ, zero, suc, ◌≤◌, ◌/◌, ◌%◌, List, [], ◌∷◌, ◌++◌, Bool, true, false, codes, refl, ap, ◌∙◌, arith, append_assoc, decimal, cond, ◌==◌, ◌-◌, ◌<◌, filter, Option, Some, None, nat_lt, nat_le, ◌&&◌, slice_index, option_map, option_and_then, inl, inr, ◌+◌, rules, flat_map, position}
-use Rattle.sgf_lines.proofs.Common.{slice_split, onto_first, and_parts, cases_eq, nat_tests, common_steps, Line, Point, Vertex, IsOn, column_letters, vertex_of, Colour, Reason, word_of, Verdict, verdict_text, list_row, Engine, after_row, after_text, before_comment, is_word, words, capital, vertex_named, point_there, point_of, plays_stone, play_command_of, sets_size, size_command, command_of, comment_row, text_rows, colour_letter, vertex_text, stone_command}
+use Rattle.sgf_lines.proofs.Common.{slice_split, onto_first, and_parts, cases_eq, nat_tests, common_steps, Line, Point, Vertex, IsOn, column_letters, vertex_of, Colour, Reason, word_of, Verdict, verdict_text, list_row, Engine, after_row, after_text, before_comment, is_word, words, capital, vertex_named, point_there, point_of, plays_stone, sets_size, size_command, command_of, comment_row, text_rows, colour_letter, vertex_text, stone_command}
 use Rattle.std.specs.Fmt.{digits, digits_onto, digit_glyph}
 use Rattle.std.proofs.lemmas.List.Splits.{slice_split_at, slice_split_none}
 use Rattle.std.proofs.lemmas.List.Elements.{All-from_recursion}
 use Rattle.tree_lines.proofs.Lists.{Each, each_append}
 use Rattle.sgf_properties.specs.Number.{magnitude_of}
-use Rattle.board_stones.specs.declared.stones.Colour.TheVariants.{Black, White}
 use Rattle.std.proofs.lemmas.Fmt.{decimal_digit, decimal_step}
 
 -- the byte doesn't end a row
@@ -69,10 +68,7 @@ digits_by last one more known known2 = first_of (search rules, grind (arith, com
 
 digits_solid : (fuel n : ℕ) (after : List ℕ) → Each IsSolid after → Each IsSolid (digits_onto fuel 10 false n after)
 digits_solid zero n after h = h
-digits_solid (suc fuel) n after h =
-    let all = digit_glyph false (n % 10) ∷ after in
-    let solid : Each IsSolid all = (glyph_solid (n % 10), h) in
-    digits_by (n / 10 == 0) all (digits_onto fuel 10 false (n / 10) all) solid (digits_solid fuel (n / 10) all solid)
+digits_solid (suc fuel) n after h = grind (arith, common_steps, glyph_solid, digits_by, digits_solid fuel (n / 10) (digit_glyph false (n % 10) ∷ after) ((glyph_solid (n % 10), h)))
 
 pub decimal_solid : (n : ℕ) → Each IsSolid (decimal n)
 unfolding digits
@@ -201,12 +197,7 @@ vertex_solid side p small on = (letter_solid p.col (omega (arith, on.0)), decima
 
 pub play_reads : (side : ℕ) (k : Colour) (p : Point) → side ≤ 25 → IsOn side p
     → command_of (words (codes "play " ++ colour_letter k ++ codes " " ++ vertex_text (vertex_of p side))) ≡ plays_stone k (vertex_of p side)
-play_reads side Black p small on =
-    ap (λ ws. command_of ws) (play_words Black (vertex_of p side).letter (decimal (vertex_of p side).row) (vertex_solid side p small on))
-    ∙ ap (λ v. play_command_of (Some Black) v) (vertex_reads side p small on)
-play_reads side White p small on =
-    ap (λ ws. command_of ws) (play_words White (vertex_of p side).letter (decimal (vertex_of p side).row) (vertex_solid side p small on))
-    ∙ ap (λ v. play_command_of (Some White) v) (vertex_reads side p small on)
+play_reads side k p small on = grind (arith, common_steps, play_words, vertex_solid, vertex_reads)
 
 -- the row that sets a size
 two_words : (word : List ℕ) → filter is_word (word ∷ []) ≡ word ∷ [] → command_of (codes "boardsize" ∷ filter is_word (word ∷ [])) ≡ size_command (magnitude_of word)

@@ -1,11 +1,8 @@
 -- A script goes on by a node, and back to the first ones; and what is put of it.
-use Rattle.std.proofs.Common.{◌≡◌, ℕ, zero, suc, min, List, [], ◌∷◌, ◌++◌, length, take, refl, sym, ap, subst, ◌∙◌, arith, add-one, append-nil, rules, nat_lt, option_copied, lt-ltb, le-ltb}
-use Rattle.sgf_lines.proofs.Common.{list_any, position_or_len, common_steps, map-append, take-map, length-map, position_or_len_push, Node, Grid, State, GameKind, not_go, bad_size, board, Move, moves, stones, LegalNode, Walk, legal_on, comment_rows, setup_commands, move_commands, legal_script, text_rows, comment_text, leaves_unreaching, leaves_unreaching_by, commands_of, commands_by, effect_script, step_script, is_unreaching, no_script, said_on, script_back, script_text, script_along, script_of}
-use Rattle.judged_lines.specs.declared.judging.step.Effect.{Effect}
-use Rattle.judged_lines.specs.declared.judging.step.Effect.TheVariants.{Nothing, Stones as stones_set, Play as one_play}
+use Rattle.std.proofs.Common.{◌≡◌, ℕ, zero, suc, min, List, [], ◌∷◌, ◌++◌, length, take, refl, ap, subst, arith, add-one, append-nil, rules, nat_lt, option_copied, lt-ltb, le-ltb}
+use Rattle.sgf_lines.proofs.Common.{list_any, position_or_len, common_steps, map-append, take-map, length-map, position_or_len_push, Node, Grid, State, GameKind, LegalNode, Walk, legal_on, comment_rows, legal_script, text_rows, comment_text, leaves_unreaching, commands_of, commands_by, step_script, is_unreaching, no_script, said_on, script_back, script_text, script_along, script_of}
 use Rattle.judged_lines.specs.declared.judging.step.LegalStep.{LegalStep}
-use Rattle.judged_lines.specs.NodeContents.{Stones}
-use Rattle.judged_lines.specs.Judgement.{IsEffectBy, IsStepOf, IsLegalStep}
+use Rattle.judged_lines.specs.Judgement.{IsStepOf, IsLegalStep}
 use Rattle.sgf_lines.proofs.Recordings.{joined}
 
 -- the pieces before those that can't be said
@@ -44,9 +41,7 @@ pub script_cut : (kind : GameKind) (taken : List LegalNode) (n : ℕ) → script
 script_cut kind taken n = first_of (search rules, grind (arith, common_steps, along_back, no_script_back))
 
 script_more : (kind : GameKind) (taken : List LegalNode) (t : LegalNode) → said_on (script_of kind taken) (leaves_unreaching t) (legal_script t) ≡ script_of kind (taken ++ t ∷ [])
-script_more not_go taken t = refl
-script_more bad_size taken t = refl
-script_more (board side) taken t = along_more side taken t
+script_more kind taken t = grind (arith, common_steps, along_more)
 
 -- what a step says of its node
 module _ (s : State) (n : Node) (taken : LegalStep) (h : IsStepOf s.colouring.side n taken) where
@@ -54,21 +49,10 @@ module _ (s : State) (n : Node) (taken : LegalStep) (h : IsStepOf s.colouring.si
   comment = ap (λ o. text_rows (comment_text o)) h.comment_is
 
   step_says : step_script s.colouring taken ≡ legal_script (record { node = n; after = s })
-  step_says =
-      ap (λ bs. bs ++ effect_script s.colouring taken.effect) comment ∙ by taken.effect (moves n) (stones n) h.effect_is
-    where
-      by : (effect : Effect) (ms : List Move) (ts : List Stones) → IsEffectBy s.colouring.side ms ts effect
-          → comment_rows n ++ effect_script s.colouring effect ≡ (comment_rows n ++ setup_commands s.colouring ts) ++ move_commands s.colouring.side ms
-      by Nothing ms ts e = rw (e.0, e.1) (ap (λ bs. bs) (sym (append-nil (comment_rows n ++ []))))
-      by stones_set ms [] e = absurd (omega (arith, e.1))
-      by stones_set ms (t ∷ ts) e = rw e.0 (sym (append-nil (comment_rows n ++ effect_script s.colouring stones_set)))
-      by (one_play colour play) ms ts e = first_of (search rules, grind (arith, common_steps, append-nil))
+  step_says = grind (arith, common_steps, comment, append-nil)
 
   step_unreaching : is_unreaching s.colouring taken.effect ≡ leaves_unreaching (record { node = n; after = s })
-  step_unreaching = by taken.effect (moves n) (stones n) h.effect_is
-    where
-      by : (effect : Effect) (ms : List Move) (ts : List Stones) → IsEffectBy s.colouring.side ms ts effect → is_unreaching s.colouring effect ≡ leaves_unreaching_by s.colouring ts
-      by effect ms ts known = first_of (search rules, grind (arith, common_steps))
+  step_unreaching = grind (arith, common_steps)
 
 -- a step that was taken
 module _ (kind : GameKind) (grid : Grid) (step : LegalStep) (t : LegalNode) (h : IsLegalStep kind grid step t) where

@@ -1,5 +1,6 @@
 -- A run ends where reading ends. A source that has nothing to give at once is as it was.
 use Rattle.std.proofs.Common.{arith, rules}
+use Rattle.std.proofs.lemmas.Grind.{common_steps}
 use Rattle.std.proofs.lemmas.Result.{err_from_is_err_and}
 use Rattle.sgf_lines.proofs.Running.{no_reading_run, has_read_all, has_given_all}
 use Rattle.sgf_lines.proofs.run.split_counted.Goals as goal
@@ -8,8 +9,7 @@ pub returns-in_err-read_all-clause-runs : goal.returns-in_err-read_all-clause-ru
 returns-in_err-read_all-clause-runs g c = search (rules, err_from_is_err_and, no_reading_run)
 
 pub returns-in-Some-clause-runs : goal.returns-in-Some-clause-runs
-returns-in-Some-clause-runs g c =
-    c.split_text.ensures _ _ (has_given_all _ _ c.in-Some.text (rw c.in-Some.is at c.give_rest.follows.holds-at-none.0))
+returns-in-Some-clause-runs g c = grind (arith, common_steps, has_given_all)
 
 pub returns-clause-runs : goal.returns-clause-runs
 returns-clause-runs g c = search (rules, has_read_all)
@@ -18,6 +18,4 @@ pub split_text-requires-2-clause-sink_countable : goal.split_text-requires-2-cla
 split_text-requires-2-clause-sink_countable g c = c.requires.sink_countable
 
 pub returns-clause-one_end : goal.returns-clause-one_end
-returns-clause-one_end g c =
-    let same = rw c.in_default.is at c.give_rest.follows.holds-at-none.1 in
-    omega (arith, c.in_ok-read_all.ensures.one_end, same)
+returns-clause-one_end g c = grind (arith, common_steps)

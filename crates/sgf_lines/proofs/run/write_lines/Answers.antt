@@ -1,6 +1,6 @@
 -- One record more was written, or the sink failed within it.
 use Rattle.std.proofs.Common.{◌≡◌, true, None, Some, Ok, Err, slice_get, sym, ap, ◌∙◌, arith}
-use Rattle.sgf_lines.proofs.Common.{Appends-kept, common_steps, MemoryFault, CursorState, advanced, line_before, nodes_before, lines, PutsAll, Held, PlaysLine, StandsBy, record_of, WritesLines, page_after}
+use Rattle.sgf_lines.proofs.Common.{common_steps, MemoryFault, CursorState, advanced, line_before, nodes_before, lines, PutsAll, Held, PlaysLine, StandsBy, record_of, WritesLines, page_after}
 use Rattle.byte_streams.specs.declared.sink.SinkFault.{SinkFault}
 use Rattle.judged_lines.specs.GoingOn.{next_by}
 use Rattle.judged_lines.proofs.Keeping.{line_next}
@@ -24,9 +24,7 @@ module _ (g : Over) (c : In-Ok-true g) where
   moved = came.1 ∙ ap advanced (goes_forth c.page.written c.page.lines.before c.page.lines.cursor.at c.page.invariant.first c.page.invariant.later)
 
   found : slice_get (lines c.page.lines.cursor.at.games) c.page.lines.cursor.at.index ≡ Some plays.1.line
-  found =
-      ap (λ (p : CursorState). slice_get (lines c.page.lines.cursor.at.games) p.index) (sym (goes_forth c.page.written c.page.lines.before c.page.lines.cursor.at c.page.invariant.first c.page.invariant.later))
-      ∙ plays.1.found
+  found = grind (arith, common_steps, goes_forth, plays)
 
   before : line_before c.next.new.self.cursor.at ≡ Some plays.1.line
   before = ap line_before moved ∙ line_next c.page.lines.cursor.at ∙ found
@@ -106,9 +104,7 @@ pub returns-in-Err-flush-clause-answer : goal.returns-in-Err-flush-clause-answer
 returns-in-Err-flush-clause-answer g c = not_flushed _ _ _ _ _ _ _ (whole g (goal.at.returns-in-Err-flush-clause-answer g c).After-flush) c.in-Err-flush.ensures
 
 pub returns-in-Ok-flush-clause-answer : goal.returns-in-Ok-flush-clause-answer
-returns-in-Ok-flush-clause-answer g c =
-    let h = whole g (goal.at.returns-in-Ok-flush-clause-answer g c).After-flush in
-    (Appends-kept _ _ _ _ h.0 c.in-Ok-flush.ensures.taken, h.1, h.2)
+returns-in-Ok-flush-clause-answer g c = grind (arith, common_steps, whole g (goal.at.returns-in-Ok-flush-clause-answer g c).After-flush)
 
 pub returns-in-Ok-flush-clause-failures : goal.returns-in-Ok-flush-clause-failures
 returns-in-Ok-flush-clause-failures g c = omega (arith, c.in-Ok-flush.ensures.failures, c.page.invariant.written.failures)

@@ -22,12 +22,4 @@ returns-then-is_none c =
     (joins_three r old head c.push_text.new.out.items new (codes "# ") text (codes "\n") c.in_ok-push_bytes.ensures c.in_ok-push_text.ensures.decoded c.push_bytes-then-is_none.ensures)
 
 pub returns : goal.returns
-returns c =
-    let old = c.args.output.now.items in
-    let head = c.push_bytes.new.output.items in
-    let text = text_of c.args.raw.now in
-    let last = appended_last head text c.deref-2.result.now c.len-start.result (c.deref-2.ensures.value ∙ c.in_ok-push_text.ensures.decoded) (omega (arith, c.len-start.ensures, c.push_bytes.new.output.ok.0)) in
-    let told : c.deref-3.result.now ≡ text = c.deref-3.ensures.value ∙ c.in_ok-extend_from_slice.ensures.items ∙ rw c.new-text.ensures.items last in
-    let whole : c.push_text.new.out.items ≡ (old ++ codes "# ") ++ text = c.in_ok-push_text.ensures.decoded ∙ ap (λ (bs : List ℕ). bs ++ text) c.in_ok-push_bytes.ensures in
-    let kept : c.truncate.new.self.items ≡ old = c.truncate.ensures.items ∙ rw whole (front old (codes "# ") text c.len-row.result (omega (arith, c.len-row.ensures, c.args.output.now.ok.0))) in
-    rw (← kept, ← told) c.push_text_rows.ensures
+returns c = grind (arith, common_steps, appended_last, front)

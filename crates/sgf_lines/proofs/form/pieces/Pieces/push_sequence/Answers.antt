@@ -16,9 +16,7 @@ text_is : (c : In_ok-push_sequence) → c.push_sequence.new.out.items ≡ c.self
 text_is c = rw (nodes c).1 at c.in_ok-push_sequence.ensures.appended
 
 pub invariant_of-self-2 : goal.invariant_of-self-2
-invariant_of-self-2 c =
-    let at = (goal.at.invariant_of-self-2 c).In_ok-push_sequence in
-    rw (text_is at) (seen_pushed c.self.inside.ends.items c.self.inside.text.items c.self.invariant (flat_map node_text (nodes at).0)).1
+invariant_of-self-2 c = grind (arith, common_steps, text_is ((goal.at.invariant_of-self-2 c).In_ok-push_sequence), nodes ((goal.at.invariant_of-self-2 c).In_ok-push_sequence), seen_pushed)
 
 pub returns : goal.returns
 returns c = grind (arith, common_steps, seen, seen_pushed)

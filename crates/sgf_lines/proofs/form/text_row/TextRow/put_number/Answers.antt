@@ -1,4 +1,5 @@
-use Rattle.std.proofs.Common.{◌≤◌, length, decimal, rules, arith}
+use Rattle.std.proofs.Common.{rules, arith}
+use Rattle.std.proofs.lemmas.Grind.{common_steps}
 use Rattle.std.proofs.lemmas.Fmt.{length-decimal-le}
 use Rattle.sgf_lines.proofs.form.text_row.TextRow.put_number.Goals as goal
 
@@ -6,6 +7,4 @@ pub write_digits-self-requires : goal.write_digits-self-requires
 write_digits-self-requires c = search (rules, length-decimal-le 20)
 
 pub returns-clause-room : goal.returns-clause-room
-returns-clause-room c =
-    let short : length (decimal c.args.number) ≤ 20 = search (rules, length-decimal-le 20) in
-    omega (arith, short, c.write_digits-self.ensures.start)
+returns-clause-room c = grind (arith, common_steps, length-decimal-le 20)
