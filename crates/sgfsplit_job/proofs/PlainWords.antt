@@ -1,5 +1,6 @@
 -- How clap reads plain words, and what that says of the job.
 use Rattle.std.proofs.Common.{◌≡◌, ◌∙◌, ◌<◌, ◌≤◌, ◌^◌, ◌==◌, inl, inr, ℕ, Bool, true, false, cond, List, [], ◌∷◌, map, drop, refl, sym, ap, subst, arith, codes, Option, Some, None, Result, Ok, rules, IfSome, option_map, unwrap_or, Box, Bor, ne_eqb, box_value}
+use Rattle.std.proofs.lemmas.Grind.{common_steps}
 use Rattle.std.specs.List.{list_any}
 use Rattle.std.specs.Str.Parse.{IsNumeral, ParsesUnsigned, digits_value, without_leading_plus}
 use Rattle.std.proofs.lemmas.Str.Parse.{digit_from_value, numerals_by_value, tells_digits, digits_value_short}
@@ -19,7 +20,7 @@ use Rattle.sgfsplit_job.specs.CommandLine.{FormNames, form_names, names_of, prog
 use Rattle.sgfsplit_job.specs.PlainWords.{ArePlainWords, IsFileWord, IsNameWord, IsNumberWord, SplitWords, Word, count_words, file_words, split_words, hyphen}
 use Rattle.sgf_lines.specs.Form.{form_word}
 use Rattle.sgfsplit_job.specs.inner.Found.{HoldSplitWords, rows_found}
-use Rattle.sgfsplit_job.proofs.CommandLine.{AreAccepted, IsNoOption, accepts_form, accepts_number, after_row, count_entered, count_level, count_row, count_rules, count_taken, file_row, form_row, limit_row, split_entered, split_level, split_rows_are, split_rules, split_taken, words_after}
+use Rattle.sgfsplit_job.proofs.CommandLine.{AreAccepted, IsNoOption, accepts_form, accepts_number, count_entered, count_level, count_row, count_rules, count_taken, end_rows, split_entered, split_level, split_rows_are, split_rules, split_taken, words_after}
 
 -- ---- names
 
@@ -95,6 +96,11 @@ each_some : (w : Option Word) (P Q : Word → Type 0) → ((x : Word) → P x �
 each_some None P Q f h = tt
 each_some (Some x) P Q f h = f x h
 
+-- what is found for each argument
+rows_hold : (names : FormNames) (form : Option Form) (after limit file : Option Word)
+    → HoldSplitWords (record { form = form; after = after; limit = limit; file = file }) (end_rows names (option_map form_word form) after limit file)
+rows_hold names form after limit file = grind (arith, common_steps)
+
 module _ (names : FormNames) (are : names_of names ≡ form_names) where
   abbrev after_split : SplitWords → List Word
   after_split given = words_after (option_map form_word given.form) given.after given.limit given.file
@@ -119,22 +125,8 @@ module _ (names : FormNames) (are : names_of names ≡ form_names) where
   pub split_words_entered : (name : Word) (given : SplitWords) → ArePlainWords given
       → (rows : List Row) × (subcommand_of (program_app names) (split_words name given) ≡ Some (codes "split", rows)) × HoldSplitWords given rows
   split_words_entered name given plain =
-      let f = option_map form_word given.form in
-      let all = split_rows_are names f given.after given.limit given.file (accepted given plain) in
-      let named : (g : Option Form) → unwrap_or (option_map form_word g) (codes "list") ≡ form_word (unwrap_or g form.List) = λ g. unnamed g in (
-        rows_after (split_rules names) [] (after_split given),
-        split_entered names name (after_split given),
-        rw all (record {
-          form = form_row names f given.after given.limit given.file ∙ ap Some (named given.form);
-          after = after_row names f given.after given.limit given.file;
-          limit = limit_row names f given.after given.limit given.file;
-          file = file_row names f given.after given.limit given.file;
-        }),
-      )
-    where
-      unnamed : (g : Option Form) → unwrap_or (option_map form_word g) (codes "list") ≡ form_word (unwrap_or g form.List)
-      unnamed None = refl
-      unnamed (Some g) = refl
+      let all = split_rows_are names (option_map form_word given.form) given.after given.limit given.file (accepted given plain) in
+      (rows_after (split_rules names) [] (after_split given), split_entered names name (after_split given), rw all (rows_hold names given.form given.after given.limit given.file))
 
   pub count_words_taken : (name : Word) (file : Option Word) → IfSome file IsFileWord → takes (program_app names) (count_words name file) ≡ true
   count_words_taken name file plain =
