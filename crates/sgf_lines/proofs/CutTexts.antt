@@ -1,5 +1,5 @@
 -- A text that is cut where a test passes, by the first byte where it does.
-use Rattle.std.proofs.Common.{◌≡◌, ℕ, ◌<◌, ◌+◌, ◌-◌, ◌++◌, Option, Some, Bool, true, false, List, [], ◌∷◌, zero, suc, length, take, drop, get_or, refl, sym, ap, ◌∙◌, arith, length-append, rules, append_assoc, Result, ◌==◌, is_some, filter, OnOk, flat_map, take_all, length-drop, append-nil}
+use Rattle.std.proofs.Common.{◌≡◌, ℕ, ◌<◌, ◌+◌, ◌-◌, ◌++◌, Option, Some, Bool, true, false, List, [], ◌∷◌, zero, suc, length, take, drop, get_or, refl, sym, arith, length-append, rules, append_assoc, Result, ◌==◌, is_some, filter, OnOk, flat_map, take_all, length-drop, append-nil}
 use Rattle.sgf_lines.proofs.Common.{slice_split, drop-append_seam, false_from_ne_true, common_steps, Point, points, Colour, stone_of, same_cell, Grid, cell_at, Stone, text_rows, comment_row, play_command, stone_commands, commands_at}
 use Rattle.memchr.specs.Find.{IsFirstByte}
 
@@ -66,10 +66,6 @@ lines_of_points g k (p ∷ ps) = first_of (search rules, grind (arith, common_st
 pub stones-by_point : (g : Grid) (k : Colour) → flat_map (commands_at g k) (points g.side) ≡ stone_commands g k
 stones-by_point g k = sym (lines_of_points g k (points g.side))
 
--- two and three texts, appended one after another
-pub joins_two : {E : Type 0} (r : Result (Unit {0}) E) (old mid new a b : List ℕ) → mid ≡ old ++ a → OnOk r (new ≡ mid ++ b) → OnOk r (new ≡ old ++ (a ++ b))
-joins_two r old mid new a b e f = grind (arith, common_steps, append_assoc)
-
 pub joins_three : {E : Type 0} (r : Result (Unit {0}) E) (old first second new a b d : List ℕ) → first ≡ old ++ a → second ≡ first ++ b → OnOk r (new ≡ second ++ d)
     → OnOk r (new ≡ old ++ ((a ++ b) ++ d))
-joins_three r old first second new a b d e f g = joins_two r old second new (a ++ b) d (f ∙ ap (λ t. t ++ b) e ∙ append_assoc old a b) g
+joins_three r old first second new a b d e f g = first_of (search (rules, append_assoc), grind (arith, common_steps, append_assoc))

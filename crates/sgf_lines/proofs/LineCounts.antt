@@ -1,11 +1,7 @@
 -- The answer of a count, and a row that is put in two pieces.
-use Rattle.sgf_lines.proofs.Common.{Appends, Appends-trans, take-append-add, common_steps, take-append-le, Spells, Games, game_count, node_count, lines, SourceState, SinkState, PutsAll, counts_of, IsCount, HasReadAll}
+use Rattle.sgf_lines.proofs.Common.{Appends, Appends-trans, take-append-add, common_steps, take-append-le, Spells, Games, SourceState, SinkState, PutsAll, counts_of, IsCount, HasReadAll}
 use Rattle.std.proofs.Common.{◌≡◌, ℕ, ◌+◌, length, ap, ◌∙◌, arith, List, ◌++◌, take, Result, Ok, Err, length-append, IsErr}
 use Rattle.sgf_lines.specs.declared.counting.Counts.{Counts}
-
--- counts with the three numbers of a collection are its counts
-pub same_counts : (c : Games) (counts : Counts) → counts.games ≡ game_count c → counts.nodes ≡ node_count c → counts.lines ≡ length (lines c) → counts ≡ counts_of c
-same_counts c counts games nodes its_lines = grind (arith, common_steps)
 
 module _ (source new_source : SourceState) (text : List ℕ) (h : HasReadAll source new_source text) where
   pub count_of_games : (c : Games) (counts : Counts) → Spells c text → counts ≡ counts_of c → IsCount source new_source (Ok counts)

@@ -1,6 +1,6 @@
 -- The lines of a page among all lines. Their places rise, so the line with a place is found, and pages join.
 use Rattle.sgf_lines.proofs.Common.{drop-append-add, common_steps, slice_get-map, slice_get_within, get_or_from_slice_get, PlacesRise, Games, CursorState, IsAfterPlace, Line, lines, place_of, Options, lines_after, lines_asked, limited, page}
-use Rattle.std.proofs.Common.{◌≡◌, ℕ, suc, length, map, slice_get, Some, option_map, sym, ap, ◌∙◌, slice_index, add-one, arith, ◌≢◌, zero, ◌+◌, ◌<◌, ◌≤◌, List, [], ◌∷◌, take, drop, Option, None, refl, ◌++◌, append_assoc, append-nil, Bool, true, false, take_all, take-append-drop, unwrap_or, ◌==◌, eq-eqb, ne_eqb}
+use Rattle.std.proofs.Common.{◌≡◌, ℕ, suc, length, map, slice_get, Some, option_map, sym, ap, ◌∙◌, slice_index, add-one, arith, ◌≢◌, zero, ◌+◌, ◌<◌, List, [], ◌∷◌, drop, Option, None, refl, ◌++◌, append_assoc, append-nil, Bool, true, false, take-append-drop, ◌==◌, eq-eqb, ne_eqb}
 use Rattle.std.specs.List.Sorted.{IsStrictlyIncreasing}
 use Rattle.std.proofs.lemmas.List.Kept.{AllPairs-from_increasing}
 use Rattle.tree_lines.proofs.LinePlaces.{lines_rise}
@@ -14,10 +14,6 @@ found_at (l ∷ ls) zero place e none = grind (arith, common_steps, eq-eqb)
 found_at (l ∷ ls) (suc k) place e none =
     let other : place_of l ≢ place = λ same. none 0 (omega arith) (ap Some same) in
     rw (ne_eqb (place_of l) place other) (found_at ls k place e (λ j lt at. none (suc j) (omega arith) at))
-
--- a limit that is not below the number of lines is none
-pub limited_is : (limit : Option ℕ) (most : ℕ) (ls : List Line) → length ls ≤ most → limited limit ls ≡ take (unwrap_or limit most) ls
-limited_is limit most ls le = grind (arith, common_steps, take_all)
 
 -- where places rise, the lines after the one with a place are those after its index
 pub after_index : (ls : List Line) (k place : ℕ) → IsStrictlyIncreasing (map place_of ls) → option_map place_of (slice_get ls k) ≡ Some place

@@ -1,12 +1,10 @@
 -- How many nodes a run plays for its page: a line adds those of its judged nodes that it doesn't share with the line before it.
-use Rattle.sgf_lines.proofs.Common.{Appends, Appends-trans, cases_Bool, common_steps, flat_map-append, slice_get_within, MemoryFault, PlacesRise, Games, node_count, CursorState, advanced, Line, lines, SinkState, TakesNothing, Unheld, Held, HasPlays, PlaysLine, index_by, all_judged_places, judged_nodes, RunFault, Form, IsCutShort, limited, record_of, output, plays_of, plays_in, ArePlaysFor, WritesLines}
-use Rattle.std.proofs.Common.{◌≡◌, ℕ, ◌+◌, ◌<◌, ◌≤◌, List, length, take, inl, inr, refl, ap, ◌∙◌, arith, ◌-◌, drop, slice_get, Some, sym, Option, None, Result, Ok, Err, rules, length-drop, take_all, length-take, take-add, true, unwrap_or}
+use Rattle.sgf_lines.proofs.Common.{Appends, Appends-trans, cases_Bool, common_steps, flat_map-append, slice_get_within, MemoryFault, PlacesRise, Games, node_count, CursorState, advanced, Line, lines, SinkState, TakesNothing, Unheld, Held, HasPlays, PlaysLine, index_by, judged_nodes, RunFault, Form, IsCutShort, limited, record_of, output, plays_of, plays_in, ArePlaysFor, WritesLines, slice_get_past}
+use Rattle.std.proofs.Common.{◌≡◌, ℕ, ◌+◌, ◌<◌, ◌≤◌, List, length, take, inl, inr, ap, ◌∙◌, arith, ◌-◌, drop, slice_get, Some, sym, Option, None, Result, Ok, Err, rules, length-drop, take_all, length-take, take-add, true, unwrap_or, append-nil}
 use Rattle.judged_lines.proofs.Touched.{fewer_in_front}
 use Rattle.judged_lines.proofs.Lists.{get_dropped, get_taken, get_none}
-use Rattle.sgf_lines.proofs.Pages.{limited_is}
 use Rattle.tree_lines.proofs.LeafLines.{lines_within}
-use Rattle.sgf_lines.proofs.Running.{one_more, cut_in, all_taken}
-use Rattle.sgf_lines.specs.Form.{entry_of}
+use Rattle.sgf_lines.proofs.Running.{one_more, cut_in}
 use Rattle.sgf_lines.specs.declared.fault.RunFault.TheVariants.{Read, TooLong, NotSgf, NoSuchLine, Write, Memory}
 use Rattle.judged_lines.specs.GoingOn.{next_by}
 use Rattle.judged_lines.specs.declared.over_lines.Before.{Before}
@@ -49,35 +47,21 @@ module _ (form : Form) (c : Games) (first limit : ℕ) (old : SinkState) (k : �
 -- the page by the options
 pub for_options : (form : Form) (c : Games) (first : ℕ) (asked : Option ℕ) (limit : ℕ) (old new : SinkState) (plays : ℕ) (result : Result ℕ RunFault) → limit ≡ unwrap_or asked (node_count c)
     → WritesLines form (page_from c first limit) old new plays result → WritesLines form (limited asked (drop first (lines c))) old new plays result
-for_options form c first asked limit old new plays result is h = grind (arith, common_steps, lines_within, length-drop, limited_is)
-
--- in a form that judges what is added is added, and in another nothing is
-added_in : (form : Form) (all some more : ℕ) → all ≡ some + more → plays_in form all ≡ plays_in form some + plays_in form more
-added_in form all some more e = elim (cases_Bool (entry_of form).judges) [ inl judges ↦ rw judges e | inr not ↦ rw not refl ]
-
-fewer_in : (form : Form) (some all : ℕ) → some ≤ all → plays_in form some ≤ plays_in form all
-fewer_in form some all le = elim (cases_Bool (entry_of form).judges) [ inl judges ↦ rw judges le | inr not ↦ rw not (omega arith) ]
-
-not_more_in : (form : Form) (all : ℕ) → plays_in form all ≤ all
-not_more_in form all = elim (cases_Bool (entry_of form).judges) [ inl judges ↦ rw judges (omega arith) | inr not ↦ rw not (omega arith) ]
+for_options form c first asked limit old new plays result is h = grind (arith, common_steps, lines_within, length-drop, take_all)
 
 -- a line more plays no less
 plays_grow : (form : Form) (ls : List Line) (k : ℕ) → plays_of form (take k ls) ≤ plays_of form (take (k + 1) ls)
-plays_grow form ls k = grind (arith, common_steps, take-add, flat_map-append, fewer_in, fewer_in_front)
-
--- all lines
-all_plays : (form : Form) (ls : List Line) (k : ℕ) → length ls ≤ k → plays_of form (take k ls) ≡ plays_of form ls
-all_plays form ls k le = ap (plays_of form) (take_all k ls le)
+plays_grow form ls k = grind (arith, common_steps, take-add, flat_map-append, fewer_in_front, cases_Bool)
 
 module _ (c : Games) (rise : PlacesRise c) (first limit : ℕ) where
   -- a line adds its judged nodes that it doesn't share with the one before it
   pub adds : (form : Form) (k shared : ℕ) (line : Line) → slice_get (page_from c first limit) k ≡ Some line → Shares c rise first limit k shared
       → plays_of form (take (k + 1) (page_from c first limit)) ≡ plays_of form (take k (page_from c first limit)) + plays_in form (length (judged_nodes line) - shared)
-  adds form k shared line e h = grind (arith, common_steps, added_in, adds_judged)
+  adds form k shared line e h = grind (arith, common_steps, adds_judged, cases_Bool)
 
   -- no more than there are nodes
   pub few : (form : Form) (k : ℕ) → plays_of form (take k (page_from c first limit)) ≤ node_count c
-  few form k = omega (arith, not_more_in form (length (all_judged_places (take k (page_from c first limit)))), few_judged c rise first limit k)
+  few form k = first_of (search (rules, few_judged, cases_Bool), grind (arith, common_steps, few_judged, cases_Bool))
 
   pub few_played : (form : Form) (old new : SinkState) (plays : ℕ) (result : Result ℕ RunFault) → WritesLines form (page_from c first limit) old new plays result → plays ≤ node_count c
   few_played form old new plays (Ok k) h = omega (arith, h.2, few form (length (page_from c first limit)), ap (plays_of form) (take_all (length (page_from c first limit)) (page_from c first limit) (omega arith)))
@@ -120,4 +104,4 @@ module _ (form : Form) (counts : ℕ → ℕ) (counts_are : (n : ℕ) → counts
 
 -- the records were written, and then the flush failed
 pub not_flushed : (form : Form) (ls : List Line) (old now new : SinkState) (plays k : ℕ) → WritesLines form ls old now plays (Ok k) → TakesNothing now new → WritesLines form ls old new plays (Err (Write k))
-not_flushed form ls old now new plays k h f = grind (arith, common_steps, all_taken, all_plays)
+not_flushed form ls old now new plays k h f = grind (arith, common_steps, take_all, append-nil, slice_get_past)

@@ -1,9 +1,9 @@
 -- A record in sgf form goes on by sequences, and back.
 use Rattle.std.proofs.Common.{◌≡◌, ℕ, ◌+◌, ◌<◌, List, [], ◌∷◌, ◌++◌, length, take, map, slice_get, Some, refl, ap, add-one, arith, rules, codes, flat_map}
-use Rattle.sgf_lines.proofs.Common.{concat, take-map, map-append, Node, nodes_before, RiseTo, SequencesState, sequences_of, IsHeldOf, node_text, sgf_record, PiecesState, pushed, closed, cut, sequences_before, unclosed_record, whole_record, common_steps}
+use Rattle.sgf_lines.proofs.Common.{concat, take-map, map-append, Node, nodes_before, RiseTo, SequencesState, IsHeldOf, node_text, PiecesState, pushed, closed, cut, sequences_before, unclosed_record, whole_record, common_steps}
 use Rattle.tree_lines.specs.declared.sequence_cursor.Front.{Front}
 use Rattle.judged_lines.proofs.Keeping.{by_old, has_front, same_nodes}
-use Rattle.tree_lines.proofs.Fronts.{alike, end_of, parts_text}
+use Rattle.tree_lines.proofs.Fronts.{alike, end_of}
 use Rattle.tree_lines.proofs.Lists.{front_more}
 
 -- a record of these pieces after the parenthesis
@@ -29,7 +29,3 @@ record_kept holds cursor front held game of rise some = search (rules, by_old, s
 pub joined : {X : Type 0} (f : X → List ℕ) (xs : List X) → concat (map f xs) ≡ flat_map f xs
 joined f [] = refl
 joined f (x ∷ xs) = ap (λ t. f x ++ t) (joined f xs)
-
-pub record_text : (ends : List ℕ) (nodes : List Node) → RiseTo 0 ends (length nodes)
-    → concat (whole_record (sequences_of ends nodes)).pieces ++ (whole_record (sequences_of ends nodes)).begun ≡ sgf_record nodes
-record_text ends nodes rise = ap (λ t. (codes "(" ++ t) ++ codes ")\n") (parts_text node_text 0 ends nodes (length nodes) (omega arith) rise)

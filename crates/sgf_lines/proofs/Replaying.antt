@@ -1,6 +1,6 @@
 -- A script that has commands leads to the colouring at the end of its line's walk.
-use Rattle.sgf_lines.proofs.Common.{list_any, not-false, or_parts, nat_tests, common_steps, flat_map-append, length-map, length-replicate, list_any-append, Property, Node, Line, Point, IsOn, points, coordinate, point_value, Cell, Colour, play, has_unreaching, Grid, empty_grid, with_rectangle, Reason, Stone, reason_of, State, set_up, turned, board, side_of, game_kind, root_properties, Move, moves, stones, players, first_value, side_in, turn_step, move_step, setup_step, step_by, step, LegalNode, IllegalNode, Walk, before_root, stepped, next, walk, list_row, Engine, no_board, sized, shows, refused, after_command, after_row, after_text, replayed, comment_row, comment_text, play_command, setup_commands, move_commands, node_script, legal_script, leaves_unreaching_by, leaves_unreaching, has_no_commands, board_commands, commands_by, script}
-use Rattle.std.proofs.Common.{◌≡◌, ℕ, ◌*◌, ◌<◌, ◌≤◌, List, [], ◌∷◌, ◌++◌, length, map, fold, Option, Some, None, Bool, true, false, codes, refl, sym, ap, ◌∙◌, arith, subst, cond, append-nil, append_assoc, decimal, Result, Ok, Err, nat_lt, nat_le, ◌&&◌, flat_map}
+use Rattle.sgf_lines.proofs.Common.{list_any, not-false, or_parts, nat_tests, common_steps, flat_map-append, length-map, length-replicate, list_any-append, Property, Node, Line, Point, IsOn, points, point_value, Cell, Colour, play, has_unreaching, Grid, empty_grid, with_rectangle, Reason, Stone, reason_of, State, set_up, turned, board, game_kind, root_properties, Move, moves, stones, players, first_value, side_in, turn_step, move_step, setup_step, step_by, step, LegalNode, IllegalNode, Walk, before_root, stepped, next, walk, list_row, Engine, no_board, sized, shows, refused, after_command, after_row, after_text, replayed, comment_row, comment_text, play_command, setup_commands, move_commands, node_script, legal_script, leaves_unreaching_by, leaves_unreaching, has_no_commands, board_commands, commands_by, script}
+use Rattle.std.proofs.Common.{◌≡◌, ℕ, ◌*◌, ◌≤◌, List, [], ◌∷◌, ◌++◌, length, map, fold, Option, Some, None, Bool, true, false, codes, refl, sym, ap, ◌∙◌, arith, subst, cond, append-nil, append_assoc, decimal, Result, Ok, Err, nat_lt, nat_le, ◌&&◌, flat_map}
 use Rattle.board_stones.specs.declared.stones.Cell.TheVariants.{Empty}
 use Rattle.board_points.specs.declared.vertices.TheConstants.{MAX_VERTEX_SIDE}
 use Rattle.go_board.specs.declared.referee.plays.Play.{Play}
@@ -23,14 +23,11 @@ any_append p xs ys e = or_parts (list_any p xs) (list_any p ys) (sym (list_any-a
 
 -- ---- The points that values name are on the board.
 
-coordinate_on : (side b n : ℕ) → coordinate side b ≡ Some n → n < side
-coordinate_on side b n e = grind (arith, common_steps)
-
 point_on : (side : ℕ) (raw : List ℕ) (p : Point) → point_value raw side ≡ Some p → IsOn side p
 unfolding point_value
 point_on side [] p e = absurd cc
 point_on side (c ∷ []) p e = absurd cc
-point_on side (c ∷ r ∷ []) p e = grind (arith, common_steps, coordinate_on)
+point_on side (c ∷ r ∷ []) p e = grind (arith, common_steps)
 point_on side (c ∷ r ∷ d ∷ more) p e = absurd cc
 
 -- ---- A node's step.
@@ -176,11 +173,8 @@ module _ (laws : BoardLaws) (side : ℕ) (small : side ≤ 25) where
       subst (λ x. Carries no_board x (shows (empty_grid side))) (append_assoc line (10 ∷ []) (codes "clear_board\n"))
       (takes_both no_board (sized side) (shows (empty_grid side)) (line ++ (10 ∷ [])) (codes "clear_board\n") told cleared)
 
-side_said : (raw : Option (List ℕ)) (side : ℕ) → side_of raw ≡ Some side → 1 ≤ side
-side_said raw side e = grind (arith, common_steps)
-
 has_point : (properties : List Property) (side : ℕ) → game_kind properties ≡ board side → 1 ≤ side
-has_point properties side e = grind (arith, common_steps, side_said)
+has_point properties side e = grind (arith, common_steps)
 
 pub script_replayed : BoardLaws → (line : Line) (side : ℕ) → game_kind (root_properties line.nodes) ≡ board side
     → has_no_commands side (walk side line.nodes) ≡ false → replayed (script line) ≡ shows (walk side line.nodes).state.colouring

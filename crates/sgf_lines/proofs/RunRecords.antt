@@ -2,7 +2,7 @@
 use Rattle.std.proofs.Common.{◌≡◌, ℕ, List, ◌++◌, length, Some, ap, ◌∙◌, append_assoc, rules, option_map, codes, arith}
 use Rattle.sgf_lines.proofs.Common.{concat, CursorState, nodes_of, line_before, nodes_before, Line, RiseTo, SequencesState, sequences_of, Verdict, game_kind, root_properties, verdict_of, legal_on, Form, list_row, record_of, comment_row, PiecesState, whole_record, IsRecord, ScriptState, script_of, script_text, row_of, common_steps}
 use Rattle.sgf_lines.specs.declared.options.Form.TheVariants.{Sgf as sgf_form, Gtp as gtp_form}
-use Rattle.sgf_lines.proofs.Recordings.{record_text}
+use Rattle.tree_lines.proofs.Fronts.{parts_text}
 use Rattle.sgf_lines.proofs.Scripts.{script_put}
 
 module _ (at : CursorState) (own : Line) (before : line_before at ≡ Some own) where
@@ -21,7 +21,7 @@ module _ (at : CursorState) (own : Line) (before : line_before at ≡ Some own) 
   -- in sgf form
   pub made_record : (game : PiecesState) (ends : List ℕ) → RiseTo 0 ends (length (nodes_before at)) → game ≡ whole_record (sequences_of ends (nodes_before at))
       → Some (concat game.pieces ++ game.begun) ≡ option_map (record_of sgf_form) (line_before at)
-  made_record game ends rise is = grind (arith, common_steps, record_text, nodes_are)
+  made_record game ends rise is = grind (arith, common_steps, nodes_are, parts_text)
 
 -- the record that was made is that of the line
 pub record_is : (form : Form) (cursor : SequencesState) (line : Line) (text : List ℕ) → IsRecord form cursor text → line_before cursor.at ≡ Some line → text ≡ record_of form line

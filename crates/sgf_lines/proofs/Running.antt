@@ -1,8 +1,7 @@
 -- What a run writes, and its answer for each way to end.
-use Rattle.std.proofs.Common.{◌≡◌, ℕ, ◌+◌, ◌<◌, List, ◌++◌, length, take, drop, slice_get, Some, Result, Ok, Err, sym, arith, add-one, append-nil, Option, Bor, ap, rules, take_all, take-append-drop, length-drop, option_map, OnOk}
-use Rattle.sgf_lines.proofs.Common.{Appends, Appends-trans, common_steps, slice_get_past, slice_get_within, MAX_LENGTH, Spells, Games, Line, lines, SequencesState, SinkState, SourceState, GivesRest, HasDelivered, RunFault, Form, Options, IsCutShort, read_failures, IsWhole, IsGood, Answers, write_failures, unread, limited, record_of, output, AnswersPlays, IsRunWithPlays, WritesLines, IsReading, HasReadAll, IsStart}
+use Rattle.std.proofs.Common.{◌≡◌, ℕ, ◌+◌, ◌<◌, List, ◌++◌, length, take, drop, slice_get, Some, Result, Ok, Err, sym, arith, add-one, Option, ap, rules, take-append-drop, length-drop, option_map, OnOk}
+use Rattle.sgf_lines.proofs.Common.{Appends, Appends-trans, common_steps, slice_get_within, MAX_LENGTH, Spells, Games, Line, lines, SequencesState, SinkState, SourceState, HasDelivered, RunFault, Form, Options, IsCutShort, read_failures, IsGood, Answers, write_failures, unread, limited, record_of, output, AnswersPlays, IsRunWithPlays, WritesLines, HasReadAll, IsStart}
 use Rattle.judged_lines.proofs.Joins.{more_texts}
-use Rattle.std.specs.Prelude.{⊤}
 use Rattle.sgf_tree.specs.Refusal.{IsFaultyWhereNotSgf}
 use Rattle.sgf_tree.specs.declared.fault.ReadFault.{ReadFault}
 use Rattle.sgf_tree.specs.declared.fault.ReadFault.TheVariants.{TooLong as TextTooLong}
@@ -27,17 +26,10 @@ cut_in form ls k line n old now new e lt before more =
       is_part = rw e (drop n text, omega (arith, length-drop n text), sym (take-append-drop n text));
     }
 
--- all records were taken, and then the sink failed
-pub all_taken : (form : Form) (ls : List Line) (old new : SinkState) → Appends old.taken new.taken (output form ls) → IsCutShort form ls (length ls) old new
-all_taken form ls old new takes = first_of (search rules, grind (arith, common_steps, append-nil, slice_get_past, take_all))
-
 module _ (o : Options) (text : List ℕ) (to_come : Option (List ℕ)) (old new : SinkState) where
   lines_say : (ls : List Line) (plays : ℕ) (result : Result ℕ RunFault) → IsGood o text to_come ls → WritesLines o.form ls old new plays result → OnOk result (HasDelivered new)
       → Answers o text to_come old new result × AnswersPlays o text to_come plays result
   lines_say ls plays result good wrote delivered = first_of (search rules, grind (arith, common_steps))
-
-  start_says : (c : Games) (fault : RunFault) → Spells c text → IsWhole text to_come → IsStart c o.after (Err fault) → Answers o text to_come old old (Err fault) × AnswersPlays o text to_come 0 (Err fault)
-  start_says c fault spelled whole start = first_of (search rules, grind (arith, common_steps))
 
 module _ (o : Options) (source new_source : SourceState) (text : List ℕ) (h : HasReadAll source new_source text) (sink : SinkState) (old : ℕ) where
   run_of : (new_sink : SinkState) (new : ℕ) (result : Result ℕ RunFault) (plays : ℕ) → Answers o text new_source.to_come sink new_sink result × AnswersPlays o text new_source.to_come plays result
@@ -53,7 +45,7 @@ module _ (o : Options) (source new_source : SourceState) (text : List ℕ) (h : 
   -- no cursor stands before the page
   pub no_start_run : (c : Games) (fault : RunFault) → Spells c text → IsStart c o.after (Err fault)
       → read_failures {A = ℕ} (Err fault) ≡ 0 → sink.failures ≡ sink.failures + write_failures {A = ℕ} (Err fault) → IsRunWithPlays o source new_source sink sink old old (Err fault)
-  no_start_run c fault spelled start reads writes = run_of sink old (Err fault) 0 (start_says o text new_source.to_come sink sink c fault spelled h.whole start) (omega arith) reads writes
+  no_start_run c fault spelled start reads writes = first_of (search (rules, run_of), grind (arith, common_steps, run_of))
 
   -- the text isn't one of the grammar, or wasn't read whole
   pub unread_run : (fault : ReadFault) → (fault ≡ TextTooLong → MAX_LENGTH < length text) → IsFaultyWhereNotSgf text fault
@@ -69,17 +61,3 @@ module _ (o : Options) (source new_source : SourceState) (text : List ℕ) (h : 
       let good : IsGood o text new_source.to_come ls = record { whole = h.whole; has_page = record { games = c; spelled = spelled; page_is = ap (option_map (limited o.limit)) start } } in
       run_of new_sink new result plays (lines_say o text new_source.to_come sink new_sink ls plays result good w delivered) rises
       (no_read o.form ls sink new_sink plays result w) writes
-
--- reading ended in a fault, and so does the run
-pub no_reading_run : (o : Options) (source new_source : SourceState) (text : List ℕ) (sink : SinkState) (plays : ℕ) (fault : RunFault) → IsReading {A = ⊤} source new_source text (Err fault)
-    → new_source.failures ≡ source.failures + read_failures {A = ⊤} (Err fault) → IsRunWithPlays o source new_source sink sink plays plays (Err fault)
-no_reading_run o source new_source text sink plays fault reading failures = first_of (search rules, grind (arith, common_steps))
-
--- reading ended well: the text is all that the source gave
-pub has_read_all : (source new_source : SourceState) (items text : List ℕ) (nothing : ⊤) → IsReading {A = ⊤} source new_source items (Ok nothing)
-    → new_source.failures ≡ source.failures + read_failures {A = ⊤} (Ok nothing) → text ≡ items → HasReadAll source new_source text
-has_read_all source new_source items text nothing reading failures same = first_of (search rules, grind (arith, common_steps))
-
--- the source gave all at once
-pub has_given_all : (source new_source : SourceState) (text : Bor (List ℕ)) → GivesRest MAX_LENGTH source new_source (Some text) → HasReadAll source new_source text.now
-has_given_all source new_source text given = first_of (search rules, grind (arith, common_steps))

@@ -1,6 +1,6 @@
 -- The rows of a script: the words of each, and what a text of whole rows does to the board, whatever follows it.
 use Rattle.std.proofs.Common.{◌≡◌, ℕ, zero, suc, ◌≤◌, ◌/◌, ◌%◌, List, [], ◌∷◌, ◌++◌, Bool, true, false, codes, refl, ap, ◌∙◌, arith, append_assoc, decimal, cond, ◌==◌, ◌-◌, ◌<◌, filter, Option, Some, None, nat_lt, nat_le, ◌&&◌, slice_index, option_map, option_and_then, inl, inr, ◌+◌, rules, flat_map, position}
-use Rattle.sgf_lines.proofs.Common.{slice_split, onto_first, and_parts, cases_eq, nat_tests, common_steps, Line, Point, Vertex, IsOn, column_letters, vertex_of, Colour, Reason, word_of, Verdict, verdict_text, list_row, Engine, after_row, after_text, before_comment, is_word, words, capital, vertex_named, point_there, point_of, plays_stone, sets_size, size_command, command_of, comment_row, text_rows, colour_letter, vertex_text, stone_command}
+use Rattle.sgf_lines.proofs.Common.{slice_split, onto_first, and_parts, cases_eq, nat_tests, common_steps, Line, Point, Vertex, IsOn, column_letters, vertex_of, Colour, Verdict, verdict_text, list_row, Engine, after_row, after_text, before_comment, is_word, words, capital, vertex_named, point_there, point_of, plays_stone, sets_size, size_command, command_of, comment_row, text_rows, colour_letter, vertex_text, stone_command}
 use Rattle.std.specs.Fmt.{digits, digits_onto, digit_glyph}
 use Rattle.std.proofs.lemmas.List.Splits.{slice_split_at, slice_split_none}
 use Rattle.std.proofs.lemmas.List.Elements.{All-from_recursion}
@@ -27,20 +27,12 @@ takes_both a b c t u first then rest = ap (λ x. after_text a x) (append_assoc t
 
 -- ---- comments
 
-comment_leaves : (engine : Engine) (piece : List ℕ) → after_row engine (codes "# " ++ piece) ≡ engine
-comment_leaves engine piece = refl
-
 pub takes_comment : (engine : Engine) (piece : List ℕ) → Each IsWithin piece → Carries engine (comment_row piece) engine
-takes_comment engine piece h rest =
-    takes_row engine (codes "# " ++ piece) (refl, (refl, h)) rest ∙ ap (λ b. after_text b rest) (comment_leaves engine piece)
-
--- the pieces of a text that is cut at its line feeds have none
-onto_within : (b : ℕ) (pieces : List (List ℕ)) → IsWithin b → Each (λ p. Each IsWithin p) pieces → Each (λ p. Each IsWithin p) (onto_first b pieces)
-onto_within b pieces known known2 = first_of (search rules, grind (arith, common_steps))
+takes_comment engine piece h rest = first_of (search (rules, takes_row), grind (arith, common_steps, takes_row))
 
 pieces_by : (b : ℕ) (bs : List ℕ) (ends : Bool) → (b == 10) ≡ ends → Each (λ p. Each IsWithin p) (slice_split (λ c. c == 10) bs)
     → Each (λ p. Each IsWithin p) (cond ends ([] ∷ slice_split (λ c. c == 10) bs) (onto_first b (slice_split (λ c. c == 10) bs)))
-pieces_by b bs ends known known2 = first_of (search rules, grind (arith, common_steps, onto_within))
+pieces_by b bs ends known known2 = first_of (search rules, grind (arith, common_steps))
 
 pieces_within : (text : List ℕ) → Each (λ p. Each IsWithin p) (slice_split (λ c. c == 10) text)
 pieces_within [] = (tt, tt)
@@ -63,12 +55,9 @@ IsSolid b = 48 ≤ b
 glyph_solid : (d : ℕ) → IsSolid (digit_glyph false d)
 glyph_solid d = grind (arith)
 
-digits_by : (last : Bool) (one more : List ℕ) → Each IsSolid one → Each IsSolid more → Each IsSolid (cond last one more)
-digits_by last one more known known2 = first_of (search rules, grind (arith, common_steps))
-
 digits_solid : (fuel n : ℕ) (after : List ℕ) → Each IsSolid after → Each IsSolid (digits_onto fuel 10 false n after)
 digits_solid zero n after h = h
-digits_solid (suc fuel) n after h = grind (arith, common_steps, glyph_solid, digits_by, digits_solid fuel (n / 10) (digit_glyph false (n % 10) ∷ after) ((glyph_solid (n % 10), h)))
+digits_solid (suc fuel) n after h = grind (arith, common_steps, glyph_solid, digits_solid fuel (n / 10) (digit_glyph false (n % 10) ∷ after) ((glyph_solid (n % 10), h)))
 
 pub decimal_solid : (n : ℕ) → Each IsSolid (decimal n)
 unfolding digits
@@ -84,14 +73,8 @@ decimal_within n = solid_within (decimal n) (decimal_solid n)
 pub within_both : (xs ys : List ℕ) → Each IsWithin xs → Each IsWithin ys → Each IsWithin (xs ++ ys)
 within_both xs ys h k = each_append IsWithin xs ys h k
 
-word_within : (r : Reason) → Each IsWithin (word_of r)
-word_within r = first_of (search rules, grind (arith, common_steps))
-
-over_within : (over : Bool) → Each IsWithin (cond over (codes " over") (codes " open"))
-over_within over = first_of (search rules, grind (arith, common_steps))
-
 verdict_within : (v : Verdict) → Each IsWithin (verdict_text v)
-verdict_within v = first_of (search rules, grind (arith, common_steps, decimal_within, over_within, within_both, word_within))
+verdict_within v = first_of (search (rules, decimal_within, within_both), grind (arith, common_steps, decimal_within, within_both))
 
 pub row_within : (line : Line) → Each IsWithin (list_row line)
 row_within line = search (within_both, decimal_within, verdict_within) depth 12
@@ -145,9 +128,6 @@ letter_is col lt =
     let k = and_parts (capital letter == letter) named h.1 in
     search (rules, slice_index, is_some, and_parts, nat_le, below_each, letter_reads, solid_by, same_by, some_from)
 
-pub letter_solid : (col : ℕ) → col < 25 → IsSolid (slice_index column_letters col)
-letter_solid col lt = (letter_is col lt).solid
-
 row_reads : ℕ → Bool
 row_reads n = is_some (magnitude_of (decimal n)) n
 
@@ -170,19 +150,13 @@ vertex_reads side p small on = first_of (search rules, grind (arith, common_step
 
 -- ---- a play's words
 
-solid_space : (b : ℕ) → IsSolid b → (b == 32) ≡ false
-solid_space b h = grind (arith, h)
-
 no_spaces : (bs : List ℕ) → Each IsSolid bs → Each (λ b. (b == 32) ≡ false) bs
 no_spaces [] h = tt
-no_spaces (b ∷ bs) h = (solid_space b h.0, no_spaces bs h.1)
-
-solid_hash : (b : ℕ) → IsSolid b → (b == 35) ≡ false
-solid_hash b h = grind (arith, h)
+no_spaces (b ∷ bs) h = first_of (search (rules, (no_spaces bs h.1)), grind (arith, common_steps, no_spaces bs h.1))
 
 no_comment : (bs : List ℕ) → Each IsSolid bs → before_comment bs ≡ bs
 no_comment [] h = refl
-no_comment (b ∷ bs) h = first_of (search rules, grind (arith, common_steps, solid_hash, no_comment bs h.1))
+no_comment (b ∷ bs) h = first_of (search (rules, (no_comment bs h.1)), grind (arith, common_steps, no_comment bs h.1))
 
 pub one_word : (bs : List ℕ) → Each IsSolid bs → slice_split (λ b. b == 32) (before_comment bs) ≡ bs ∷ []
 one_word bs h = first_of (search rules, grind (arith, common_steps, All-from_recursion, no_comment, no_spaces, slice_split_none))
@@ -193,7 +167,7 @@ play_words k b bs known = first_of (search rules, grind (arith, common_steps, on
 
 pub vertex_solid : (side : ℕ) (p : Point) → side ≤ 25 → IsOn side p → Each IsSolid (vertex_text (vertex_of p side))
 unfolding vertex_of
-vertex_solid side p small on = (letter_solid p.col (omega (arith, on.0)), decimal_solid (side - p.row))
+vertex_solid side p small on = first_of (search (rules, decimal_solid, letter_is), grind (arith, common_steps, decimal_solid, letter_is))
 
 pub play_reads : (side : ℕ) (k : Colour) (p : Point) → side ≤ 25 → IsOn side p
     → command_of (words (codes "play " ++ colour_letter k ++ codes " " ++ vertex_text (vertex_of p side))) ≡ plays_stone k (vertex_of p side)
@@ -216,23 +190,17 @@ size_reads side small =
     ∙ two_words (decimal side) (decimal_is_word side (omega arith))
     ∙ ap size_command (row_names side (omega arith))
 
-one_digit : (n : ℕ) → n < 10 → decimal n ≡ (48 + n % 10) ∷ []
-one_digit n lt = let same : n ≡ n % 10 = omega (arith, lt) in decimal_digit n lt ∙ ap (λ d. (48 + d) ∷ []) same
-
-two_digits : (n : ℕ) → 10 ≤ n → n < 100 → decimal n ≡ (48 + n / 10) ∷ (48 + n % 10) ∷ []
-two_digits n le lt = rw (decimal_step n le (omega arith), decimal_digit (n / 10) (omega arith))
-
 laid_out : (k : Colour) (v : Vertex) (b : ℕ) (row : List ℕ) → colour_letter k ≡ b ∷ [] → decimal v.row ≡ row
     → stone_command k v ≡ 112 ∷ 108 ∷ 97 ∷ 121 ∷ 32 ∷ b ∷ 32 ∷ v.letter ∷ (row ++ codes "\n")
 laid_out k v b row player digits = first_of (search rules, grind (arith, common_steps))
 
 pub command-one_digit : (k : Colour) (v : Vertex) (b : ℕ) → colour_letter k ≡ b ∷ [] → v.row < 10
     → stone_command k v ≡ 112 ∷ 108 ∷ 97 ∷ 121 ∷ 32 ∷ b ∷ 32 ∷ v.letter ∷ (48 + v.row % 10) ∷ 10 ∷ []
-command-one_digit k v b player lt = laid_out k v b ((48 + v.row % 10) ∷ []) player (one_digit v.row lt)
+command-one_digit k v b player lt = first_of (search (rules, laid_out, decimal_digit), grind (arith, common_steps, laid_out, decimal_digit))
 
 pub command-two_digits : (k : Colour) (v : Vertex) (b : ℕ) → colour_letter k ≡ b ∷ [] → 10 ≤ v.row → v.row < 100
     → stone_command k v ≡ 112 ∷ 108 ∷ 97 ∷ 121 ∷ 32 ∷ b ∷ 32 ∷ v.letter ∷ (48 + v.row / 10) ∷ (48 + v.row % 10) ∷ 10 ∷ []
-command-two_digits k v b player le lt = laid_out k v b ((48 + v.row / 10) ∷ (48 + v.row % 10) ∷ []) player (two_digits v.row le lt)
+command-two_digits k v b player le lt = first_of (search (rules, laid_out, decimal_step, decimal_digit), grind (arith, common_steps, laid_out, decimal_step, decimal_digit))
 
 -- a row has two digits at most
 pub row-below : (p : Point) (side : ℕ) → side ≤ 25 → (vertex_of p side).row < 100

@@ -1,6 +1,6 @@
 -- A script goes on by a node, and back to the first ones; and what is put of it.
 use Rattle.std.proofs.Common.{◌≡◌, ℕ, zero, suc, min, List, [], ◌∷◌, ◌++◌, length, take, refl, ap, subst, arith, add-one, append-nil, rules, nat_lt, option_copied, lt-ltb, le-ltb}
-use Rattle.sgf_lines.proofs.Common.{list_any, position_or_len, common_steps, map-append, take-map, length-map, position_or_len_push, Node, Grid, State, GameKind, LegalNode, Walk, legal_on, comment_rows, legal_script, text_rows, comment_text, leaves_unreaching, commands_of, commands_by, step_script, is_unreaching, no_script, said_on, script_back, script_text, script_along, script_of}
+use Rattle.sgf_lines.proofs.Common.{list_any, position_or_len, common_steps, map-append, take-map, length-map, position_or_len_push, Node, Grid, State, GameKind, LegalNode, legal_on, comment_rows, legal_script, text_rows, comment_text, leaves_unreaching, commands_by, step_script, is_unreaching, no_script, said_on, script_back, script_text, script_of}
 use Rattle.judged_lines.specs.declared.judging.step.LegalStep.{LegalStep}
 use Rattle.judged_lines.specs.Judgement.{IsStepOf, IsLegalStep}
 use Rattle.sgf_lines.proofs.Recordings.{joined}
@@ -18,30 +18,19 @@ position_front zero ts = omega arith
 position_front (suc n) [] = omega arith
 position_front (suc n) (t ∷ ts) = first_of (search rules, grind (arith, common_steps, position_front n ts))
 
--- one legal node more
-along_more : (side : ℕ) (ts : List LegalNode) (t : LegalNode) → said_on (script_along side ts) (leaves_unreaching t) (legal_script t) ≡ script_along side (ts ++ t ∷ [])
-along_more side ts t = first_of (search rules, grind (arith, common_steps, length-map, map-append, position_or_len_push))
-
 -- back to the first ones
 no_script_back : (n : ℕ) → script_back n no_script ≡ no_script
 no_script_back n = first_of (search rules, grind (arith, common_steps, add-one))
 
-along_back : (side n : ℕ) (ts : List LegalNode) → script_back n (script_along side ts) ≡ script_along side (take n ts)
-along_back side n ts = first_of (search rules, grind (arith, common_steps, add-one, no_script_back, position_front, take-map))
-
--- what is put of it
-along_text : (side : ℕ) (walked : Walk) → script_text (script_along side walked.taken) ≡ commands_of side walked
-along_text side walked = first_of (search rules, grind (arith, common_steps, any_is, joined, length-map, lt_suc))
-
 -- the script of a game whose root says this
 pub script_put : (kind : GameKind) (nodes : List Node) → script_text (script_of kind (legal_on kind nodes)) ≡ commands_by kind nodes
-script_put kind nodes = first_of (search rules, grind (arith, common_steps, along_text))
+script_put kind nodes = first_of (search (rules, any_is, joined, length-map, lt_suc), grind (arith, common_steps, any_is, joined, length-map, lt_suc))
 
 pub script_cut : (kind : GameKind) (taken : List LegalNode) (n : ℕ) → script_back n (script_of kind taken) ≡ script_of kind (take n taken)
-script_cut kind taken n = first_of (search rules, grind (arith, common_steps, along_back, no_script_back))
+script_cut kind taken n = first_of (search (rules, no_script_back, add-one, position_front, take-map), grind (arith, common_steps, no_script_back, add-one, position_front, take-map))
 
 script_more : (kind : GameKind) (taken : List LegalNode) (t : LegalNode) → said_on (script_of kind taken) (leaves_unreaching t) (legal_script t) ≡ script_of kind (taken ++ t ∷ [])
-script_more kind taken t = grind (arith, common_steps, along_more)
+script_more kind taken t = grind (arith, common_steps, length-map, map-append, position_or_len_push)
 
 -- what a step says of its node
 module _ (s : State) (n : Node) (taken : LegalStep) (h : IsStepOf s.colouring.side n taken) where
