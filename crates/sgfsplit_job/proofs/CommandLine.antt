@@ -1,5 +1,6 @@
 -- How clap reads the words that ask for a job.
-use Rattle.std.proofs.Common.{Bool, ◌≡◌, true, List, [], ◌∷◌, ◌++◌, codes, refl, false, ◌&&◌, Option, Some, None, ap, sym, ◌∙◌, rules, unwrap_or, find, fold, IfSome, is_some, bytes_eq}
+use Rattle.std.proofs.Common.{Bool, ◌≡◌, true, List, [], ◌∷◌, ◌++◌, codes, refl, false, ◌&&◌, Option, Some, None, ap, sym, ◌∙◌, rules, unwrap_or, find, fold, IfSome, is_some, bytes_eq, arith}
+use Rattle.std.proofs.lemmas.Grind.{common_steps}
 use Rattle.std.proofs.Math.Bool.{and-false}
 use Rattle.std.proofs.lemmas.Bool.{and_from}
 use Rattle.std.specs.List.{list_any, list_all}
@@ -178,29 +179,15 @@ module _ (names : FormNames) where
   settles_1 (Some v) f = rw f refl
 
   settles_2 : (form after : Option Text) → IfSome form (λ v. accepts_form names v ≡ true) → IfSome after (λ v. accepts_number v ≡ true) → settles names (rows_2 form after) (pending_2 form after)
-  settles_2 form None f a = settles_1 form f
-  settles_2 None (Some v) f a = rw a refl
-  settles_2 (Some u) (Some v) f a = rw a refl
+  settles_2 form after f a = grind (arith, common_steps, settles_1)
 
   settles_3 : (form after limit : Option Text) → IfSome form (λ v. accepts_form names v ≡ true) → IfSome after (λ v. accepts_number v ≡ true) → IfSome limit (λ v. accepts_number v ≡ true)
       → settles names (rows_3 form after limit) (pending_3 form after limit)
-  settles_3 form after None f a l = settles_2 form after f a
-  settles_3 None None (Some w) f a l = rw l refl
-  settles_3 None (Some v) (Some w) f a l = rw l refl
-  settles_3 (Some u) None (Some w) f a l = rw l refl
-  settles_3 (Some u) (Some v) (Some w) f a l = rw l refl
+  settles_3 form after limit f a l = grind (arith, common_steps, settles_2)
 
   settles_4 : (form after limit file : Option Text) → IfSome form (λ v. accepts_form names v ≡ true) → IfSome after (λ v. accepts_number v ≡ true) → IfSome limit (λ v. accepts_number v ≡ true)
       → settles names (rows_4 form after limit file) (pending_4 form after limit file)
-  settles_4 form after limit None f a l = settles_3 form after limit f a l
-  settles_4 None None None (Some w) f a l = refl
-  settles_4 None None (Some v) (Some w) f a l = refl
-  settles_4 None (Some v) None (Some w) f a l = refl
-  settles_4 None (Some u) (Some v) (Some w) f a l = refl
-  settles_4 (Some u) None None (Some w) f a l = refl
-  settles_4 (Some u) None (Some v) (Some w) f a l = refl
-  settles_4 (Some u) (Some v) None (Some w) f a l = refl
-  settles_4 (Some t) (Some u) (Some v) (Some w) f a l = refl
+  settles_4 form after limit file f a l = grind (arith, common_steps, settles_3)
 
 -- the words after `split` are accepted
 pub record AreAccepted (names : FormNames) (form after limit file : Option Text) : Type 0 where
