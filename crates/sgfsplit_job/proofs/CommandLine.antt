@@ -1,5 +1,5 @@
 -- How clap reads the words that ask for a job.
-use Rattle.std.proofs.Common.{Bool, ◌≡◌, true, List, [], ◌∷◌, ◌++◌, codes, refl, false, ◌&&◌, Option, Some, None, ap, sym, ◌∙◌, rules, unwrap_or, find, fold, IfSome, is_some, bytes_eq, arith}
+use Rattle.std.proofs.Common.{Bool, ◌≡◌, true, List, [], ◌∷◌, ◌++◌, codes, refl, false, ◌&&◌, Option, Some, None, ap, sym, rules, unwrap_or, find, fold, IfSome, is_some, bytes_eq, arith}
 use Rattle.std.proofs.lemmas.Grind.{common_steps}
 use Rattle.std.proofs.Math.Bool.{and-false}
 use Rattle.std.proofs.lemmas.Bool.{and_from}
@@ -130,8 +130,7 @@ module _ (names : FormNames) where
   file_held : (v : Option Text) → IfSome v IsNoOption → (rows : List Row) (p : Pending)
       → (walked_on (between rows p) (file_words v)).held ≡ held (rows_with v rows p) (pending_with (codes "file") v p)
   unfolding clap_on_literals
-  file_held None n rows p = refl
-  file_held (Some v) n rows p = rw (n.two, n.long, n.short, and-false) refl
+  file_held v n rows p = grind (arith, common_steps, and-false)
 
   file_passes : (v : Option Text) → IfSome v IsNoOption → (rows : List Row) (p : Pending) → settles rows p
       → passes_on (between rows p) (file_words v) ≡ true
@@ -226,13 +225,11 @@ module _ (names : FormNames) where
 
   pub count_level : (file : Option Text) → IfSome file IsNoOption → level_passes (count_shape names) [] nothing_held (file_words file) false ≡ true
   unfolding clap_on_literals
-  count_level None n = refl
-  count_level (Some v) n = rw (n.two, n.long, n.short) refl
+  count_level file n = grind (arith, common_steps)
 
   pub count_row : (file : Option Text) → IfSome file IsNoOption → first_of (codes "file") (rows_after count_rules [] (file_words file)) ≡ file
   unfolding clap_on_literals
-  count_row None n = refl
-  count_row (Some v) n = rw (n.two, n.long, n.short) refl
+  count_row file n = grind (arith, common_steps)
 
 -- ---- the whole command line
 
@@ -269,8 +266,7 @@ module _ (names : FormNames) where
   pub split_taken : (name : Text) (rest : List Text) → level_passes (split_shape names) [] nothing_held rest false ≡ true
       → takes (program_app names) (name ∷ codes "split" ∷ rest) ≡ true
   unfolding clap_on_literals
-  split_taken name rest level =
-      ap (takes_by (codes "split" ∷ rest)) (split_met rest) ∙ and_from _ _ level (and_from _ _ (split_met_passes rest) refl)
+  split_taken name rest level = grind (arith, common_steps, split_met, and_from, split_met_passes)
 
   pub split_entered : (name : Text) (rest : List Text) → subcommand_of (program_app names) (name ∷ codes "split" ∷ rest) ≡ Some (codes "split", rows_after (split_rules names) [] rest)
   unfolding clap_on_literals
@@ -287,8 +283,7 @@ module _ (names : FormNames) where
   pub count_taken : (name : Text) (rest : List Text) → level_passes (count_shape names) [] nothing_held rest false ≡ true
       → takes (program_app names) (name ∷ codes "count" ∷ rest) ≡ true
   unfolding clap_on_literals
-  count_taken name rest level =
-      ap (takes_by (codes "count" ∷ rest)) (count_met rest) ∙ and_from _ _ level (and_from _ _ (count_met_passes rest) refl)
+  count_taken name rest level = grind (arith, common_steps, count_met, and_from, count_met_passes)
 
   pub count_entered : (name : Text) (rest : List Text) → subcommand_of (program_app names) (name ∷ codes "count" ∷ rest) ≡ Some (codes "count", rows_after (count_rules names) [] rest)
   unfolding clap_on_literals

@@ -1,5 +1,5 @@
 -- How clap reads plain words, and what that says of the job.
-use Rattle.std.proofs.Common.{◌≡◌, ◌∙◌, ◌<◌, ◌≤◌, ◌^◌, ◌==◌, inl, inr, ℕ, Bool, true, false, cond, List, [], ◌∷◌, map, drop, refl, sym, ap, subst, arith, codes, Option, Some, None, Result, Ok, rules, IfSome, option_map, Box, Bor, ne_eqb, box_value}
+use Rattle.std.proofs.Common.{◌≡◌, ◌∙◌, ◌<◌, ◌≤◌, ◌^◌, ◌==◌, ℕ, true, false, List, [], ◌∷◌, map, refl, sym, ap, arith, codes, Option, Some, None, Result, Ok, rules, IfSome, option_map, Box, Bor, ne_eqb, box_value}
 use Rattle.std.proofs.lemmas.Grind.{common_steps}
 use Rattle.std.specs.List.{list_any}
 use Rattle.std.specs.Str.Parse.{IsNumeral, ParsesUnsigned, digits_value, without_leading_plus}
@@ -28,17 +28,13 @@ two_is_none : (xs : List ℕ) (x : ℕ) → (x == hyphen) ≡ false → IsNoOpti
 two_is_none xs x e = record { two = rw e refl; long = rw e refl; short = rw e refl }
 
 pub name_plain : (word : Word) → IsNameWord word → IsNoOption word
-name_plain [] h = absurd h
-name_plain (x ∷ xs) h = two_is_none xs x (ne_eqb x hyphen h)
+name_plain word h = grind (arith, common_steps, two_is_none, ne_eqb)
 
 pub file_plain : (word : Word) → IsFileWord word → IsNoOption word
-file_plain word (inl h) = name_plain word h
-file_plain word (inr e) = subst IsNoOption (sym e) (record { two = refl; long = refl; short = refl })
+file_plain word known1 = grind (arith, common_steps, name_plain)
 
 pub form_plain : (f : Form) → IsNoOption (form_word f)
-form_plain form.List = record { two = refl; long = refl; short = refl }
-form_plain form.Sgf = record { two = refl; long = refl; short = refl }
-form_plain form.Gtp = record { two = refl; long = refl; short = refl }
+form_plain f = grind (arith, common_steps)
 
 -- ---- forms
 
@@ -47,20 +43,12 @@ accepted_as [] word = refl
 accepted_as (x ∷ xs) word = rw (accepted_as xs word) refl
 
 pub form_accepted : (names : FormNames) → names_of names ≡ form_names → (f : Form) → accepts_form names (form_word f) ≡ true
-form_accepted names e f = accepted_as names.now (form_word f) ∙ ap (λ all. list_any (λ name. same_text false name (form_word f)) all) e ∙ go f
-  where
-    go : (f : Form) → list_any (λ name. same_text false name (form_word f)) form_names ≡ true
-    go form.List = refl
-    go form.Sgf = refl
-    go form.Gtp = refl
+form_accepted names e f = grind (arith, common_steps, accepted_as)
 
 -- ---- numbers
 
 pub no_plus : (word : Word) → IsNumberWord word → without_leading_plus word ≡ word
-no_plus [] h = refl
-no_plus (d ∷ ds) h =
-    let plus : (d == 43) ≡ false = ne_eqb _ _ (λ e. omega (arith, digit_from_value d h.2.0)) in
-    ap (λ (b : Bool). drop (cond b 1 0) (d ∷ ds)) plus
+no_plus word h = grind (arith, common_steps, ne_eqb, digit_from_value)
 
 pub number_small : (word : Word) → IsNumberWord word → digits_value 10 word < 10 ^ 18
 number_small word h = digits_value_short (numerals_by_value _ tells_digits) word 18 h.2 h.1
@@ -89,12 +77,10 @@ number_read E G word None read only h = search (rules, no_plus, number_small)
 -- ---- whole command lines
 
 some_mapped : (f : Option Form) (P : Word → Type 0) → ((g : Form) → P (form_word g)) → IfSome (option_map form_word f) P
-some_mapped None P h = tt
-some_mapped (Some g) P h = h g
+some_mapped f P h = grind (arith, common_steps)
 
 each_some : (w : Option Word) (P Q : Word → Type 0) → ((x : Word) → P x → Q x) → IfSome w P → IfSome w Q
-each_some None P Q f h = tt
-each_some (Some x) P Q f h = f x h
+each_some w P Q f h = grind (arith, common_steps)
 
 -- what is found for each argument
 rows_hold : (names : FormNames) (form : Option Form) (after limit file : Option Word)
@@ -143,12 +129,10 @@ module _ (names : FormNames) (are : names_of names ≡ form_names) where
 
 -- the text that a getter returned is this word
 pub given_word : (o : Option (Bor (List ℕ))) (x : Bor (List ℕ)) (w : Word) → option_map (λ s. s.now) o ≡ Some w → o ≡ Some x → x.now ≡ w
-given_word None x w e is = cc
-given_word (Some y) x w e is = cc
+given_word o x w e is = grind (arith, common_steps)
 
 pub nothing_given : (o : Option (Bor (List ℕ))) (w : Option Word) → option_map (λ s. s.now) o ≡ w → o ≡ None → w ≡ None
-nothing_given None w e is = sym e
-nothing_given (Some y) w e is = cc
+nothing_given o w e is = grind (arith, common_steps)
 
 pub word_given : (o : Option (Bor (List ℕ))) (w : Option Word) (x : Bor (List ℕ)) → option_map (λ s. s.now) o ≡ w → o ≡ Some x → w ≡ Some x.now
 word_given o w x e is = sym e ∙ ap (option_map (λ s. s.now)) is
@@ -156,20 +140,15 @@ word_given o w x e is = sym e ∙ ap (option_map (λ s. s.now)) is
 -- ---- the subcommand that was entered
 
 names_are : {Z : Type 0} (o : Option (Box SubCommand Z)) → option_map (λ b. (out-SubCommand (box_value b)).name.now) o ≡ option_map (λ p. p.0) (subcommand_rows o)
-names_are None = refl
-names_are (Some b) = refl
+names_are o = grind (arith, common_steps)
 
 pub entered_name : (m : ArgMatches) (name : Word) (rows : List Row) → subcommand_rows_of m ≡ Some (name, rows) → subcommand_name_of m ≡ Some name
 entered_name m name rows e = names_are (out-ArgMatches m).subcommand ∙ ap (option_map (λ (p : Word × List Row). p.0)) e
 
 pub same_rows : (o : Option (Bor Word × Bor ArgMatches)) (s : Option (Word × List Row)) (p : Bor Word × Bor ArgMatches) (q : Word × List Row)
     → option_map (λ p. rows_found p.1.now) o ≡ option_map (λ p. p.1) s → o ≡ Some p → s ≡ Some q → q.1 ≡ rows_found p.1.now
-same_rows o s p q e is sub =
-    let both : Some (rows_found p.1.now) ≡ Some q.1 = sym (ap (option_map (λ (p : Bor Word × Bor ArgMatches). rows_found p.1.now)) is) ∙ e ∙ ap (option_map (λ (p : Word × List Row). p.1)) sub in
-    cc
+same_rows o s p q e is sub = grind (arith, common_steps)
 
 pub same_name : (o : Option (Bor Word × Bor ArgMatches)) (name : Option Word) (p : Bor Word × Bor ArgMatches) (w : Word)
     → option_map (λ p. p.0.now) o ≡ name → o ≡ Some p → name ≡ Some w → p.0.now ≡ w
-same_name o name p w e is sub =
-    let both : Some p.0.now ≡ Some w = sym (ap (option_map (λ (p : Bor Word × Bor ArgMatches). p.0.now)) is) ∙ e ∙ sub in
-    cc
+same_name o name p w e is sub = grind (arith, common_steps)
