@@ -58,7 +58,6 @@ columns_off side all few low is = record {
   last = has_bit-not all 63 low (omega arith) ∙ ap not (false_from_ne_true _ (λ (there : has_bit all 63 ≡ true). omega (arith, is.off 63 there, few)));
 }
 
-
 -- the same in every column, of words
 pub has_bit-less : (word other c : ℕ) → word < 2 ^ 64 → other < 2 ^ 64 → has_bit (bit_and word (bit_not w64 other)) c ≡ (has_bit word c && not (has_bit other c))
 has_bit-less word other c low few =

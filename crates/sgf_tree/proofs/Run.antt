@@ -10,7 +10,7 @@ run-append at z [] b = rw add-zero
 run-append at z (x ∷ a) b =
     let e : at + length (x ∷ a) ≡ at + 1 + length a = omega arith in
     rw e (elim (next_state at z x) as (λ o. option_and_then (λ next. run (at + 1) next (a ++ b)) o
-      ≡ option_and_then (λ next. run (at + 1 + length a) next b) (option_and_then (λ next. run (at + 1) next a) o)) [ | None ↦ refl | Some y ↦ run-append (at + 1) y a b ])
+    ≡ option_and_then (λ next. run (at + 1 + length a) next b) (option_and_then (λ next. run (at + 1) next a) o)) [ None ↦ refl | Some y ↦ run-append (at + 1) y a b ])
 
 -- what a run of two texts says of the first and the second
 pub run-through : (at : ℕ) (z y : MachineState) (a b : List ℕ) → run at z a ≡ Some y → run at z (a ++ b) ≡ run (at + length a) y b
