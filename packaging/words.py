@@ -302,10 +302,6 @@ def check_forms(table):
     made("crates/sgf_lines/src/form.rt", "the modules", r"((?:^pub\(crate\) mod \w+;\n)+)",
          lambda old: joined(sorted({*old.splitlines(), *(f"pub(crate) mod {module};" for module in modules)})))
     made("crates/sgf_lines/src/form.rt", "the forms", r"^//! \| ([^|\n]*) \| the forms:", ", ".join(f"`{module}`" for module in modules))
-    made("crates/sgfsplit_job/proofs/PlainWords.antt", "form_plain", r"((?:^form_plain form\.[^\n]*\n)+)",
-         joined(f"form_plain form.{name} = record {{ two = refl; long = refl; short = refl }}" for name in names))
-    made("crates/sgfsplit_job/proofs/PlainWords.antt", "form_accepted", r"((?:^    go form\.[^\n]*\n)+)",
-         joined(f"    go form.{name} = refl" for name in names))
     lists("crates/sgf_lines/specs/*.antt", "forms", r"^forms = ([^\n]*)", r"form\.(\w+)", names)
     lists("crates/sgf_lines/specs/*.antt", "entry_of", r"^entry_of form(.*?)^(?:\n|\Z)", r'word = codes "([^"]+)"', forms)
     shown("forms", "Forms", helps)

@@ -67,7 +67,7 @@ BY_HAND = ["README.md", "crates/go_board/specs/Reason.antt", "crates/sgf*/specs/
 WRITTEN = ["README.md", "bench/compare.py", "bench/growth.py", "bench/hostile.py", "completion/_sgfsplit", "completion/sgfsplit.bash",
            "completion/sgfsplit.fish", "crates/go_board/src/reason.rt", "crates/sgf_lines/src/form.rt",
            "crates/sgf_lines/src/options.rt", "crates/sgf_lines/src/run.rt",
-           "crates/sgf_lines_c/src/answer.rt", "crates/sgfsplit_job/proofs/PlainWords.antt", "crates/sgfsplit_job/src/command.rt",
+           "crates/sgf_lines_c/src/answer.rt", "crates/sgfsplit_job/src/command.rt",
            "include/sgf_lines.h", "man/sgfsplit.1", "python/sgflines.py", "recipes/sgfsplit.py", "tests/help.sh", "tests/library.c"]
 # words in files whose rows in the table other files have too, and other words there
 OTHER_WORDS = [("crates/sgf_lines/src/fault.rt", "no line ends at {place}", "no line ends before {place}"),
