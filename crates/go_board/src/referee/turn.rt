@@ -22,6 +22,7 @@ impl<P: Past> Referee<P> {
     ///
     /// - `Illegal`: the first of `Over`, `Turn`, `Occupied` and `Repeat` that holds. This refusal comes even if memory is refused.
     /// - `Memory`: the turn is legal, but memory was refused.
+    // Inlined, so that its answer needs no memory. It has one caller.
     #[inline(always)]
     pub fn turn(&mut self, colour: Colour, play: Play) -> Result<(), TurnFault>
         requires { IsPlayOn self.old.present.colouring.side play }
@@ -79,20 +80,8 @@ impl<P: Past> Referee<P> {
         None
     }
 
-    /// Whether a stone's turn is as most are: the player must move, no pass was made last, and the point is empty. Then only `Repeat` can
-    /// forbid it. False says nothing.
-    #[inline(always)]
-    fn plays_as_usual(&self, colour: Colour, point: Point) -> bool
-        requires { IsOn self.now.present.colouring.side point }
-        ensures { IsTrue result → MayOnlyRepeat self.now.present colour (Stone point) }
-    {
-        self.mover == Mover::only(colour)
-            && self.passes == 0
-            && self.board().at(point) == Cell::Empty
-    }
-
-    /// Takes a turn with a stone, if it is as most are (`plays_as_usual`), the past can play it at once (`Past::play_at_once`), and there is
-    /// room. Returns whether it was taken. False says nothing, and then nothing is changed. Most turns are taken here.
+    /// Takes a turn with a stone, if the past can play it at once (`Past::play_at_once`) and there is room. Returns whether it was taken.
+    /// False says nothing, and then nothing is changed. Most turns are taken here.
     // Not inlined: there is one copy of it, and what it calls is inlined there.
     #[inline(never)]
     fn play_at_once(&mut self, colour: Colour, play: Play) -> bool
@@ -104,7 +93,7 @@ impl<P: Past> Referee<P> {
         let Play::Stone(point) = play else {
             return false;
         };
-        if !self.plays_as_usual(colour, point) {
+        if let Some(_reason) = self.reason_before_repeat(colour, play) {
             return false;
         }
         if self.earlier.len() >= self.earlier.capacity() {

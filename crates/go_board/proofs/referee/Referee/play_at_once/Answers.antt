@@ -22,4 +22,4 @@ pub returns-clause-legal : goal.returns-clause-legal
 returns-clause-legal g c = λ _.
     ap (reason_of c.args.self.now.present c.args.colour) c.in-Stone.is
     ∙ reason_of-new c.args.self.now.present c.args.colour c.in-Stone.point _ _ (ap (λ (states : States). states.present.seen) c.self.view_is)
-    (ap (λ (states : States). play states.present.colouring c.args.colour c.in-Stone.point) c.self.view_is) (c.if-not-plays_as_usual.ensures refl) (c.if-not-play_at_once.ensures.new refl)
+    (ap (λ (states : States). play states.present.colouring c.args.colour c.in-Stone.point) c.self.view_is) c.in_default-reason_before_repeat.ensures.only_repeat (c.if-not-play_at_once.ensures.new refl)
