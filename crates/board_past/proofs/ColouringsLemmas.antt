@@ -1,6 +1,6 @@
 -- Past colourings, as what is kept of them tells them.
-use Rattle.std.proofs.Common.{◌≡◌, ◌≢◌, ◌↔◌, ◌==◌, ℕ, zero, suc, ◌+◌, ◌-◌, ◌*◌, ◌<◌, ◌≤◌, inl, inr, List, [], ◌∷◌, ◌++◌, Bool, true, false, cond, length, get_or, take, drop, reverse, slice_range, slice_set, append_assoc, refl, sym, ap, subst, ◌∙◌, arith, length-take, length-append, IsTrue, Contains, length-set, take_all, take_at, drop_at, drop-drop, take-take, append-nil, eq-eqb, ne_eqb}
-use Rattle.board_past.proofs.Common.{cases_eq, false≢true, take_more, drop-set, drop_all, reverse-append, length-reverse, get_or-reverse, get_or_default, All-take, All-drop, All-append, Point, IsOn, index_of, Empty, has_unreaching, Grid, cell_at, with_cell, Change, Older, Held, PastColourings, all_of, with_next, stretch_of, first_grid, after_changes, step_back, is_full, is_settled, is_fresh, IsEndOf, IsNumber, IsFreshStone, KeepRows, IsChangeOn, MakeOne, before, changes_before, held_before, all_held, AreFresh, AreKept, AreStarted, AreOn, IsPast, start_of, since, print_of, prints_of}
+use Rattle.std.proofs.Common.{◌≡◌, ◌≢◌, ◌↔◌, ◌==◌, ℕ, zero, suc, ◌+◌, ◌-◌, ◌*◌, ◌%◌, ◌<◌, ◌≤◌, inl, inr, List, [], ◌∷◌, ◌++◌, Bool, true, false, cond, length, get_or, take, drop, reverse, slice_range, slice_set, append_assoc, refl, sym, ap, subst, ◌∙◌, arith, length-take, length-append, IsTrue, IsFalse, Contains, length-set, take_all, take_at, drop_at, drop-drop, take-take, append-nil, eq-eqb, ne_eqb}
+use Rattle.board_past.proofs.Common.{cases_eq, false≢true, take_more, drop-set, drop_all, reverse-append, length-reverse, get_or-reverse, get_or_default, All-take, All-drop, All-append, Point, IsOn, index_of, Empty, has_unreaching, Grid, cell_at, with_cell, Change, Older, Held, PastColourings, all_of, with_next, stretch_of, first_grid, after_changes, step_back, is_full, is_settled, is_fresh, HasRoom, IsEndOf, IsNumber, IsFreshStone, KeepRows, IsChangeOn, MakeOne, before, changes_before, held_before, all_held, AreFresh, AreKept, AreStarted, AreOn, IsPast, start_of, since, print_of, prints_of}
 use Rattle.std.proofs.lemmas.Slice.{between_is}
 use Rattle.board_past.specs.declared.past.print_past.changes.TheConstants.{MOST}
 use Rattle.board_points.proofs.PointLemmas.{same_or_not}
@@ -25,6 +25,12 @@ abbrev pub past_held : Grid → ℕ → List Older → List Change → PastColou
 past_held g start os changes =
     record { newest = record { colouring = g; begins = start == length os }; older = held_before g os changes }
 
+-- a step that isn't full has room, and leaves room for those up to the next full one
+pub room_before_full : (count room : ℕ) → HasRoom count room → is_full count ≡ false → (count < room) × HasRoom (count + 1) room
+room_before_full count room has not_full =
+    let no : count % 128 ≢ 127 = λ e. false≢true (sym not_full ∙ eq-eqb (count % 128) 127 e) in
+    (omega (arith, has, no), omega (arith, has, no))
+
 -- one colouring less
 pub past-pop : (g : Grid) (start : ℕ) (older older' : List Older) (o : Older) (changes : List Change) → older ≡ older' ++ o ∷ [] → IsPast g start older changes → IsPast (before g o changes) o.stretch_start older' (changes_before o changes)
 past-pop g start older older' o changes parts past =
@@ -34,11 +40,21 @@ past-pop g start older older' o changes parts past =
     let fresh = subst (λ (os : List Older). AreFresh os (all_held g start os changes)) turned past.fresh in
     record {
       kept = kept.4;
-      started = started.2;
+      started = started.3;
       on_grid = rw (step-side g o (drop o.start changes)) (All-take (IsChangeOn g.side) o.start changes past.on_grid);
       fresh = fresh.1;
       few = omega (arith, length-take o.start changes, past.few);
     }
+
+-- a step that is alone leads on from a settled colouring of the same stretch, and isn't full
+pub lone_step : (g : Grid) (start : ℕ) (older older' : List Older) (o : Older) (changes : List Change) → older ≡ older' ++ o ∷ [] → IsPast g start older changes → o.alone ≡ true
+    → (has_unreaching (before g o changes) ≡ false) × (is_full (length older') ≡ false) × (start ≡ o.stretch_start)
+lone_step g start older older' o changes parts past alone =
+    let turned : reverse older ≡ o ∷ reverse older' = ap reverse parts ∙ reverse-append older' (o ∷ []) in
+    let kept = subst (λ (os : List Older). AreKept g os changes) turned past.kept in
+    let started = subst (λ (os : List Older). AreStarted start os) turned past.started in
+    let lone = kept.1 alone in
+    (kept.2 lone.2, subst (λ n. is_full n ≡ false) (length-reverse older') lone.3, started.2 alone)
 
 -- a step that is alone has no changes
 pub none_kept : (g : Grid) (start : ℕ) (older older' : List Older) (o : Older) (changes : List Change) → older ≡ older' ++ o ∷ [] → IsPast g start older changes → o.alone ≡ true → changes_before o changes ≡ changes
@@ -59,17 +75,17 @@ module _ (g h : Grid) (stretch next : ℕ) (older : List Older) (o : Older) (cha
   pub held-push : AreStarted stretch (reverse older) → past_held h next (reverse (older ++ o ∷ [])) all ≡ with_next (past_held g stretch (reverse older) changes) h begins
   held-push started = rw turned (next_held started)
 
-  pub past-push : IsPast g stretch older changes → o.start ≤ length all → (IsTrue o.alone → IsOn h.side o.point × (o.start ≡ length all)) → (IsTrue (is_settled o.known) → has_unreaching g ≡ false) → (IsTrue (is_full (length older)) → MakeOne g (drop o.start all)) → AreOn h.side all → length all ≤ MOST
+  pub past-push : IsPast g stretch older changes → o.start ≤ length all → (IsTrue o.alone → IsOn h.side o.point × (o.start ≡ length all) × IsTrue (is_settled o.known) × IsFalse (is_full (length older)) × IsFalse begins) → (IsTrue (is_settled o.known) → has_unreaching g ≡ false) → (IsTrue (is_full (length older)) → MakeOne g (drop o.start all)) → AreOn h.side all → length all ≤ MOST
       → (IsTrue (is_fresh o.known) → IsFreshStone (with_next (past_held g stretch (reverse older) changes) h begins) o.point) → IsPast h next (older ++ o ∷ []) all
-  past-push past start on_point settled full on few fresh = record {
+  past-push past start lone settled full on few fresh = record {
     kept = rw turned (
       start,
-      on_point,
+      λ is. ((lone is).0, (lone is).1, (lone is).2, rw (length-reverse older) (lone is).3),
       λ is. ap has_unreaching before_is ∙ settled is,
       λ is. rw before_is (full (rw (length-reverse older) at is)),
       rw (before_is, rest_is) past.kept,
     );
-    started = rw turned (omega (arith, length-reverse older, (next-is begins follows past.started).0), (next-is begins follows past.started).1, rw same past.started);
+    started = rw turned (omega (arith, length-reverse older, (next-is begins follows past.started).0), (next-is begins follows past.started).1, λ is. follows ∙ ap (λ b. cond b (length older + 1) stretch) (lone is).4 ∙ sym same, rw same past.started);
     on_grid = on;
     fresh = rw turned (
       λ is. subst (λ (p : PastColourings). IsFreshStone p o.point) (sym (next_held past.started)) (fresh is),
@@ -108,13 +124,13 @@ grown g h stretch next older older' o changes all full begins past view is cells
 pub grown_alone : (g h : Grid) (stretch : ℕ) (older older' : List Older) (o : Older) (changes : List Change) (past : PastColourings)
     → past_held g stretch (reverse older) changes ≡ past → IsPast g stretch older changes → h.side ≡ g.side → IsOn g.side o.point → with_cell h o.point Empty ≡ g
     → older' ≡ older ++ o ∷ [] → o.stretch_start ≡ stretch → o.start ≡ length changes → o.alone ≡ true
-    → (IsTrue (is_settled o.known) → has_unreaching g ≡ false) → (IsTrue (is_fresh o.known) → IsFreshStone (with_next past h false) o.point) → is_full (length older) ≡ false
+    → IsTrue (is_settled o.known) → has_unreaching g ≡ false → (IsTrue (is_fresh o.known) → IsFreshStone (with_next past h false) o.point) → is_full (length older) ≡ false
     → IsPast h stretch older' changes × (past_held h stretch (reverse older') changes ≡ with_next past h false)
-grown_alone g h stretch older older' o changes past view is side on_point back grows same start alone settled fresh not_full =
+grown_alone g h stretch older older' o changes past view is side on_point back grows same start alone known settled fresh not_full =
     let rest_is : changes_before o changes ≡ changes = take_all o.start changes (omega (arith, start)) in
     let before_is : before h o changes ≡ g = rw alone back in
     rw grows (
-      past-push g h stretch stretch older o changes changes false refl same rest_is before_is is (omega (arith, start)) (λ _. (rw side on_point, start)) settled
+      past-push g h stretch stretch older o changes changes false refl same rest_is before_is is (omega (arith, start)) (λ _. (rw side on_point, start, known, not_full, refl)) (λ _. settled)
           (λ full. absurd (false≢true (sym not_full ∙ full))) (rw side is.on_grid) is.few (λ known. subst (λ (p : PastColourings). IsFreshStone (with_next p h false) o.point) (sym view) (fresh known)),
       held-push g h stretch stretch older o changes changes false refl same rest_is before_is is.started ∙ ap (λ (p : PastColourings). with_next p h false) view,
     )
@@ -424,7 +440,7 @@ start-newest g start (o ∷ os) changes h = elim (cases_eq start (suc (length os
   | inl first ↦ rw (eq-eqb start (suc (length os)) first) (ap suc (length-held (before g o changes) os (changes_before o changes)) ∙ sym first)
   | inr later ↦
       rw (ne_eqb start (suc (length os)) later)
-      (start-newest (before g o changes) o.stretch_start os (changes_before o changes) h.2 ∙ sym (h.1 (omega (arith, h.0, later))))
+      (start-newest (before g o changes) o.stretch_start os (changes_before o changes) h.3 ∙ sym (h.1 (omega (arith, h.0, later))))
 ]
 
 -- the start of the stretch of the colouring so many numbers back
@@ -441,7 +457,7 @@ start_back-get start (o ∷ os) (suc j) d h = start_back-get o.stretch_start os 
 start-so_many : (g : Grid) (start : ℕ) (os : List Older) (changes : List Change) (j : ℕ) → AreStarted start os → j ≤ length os → start_of (drop j (all_held g start os changes)) ≡ start_back start os j
 start-so_many g start os changes zero h le = start-newest g start os changes h
 start-so_many g start [] changes (suc j) h le = absurd (omega (arith, le))
-start-so_many g start (o ∷ os) changes (suc j) h le = start-so_many (before g o changes) o.stretch_start os (changes_before o changes) j h.2 (omega (arith, le))
+start-so_many g start (o ∷ os) changes (suc j) h le = start-so_many (before g o changes) o.stretch_start os (changes_before o changes) j h.3 (omega (arith, le))
 
 -- the start of the stretch of a number
 module _ (g : Grid) (start : ℕ) (older : List Older) (changes : List Change) (held : List Held) (same : all_held g start (reverse older) changes ≡ held) (started : AreStarted start (reverse older)) (number : ℕ) where

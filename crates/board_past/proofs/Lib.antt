@@ -13,5 +13,6 @@ pub mod ChangesLemmas
 pub mod ColouringsLemmas
 pub mod NumberLemmas
 pub mod TableLemmas
+pub mod AtOnceLemmas
 pub mod KeyLemmas
 pub mod HashLemmas

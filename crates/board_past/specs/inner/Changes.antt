@@ -138,22 +138,25 @@ AreFresh (kept ∷ others) [] = Unit {0}
 AreFresh (kept ∷ others) (later ∷ older) =
     (IsTrue (is_fresh kept.known) → IsFreshStone (record { newest = later; older = older }) kept.point) × AreFresh others older
 
--- Each `start` is at most the number of changes. The point of a lone stone is on the grid, and its step has no changes. The changes of a full
--- step make the colouring before it from any grid. A colouring that is marked settled is settled.
+-- Each `start` is at most the number of changes. The point of a lone stone is on the grid; its step has no changes, came from a settled
+-- colouring, and isn't full. The changes of a full step make the colouring before it from any grid. A colouring that is marked settled is
+-- settled.
 abbrev pub AreKept : Grid → List Older → List Change → Type 0
 AreKept grid [] changes = Unit {0}
 AreKept grid (kept ∷ others) changes =
     (kept.start ≤ length changes)
-    × (IsTrue kept.alone → IsOn grid.side kept.point × (kept.start ≡ length changes))
+    × (IsTrue kept.alone → IsOn grid.side kept.point × (kept.start ≡ length changes) × IsTrue (is_settled kept.known) × IsFalse (is_full (length others)))
     × (IsTrue (is_settled kept.known) → has_unreaching (before grid kept changes) ≡ false)
     × (IsTrue (is_full (length others)) → MakeOne (before grid kept changes) (drop kept.start changes))
     × AreKept (before grid kept changes) others (changes_before kept changes)
 
--- The start of a colouring's stretch is its own number, or else that of the colouring before it. The list is that of the older ones.
+-- The start of a colouring's stretch is its own number, or else that of the colouring before it; always that after a lone stone. The list is
+-- that of the older ones.
 abbrev pub AreStarted : ℕ → List Older → Type 0
 AreStarted start [] = start ≡ 0
 AreStarted start (kept ∷ others) =
-    (start ≤ suc (length others)) × (start < suc (length others) → start ≡ kept.stretch_start) × AreStarted kept.stretch_start others
+    (start ≤ suc (length others)) × (start < suc (length others) → start ≡ kept.stretch_start) × (IsTrue kept.alone → start ≡ kept.stretch_start)
+    × AreStarted kept.stretch_start others
 
 -- `end` is the number of changes up to the colouring with this number: all, or those before the ones that lead back to it
 abbrev pub IsEndOf : List Older → ℕ → ℕ → ℕ → Type 0

@@ -1,10 +1,12 @@
 -- Points that were emptied in a game. A stone that stays can bring a colouring back only on such a point.
-use Rattle.std.specs.Prelude.{◌+◌, ◌<◌, ◌≤◌, All, length, reverse, slice_set, ◌≡◌, ◌≢◌, ℕ, Bool, IsFalse, IsTrue, List, [], ◌∷◌}
+use Rattle.std.specs.Prelude.{◌+◌, ◌<◌, ◌≤◌, false, All, length, reverse, slice_set, ◌≡◌, ◌≢◌, ℕ, Bool, IsFalse, IsTrue, List, [], ◌∷◌}
 use Rattle.board_stones.specs.declared.stones.Cell.TheVariants.{Empty}
 use Rattle.board_points.specs.declared.points.Point.{Point}
 use Rattle.board_points.specs.Point.{IsOn}
 use Rattle.board_stones.specs.Grid.{Grid, cell_at}
-use Rattle.board_past.specs.Past.{Held, PastColourings, all_of}
+use Rattle.board_stones.specs.Clearing.{has_unreaching}
+use Rattle.board_past.specs.Past.{Held, PastColourings, all_of, newest_grid}
+use Rattle.board_past.specs.inner.Changes.{is_full}
 use Rattle.board_past.specs.declared.past.print_past.emptied.Emptied.{Emptied}
 use Rattle.board_past.specs.declared.past.print_past.emptied.OldRow.{OldRow}
 use Rattle.board_past.specs.declared.past.print_past.table.Table.{Table}
@@ -52,7 +54,15 @@ pub record IsLogged (held : List Held) (count : ℕ) (emptied : Emptied) : Type 
 abbrev pub IsEmptied : List Held → Emptied → Type 0
 IsEmptied held emptied = IsLogged held (length held) emptied
 
--- what a past keeps besides its colourings: the table by which they are looked up, and a set of rows that has each emptied point
-pub record IsPrintPast (colourings : PastColourings) (table : Table) (emptied : Emptied) : Type 0 where
+-- a stone may be played at once if there were fewer steps than this: the newest colouring is settled, the table has room, and no step is full
+pub record ArePlayedAtOnce (past : PastColourings) (table : Table) (below : ℕ) : Type 0 where
+  pub settled : 0 < below → has_unreaching (newest_grid past) ≡ false
+  pub asleep : 0 < below → below < table.room_asleep
+  pub not_full : (count : ℕ) → length past.older ≤ count → count < below → IsFalse (is_full count)
+
+-- what a past keeps besides its colourings: the table by which they are looked up, a set of rows that has each emptied point, and a number
+-- of steps below which a stone may be played at once
+pub record IsPrintPast (colourings : PastColourings) (table : Table) (emptied : Emptied) (below : ℕ) : Type 0 where
   pub tabled : IsTable (all_of colourings) table
   pub emptied_in : IsEmptied (all_of colourings) emptied
+  pub at_once : ArePlayedAtOnce colourings table below

@@ -25,7 +25,7 @@ mod powers;
 mod print;
 mod table;
 
-ghost use Rattle.std.specs.Prelude.{◌≡◌, ◌≢◌, ◌<◌, ◌↔◌, ◌∷◌, false, IsTrue, IfSome, IfNone, OnOk, OnErr, Contains, length, IsFalse};
+ghost use Rattle.std.specs.Prelude.{◌≡◌, ◌≢◌, ℕ, ◌<◌, ◌↔◌, ◌∷◌, false, IsTrue, IfSome, IfNone, OnOk, OnErr, Contains, length, IsFalse};
 ghost use Rattle.board_stones.specs.declared.stones.Cell.TheVariants.{Empty};
 ghost use Rattle.board_points.specs.declared.points.Point.{Point};
 ghost use Rattle.board_stones.specs.declared.stones.Colour.{Colour};
@@ -34,7 +34,7 @@ ghost use Rattle.board_stones.specs.Grid.{Grid, cell_at};
 ghost use Rattle.board_stones.specs.Clearing.{has_unreaching, play};
 ghost use Rattle.board_past.specs.Past.{all_of, newest_grid, with_next, present_stretch, HaveSide, PastColourings, IsPlayed};
 ghost use Rattle.board_past.specs.inner.Changes.{is_fresh, is_settled, IsFreshStone};
-ghost use Rattle.board_past.specs.inner.Emptied.{IsEmptied, IsPrintPast};
+ghost use Rattle.board_past.specs.inner.Emptied.{ArePlayedAtOnce, IsEmptied, IsPrintPast};
 ghost use Rattle.board_stones.specs.Move.{IsMove, IsEmptyOnSettled, Clears};
 ghost use Rattle.board_past.specs.inner.Print.{print_of, IsPrintedMove};
 ghost use Rattle.board_points.specs.Rows.{is_set};
@@ -67,6 +67,9 @@ pub struct PrintPast {
     table: Table,
     /// The points that were emptied. A stone that stays can bring a colouring back only on one of these.
     emptied: Emptied,
+    /// A stone may be played at once only if there were fewer steps than this. So one comparison tells that the newest colouring is settled,
+    /// that the table sleeps and has room, and that the next step isn't a full one.
+    at_once_below: usize,
 }
 
 impl Model for PrintPast {
@@ -74,16 +77,19 @@ impl Model for PrintPast {
 
     ghost view = { λ p. p.colourings };
 
-    ghost invariant = { λ p. IsPrintPast p.colourings p.table p.emptied };
+    ghost invariant = { λ p. IsPrintPast p.colourings p.table p.emptied p.at_once_below };
 }
 
 impl Past for PrintPast {
     ghost held = { λ past. past };
 
     fn new(alloc: Global, board: &Board) -> Result<PrintPast, MemoryFault> {
+        let colourings = Colourings::new(alloc, board)?;
+        let table = Table::new(alloc)?;
         Ok(PrintPast {
-            colourings: Colourings::new(alloc, board)?,
-            table: Table::new(alloc)?,
+            at_once_below: at_once_below(&colourings, &table),
+            colourings,
+            table,
             emptied: Emptied::new(alloc),
         })
     }
@@ -113,7 +119,7 @@ impl Past for PrintPast {
         if !newest.is_settled() {
             return self.play_on_copy(colour, point);
         }
-        let unseen = self.needs_more_than_a_point() || self.may_repeat(point, &[]);
+        let unseen = self.colourings.steps() >= self.at_once_below || self.may_repeat(point, &[]);
         if unseen && newest.clears_nothing_at_a_glance(colour, point) {
             return self.play_clearing(colour, point, &[]);
         }
@@ -123,17 +129,15 @@ impl Past for PrintPast {
     /// Plays most stones. A table that is awake needs prints, so it answers false then.
     #[inline(always)]
     fn play_at_once(&mut self, colour: Colour, point: Point) -> bool {
-        let newest = self.colourings.newest();
-        if !newest.is_settled() || self.needs_more_than_a_point() || self.may_repeat(point, &[]) {
+        if self.colourings.steps() >= self.at_once_below || self.may_repeat(point, &[]) {
             return false;
         }
+        let newest = self.colourings.newest();
         if !newest.clears_nothing_at_a_glance(colour, point) {
             return false;
         }
-        match self.play_new(colour, point, &[], Known::Fresh) {
-            Ok(played) => played,
-            Err(_) => false,
-        }
+        self.colourings.add_point(colour, point, Known::Fresh);
+        true
     }
 
     /// The same as the plain one; then the board is settled if that can be.
@@ -146,7 +150,7 @@ impl Past for PrintPast {
 
     /// Most steps put a stone, and no more.
     fn pop(&mut self) {
-        if self.table.is_awake() {
+        if self.at_once_below == 0 {
             return self.pop_in_full();
         }
         if !self.colourings.pop_point() {
@@ -160,6 +164,7 @@ impl Past for PrintPast {
         self.colourings.reset(board);
         self.table.reset();
         self.emptied.clear();
+        self.at_once_below = at_once_below(&self.colourings, &self.table);
         Ok(())
     }
 }
@@ -171,6 +176,7 @@ impl PrintPast {
         ensures { self.new ≡ self.old }
     {
         if self.colourings.stretch_start() + 1 < self.colourings.len() {
+            self.at_once_below = 0;
             self.table.wake(&self.colourings);
             self.table.link(&self.colourings);
         }
@@ -195,6 +201,7 @@ impl PrintPast {
         self.colourings.add(board, begins)?;
         self.emptied.add(&stones, number as u32);
         self.table.push(print, None);
+        self.at_once_below = at_once_below(&self.colourings, &self.table);
         Ok(())
     }
 
@@ -207,12 +214,7 @@ impl PrintPast {
         self.table.pop();
         self.colourings.pop();
         self.emptied.go_back(self.colourings.len() as u32);
-    }
-
-    /// Whether a stone that clears nothing needs memory, or has its print or a row kept. If not, its point alone is kept.
-    #[inline(always)]
-    fn needs_more_than_a_point(&self) -> bool {
-        !self.colourings.has_room_for_point() || !self.table.has_room_asleep(self.colourings.len())
+        self.at_once_below = at_once_below(&self.colourings, &self.table);
     }
 
     /// The same as `play`, on a settled board, for a stone that may capture or be suicide: a glance doesn't rule it out.
@@ -320,7 +322,7 @@ impl PrintPast {
         ensures { IsPlayed colour point self.old self.new result }
     {
         let print = print_if_awake(&self.table, &self.colourings, colour, point, cleared);
-        add_stone(
+        let added = add_stone(
             &mut self.colourings,
             &mut self.table,
             &mut self.emptied,
@@ -330,7 +332,11 @@ impl PrintPast {
             known,
             print,
             None,
-        )?;
+        );
+        if self.colourings.steps() >= self.at_once_below {
+            self.at_once_below = at_once_below(&self.colourings, &self.table);
+        }
+        added?;
         Ok(true)
     }
 
@@ -346,6 +352,7 @@ impl PrintPast {
         requires stone { IsMove (newest_grid self.old) colour point cleared.now }
         ensures { IsPlayed colour point self.old self.new result }
     {
+        self.at_once_below = 0;
         self.table.wake(&self.colourings);
         let newest = self.colourings.newest();
         newest.has_all_cells();
@@ -393,6 +400,17 @@ impl PrintPast {
         self.add(&made, false)?;
         Ok(true)
     }
+}
+
+/// A number of steps below which a stone may be played at once (`PrintPast::play_at_once`). It holds as long as stones are played.
+fn at_once_below(colourings: &Colourings, table: &Table) -> usize
+    ensures { ArePlayedAtOnce colourings.now table.now result }
+{
+    if !colourings.newest().is_settled() {
+        return 0;
+    }
+    let room = table.room_asleep().saturating_sub(1);
+    room.min(colourings.steps_before_full())
 }
 
 /// The print of the colouring that a stone makes; None if the table sleeps. `cleared` is what the stone clears.
@@ -445,6 +463,7 @@ fn add_stone(
     ensures ok { OnOk result (colourings.new ≡ with_next colourings.old (play (newest_grid colourings.old) colour point) false) }
     ensures err { OnErr result (colourings.new ≡ colourings.old) }
     ensures table { IsTable (all_of colourings.new) table.new }
+    ensures at_once { (below : ℕ) → ArePlayedAtOnce colourings.old table.old below → ArePlayedAtOnce colourings.new table.new below }
     ensures emptied { IsEmptied (all_of colourings.new) emptied.new }
 {
     colourings.newest().has_all_cells();

@@ -38,7 +38,7 @@ pub(crate) struct Older {
     pub stretch_start: u32,
     /// The point of the stone that was played; any point if the step played none.
     pub point: Point,
-    /// Whether that point is all that is kept: the step put the stone, changed nothing else, and isn't one that keeps all rows.
+    /// Whether that point is all that is kept: the step put the stone on a settled board, changed nothing else, and isn't a full one.
     pub alone: bool,
     /// What is known of the older colouring.
     pub known: Known,

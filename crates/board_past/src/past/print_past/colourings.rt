@@ -1,7 +1,7 @@
 //! Past colourings. The newest is kept whole. Of an older one, only what leads back to it from the colouring after it is kept: mostly the
 //! point of a stone.
 
-ghost use Rattle.std.specs.Prelude.{◌≡◌, ◌+◌, ◌-◌, ◌*◌, ◌^◌, ◌<◌, ◌≤◌, ◌↔◌, ◌∷◌, [], false, IsFalse, IsTrue, IfOk, IfSome, Contains, MatchOption, OnOk, OnErr, length, replicate, ◌==◌, reverse};
+ghost use Rattle.std.specs.Prelude.{◌≡◌, ℕ, ◌+◌, ◌-◌, ◌*◌, ◌^◌, ◌<◌, ◌≤◌, ◌↔◌, ◌∷◌, [], false, IsFalse, IsTrue, IfOk, IfSome, Contains, MatchOption, OnOk, OnErr, length, replicate, ◌==◌, reverse};
 ghost use Rattle.std.specs.Vec.{vec_capacity};
 ghost use Rattle.board_stones.specs.Clearing.{has_unreaching, play};
 ghost use Rattle.board_past.specs.Past.{all_of, newest_grid, only, present_stretch, with_next, PastColourings};
@@ -263,7 +263,7 @@ impl Colourings {
     {
         self.newest.has_all_cells();
         board.has_all_cells();
-        make_room(&mut self.older, &mut self.changes, true)?;
+        make_room(&mut self.older, &mut self.changes)?;
         let kept = Older {
             start: self.changes.len() as u32,
             stretch_start: self.stretch_start as u32,
@@ -284,10 +284,19 @@ impl Colourings {
         Ok(())
     }
 
-    /// Whether the next step keeps rows only if it changes more than a point. Then there is room for one more older colouring, too.
-    #[inline(always)]
-    pub(crate) fn has_room_for_point(&self) -> bool {
-        !is_full(self.older.len())
+    /// The number of steps, each from a colouring to the next.
+    pub(crate) fn steps(&self) -> usize
+        ensures { result ≡ length self.now.older }
+    {
+        self.older.len()
+    }
+
+    /// How many steps there are before the next full one. They keep the point of a stone alone, and there is room for them.
+    pub(crate) fn steps_before_full(&self) -> usize
+        ensures { (count : ℕ) → length self.now.older ≤ count → count < result → IsFalse (is_full count) }
+    {
+        let count = self.older.len();
+        count - count % FULL + (FULL - 1)
     }
 
     /// What a stone on an empty point clears, by capture or else by suicide (`Board::find_cleared`); None if that is nothing. The rows
@@ -331,22 +340,47 @@ impl Colourings {
         ensures err { OnErr result (self.new ≡ self.old) }
     {
         self.newest.has_all_cells();
-        let all = is_full(self.older.len());
-        let alone = cleared.is_empty() && !all;
-        make_room(&mut self.older, &mut self.changes, !alone)?;
+        let full = is_full(self.older.len());
+        if cleared.is_empty() && known.is_settled() && !full {
+            self.add_point(colour, point, known);
+            return Ok(());
+        }
+        make_room(&mut self.older, &mut self.changes)?;
         let kept = Older {
             start: self.changes.len() as u32,
             stretch_start: self.stretch_start as u32,
             point,
-            alone,
+            alone: false,
             known,
         };
-        if !alone {
-            keep_played(&self.newest, point, cleared, all, &mut self.changes);
-        }
+        keep_played(&self.newest, point, cleared, full, &mut self.changes);
         self.newest.place_and_clear(colour, point, cleared);
         self.older.push_reserved(kept);
         Ok(())
+    }
+
+    /// Adds the colouring that a stone makes that clears nothing, and keeps its point alone. The newest colouring must be settled, and the
+    /// next step must not be a full one. `known` is as in `add_stone`. This takes no memory.
+    #[inline(always)]
+    pub(crate) fn add_point(&mut self, colour: Colour, point: Point, known: Known)
+        requires stone { IsMove (newest_grid self.old) colour point [] }
+        requires known { IsTrue (is_settled known) }
+        requires settled { has_unreaching (newest_grid self.old) ≡ false }
+        requires fresh { IsTrue (is_fresh known) → IsFreshStone (with_next self.old (play (newest_grid self.old) colour point) false) point }
+        requires few { length (all_of self.old) ≤ MOST }
+        requires not_full { IsFalse (is_full (length self.old.older)) }
+        ensures { self.new ≡ with_next self.old (play (newest_grid self.old) colour point) false }
+    {
+        self.newest.has_all_cells();
+        let kept = Older {
+            start: self.changes.len() as u32,
+            stretch_start: self.stretch_start as u32,
+            point,
+            alone: true,
+            known,
+        };
+        self.newest.place_and_clear(colour, point, &[]);
+        self.older.push_reserved(kept);
     }
 
     /// Takes back the newest colouring.
@@ -368,6 +402,8 @@ impl Colourings {
     pub(crate) fn pop_point(&mut self) -> bool
         requires { 0 < length self.old.older }
         ensures taken_back { IsTrue result → self.old.older ≡ self.new.newest ∷ self.new.older }
+        ensures settled { IsTrue result → has_unreaching (newest_grid self.new) ≡ false }
+        ensures not_full { IsTrue result → IsFalse (is_full (length self.new.older)) }
         ensures unchanged { IsFalse result → self.new ≡ self.old }
     {
         let kept = *self.older.last().unwrap();
@@ -376,8 +412,7 @@ impl Colourings {
         }
         let _ = self.older.pop();
         self.newest.set(kept.point, Cell::Empty);
-        self.newest.set_settled(kept.known.is_settled());
-        self.stretch_start = kept.stretch_start as usize;
+        self.newest.set_settled(true);
         true
     }
 
@@ -392,30 +427,22 @@ impl Colourings {
     }
 }
 
-/// Makes room for the older colourings up to the next full step, if this step is one, and if `rows` is true, for all rows of a colouring. There
-/// are at most `MOST` rows.
-#[inline(always)]
-fn make_room(
-    older: &mut Vec<Older>,
-    changes: &mut Vec<Change>,
-    rows: bool,
-) -> Result<(), MemoryFault>
+/// Makes room for the older colourings up to the next full step, if this step is one, and for all rows of a colouring. There are at most
+/// `MOST` rows.
+fn make_room(older: &mut Vec<Older>, changes: &mut Vec<Change>) -> Result<(), MemoryFault>
     requires { HasRoom (length older.old.items) (vec_capacity older.old) }
     ensures items { older.new.items ≡ older.old.items }
     ensures kept { HasRoom (length older.new.items) (vec_capacity older.new) }
     ensures next { OnOk result (HasRoom (length older.new.items + 1) (vec_capacity older.new)) }
     ensures ok { OnOk result (length older.new.items < vec_capacity older.new) }
     ensures changes { changes.new.items ≡ changes.old.items }
-    ensures rows { OnOk result (IsTrue rows → length changes.new.items + MAX_ROWS ≤ vec_capacity changes.new) }
-    ensures few_rows { OnOk result (IsTrue rows → length changes.new.items + MAX_ROWS ≤ MOST) }
+    ensures rows { OnOk result (length changes.new.items + MAX_ROWS ≤ vec_capacity changes.new) }
+    ensures few_rows { OnOk result (length changes.new.items + MAX_ROWS ≤ MOST) }
 {
     if is_full(older.len()) {
         older.reserve(FULL)?;
     }
-    if rows {
-        make_room_for_rows(changes)?;
-    }
-    Ok(())
+    make_room_for_rows(changes)
 }
 
 /// Makes room for all rows of a colouring. There are at most `MOST` changes.

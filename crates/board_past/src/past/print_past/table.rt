@@ -131,12 +131,11 @@ impl Table {
         self.room_asleep = 0;
     }
 
-    /// Whether the table sleeps, and has room for one more colouring; `count` is how many there are.
-    #[inline(always)]
-    pub(crate) fn has_room_asleep(&self, count: usize) -> bool
-        ensures { IsTrue result ↔ count < self.now.room_asleep }
+    /// How many colourings a table that sleeps has room for; 0 if it is awake.
+    pub(crate) fn room_asleep(&self) -> usize
+        ensures { result ≡ self.now.room_asleep }
     {
-        count < self.room_asleep
+        self.room_asleep
     }
 
     /// Makes room for one more colouring than these; `count` is how many there are.
@@ -147,9 +146,10 @@ impl Table {
         ensures awake { (held : List Held) → IsAwakeTable held self.old → IsAwakeTable held self.new }
         ensures trie { nodes_of self.new.trie ≡ nodes_of self.old.trie }
         ensures hashed { self.new.hashed ≡ self.old.hashed }
+        ensures room { self.old.room_asleep ≤ self.new.room_asleep }
         ensures ok { (held : List Held) → count ≡ length held → OnOk result (HasRoomForNext held self.new) }
     {
-        if self.has_room_asleep(count) {
+        if count < self.room_asleep {
             return Ok(());
         }
         self.grow(count)?;
@@ -184,8 +184,9 @@ impl Table {
     pub(crate) fn push(&mut self, print: Option<u64>, gap: Option<Gap>)
         requires table { (held : List Held) × (next : Held) × IsPrintOfNext held self.old next print
             × IfSome gap (IsGap held self.old next) × HasRoomForNext held self.old }
-        ensures { (held : List Held) (next : Held) → IsPrintOfNext held self.old next print → IfSome gap (IsGap held self.old next)
+        ensures table { (held : List Held) (next : Held) → IsPrintOfNext held self.old next print → IfSome gap (IsGap held self.old next)
             → HasRoomForNext held self.old → IsTable (next ∷ held) self.new }
+        ensures room { self.new.room_asleep ≡ self.old.room_asleep }
     {
         let Some(print) = print else {
             return;

@@ -1,6 +1,7 @@
 use Rattle.std.proofs.Common.{false, arith}
-use Rattle.board_past.proofs.Common.{Point, Colour, play, Held, PastColourings, all_of, newest_grid}
+use Rattle.board_past.proofs.Common.{Point, Colour, play, Held, PastColourings, all_of, newest_grid, with_next}
 use Rattle.board_past.proofs.RepeatLemmas.{emptied_by_play}
+use Rattle.board_past.proofs.AtOnceLemmas.{at_once_more, at_once_same}
 use Rattle.board_past.proofs.TableLemmas.{few_all, gap_same, print_same, table_same}
 use Rattle.board_past.proofs.past.print_past.add_stone.Goals as goal
 use Rattle.board_past.proofs.past.print_past.add_stone.Goals.{In_ok-reserve-2}
@@ -24,7 +25,7 @@ returns-clause-table c =
     let held = all_of was in
     let next = next_of was c.args.colour c.args.point in
     rw c.in_ok-add_stone.ensures.ok
-    (c.push.ensures held next
+    (c.push.ensures.table held next
     (print_same held c.args.table.now c.reserve-2.new.self (c.reserve-2.ensures.asleep held) (c.reserve-2.ensures.awake held) next c.args.print c.requires.print)
     (gap_same held c.args.table.now c.reserve-2.new.self next c.args.gap c.reserve-2.ensures.trie c.reserve-2.ensures.hashed c.requires.gap)
     (c.in_ok-reserve-2.ensures.ok held c.len-number.ensures))
@@ -55,3 +56,16 @@ returns-clause-emptied c =
     rw c.in_ok-add_stone.ensures.ok
     (c.add.ensures.emptied (next_of was k p) was.newest was.older (c.reserve.ensures.emptied (all_of was) c.requires.emptied) c.len-number.ensures
     (λ goes_on. emptied_by_play (newest_grid was) k p c.args.cleared.now c.requires.stone))
+
+pub returns-in_err-reserve-2-clause-at_once : goal.returns-in_err-reserve-2-clause-at_once
+returns-in_err-reserve-2-clause-at_once c = λ below is. at_once_same c.args.colourings.now c.args.table.now c.reserve-2.new.self below c.reserve-2.ensures.room is
+
+pub returns-in_err-add_stone-clause-at_once : goal.returns-in_err-add_stone-clause-at_once
+returns-in_err-add_stone-clause-at_once c = λ below is. rw c.in_err-add_stone.ensures.err (at_once_same c.args.colourings.now c.args.table.now c.reserve-2.new.self below c.reserve-2.ensures.room is)
+
+pub returns-clause-at_once : goal.returns-clause-at_once
+returns-clause-at_once c = λ below is.
+    let was = c.args.colourings.now in
+    rw c.in_ok-add_stone.ensures.ok
+    (at_once_same (with_next was (play (newest_grid was) c.args.colour c.args.point) false) c.args.table.now c.push.new.self below (omega (arith, c.push.ensures.room, c.reserve-2.ensures.room))
+    (at_once_more was c.args.table.now below c.args.colour c.args.point is))

@@ -1,5 +1,6 @@
 use Rattle.std.proofs.Common.{◌≡◌, ◌≢◌, true, subst, arith}
 use Rattle.board_past.proofs.Common.{Fits-of_lt, Point, IsOn, is_set, Empty, Grid, cell_at, Held, all_of, IsPrintOfNext}
+use Rattle.board_past.proofs.AtOnceLemmas.{at_once_same}
 use Rattle.board_past.proofs.TableLemmas.{few_all, print_same, table_same}
 use Rattle.board_past.proofs.past.print_past.PrintPast.add.Goals as goal
 use Rattle.board_past.proofs.past.print_past.PrintPast.add.Goals.{After-add_stones, then-is_awake, else-is_awake}
@@ -22,6 +23,7 @@ invariant_of-self-in_err-reserve-2 c =
     record {
       tabled = table_same held c.self.inside.table c.reserve-2.new.self (c.reserve-2.ensures.asleep held) (c.reserve-2.ensures.awake held) c.self.invariant.tabled;
       emptied_in = c.reserve.ensures.emptied held c.self.invariant.emptied_in;
+      at_once = at_once_same c.self.inside.colourings c.self.inside.table c.reserve-2.new.self c.self.inside.at_once_below c.reserve-2.ensures.room c.self.invariant.at_once;
     }
 
 pub invariant_of-self-in_err-add : goal.invariant_of-self-in_err-add
@@ -30,6 +32,7 @@ invariant_of-self-in_err-add c =
     rw c.in_err-add.ensures.err (record {
       tabled = table_same held c.self.inside.table c.reserve-2.new.self (c.reserve-2.ensures.asleep held) (c.reserve-2.ensures.awake held) c.self.invariant.tabled;
       emptied_in = c.reserve.ensures.emptied held c.self.invariant.emptied_in;
+      at_once = at_once_same c.self.inside.colourings c.self.inside.table c.reserve-2.new.self c.self.inside.at_once_below c.reserve-2.ensures.room c.self.invariant.at_once;
     })
 
 pub overflow_cast-number : goal.overflow_cast-number
@@ -52,6 +55,7 @@ invariant_of-self-2 c =
     let next = next_of w in
     let stones = subst (λ (g : Grid). (q : Point) → IsOn g.side q → cell_at g q ≢ Empty → is_set c.add_stones.new.all q ≡ true) c.newest.ensures c.add_stones.ensures.stones in
     rw c.in_ok-add.ensures.ok (record {
-      tabled = c.push.ensures held next (print_same held c.self.inside.table c.reserve-2.new.self (c.reserve-2.ensures.asleep held) (c.reserve-2.ensures.awake held) next c.if-is_awake.print (given w)) tt (c.in_ok-reserve-2.ensures.ok held c.len-number.ensures);
+      tabled = c.push.ensures.table held next (print_same held c.self.inside.table c.reserve-2.new.self (c.reserve-2.ensures.asleep held) (c.reserve-2.ensures.awake held) next c.if-is_awake.print (given w)) tt (c.in_ok-reserve-2.ensures.ok held c.len-number.ensures);
       emptied_in = c.add-2.ensures.emptied next was.newest was.older (c.reserve.ensures.emptied held c.self.invariant.emptied_in) c.len-number.ensures (λ goes_on q on some free. stones q on some);
+      at_once = rw c.in_ok-add.ensures.ok at c.at_once_below-self-inside.ensures;
     })

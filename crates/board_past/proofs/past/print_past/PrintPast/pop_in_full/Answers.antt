@@ -11,4 +11,5 @@ invariant_of-self c =
     record {
       tabled = table;
       emptied_in = c.go_back.ensures newest left (subst (λ (held : List Held). IsEmptied (newest ∷ held) was.emptied) c.pop-2.ensures c.self.invariant.emptied_in) c.len.ensures;
+      at_once = c.at_once_below-self-inside.ensures;
     }

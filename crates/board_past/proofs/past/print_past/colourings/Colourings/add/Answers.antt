@@ -29,7 +29,7 @@ next c =
     rw c.copy-self-inside.ensures
     (grown was.newest board was.stretch_start c.if-begins.stretch_start was.older.items c.push_reserved.new.self.items kept was.changes.items c.keep_rows.new.changes.items c.is_full-all.result c.args.begins c.args.self.now
     c.self.view_is c.self.invariant.0 c.has_all_cells.ensures.all side c.has_all_cells-2.ensures.all rows older follows refl start refl
-    (λ is. c.is_settled.ensures (c.new.ensures.settled is)) (λ is. absurd (false≢true (c.new.ensures.fresh is))) (c.is_full-all.ensures ∙ ap is_full count) (room_for_all c.in_ok-make_room.ensures.changes (c.in_ok-make_room.ensures.few_rows refl) c.has_all_cells.ensures.few))
+    (λ is. c.is_settled.ensures (c.new.ensures.settled is)) (λ is. absurd (false≢true (c.new.ensures.fresh is))) (c.is_full-all.ensures ∙ ap is_full count) (room_for_all c.in_ok-make_room.ensures.changes c.in_ok-make_room.ensures.few_rows c.has_all_cells.ensures.few))
 
 pub invariant_of-self-2 : goal.invariant_of-self-2
 invariant_of-self-2 c =

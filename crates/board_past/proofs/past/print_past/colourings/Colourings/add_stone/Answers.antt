@@ -1,10 +1,16 @@
-use Rattle.std.proofs.Common.{◌≡◌, ◌+◌, Bool, not, ◌++◌, [], ◌∷◌, false, true, length, reverse, refl, ap, sym, subst, ◌∙◌, ◌<◌, IsTrue, arith, rules, vec_capacity, eqb-true}
-use Rattle.board_past.proofs.Common.{Fits-of_lt, false≢true, has_unreaching, play, IsMove, Older, PastColourings, newest_grid, with_next, is_full, is_fresh, is_settled, IsFreshStone, IsPast, KeepRows}
-use Rattle.board_past.proofs.ChangesLemmas.{alone_back, play_cells}
-use Rattle.board_past.proofs.ColouringsLemmas.{count-all, started-below, past_held, room_for_all, grown, grown_alone}
+use Rattle.std.proofs.Common.{◌≡◌, ◌+◌, ◌++◌, [], ◌∷◌, false, length, reverse, refl, ap, sym, subst, ◌∙◌, ◌<◌, IsTrue, arith, rules}
+use Rattle.board_past.proofs.Common.{Fits-of_lt, has_unreaching, play, IsMove, Older, PastColourings, newest_grid, with_next, is_full, is_fresh, is_settled, IsFreshStone, IsPast, KeepRows}
+use Rattle.board_past.proofs.ChangesLemmas.{play_cells}
+use Rattle.board_past.proofs.ColouringsLemmas.{count-all, started-below, past_held, room_for_all, grown}
 use Rattle.board_stones.proofs.SettledLemmas.{side_play}
 use Rattle.board_past.proofs.past.print_past.colourings.Colourings.add_stone.Goals as goal
-use Rattle.board_past.proofs.past.print_past.colourings.Colourings.add_stone.Goals.{After-push_reserved, then-is_empty, else-is_empty, then-not-alone, else-not-alone}
+use Rattle.board_past.proofs.past.print_past.colourings.Colourings.add_stone.Goals.{After-push_reserved}
+
+pub add_point-requires-clause-not_full : goal.add_point-requires-clause-not_full
+add_point-requires-clause-not_full c =
+    let was = c.self.inside in
+    let count : c.len.result ≡ length c.args.self.now.older = omega (arith, c.len.ensures, count-all was.newest was.stretch_start was.older.items was.changes.items c.args.self.now c.self.view_is) in
+    ap is_full (sym count) ∙ sym c.is_full-full.ensures ∙ c.if-not-full.true
 
 pub overflow_cast-kept-2 : goal.overflow_cast-kept-2
 overflow_cast-kept-2 c =
@@ -12,61 +18,32 @@ overflow_cast-kept-2 c =
     let few : length was.older.items < 4294967295 = omega (arith, c.requires.few, count-all was.newest was.stretch_start was.older.items was.changes.items c.args.self.now c.self.view_is) in
     Fits-of_lt (omega (arith, started-below was.older.items was.older.items was.stretch_start 4294967295 refl few c.self.invariant.0.started))
 
-not_true : (b : Bool) → not b ≡ true → b ≡ false
-not_true true e = sym e
-not_true false e = refl
-
--- a stone is alone only if nothing is cleared, and if not all rows are kept
-is_alone : (c : After-push_reserved) → c.if-is_empty.alone ≡ true → (length c.args.cleared.now ≡ 0) × (c.is_full-all.result ≡ false)
-is_alone c alone = elim c.if-is_empty.branch [
-  | then-is_empty w ↦ (eqb-true _ _ (sym c.is_empty.ensures ∙ w.if-is_empty.true), not_true _ (sym w.alone-is ∙ alone))
-  | else-is_empty w ↦ absurd (false≢true (sym w.if-is_empty.false ∙ sym w.alone-is ∙ alone))
-]
-
 -- what is kept, and what it tells
-next : (c : After-push_reserved) → IsPast c.place_and_clear.new.self c.if-not-alone.self-inside.stretch_start c.push_reserved.new.self.items c.if-not-alone.self-inside.changes.items
-    × (past_held c.place_and_clear.new.self c.if-not-alone.self-inside.stretch_start (reverse c.push_reserved.new.self.items) c.if-not-alone.self-inside.changes.items ≡ with_next c.args.self.now (play (newest_grid c.args.self.now) c.args.colour c.args.point) false)
+next : (c : After-push_reserved) → IsPast c.place_and_clear.new.self c.self.inside.stretch_start c.push_reserved.new.self.items c.keep_played.new.changes.items
+    × (past_held c.place_and_clear.new.self c.self.inside.stretch_start (reverse c.push_reserved.new.self.items) c.keep_played.new.changes.items ≡ with_next c.args.self.now (play (newest_grid c.args.self.now) c.args.colour c.args.point) false)
 next c =
     let was = c.self.inside in
     let k = c.args.colour in
     let p = c.args.point in
     let made = play was.newest k p in
-    let kept : Older = record { start = c.len-2.result; stretch_start = was.stretch_start; point = p; alone = c.if-is_empty.alone; known = c.args.known } in
+    let kept : Older = record { start = c.len-2.result; stretch_start = was.stretch_start; point = p; alone = false; known = c.args.known } in
     let move = subst (λ (past : PastColourings). IsMove (newest_grid past) k p c.args.cleared.now) (sym c.self.view_is) c.requires.stone in
     let fresh : IsTrue (is_fresh kept.known) → IsFreshStone (with_next (past_held was.newest was.stretch_start (reverse was.older.items) was.changes.items) made false) p = λ is. subst (λ (past : PastColourings). IsFreshStone (with_next past (play (newest_grid past) k p) false) p) (sym c.self.view_is) (c.requires.fresh is) in
     let start : c.len-2.result ≡ length was.changes.items = search rules in
     let count : c.len.result ≡ length was.older.items = search rules in
-    let full = c.is_full-all.ensures ∙ ap is_full count in
     let cells = c.has_all_cells.ensures.all in
     let settled : IsTrue (is_settled kept.known) → has_unreaching was.newest ≡ false = λ is. ap (λ (past : PastColourings). has_unreaching (newest_grid past)) c.self.view_is ∙ c.requires.settled is in
-    rw (← c.self.view_is) (elim c.if-not-alone.branch [
-      | then-not-alone w ↦
-          let rows : KeepRows was.newest made c.is_full-all.result was.newest.side was.changes.items w.keep_played.new.changes.items =
-          rw c.in_ok-make_room.ensures.changes at w.keep_played.ensures k move in
-          let older : c.push_reserved.new.self.items ≡ was.older.items ++ kept ∷ [] = search rules in
-          let board : c.place_and_clear.new.self ≡ made = rw w.self-inside-is at c.place_and_clear.ensures in
-          rw (board, w.self-inside-is)
-          (grown was.newest made was.stretch_start was.stretch_start was.older.items c.push_reserved.new.self.items kept was.changes.items w.keep_played.new.changes.items c.is_full-all.result false _
-          refl c.self.invariant.0 cells (side_play was.newest k p) (play_cells was.newest k p c.args.cleared.now cells move.cleared) rows older refl refl start w.if-not-alone.true
-          settled fresh full (room_for_all c.in_ok-make_room.ensures.changes (c.in_ok-make_room.ensures.few_rows (ap not w.if-not-alone.true)) c.has_all_cells.ensures.few))
-      | else-not-alone w ↦
-          let alone = is_alone c w.if-not-alone.false in
-          let older : c.push_reserved.new.self.items ≡ was.older.items ++ kept ∷ [] = search rules in
-          let board : c.place_and_clear.new.self ≡ made = rw w.self-inside-is at c.place_and_clear.ensures in
-          rw (board, w.self-inside-is, c.in_ok-make_room.ensures.changes)
-          (grown_alone was.newest made was.stretch_start was.older.items c.push_reserved.new.self.items kept was.changes.items _
-          refl c.self.invariant.0 (side_play was.newest k p) move.on_board (alone_back was.newest k p c.args.cleared.now cells move alone.0)
-          older refl start w.if-not-alone.false settled fresh (sym full ∙ alone.1))
-    ])
+    let rows : KeepRows was.newest made c.is_full-full.result was.newest.side was.changes.items c.keep_played.new.changes.items = rw c.in_ok-make_room.ensures.changes at c.keep_played.ensures k move in
+    let older : c.push_reserved.new.self.items ≡ was.older.items ++ kept ∷ [] = search rules in
+    rw (← c.self.view_is, c.place_and_clear.ensures)
+    (grown was.newest made was.stretch_start was.stretch_start was.older.items c.push_reserved.new.self.items kept was.changes.items c.keep_played.new.changes.items c.is_full-full.result false _
+    refl c.self.invariant.0 cells (side_play was.newest k p) (play_cells was.newest k p c.args.cleared.now cells move.cleared) rows older refl refl start refl
+    settled fresh (c.is_full-full.ensures ∙ ap is_full count) (room_for_all c.in_ok-make_room.ensures.changes (c.in_ok-make_room.ensures.few_rows) c.has_all_cells.ensures.few))
 
 pub invariant_of-self-2 : goal.invariant_of-self-2
 invariant_of-self-2 c =
-    let room = elim c.if-not-alone.branch as (λ _. vec_capacity c.if-not-alone.self-inside.older ≡ vec_capacity c.make_room.new.older) [
-      | then-not-alone w ↦ rw w.self-inside-is refl
-      | else-not-alone w ↦ rw w.self-inside-is refl
-    ] in
     let count : length c.push_reserved.new.self.items ≡ length c.make_room.new.older.items + 1 = search rules in
-    ((next (goal.at.invariant_of-self-2 c).After-push_reserved).0, omega (arith, count, room, c.push_reserved.ensures.capacity, c.in_ok-make_room.ensures.next))
+    ((next (goal.at.invariant_of-self-2 c).After-push_reserved).0, omega (arith, count, c.push_reserved.ensures.capacity, c.in_ok-make_room.ensures.next))
 
 pub returns-clause-ok : goal.returns-clause-ok
 returns-clause-ok c = (next (goal.at.returns-clause-ok c).After-push_reserved).1

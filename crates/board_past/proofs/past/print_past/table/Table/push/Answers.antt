@@ -4,20 +4,20 @@ use Rattle.board_past.proofs.TableLemmas.{at_number, hashes_more, linked_before,
 use Rattle.board_past.proofs.NumberLemmas.{at-newest}
 use Rattle.board_past.proofs.past.print_past.table.Table.push.Goals as goal
 
-pub returns-in_default : goal.returns-in_default
-returns-in_default c = λ held next given some room.
+pub returns-in_default-clause-table : goal.returns-in_default-clause-table
+returns-in_default-clause-table c = λ held next given some room.
     inl (asleep_more held c.args.self.now next (rw c.in_default.is at given.asleep) room)
 
-pub returns-in_default-gap : goal.returns-in_default-gap
-returns-in_default-gap c = λ held next given some room.
+pub returns-in_default-gap-clause-table : goal.returns-in_default-gap-clause-table
+returns-in_default-gap-clause-table c = λ held next given some room.
     let t = c.args.self.now in
     let awake = rw c.in-Some.is at given.awake in
     let is = awake.0 in
     inr (tabled_more held t (record t { prints = c.push_reserved.new.self }) next c.in-Some.print is awake.1 c.push_reserved.ensures.items refl (omega (arith, room.trie, tabled held t is)) is.most (omega (arith, is.few))
     (linked_before t.hashed next held t.trie (omega (arith, is.few, tabled held t is)) is.linked) (hashes_more next held t.hashes is.kept))
 
-pub returns : goal.returns
-returns c = λ held next given some room.
+pub returns-clause-table : goal.returns-clause-table
+returns-clause-table c = λ held next given some room.
     let t = c.args.self.now in
     let awake = rw c.in-Some.is at given.awake in
     let is = awake.0 in

@@ -1,0 +1,56 @@
+-- Below which number of steps a stone may be played at once.
+use Rattle.std.proofs.Common.{◌≡◌, ℕ, suc, ◌<◌, ◌≤◌, [], ◌∷◌, List, false, length, inl, inr, sym, ap, ◌∙◌, arith}
+use Rattle.board_past.proofs.Common.{cases_eq, false≢true, Point, is_set, Colour, has_unreaching, play, IsMove, Emptied, Table, Held, PastColourings, all_of, newest_grid, with_next, is_full, ArePlayedAtOnce, IsAsleepTable, IsEmptied, IsTable, HasAllEmptied}
+use Rattle.board_past.proofs.EmptiedLemmas.{history_all, logged_more, logged_next}
+use Rattle.board_past.proofs.RepeatLemmas.{emptied_by_play}
+use Rattle.board_past.proofs.TableLemmas.{asleep_more}
+use Rattle.board_points.proofs.WordLemmas.{has_bit-zero}
+use Rattle.board_stones.proofs.SettledLemmas.{settled_by_play}
+
+-- a table that has room while it sleeps is asleep
+pub asleep_if_room : (held : List Held) (table : Table) (below : ℕ) → IsTable held table → 0 < below → (0 < below → below < table.room_asleep) → IsAsleepTable held table
+asleep_if_room held table below (inl is) some room = is
+asleep_if_room held table below (inr is) some room = absurd (omega (arith, some, room some, is.awake))
+
+-- with more room, and as many colourings, the number holds still
+pub at_once_same : (past : PastColourings) (old new : Table) (below : ℕ) → old.room_asleep ≤ new.room_asleep → ArePlayedAtOnce past old below → ArePlayedAtOnce past new below
+at_once_same past old new below more is = record { settled = is.settled; asleep = λ some. omega (arith, more, is.asleep some); not_full = is.not_full }
+
+-- none is played at once
+pub at_once_none : (past : PastColourings) (table : Table) (below : ℕ) → below ≡ 0 → ArePlayedAtOnce past table below
+at_once_none past table below none = record { settled = λ some. absurd (omega (arith, none, some)); asleep = λ some. absurd (omega (arith, none, some)); not_full = λ count from low. absurd (omega (arith, none, low)) }
+
+-- a stone that is played: the number holds still
+pub at_once_more : (was : PastColourings) (table : Table) (below : ℕ) (k : Colour) (p : Point) → ArePlayedAtOnce was table below → ArePlayedAtOnce (with_next was (play (newest_grid was) k p) false) table below
+at_once_more was table below k p is = record { settled = λ _. settled_by_play (newest_grid was) k p; asleep = is.asleep; not_full = λ count from few. is.not_full count (omega (arith, from)) few }
+
+-- The stone that is played at once: what is kept beside the colourings.
+module _ (was : PastColourings) (table : Table) (emptied : Emptied) (below : ℕ) (k : Colour) (p : Point) (low : length was.older < below) (is : ArePlayedAtOnce was table below) where
+  pub tabled_more_at_once : (next : Held) → IsTable (all_of was) table → IsTable (next ∷ all_of was) table
+  tabled_more_at_once next tabled =
+      let some : 0 < below = omega (arith, low) in
+      let room = is.asleep some in
+      let asleep = asleep_if_room (all_of was) table below tabled some is.asleep in
+      inl (asleep_more (all_of was) table next asleep (record {
+        prints = omega (arith, low, room, asleep.prints_room);
+        trie = omega (arith, low, room, asleep.room);
+        asleep = λ _. omega (arith, low, room);
+      }))
+
+  pub emptied_more_at_once : IsMove (newest_grid was) k p [] → IsEmptied (all_of was) emptied → IsEmptied (all_of (with_next was (play (newest_grid was) k p) false)) emptied
+  emptied_more_at_once move has =
+      let next : Held = record { colouring = play (newest_grid was) k p; begins = false } in
+      let all : HasAllEmptied (is_set emptied.rows) (next ∷ all_of was) =
+      ((λ _ q on some free. absurd (false≢true (sym (has_bit-zero q.col) ∙ emptied_by_play (newest_grid was) k p [] move q on some free))), history_all emptied.rows _ (all_of was) has.history) in
+      logged_next (all_of was) next emptied all (logged_more (all_of was) emptied has)
+
+-- A lone stone that is taken back: the number holds still.
+pub at_once_less : (was now : PastColourings) (table : Table) (below : ℕ) → length was.older ≡ suc (length now.older) → has_unreaching (newest_grid now) ≡ false → is_full (length now.older) ≡ false → ArePlayedAtOnce was table below → ArePlayedAtOnce now table below
+at_once_less was now table below one settled step is = record {
+  settled = λ _. settled;
+  asleep = is.asleep;
+  not_full = λ count from few. elim (cases_eq count (length now.older)) [
+    | inl newest ↦ ap is_full newest ∙ step
+    | inr later ↦ is.not_full count (omega (arith, one, from, later)) few
+  ];
+}
