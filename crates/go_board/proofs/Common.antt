@@ -11,4 +11,4 @@ pub use Rattle.go_board.specs.declared.referee.Earlier.{Earlier}
 pub use Rattle.go_board.specs.declared.referee.plays.Play.TheVariants.{Stone}
 pub use Rattle.go_board.specs.Reason.{Forbids, is_occupied, is_repeat, IsFirstReason, must_move, rank_of, reason_of, same_grid}
 pub use Rattle.go_board.specs.State.{begun, HadSameBoardSince, is_over, set_up, starting, State, States}
-pub use Rattle.go_board.specs.inner.Earlier.{grew, IsRefereeKept, MayOnlyRepeat, past_before, past_of_older, player_of, state_of, states_before, states_of, turn_count, turns_before}
+pub use Rattle.go_board.specs.inner.Earlier.{grew, IsRefereeKept, MayOnlyRepeat, past_before, past_of_older, state_of, states_before, states_of, turn_count, turns_before}

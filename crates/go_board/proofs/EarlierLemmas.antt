@@ -1,10 +1,10 @@
 -- A referee has as many earlier states as it keeps something of.
-use Rattle.std.proofs.Common.{◌≡◌, ℕ, suc, ◌+◌, ◌-◌, ◌<◌, ◌≤◌, get_or, Bool, true, false, cond, Option, Some, List, [], ◌∷◌, ◌++◌, length, length-append, reverse, refl, sym, ap, subst, ◌∙◌, arith}
+use Rattle.std.proofs.Common.{◌≡◌, ℕ, suc, ◌+◌, ◌-◌, ◌<◌, ◌≤◌, get_or, Bool, true, false, cond, List, [], ◌∷◌, ◌++◌, length, length-append, reverse, refl, sym, ap, subst, ◌∙◌, arith}
 use Rattle.std.specs.Int.{from_bool}
-use Rattle.go_board.proofs.Common.{get_or-reverse, length-reverse, reverse-append, Colour, Grid, empty_grid, Held, PastColourings, newest_grid, only, with_next, AllHaveSide, HaveSide, Earlier, State, HadSameBoardSince, begun, starting, grew, player_of, past_before, past_of_older, states_before, turns_before, turn_count, state_of, states_of, IsRefereeKept}
+use Rattle.go_board.proofs.Common.{get_or-reverse, length-reverse, reverse-append, Grid, empty_grid, Held, PastColourings, newest_grid, only, with_next, AllHaveSide, HaveSide, Earlier, State, HadSameBoardSince, begun, starting, grew, past_before, past_of_older, states_before, turns_before, turn_count, state_of, states_of, IsRefereeKept}
+use Rattle.go_board.specs.declared.referee.Call.{Call}
 use Rattle.go_board.specs.declared.referee.Call.TheVariants.{Stay}
 use Rattle.go_board.specs.declared.referee.Mover.{Mover}
-use Rattle.board_stones.specs.declared.stones.Colour.TheVariants.{Black}
 use Rattle.go_board.specs.inner.Earlier.{turned}
 
 length-states_before : (past : PastColourings) (turns : ℕ) (es : List Earlier) → length (states_before past turns es) ≡ length es
@@ -34,27 +34,28 @@ before_sided : (side n : ℕ) (past : PastColourings) (grew : Bool) → HaveSide
 before_sided side n past grew sides few = grind (arith, older_sided)
 
 -- what a referee keeps once its newest call is taken back
-pub IsRefereeKept-back : (past now : PastColourings) (player : Option Colour) (passes turns : ℕ) (earlier less : List Earlier) (kept : Earlier) → earlier ≡ less ++ kept ∷ [] → now ≡ past_before past kept → IsRefereeKept past player passes turns (reverse earlier)
-    → IsRefereeKept now (player_of kept.mover) kept.passes (turns_before turns kept) (reverse less)
-IsRefereeKept-back past now player passes turns earlier less kept parts is whole = grind (arith, before_sided, reverse-append, turns_at_most)
+pub IsRefereeKept-back : (past now : PastColourings) (mover : Mover) (turns : ℕ) (earlier less : List Earlier) (kept : Earlier) → earlier ≡ less ++ kept ∷ [] → now ≡ past_before past kept → IsRefereeKept past mover turns (reverse earlier)
+    → IsRefereeKept now kept.mover (turns_before turns kept) (reverse less)
+IsRefereeKept-back past now mover turns earlier less kept parts is whole = grind (arith, before_sided, reverse-append, turns_at_most)
 
 -- once the past grew by a colouring, and what was had of the state before is kept
-module _ (past : PastColourings) (player : Option Colour) (passes turns : ℕ) (earlier : List Earlier) (saved : Earlier) (is_turn : Bool) (same_player : player_of saved.mover ≡ player) (same_passes : saved.passes ≡ passes) (grown_by : grew saved.call ≡ true) (same_turn : turned saved.call ≡ is_turn) (turns' : ℕ) (more : turns' ≡ from_bool is_turn + turns) where
-  less : turns' - from_bool is_turn ≡ turns
+module _ (past : PastColourings) (mover : Mover) (turns : ℕ) (earlier : List Earlier) (call : Call) (grown_by : grew call ≡ true) (turns' : ℕ) (more : turns' ≡ from_bool (turned call) + turns) where
+  abbrev saved : Earlier
+  saved = record { call = call; mover = mover }
+
+  less : turns' - from_bool (turned call) ≡ turns
   less = omega (arith, more)
 
   -- what a referee keeps then
-  pub IsRefereeKept-grown : IsRefereeKept past player passes turns (reverse earlier) → (now : PastColourings) (made : Grid) (begins : Bool) (next : Option Colour) (earlier' : List Earlier) → now ≡ with_next past made begins → made.side ≡ (newest_grid past).side → earlier' ≡ earlier ++ saved ∷ [] → IsRefereeKept now next 0 turns' (reverse earlier')
+  pub IsRefereeKept-grown : IsRefereeKept past mover turns (reverse earlier) → (now : PastColourings) (made : Grid) (begins : Bool) (next : Mover) (earlier' : List Earlier) → now ≡ with_next past made begins → made.side ≡ (newest_grid past).side → earlier' ≡ earlier ++ saved ∷ [] → IsRefereeKept now next turns' (reverse earlier')
   IsRefereeKept-grown kept now made begins next earlier' is side longer =
       rw (is, longer, reverse-append earlier (saved ∷ []))
       (record {
         one_side = (refl, subst (λ n. HaveSide n past) (sym side) kept.one_side);
         enough = rw grown_by (omega (arith, kept.enough));
-        few_passes = omega arith;
-        few_turns = few is_turn more;
-        counted = rw same_turn (sym (more ∙ ap (λ n. from_bool is_turn + n) (sym kept.counted)));
-        bounded = (rw same_passes kept.few_passes, kept.bounded);
-        from_start = rw (grown_by, same_turn, same_player, same_passes, less) (kept.from_start ∙ ap starting (sym side));
+        few_turns = few (turned call) more;
+        counted = sym (more ∙ ap (λ n. from_bool (turned call) + n) (sym kept.counted));
+        from_start = rw (grown_by, less) (kept.from_start ∙ ap starting (sym side));
       })
     where
       few : (b : Bool) → turns' ≡ from_bool b + turns → turns' ≤ suc (length (reverse earlier))
@@ -63,10 +64,10 @@ module _ (past : PastColourings) (player : Option Colour) (passes turns : ℕ) (
 
 -- at the beginning of a game: a past of the empty board alone, and no earlier states
 module _ (side : ℕ) (past : PastColourings) (earlier : List Earlier) (is : past ≡ only (empty_grid side)) (none : earlier ≡ []) where
-  pub IsRefereeKept-begun : IsRefereeKept past (Some Black) 0 0 (reverse earlier)
-  IsRefereeKept-begun = rw (is, none) (record { one_side = (refl, tt); enough = omega arith; few_passes = omega arith; few_turns = omega arith; counted = refl; bounded = tt; from_start = refl })
+  pub IsRefereeKept-begun : IsRefereeKept past Mover.Black 0 (reverse earlier)
+  IsRefereeKept-begun = rw (is, none) (record { one_side = (refl, tt); enough = omega arith; few_turns = omega arith; counted = refl; from_start = refl })
 
-  pub states_of-begun : states_of past (Some Black) 0 0 earlier ≡ begun side
+  pub states_of-begun : states_of past Mover.Black 0 earlier ≡ begun side
   states_of-begun = rw (is, none) refl
 
 -- while no call made the past grow, the board stayed
@@ -74,7 +75,7 @@ pub same_since : (past : PastColourings) (turns n : ℕ) (es : List Earlier) (d 
 same_since past turns n [] d still [] older before is few = absurd cc
 same_since past turns n [] d still (state ∷ later) older before is few = absurd cc
 same_since past turns n (e ∷ es) d still [] older before is few =
-    let head : before ≡ state_of (past_before past e) (player_of e.mover) e.passes (turns_before turns e) = cc in
+    let head : before ≡ state_of (past_before past e) e.mover (turns_before turns e) = cc in
     ap (λ (s : State). s.colouring) head ∙ rw (still 0 few) refl
 same_since past turns n (e ∷ es) d still (state ∷ later) older before is few =
     let same : past_before past e ≡ past = rw (still 0 (omega (arith, few))) refl in
@@ -82,9 +83,9 @@ same_since past turns n (e ∷ es) d still (state ∷ later) older before is few
     same_since past (turns_before turns e) (n - 1) es d (λ i below. still (suc i) (omega (arith, below))) later older before
     (ap (λ p. states_before p (turns_before turns e) es) (sym same) ∙ rest) (omega (arith, few))
 
-pub same_board_since : (past : PastColourings) (player : Option Colour) (passes turns : ℕ) (items : List Earlier) (count depth : ℕ) → count ≤ depth → ((d : Earlier) (i : ℕ) → count ≤ i → i < length items → grew (get_or items i d).call ≡ false) → HadSameBoardSince (states_of past player passes turns items) depth
-same_board_since past player passes turns items count depth le still later older before at enough =
-    let d : Earlier = record { call = Stay; mover = Mover.Either; passes = 0 } in
+pub same_board_since : (past : PastColourings) (mover : Mover) (turns : ℕ) (items : List Earlier) (count depth : ℕ) → count ≤ depth → ((d : Earlier) (i : ℕ) → count ≤ i → i < length items → grew (get_or items i d).call ≡ false) → HadSameBoardSince (states_of past mover turns items) depth
+same_board_since past mover turns items count depth le still later older before at enough =
+    let d : Earlier = record { call = Stay; mover = mover } in
     let long : length items ≡ length later + (1 + length older) =
     sym (length-earlier past turns items) ∙ ap length at ∙ length-append later (before ∷ older) ∙ omega arith in
     same_since past turns (length later + 1) (reverse items) d

@@ -1,12 +1,13 @@
 //! The referee: the Tromp-Taylor rules over a past, with undo. Each accepted call keeps the player and the passes from before the
 //! call, and which call it was (`Earlier`). `undo` restores these. If the call added a colouring to the past, `undo` removes it.
 
-ghost use Rattle.std.specs.Prelude.{Some, reverse, ◌≡◌, ◌<◌, ◌≤◌, ◌∷◌, length, IsTrue, IfOk, OnOk, OnErr};
+ghost use Rattle.std.specs.Prelude.{Some, reverse, ◌≡◌, ◌<◌, ◌≤◌, ◌∷◌, ◌==◌, ◌&&◌, not, length, IsTrue, IfOk, OnOk, OnErr};
 ghost use Rattle.board_stones.specs.declared.stones.Colour.TheVariants.{Black, White};
 ghost use Rattle.go_board.specs.State.{States, HadSameBoard, HadSameBoardSince, HaveBegun, begun, followed_by, is_over};
 ghost use Rattle.go_board.specs.Reason.{must_move};
+ghost use Rattle.board_stones.specs.Colour.{opponent};
 ghost use Rattle.board_stones.specs.Score.{score_of};
-ghost use Rattle.go_board.specs.inner.Earlier.{grew, turned, player_of, states_of, IsRefereeKept};
+ghost use Rattle.go_board.specs.inner.Earlier.{grew, turned, player_of, passes_of, states_of, IsRefereeKept};
 
 mod plays;
 mod setup;
@@ -28,19 +29,24 @@ const FIRST_STATES: usize = 256;
 pub struct Referee<P: Past> {
     past: P,
     mover: Mover,
-    passes: u8,
     turns: u64,
     /// One for each accepted call that wasn't taken back, oldest first.
     earlier: Vec<Earlier>,
 }
 
-/// What is kept of the state before an accepted call, besides the past, in 3 bytes.
+/// What is kept of the state before an accepted call, besides the past, in 2 bytes.
 #[derive(Clone, Copy)]
 struct Earlier {
     call: Call,
     mover: Mover,
-    /// How many passes in a row were made last, at most 2.
-    passes: u8,
+}
+
+impl Earlier {
+    fn new(call: Call, mover: Mover) -> Earlier
+        ensures { result ≡ record { call = call; mover = mover } }
+    {
+        Earlier { call, mover }
+    }
 }
 
 /// An accepted call, by what it changes besides the player and the passes.
@@ -76,49 +82,81 @@ impl Call {
     }
 }
 
-/// Who must move. An `Option<Colour>` would take 2 bytes.
+/// Who must move, and how many passes in a row were made last: one byte, which a turn tests, copies and writes as a whole.
 #[derive(Clone, Copy, PartialEq, Eq)]
 enum Mover {
-    Either,
     Black,
     White,
+    BlackAfterPass,
+    WhiteAfterPass,
+    /// Two passes ended the game. Who would have to move is kept all the same.
+    BlackAfterTwo,
+    WhiteAfterTwo,
+    /// Either player may move, after a setup of stones without PL.
+    Either,
 }
 
 impl Mover {
-    /// That player.
-    fn only(player: Colour) -> Mover
-        ensures { player_of result ≡ Some player }
+    /// That player, after so many passes in a row.
+    fn after(passes: u8, player: Colour) -> Mover
+        requires { passes ≤ 2 }
+        ensures player { player_of result ≡ Some player }
+        ensures passes { passes_of result ≡ passes }
     {
-        match player {
-            Colour::Black => Mover::Black,
-            Colour::White => Mover::White,
+        match (passes, player) {
+            (0, Colour::Black) => Mover::Black,
+            (0, Colour::White) => Mover::White,
+            (1, Colour::Black) => Mover::BlackAfterPass,
+            (1, Colour::White) => Mover::WhiteAfterPass,
+            (_, Colour::Black) => Mover::BlackAfterTwo,
+            (_, Colour::White) => Mover::WhiteAfterTwo,
         }
     }
 
-    /// That player; either for None.
+    /// That player, or either for None, after no pass.
     fn of(player: Option<Colour>) -> Mover
-        ensures { player_of result ≡ player }
+        ensures player { player_of result ≡ player }
+        ensures passes { passes_of result ≡ 0 }
     {
         match player {
             None => Mover::Either,
-            Some(player) => Mover::only(player),
+            Some(player) => Mover::after(0, player),
         }
     }
 
-    /// Whether that player must move.
-    fn must_be(self, player: Colour) -> bool
-        ensures { result ≡ must_move (player_of self) player }
+    /// How many passes in a row were made last.
+    fn passes(self) -> u8
+        ensures value { result ≡ passes_of self }
+        ensures at_most { result ≤ 2 }
     {
-        self == Mover::only(player)
+        match self {
+            Mover::Black | Mover::White | Mover::Either => 0,
+            Mover::BlackAfterPass | Mover::WhiteAfterPass => 1,
+            Mover::BlackAfterTwo | Mover::WhiteAfterTwo => 2,
+        }
+    }
+
+    /// Whether that player may take a turn: the game isn't over, and the opponent doesn't have to move.
+    fn may_play(self, player: Colour) -> bool
+        ensures { result ≡ not (passes_of self == 2) && not (must_move (player_of self) (opponent player)) }
+    {
+        // Almost every turn is by the player who must move, after no pass. It takes this comparison alone.
+        if self == Mover::after(0, player) {
+            return true;
+        }
+        match player {
+            Colour::Black => matches!(self, Mover::BlackAfterPass | Mover::Either),
+            Colour::White => matches!(self, Mover::WhiteAfterPass | Mover::Either),
+        }
     }
 }
 
 impl<P: Past> Model for Referee<P> {
     ghost Value = { States };
 
-    ghost view = { λ r. states_of (P.held r.past) (player_of r.mover) r.passes r.turns r.earlier.items };
+    ghost view = { λ r. states_of (P.held r.past) r.mover r.turns r.earlier.items };
 
-    ghost invariant = { λ r. IsRefereeKept (P.held r.past) (player_of r.mover) r.passes r.turns (reverse r.earlier.items) };
+    ghost invariant = { λ r. IsRefereeKept (P.held r.past) r.mover r.turns (reverse r.earlier.items) };
 }
 
 impl<P: Past> Referee<P> {
@@ -130,7 +168,6 @@ impl<P: Past> Referee<P> {
         Ok(Referee {
             past: P::new(alloc, &Board::empty(size))?,
             mover: Mover::Black,
-            passes: 0,
             turns: 0,
             earlier: Vec::with_capacity(alloc, FIRST_STATES)?,
         })
@@ -147,7 +184,6 @@ impl<P: Past> Referee<P> {
         self.past
             .reset(*self.earlier.allocator(), &Board::empty(size))?;
         self.mover = Mover::Black;
-        self.passes = 0;
         self.turns = 0;
         self.earlier.clear();
         Ok(())
@@ -168,8 +204,7 @@ impl<P: Past> Referee<P> {
         ensures ok { OnOk result (self.new ≡ followed_by self.old self.old.present) }
         ensures err { OnErr result (self.new ≡ self.old) }
     {
-        let present = self.present_kept(Call::Stay);
-        self.earlier.push(present)?;
+        self.earlier.push(Earlier::new(Call::Stay, self.mover))?;
         Ok(())
     }
 
@@ -182,7 +217,6 @@ impl<P: Past> Referee<P> {
     {
         let earlier = self.earlier.pop().unwrap();
         self.mover = earlier.mover;
-        self.passes = earlier.passes;
         self.turns -= u64::from(earlier.call.turned());
         if earlier.call.grew() {
             self.past.pop();
@@ -236,7 +270,7 @@ impl<P: Past> Referee<P> {
         ensures value { result ≡ is_over self.now.present }
         ensures at_most { self.now.present.passes ≤ 2 }
     {
-        self.passes == 2
+        self.mover.passes() == 2
     }
 
     /// The area scores of Black and of White on the present board, in points (Tromp-Taylor).
@@ -245,18 +279,5 @@ impl<P: Past> Referee<P> {
         ensures white { result.1 ≡ score_of self.now.present.colouring White }
     {
         self.past.newest().score()
-    }
-
-    /// What is kept of the present state before a call, besides the past.
-    fn present_kept(&self, call: Call) -> Earlier
-        ensures call { result.call ≡ call }
-        ensures player { player_of result.mover ≡ self.now.present.player }
-        ensures passes { result.passes ≡ self.now.present.passes }
-    {
-        Earlier {
-            call,
-            mover: self.mover,
-            passes: self.passes,
-        }
     }
 }

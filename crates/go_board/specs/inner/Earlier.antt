@@ -30,18 +30,30 @@ turned Setup = false
 
 -- the player who must move; None if either may
 abbrev pub player_of : Mover → Option Colour
-player_of Mover.Either = None
 player_of Mover.Black = Some Black
 player_of Mover.White = Some White
+player_of Mover.BlackAfterPass = Some Black
+player_of Mover.WhiteAfterPass = Some White
+player_of Mover.BlackAfterTwo = Some Black
+player_of Mover.WhiteAfterTwo = Some White
+player_of Mover.Either = None
+
+-- how many passes in a row were made last
+abbrev pub passes_of : Mover → ℕ
+passes_of Mover.BlackAfterPass = 1
+passes_of Mover.WhiteAfterPass = 1
+passes_of Mover.BlackAfterTwo = 2
+passes_of Mover.WhiteAfterTwo = 2
+passes_of _ = 0
 
 -- the state with that past
-abbrev pub state_of : PastColourings → Option Colour → ℕ → ℕ → State
-state_of past player passes turns =
+abbrev pub state_of : PastColourings → Mover → ℕ → State
+state_of past mover turns =
     record {
       colouring = newest_grid past;
       seen = present_stretch past;
-      player = player;
-      passes = passes;
+      player = player_of mover;
+      passes = passes_of mover;
       turns = turns;
     }
 
@@ -62,13 +74,13 @@ turns_before turns kept = turns - from_bool (turned kept.call)
 abbrev pub states_before : PastColourings → ℕ → List Earlier → List State
 states_before past turns [] = []
 states_before past turns (kept ∷ others) =
-    state_of (past_before past kept) (player_of kept.mover) kept.passes (turns_before turns kept)
+    state_of (past_before past kept) kept.mover (turns_before turns kept)
     ∷ states_before (past_before past kept) (turns_before turns kept) others
 
 -- the present state and the earlier states; the list of what is kept of the earlier states is oldest first
-abbrev pub states_of : PastColourings → Option Colour → ℕ → ℕ → List Earlier → States
-states_of past player passes turns earlier =
-    record { present = state_of past player passes turns; earlier = states_before past turns (reverse earlier) }
+abbrev pub states_of : PastColourings → Mover → ℕ → List Earlier → States
+states_of past mover turns earlier =
+    record { present = state_of past mover turns; earlier = states_before past turns (reverse earlier) }
 
 -- no reason but Repeat can forbid the turn
 abbrev pub MayOnlyRepeat : State → Colour → Play → Type 0
@@ -90,20 +102,13 @@ abbrev pub turn_count : List Earlier → ℕ
 turn_count [] = 0
 turn_count (kept ∷ others) = from_bool (turned kept.call) + turn_count others
 
--- each earlier state has at most two passes
-abbrev pub AreBounded : List Earlier → Type 0
-AreBounded [] = Unit {0}
-AreBounded (kept ∷ others) = (kept.passes ≤ 2) × AreBounded others
-
 -- What a referee keeps, with its earlier states newest first. The past colourings have one side. At least as many of them are
--- older than the newest as calls made the past grow. There are at most two passes, and as many turns as calls that were turns.
--- The oldest state is the starting one.
-pub record IsRefereeKept (past : PastColourings) (player : Option Colour) (passes turns : ℕ) (earlier : List Earlier) : Type 0 where
+-- older than the newest as calls made the past grow. There are as many turns as calls that were turns. The oldest state is the
+-- starting one.
+pub record IsRefereeKept (past : PastColourings) (mover : Mover) (turns : ℕ) (earlier : List Earlier) : Type 0 where
   pub one_side : HaveSide (newest_grid past).side past
   pub enough : grown earlier ≤ length past.older
-  pub few_passes : passes ≤ 2
   pub few_turns : turns ≤ length earlier
   pub counted : turn_count earlier ≡ turns
-  pub bounded : AreBounded earlier
-  pub from_start : oldest_of (state_of past player passes turns) (states_before past turns earlier)
+  pub from_start : oldest_of (state_of past mover turns) (states_before past turns earlier)
       ≡ starting (newest_grid past).side

@@ -1,12 +1,12 @@
 //! A referee's setups.
 
-ghost use Rattle.std.specs.Prelude.{◌≡◌, ◌<◌, ◌⊎◌, All, IsSome, OnOk, OnErr, fold, length};
+ghost use Rattle.std.specs.Prelude.{◌≡◌, ◌<◌, ◌⊎◌, All, IsSome, OnOk, OnErr, Some, fold, length};
 ghost use Rattle.board_points.specs.Point.{IsRectOn};
 ghost use Rattle.go_board.specs.State.{followed_by, set_up};
 ghost use Rattle.board_stones.specs.Rectangle.{with_rectangle};
 ghost use Rattle.go_board.specs.inner.Earlier.{with_setup};
 
-use crate::referee::{Call, Mover, Referee};
+use crate::referee::{Call, Earlier, Mover, Referee};
 use board_past::{MemoryFault, Past};
 use board_stones::{Colour, SetupOp};
 
@@ -26,21 +26,20 @@ impl<P: Past> Referee<P> {
         ensures err { OnErr result (self.new ≡ self.old) }
     {
         if ops.is_empty() {
-            self.set_player(player)
+            self.set_player(player.unwrap())
         } else {
             self.begin_anew(ops, player)
         }
     }
 
     /// Changes only the player who must move: PL without stones.
-    fn set_player(&mut self, player: Option<Colour>) -> Result<(), MemoryFault>
+    fn set_player(&mut self, player: Colour) -> Result<(), MemoryFault>
         ensures ok { OnOk result (self.new
-            ≡ followed_by self.old (record self.old.present { player = player })) }
+            ≡ followed_by self.old (record self.old.present { player = Some player })) }
         ensures err { OnErr result (self.new ≡ self.old) }
     {
-        let present = self.present_kept(Call::Stay);
-        self.earlier.push(present)?;
-        self.mover = Mover::of(player);
+        self.earlier.push(Earlier::new(Call::Stay, self.mover))?;
+        self.mover = Mover::after(self.mover.passes(), player);
         Ok(())
     }
 
@@ -51,12 +50,12 @@ impl<P: Past> Referee<P> {
             (with_setup self.old.present (fold with_rectangle self.old.present.colouring ops.now) player)) }
         ensures err { OnErr result (self.new ≡ self.old) }
     {
-        let present = self.present_kept(Call::Setup);
         self.earlier.reserve(1)?;
         self.past.set_up(ops)?;
-        self.earlier.push(present).unwrap();
+        self.earlier
+            .push(Earlier::new(Call::Setup, self.mover))
+            .unwrap();
         self.mover = Mover::of(player);
-        self.passes = 0;
         Ok(())
     }
 }

@@ -12,7 +12,7 @@ ghost use Rattle.go_board.specs.inner.Earlier.{MayOnlyRepeat};
 
 use crate::fault::TurnFault;
 use crate::reason::Reason;
-use crate::referee::{Call, Mover, Play, Referee};
+use crate::referee::{Call, Earlier, Mover, Play, Referee};
 use board_past::{MemoryFault, Past};
 use board_points::Point;
 use board_stones::{Cell, Colour};
@@ -66,11 +66,12 @@ impl<P: Past> Referee<P> {
         ensures known { IfSome result (λ reason. reason_of self.now.present colour play ≡ Some reason) }
         ensures only_repeat { IfNone result (MayOnlyRepeat self.now.present colour play) }
     {
-        if self.over() {
-            return Some(Reason::Over);
-        }
-        if self.mover.must_be(colour.opponent()) {
-            return Some(Reason::Turn);
+        if !self.mover.may_play(colour) {
+            return Some(if self.over() {
+                Reason::Over
+            } else {
+                Reason::Turn
+            });
         }
         if let Play::Stone(point) = play {
             if self.board().at(point) != Cell::Empty {
@@ -99,13 +100,12 @@ impl<P: Past> Referee<P> {
         if self.earlier.len() >= self.earlier.capacity() {
             return false;
         }
-        let present = self.present_kept(Call::Stone);
         if !self.past.play_at_once(colour, point) {
             return false;
         }
-        self.earlier.push_reserved(present);
-        self.mover = Mover::only(colour.opponent());
-        self.passes = 0;
+        self.earlier
+            .push_reserved(Earlier::new(Call::Stone, self.mover));
+        self.mover = Mover::after(0, colour.opponent());
         self.turns += 1;
         true
     }
@@ -116,10 +116,8 @@ impl<P: Past> Referee<P> {
         ensures ok { OnOk result (self.new ≡ followed_by self.old (turned self.old.present colour Pass)) }
         ensures err { OnErr result (self.new ≡ self.old) }
     {
-        let present = self.present_kept(Call::Pass);
-        self.earlier.push(present)?;
-        self.mover = Mover::only(colour.opponent());
-        self.passes += 1;
+        self.earlier.push(Earlier::new(Call::Pass, self.mover))?;
+        self.mover = Mover::after(self.mover.passes() + 1, colour.opponent());
         self.turns += 1;
         Ok(())
     }
@@ -136,16 +134,15 @@ impl<P: Past> Referee<P> {
             ≡ (if taken then followed_by self.old (turned self.old.present colour (Stone point)) else self.old)) }
         ensures err { OnErr result (self.new ≡ self.old) }
     {
-        let present = self.present_kept(Call::Stone);
         if !self.past.play(colour, point)? {
             return Ok(false);
         }
+        let present = Earlier::new(Call::Stone, self.mover);
         if self.earlier.push(present).is_err() {
             self.past.pop();
             return Err(MemoryFault);
         }
-        self.mover = Mover::only(colour.opponent());
-        self.passes = 0;
+        self.mover = Mover::after(0, colour.opponent());
         self.turns += 1;
         Ok(true)
     }

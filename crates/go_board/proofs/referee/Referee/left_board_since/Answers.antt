@@ -1,5 +1,5 @@
 use Rattle.std.proofs.Common.{subst, arith}
-use Rattle.go_board.proofs.Common.{States, HadSameBoardSince, player_of}
+use Rattle.go_board.proofs.Common.{States, HadSameBoardSince}
 use Rattle.go_board.proofs.EarlierLemmas.{same_board_since}
 use Rattle.go_board.proofs.referee.Referee.left_board_since.Goals as goal
 
@@ -7,4 +7,4 @@ pub returns : goal.returns
 returns g c = λ all.
     let was = c.self.inside in
     subst (λ (s : States). HadSameBoardSince s c.args.depth) c.self.view_is
-    (same_board_since (g.P.Past.held was.past) (player_of was.mover) was.passes was.turns was.earlier.items c.calls.count c.args.depth (omega (arith, c.calls-test.false)) c.calls.invariant.still)
+    (same_board_since (g.P.Past.held was.past) was.mover was.turns was.earlier.items c.calls.count c.args.depth (omega (arith, c.calls-test.false)) c.calls.invariant.still)

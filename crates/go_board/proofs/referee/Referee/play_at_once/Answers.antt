@@ -1,6 +1,6 @@
-use Rattle.std.proofs.Common.{◌≡◌, ◌+◌, ◌++◌, [], ◌∷◌, false, true, refl, ap, sym, ◌∙◌, arith, rules}
-use Rattle.go_board.proofs.Common.{play, newest_grid, with_next, reason_of, States, grew, player_of}
-use Rattle.go_board.specs.inner.Earlier.{turned}
+use Rattle.std.proofs.Common.{◌≡◌, ◌+◌, ◌++◌, [], ◌∷◌, false, refl, ap, ◌∙◌, arith, rules}
+use Rattle.go_board.proofs.Common.{play, newest_grid, with_next, reason_of, States}
+use Rattle.go_board.specs.declared.referee.Call.{Call}
 use Rattle.go_board.proofs.EarlierLemmas.{IsRefereeKept-grown}
 use Rattle.board_stones.proofs.SettledLemmas.{side_play}
 use Rattle.go_board.proofs.TurnLemmas.{reason_of-new}
@@ -9,14 +9,12 @@ use Rattle.go_board.proofs.referee.Referee.play_at_once.Goals as goal
 pub invariant_of-self-2 : goal.invariant_of-self-2
 invariant_of-self-2 g c =
     let was = c.self.inside in
-    let kept = c.present_kept-present in
     let past = g.P.Past.held was.past in
     let made = play (newest_grid past) c.args.colour c.in-Stone.point in
     let now : g.P.Past.held c.play_at_once.new.self ≡ with_next past made false = c.if-not-play_at_once.ensures.played refl in
-    let items : c.push_reserved.new.self.items ≡ was.earlier.items ++ kept.result ∷ [] = search rules in
-    IsRefereeKept-grown past (player_of was.mover) was.passes was.turns was.earlier.items
-    kept.result true (kept.ensures.player ∙ sym (ap (λ (states : States). states.present.player) c.self.view_is)) (kept.ensures.passes ∙ sym (ap (λ (states : States). states.present.passes) c.self.view_is)) (ap grew kept.ensures.call) (ap turned kept.ensures.call)
-    (was.turns + 1) (omega arith) c.self.invariant (g.P.Past.held c.play_at_once.new.self) made false (player_of c.only-self-inside.result) c.push_reserved.new.self.items now (side_play (newest_grid past) c.args.colour c.in-Stone.point) items
+    let items : c.push_reserved.new.self.items ≡ was.earlier.items ++ record { call = Call.Stone; mover = was.mover } ∷ [] = search rules in
+    IsRefereeKept-grown past was.mover was.turns was.earlier.items Call.Stone refl
+    (was.turns + 1) (omega arith) c.self.invariant (g.P.Past.held c.play_at_once.new.self) made false c.after-self-inside.result c.push_reserved.new.self.items now (side_play (newest_grid past) c.args.colour c.in-Stone.point) items
 
 pub returns-clause-legal : goal.returns-clause-legal
 returns-clause-legal g c = λ _.

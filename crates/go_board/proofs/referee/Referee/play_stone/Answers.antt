@@ -1,7 +1,7 @@
 use Rattle.std.proofs.Common.{◌≡◌, ◌+◌, ◌-◌, ◌++◌, reverse, [], ◌∷◌, false, true, Contains, None, refl, ap, sym, ◌∙◌, arith, rules}
 use Rattle.std.proofs.lemmas.Bool.{false≢true}
-use Rattle.go_board.proofs.Common.{length-reverse, reverse-append, play, newest_grid, with_next, present_stretch, Stone, reason_of, States, grew, player_of}
-use Rattle.go_board.specs.inner.Earlier.{turned}
+use Rattle.go_board.proofs.Common.{length-reverse, reverse-append, play, newest_grid, with_next, present_stretch, Stone, Earlier, reason_of, States}
+use Rattle.go_board.specs.declared.referee.Call.{Call}
 use Rattle.go_board.proofs.EarlierLemmas.{IsRefereeKept-grown}
 use Rattle.board_stones.proofs.SettledLemmas.{side_play}
 use Rattle.go_board.proofs.TurnLemmas.{reason_by_past, reason_of-new, on_err}
@@ -39,14 +39,12 @@ returns-clause-known g c =
 pub invariant_of-self-2 : goal.invariant_of-self-2
 invariant_of-self-2 g c =
     let was = c.self.inside in
-    let kept = c.present_kept-present in
     let past = g.P.Past.held was.past in
     let made = play (newest_grid past) c.args.colour c.args.point in
     let now : g.P.Past.held c.play.new.self ≡ with_next past made false = rw c.if-not-branch.false at c.in_ok-play.ensures.ok in
-    let items : c.push.new.self.items ≡ was.earlier.items ++ kept.result ∷ [] = search rules in
-    IsRefereeKept-grown past (player_of was.mover) was.passes was.turns was.earlier.items
-    kept.result true (kept.ensures.player ∙ sym (ap (λ (states : States). states.present.player) c.self.view_is)) (kept.ensures.passes ∙ sym (ap (λ (states : States). states.present.passes) c.self.view_is)) (ap grew kept.ensures.call) (ap turned kept.ensures.call)
-    (was.turns + 1) (omega arith) c.self.invariant (g.P.Past.held c.play.new.self) made false (player_of c.only-self-inside.result) c.push.new.self.items now (side_play (newest_grid past) c.args.colour c.args.point) items
+    let items : c.push.new.self.items ≡ was.earlier.items ++ record { call = Call.Stone; mover = was.mover } ∷ [] = search rules in
+    IsRefereeKept-grown past was.mover was.turns was.earlier.items Call.Stone refl
+    (was.turns + 1) (omega arith) c.self.invariant (g.P.Past.held c.play.new.self) made false c.after-self-inside.result c.push.new.self.items now (side_play (newest_grid past) c.args.colour c.args.point) items
 
 -- these two are only there for speed
 pub overflow_add-self : goal.overflow_add-self
@@ -56,12 +54,10 @@ overflow_add-self g c =
 pub returns-clause-ok : goal.returns-clause-ok
 returns-clause-ok g c =
     let was = c.self.inside in
-    let kept = c.present_kept-present in
+    let kept : Earlier = record { call = Call.Stone; mover = was.mover } in
     let past = g.P.Past.held was.past in
     let now : g.P.Past.held c.play.new.self ≡ with_next past (play (newest_grid past) c.args.colour c.args.point) false = rw c.if-not-branch.false at c.in_ok-play.ensures.ok in
-    let items : c.push.new.self.items ≡ was.earlier.items ++ kept.result ∷ [] = search rules in
-    let newest : reverse c.push.new.self.items ≡ kept.result ∷ reverse was.earlier.items = ap reverse items ∙ reverse-append was.earlier.items (kept.result ∷ []) in
+    let items : c.push.new.self.items ≡ was.earlier.items ++ kept ∷ [] = search rules in
+    let newest : reverse c.push.new.self.items ≡ kept ∷ reverse was.earlier.items = ap reverse items ∙ reverse-append was.earlier.items (kept ∷ []) in
     let turns : was.turns + 1 - 1 ≡ was.turns = omega arith in
-    let added : grew kept.result.call ≡ true = ap grew kept.ensures.call in
-    let counted : turned kept.result.call ≡ true = ap turned kept.ensures.call in
-    rw (sym c.self.view_is) (simp (now, newest, added, counted, kept.ensures.player, kept.ensures.passes, c.only-self-inside.ensures, c.opponent.ensures, turns) (search rules))
+    rw (sym c.self.view_is) (simp (now, newest, c.after-self-inside.ensures.player, c.after-self-inside.ensures.passes, c.opponent.ensures, turns) (search rules))

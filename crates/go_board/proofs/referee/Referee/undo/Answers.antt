@@ -1,6 +1,6 @@
 use Rattle.std.proofs.Common.{◌≡◌, ◌≤◌, ◌++◌, reverse, [], ◌∷◌, arith, cond, refl, sym, ap, ◌∙◌, rules}
 use Rattle.std.specs.Int.{from_bool}
-use Rattle.go_board.proofs.Common.{reverse-append, Earlier, player_of, past_of_older, past_before}
+use Rattle.go_board.proofs.Common.{reverse-append, Earlier, past_of_older, past_before}
 use Rattle.go_board.specs.inner.Earlier.{turned}
 use Rattle.go_board.proofs.EarlierLemmas.{IsRefereeKept-back}
 use Rattle.go_board.proofs.referee.Referee.undo.Goals as goal
@@ -14,7 +14,7 @@ invariant_of-self g c =
     let parts : was.earlier.items ≡ c.pop.new.self.items ++ kept ∷ [] = search rules in
     let from : c.from.result ≡ from_bool (turned kept.call) = search rules in
     let is : past_before past kept ≡ now = ap (λ b. cond b (past_of_older past past.older) past) (sym c.grew.ensures ∙ c.if-grew.true) ∙ ap (past_of_older past) c.pop-then-grew.ensures in
-    rw from (IsRefereeKept-back past now (player_of was.mover) was.passes was.turns was.earlier.items c.pop.new.self.items kept parts (sym is) c.self.invariant)
+    rw from (IsRefereeKept-back past now was.mover was.turns was.earlier.items c.pop.new.self.items kept parts (sym is) c.self.invariant)
 
 pub invariant_of-self-else-grew : goal.invariant_of-self-else-grew
 invariant_of-self-else-grew g c =
@@ -24,7 +24,7 @@ invariant_of-self-else-grew g c =
     let parts : was.earlier.items ≡ c.pop.new.self.items ++ kept ∷ [] = search rules in
     let from : c.from.result ≡ from_bool (turned kept.call) = search rules in
     let is : past_before past kept ≡ past = ap (λ b. cond b (past_of_older past past.older) past) (sym c.grew.ensures ∙ c.if-grew.false) in
-    rw from (IsRefereeKept-back past past (player_of was.mover) was.passes was.turns was.earlier.items c.pop.new.self.items kept parts (sym is) c.self.invariant)
+    rw from (IsRefereeKept-back past past was.mover was.turns was.earlier.items c.pop.new.self.items kept parts (sym is) c.self.invariant)
 
 -- the rest is only there for speed
 pub overflow_sub-self : goal.overflow_sub-self
