@@ -41,7 +41,7 @@ IsRefereeKept-back past now mover turns earlier less kept parts is whole = grind
 -- once the past grew by a colouring, and what was had of the state before is kept
 module _ (past : PastColourings) (mover : Mover) (turns : ℕ) (earlier : List Earlier) (call : Call) (grown_by : grew call ≡ true) (turns' : ℕ) (more : turns' ≡ from_bool (turned call) + turns) where
   abbrev saved : Earlier
-  saved = record { call = call; mover = mover }
+  saved = record { mover = mover; call = call }
 
   less : turns' - from_bool (turned call) ≡ turns
   less = omega (arith, more)
@@ -85,7 +85,7 @@ same_since past turns n (e ∷ es) d still (state ∷ later) older before is few
 
 pub same_board_since : (past : PastColourings) (mover : Mover) (turns : ℕ) (items : List Earlier) (count depth : ℕ) → count ≤ depth → ((d : Earlier) (i : ℕ) → count ≤ i → i < length items → grew (get_or items i d).call ≡ false) → HadSameBoardSince (states_of past mover turns items) depth
 same_board_since past mover turns items count depth le still later older before at enough =
-    let d : Earlier = record { call = Stay; mover = mover } in
+    let d : Earlier = record { mover = mover; call = Stay } in
     let long : length items ≡ length later + (1 + length older) =
     sym (length-earlier past turns items) ∙ ap length at ∙ length-append later (before ∷ older) ∙ omega arith in
     same_since past turns (length later + 1) (reverse items) d

@@ -37,15 +37,15 @@ pub struct Referee<P: Past> {
 /// What is kept of the state before an accepted call, besides the past, in 2 bytes.
 #[derive(Clone, Copy)]
 struct Earlier {
-    call: Call,
     mover: Mover,
+    call: Call,
 }
 
 impl Earlier {
-    fn new(call: Call, mover: Mover) -> Earlier
-        ensures { result ≡ record { call = call; mover = mover } }
+    fn new(mover: Mover, call: Call) -> Earlier
+        ensures { result ≡ record { mover = mover; call = call } }
     {
-        Earlier { call, mover }
+        Earlier { mover, call }
     }
 }
 
@@ -140,8 +140,9 @@ impl Mover {
     fn may_play(self, player: Colour) -> bool
         ensures { result ≡ not (passes_of self == 2) && not (must_move (player_of self) (opponent player)) }
     {
-        // Almost every turn is by the player who must move, after no pass. It takes this comparison alone.
-        if self == Mover::after(0, player) {
+        // Almost every turn is by the player who must move, after no pass. One comparison tells of it, since Black and White have the
+        // same numbers in both enums.
+        if self as u8 == player as u8 {
             return true;
         }
         match player {
@@ -204,7 +205,7 @@ impl<P: Past> Referee<P> {
         ensures ok { OnOk result (self.new ≡ followed_by self.old self.old.present) }
         ensures err { OnErr result (self.new ≡ self.old) }
     {
-        self.earlier.push(Earlier::new(Call::Stay, self.mover))?;
+        self.earlier.push(Earlier::new(self.mover, Call::Stay))?;
         Ok(())
     }
 

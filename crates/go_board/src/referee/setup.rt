@@ -38,7 +38,7 @@ impl<P: Past> Referee<P> {
             ≡ followed_by self.old (record self.old.present { player = Some player })) }
         ensures err { OnErr result (self.new ≡ self.old) }
     {
-        self.earlier.push(Earlier::new(Call::Stay, self.mover))?;
+        self.earlier.push(Earlier::new(self.mover, Call::Stay))?;
         self.mover = Mover::after(self.mover.passes(), player);
         Ok(())
     }
@@ -53,7 +53,7 @@ impl<P: Past> Referee<P> {
         self.earlier.reserve(1)?;
         self.past.set_up(ops)?;
         self.earlier
-            .push(Earlier::new(Call::Setup, self.mover))
+            .push(Earlier::new(self.mover, Call::Setup))
             .unwrap();
         self.mover = Mover::of(player);
         Ok(())

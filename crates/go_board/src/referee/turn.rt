@@ -104,7 +104,7 @@ impl<P: Past> Referee<P> {
             return false;
         }
         self.earlier
-            .push_reserved(Earlier::new(Call::Stone, self.mover));
+            .push_reserved(Earlier::new(self.mover, Call::Stone));
         self.mover = Mover::after(0, colour.opponent());
         self.turns += 1;
         true
@@ -116,7 +116,7 @@ impl<P: Past> Referee<P> {
         ensures ok { OnOk result (self.new ≡ followed_by self.old (turned self.old.present colour Pass)) }
         ensures err { OnErr result (self.new ≡ self.old) }
     {
-        self.earlier.push(Earlier::new(Call::Pass, self.mover))?;
+        self.earlier.push(Earlier::new(self.mover, Call::Pass))?;
         self.mover = Mover::after(self.mover.passes() + 1, colour.opponent());
         self.turns += 1;
         Ok(())
@@ -137,7 +137,7 @@ impl<P: Past> Referee<P> {
         if !self.past.play(colour, point)? {
             return Ok(false);
         }
-        let present = Earlier::new(Call::Stone, self.mover);
+        let present = Earlier::new(self.mover, Call::Stone);
         if self.earlier.push(present).is_err() {
             self.past.pop();
             return Err(MemoryFault);

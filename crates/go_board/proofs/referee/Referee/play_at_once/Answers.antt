@@ -12,7 +12,7 @@ invariant_of-self-2 g c =
     let past = g.P.Past.held was.past in
     let made = play (newest_grid past) c.args.colour c.in-Stone.point in
     let now : g.P.Past.held c.play_at_once.new.self ≡ with_next past made false = c.if-not-play_at_once.ensures.played refl in
-    let items : c.push_reserved.new.self.items ≡ was.earlier.items ++ record { call = Call.Stone; mover = was.mover } ∷ [] = search rules in
+    let items : c.push_reserved.new.self.items ≡ was.earlier.items ++ record { mover = was.mover; call = Call.Stone } ∷ [] = search rules in
     IsRefereeKept-grown past was.mover was.turns was.earlier.items Call.Stone refl
     (was.turns + 1) (omega arith) c.self.invariant (g.P.Past.held c.play_at_once.new.self) made false c.after-self-inside.result c.push_reserved.new.self.items now (side_play (newest_grid past) c.args.colour c.in-Stone.point) items
 

@@ -42,7 +42,7 @@ invariant_of-self-2 g c =
     let past = g.P.Past.held was.past in
     let made = play (newest_grid past) c.args.colour c.args.point in
     let now : g.P.Past.held c.play.new.self ≡ with_next past made false = rw c.if-not-branch.false at c.in_ok-play.ensures.ok in
-    let items : c.push.new.self.items ≡ was.earlier.items ++ record { call = Call.Stone; mover = was.mover } ∷ [] = search rules in
+    let items : c.push.new.self.items ≡ was.earlier.items ++ record { mover = was.mover; call = Call.Stone } ∷ [] = search rules in
     IsRefereeKept-grown past was.mover was.turns was.earlier.items Call.Stone refl
     (was.turns + 1) (omega arith) c.self.invariant (g.P.Past.held c.play.new.self) made false c.after-self-inside.result c.push.new.self.items now (side_play (newest_grid past) c.args.colour c.args.point) items
 
@@ -54,7 +54,7 @@ overflow_add-self g c =
 pub returns-clause-ok : goal.returns-clause-ok
 returns-clause-ok g c =
     let was = c.self.inside in
-    let kept : Earlier = record { call = Call.Stone; mover = was.mover } in
+    let kept : Earlier = record { mover = was.mover; call = Call.Stone } in
     let past = g.P.Past.held was.past in
     let now : g.P.Past.held c.play.new.self ≡ with_next past (play (newest_grid past) c.args.colour c.args.point) false = rw c.if-not-branch.false at c.in_ok-play.ensures.ok in
     let items : c.push.new.self.items ≡ was.earlier.items ++ kept ∷ [] = search rules in
