@@ -50,11 +50,10 @@ impl<P: Past> Referee<P> {
             (with_setup self.old.present (fold with_rectangle self.old.present.colouring ops.now) player)) }
         ensures err { OnErr result (self.new ≡ self.old) }
     {
+        let present = Earlier::new(self.mover, Call::Setup);
         self.earlier.reserve(1)?;
         self.past.set_up(ops)?;
-        self.earlier
-            .push(Earlier::new(self.mover, Call::Setup))
-            .unwrap();
+        self.earlier.push(present).unwrap();
         self.mover = Mover::of(player);
         Ok(())
     }

@@ -67,11 +67,8 @@ impl<P: Past> Referee<P> {
         ensures only_repeat { IfNone result (MayOnlyRepeat self.now.present colour play) }
     {
         if !self.mover.may_play(colour) {
-            return Some(if self.over() {
-                Reason::Over
-            } else {
-                Reason::Turn
-            });
+            let over = self.over();
+            return Some(if over { Reason::Over } else { Reason::Turn });
         }
         if let Play::Stone(point) = play {
             if self.board().at(point) != Cell::Empty {
