@@ -83,15 +83,15 @@ impl Call {
 }
 
 /// Who must move, and how many passes in a row were made last: one byte, which a turn tests, copies and writes as a whole.
-#[derive(Clone, Copy, PartialEq, Eq)]
+#[derive(Clone, Copy)]
 enum Mover {
     Black,
     White,
     BlackAfterPass,
     WhiteAfterPass,
     /// Two passes ended the game. Who would have to move is kept all the same.
-    BlackAfterTwo,
-    WhiteAfterTwo,
+    BlackAfterTwoPasses,
+    WhiteAfterTwoPasses,
     /// Either player may move, after a setup of stones without PL.
     Either,
 }
@@ -108,8 +108,8 @@ impl Mover {
             (0, Colour::White) => Mover::White,
             (1, Colour::Black) => Mover::BlackAfterPass,
             (1, Colour::White) => Mover::WhiteAfterPass,
-            (_, Colour::Black) => Mover::BlackAfterTwo,
-            (_, Colour::White) => Mover::WhiteAfterTwo,
+            (_, Colour::Black) => Mover::BlackAfterTwoPasses,
+            (_, Colour::White) => Mover::WhiteAfterTwoPasses,
         }
     }
 
@@ -132,7 +132,7 @@ impl Mover {
         match self {
             Mover::Black | Mover::White | Mover::Either => 0,
             Mover::BlackAfterPass | Mover::WhiteAfterPass => 1,
-            Mover::BlackAfterTwo | Mover::WhiteAfterTwo => 2,
+            Mover::BlackAfterTwoPasses | Mover::WhiteAfterTwoPasses => 2,
         }
     }
 

@@ -150,8 +150,8 @@ AreKept grid (kept ∷ others) changes =
     × (IsTrue (is_full (length others)) → MakeOne (before grid kept changes) (drop kept.start changes))
     × AreKept (before grid kept changes) others (changes_before kept changes)
 
--- The start of a colouring's stretch is its own number, or else that of the colouring before it; always that after a lone stone. The list is
--- that of the older ones.
+-- The start of a colouring's stretch is its own number, or else that of the colouring before it. After a lone stone it is that of the colouring
+-- before it. The list is that of the older ones.
 abbrev pub AreStarted : ℕ → List Older → Type 0
 AreStarted start [] = start ≡ 0
 AreStarted start (kept ∷ others) =

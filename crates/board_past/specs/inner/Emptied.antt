@@ -54,7 +54,8 @@ pub record IsLogged (held : List Held) (count : ℕ) (emptied : Emptied) : Type 
 abbrev pub IsEmptied : List Held → Emptied → Type 0
 IsEmptied held emptied = IsLogged held (length held) emptied
 
--- a stone may be played at once if there were fewer steps than this: the newest colouring is settled, the table has room, and no step is full
+-- A stone may be played at once if there were fewer steps than this: the newest colouring is settled, the table sleeps and has room, and no
+-- step from the next one up to that number is full.
 pub record ArePlayedAtOnce (past : PastColourings) (table : Table) (below : ℕ) : Type 0 where
   pub settled : 0 < below → has_unreaching (newest_grid past) ≡ false
   pub asleep : 0 < below → below < table.room_asleep

@@ -67,8 +67,8 @@ pub struct PrintPast {
     table: Table,
     /// The points that were emptied. A stone that stays can bring a colouring back only on one of these.
     emptied: Emptied,
-    /// A stone may be played at once only if there were fewer steps than this. So one comparison tells that the newest colouring is settled,
-    /// that the table sleeps and has room, and that the next step isn't a full one.
+    /// If there were fewer steps than this, the newest colouring is settled, the table sleeps and has room, and the next step isn't a full
+    /// one. So one comparison tells whether a stone may be played at once. It is 0 if the newest isn't settled, or the table is awake.
     at_once_below: usize,
 }
 
@@ -119,7 +119,8 @@ impl Past for PrintPast {
         if !newest.is_settled() {
             return self.play_on_copy(colour, point);
         }
-        let unseen = self.colourings.steps() >= self.at_once_below || self.may_repeat(point, &[]);
+        let unseen = self.colourings.step_count() >= self.at_once_below
+            || self.may_repeat(point, &[]);
         if unseen && newest.clears_nothing_at_a_glance(colour, point) {
             return self.play_clearing(colour, point, &[]);
         }
@@ -129,14 +130,14 @@ impl Past for PrintPast {
     /// Plays most stones. A table that is awake needs prints, so it answers false then.
     #[inline(always)]
     fn play_at_once(&mut self, colour: Colour, point: Point) -> bool {
-        if self.colourings.steps() >= self.at_once_below || self.may_repeat(point, &[]) {
+        if self.colourings.step_count() >= self.at_once_below || self.may_repeat(point, &[]) {
             return false;
         }
         let newest = self.colourings.newest();
         if !newest.clears_nothing_at_a_glance(colour, point) {
             return false;
         }
-        self.colourings.add_point(colour, point, Known::Fresh);
+        self.colourings.add_lone_stone(colour, point, Known::Fresh);
         true
     }
 
@@ -153,10 +154,10 @@ impl Past for PrintPast {
         if self.at_once_below == 0 {
             return self.pop_in_full();
         }
-        if !self.colourings.pop_point() {
+        if !self.colourings.pop_lone_stone() {
             return self.pop_in_full();
         }
-        // a table that sleeps has nothing of the colouring
+        // so the table sleeps, and has nothing of the colouring
         self.emptied.go_back(self.colourings.len() as u32);
     }
 
@@ -322,7 +323,7 @@ impl PrintPast {
         ensures { IsPlayed colour point self.old self.new result }
     {
         let print = print_if_awake(&self.table, &self.colourings, colour, point, cleared);
-        let added = add_stone(
+        add_stone(
             &mut self.colourings,
             &mut self.table,
             &mut self.emptied,
@@ -332,11 +333,10 @@ impl PrintPast {
             known,
             print,
             None,
-        );
-        if self.colourings.steps() >= self.at_once_below {
+        )?;
+        if print.is_none() && self.colourings.step_count() >= self.at_once_below {
             self.at_once_below = at_once_below(&self.colourings, &self.table);
         }
-        added?;
         Ok(true)
     }
 
@@ -402,7 +402,8 @@ impl PrintPast {
     }
 }
 
-/// A number of steps below which a stone may be played at once (`PrintPast::play_at_once`). It holds as long as stones are played.
+/// A number of steps below which a stone may be played at once (`PrintPast::play_at_once`). It stays right while stones are played, and while
+/// lone stones are taken back.
 fn at_once_below(colourings: &Colourings, table: &Table) -> usize
     ensures { ArePlayedAtOnce colourings.now table.now result }
 {
@@ -410,7 +411,7 @@ fn at_once_below(colourings: &Colourings, table: &Table) -> usize
         return 0;
     }
     let room = table.room_asleep().saturating_sub(1);
-    room.min(colourings.steps_before_full())
+    room.min(colourings.next_full_step())
 }
 
 /// The print of the colouring that a stone makes; None if the table sleeps. `cleared` is what the stone clears.

@@ -34,16 +34,16 @@ player_of Mover.Black = Some Black
 player_of Mover.White = Some White
 player_of Mover.BlackAfterPass = Some Black
 player_of Mover.WhiteAfterPass = Some White
-player_of Mover.BlackAfterTwo = Some Black
-player_of Mover.WhiteAfterTwo = Some White
+player_of Mover.BlackAfterTwoPasses = Some Black
+player_of Mover.WhiteAfterTwoPasses = Some White
 player_of Mover.Either = None
 
 -- how many passes in a row were made last
 abbrev pub passes_of : Mover → ℕ
 passes_of Mover.BlackAfterPass = 1
 passes_of Mover.WhiteAfterPass = 1
-passes_of Mover.BlackAfterTwo = 2
-passes_of Mover.WhiteAfterTwo = 2
+passes_of Mover.BlackAfterTwoPasses = 2
+passes_of Mover.WhiteAfterTwoPasses = 2
 passes_of _ = 0
 
 -- the state with that past

@@ -285,15 +285,16 @@ impl Colourings {
     }
 
     /// The number of steps, each from a colouring to the next.
-    pub(crate) fn steps(&self) -> usize
+    pub(crate) fn step_count(&self) -> usize
         ensures { result ≡ length self.now.older }
     {
         self.older.len()
     }
 
-    /// How many steps there are before the next full one. They keep the point of a stone alone, and there is room for them.
-    pub(crate) fn steps_before_full(&self) -> usize
-        ensures { (count : ℕ) → length self.now.older ≤ count → count < result → IsFalse (is_full count) }
+    /// The number of steps before the next full one, counted from the first. Until then there is room, and a lone stone keeps its point alone.
+    pub(crate) fn next_full_step(&self) -> usize
+        ensures none_before { (count : ℕ) → length self.now.older ≤ count → count < result → IsFalse (is_full count) }
+        ensures full { IsTrue (is_full result) }
     {
         let count = self.older.len();
         count - count % FULL + (FULL - 1)
@@ -342,7 +343,7 @@ impl Colourings {
         self.newest.has_all_cells();
         let full = is_full(self.older.len());
         if cleared.is_empty() && known.is_settled() && !full {
-            self.add_point(colour, point, known);
+            self.add_lone_stone(colour, point, known);
             return Ok(());
         }
         make_room(&mut self.older, &mut self.changes)?;
@@ -362,7 +363,7 @@ impl Colourings {
     /// Adds the colouring that a stone makes that clears nothing, and keeps its point alone. The newest colouring must be settled, and the
     /// next step must not be a full one. `known` is as in `add_stone`. This takes no memory.
     #[inline(always)]
-    pub(crate) fn add_point(&mut self, colour: Colour, point: Point, known: Known)
+    pub(crate) fn add_lone_stone(&mut self, colour: Colour, point: Point, known: Known)
         requires stone { IsMove (newest_grid self.old) colour point [] }
         requires known { IsTrue (is_settled known) }
         requires settled { has_unreaching (newest_grid self.old) ≡ false }
@@ -399,7 +400,7 @@ impl Colourings {
     /// Takes back the newest colouring, if all that is kept of its step is the point of a stone. Returns whether it was taken back. This is
     /// quicker than `pop`.
     #[inline(always)]
-    pub(crate) fn pop_point(&mut self) -> bool
+    pub(crate) fn pop_lone_stone(&mut self) -> bool
         requires { 0 < length self.old.older }
         ensures taken_back { IsTrue result → self.old.older ≡ self.new.newest ∷ self.new.older }
         ensures settled { IsTrue result → has_unreaching (newest_grid self.new) ≡ false }

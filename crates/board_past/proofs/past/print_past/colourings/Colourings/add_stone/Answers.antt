@@ -6,8 +6,8 @@ use Rattle.board_stones.proofs.SettledLemmas.{side_play}
 use Rattle.board_past.proofs.past.print_past.colourings.Colourings.add_stone.Goals as goal
 use Rattle.board_past.proofs.past.print_past.colourings.Colourings.add_stone.Goals.{After-push_reserved}
 
-pub add_point-requires-clause-not_full : goal.add_point-requires-clause-not_full
-add_point-requires-clause-not_full c =
+pub add_lone_stone-requires-clause-not_full : goal.add_lone_stone-requires-clause-not_full
+add_lone_stone-requires-clause-not_full c =
     let was = c.self.inside in
     let count : c.len.result ≡ length c.args.self.now.older = omega (arith, c.len.ensures, count-all was.newest was.stretch_start was.older.items was.changes.items c.args.self.now c.self.view_is) in
     ap is_full (sym count) ∙ sym c.is_full-full.ensures ∙ c.if-not-full.true

@@ -3,8 +3,8 @@ use Rattle.board_past.proofs.Common.{Fits-of_lt, has_unreaching, play, IsMove, O
 use Rattle.board_past.proofs.ChangesLemmas.{alone_back}
 use Rattle.board_past.proofs.ColouringsLemmas.{count-all, started-below, past_held, room_before_full, grown_alone}
 use Rattle.board_stones.proofs.SettledLemmas.{side_play}
-use Rattle.board_past.proofs.past.print_past.colourings.Colourings.add_point.Goals as goal
-use Rattle.board_past.proofs.past.print_past.colourings.Colourings.add_point.Goals.{After-push_reserved, After-has_all_cells}
+use Rattle.board_past.proofs.past.print_past.colourings.Colourings.add_lone_stone.Goals as goal
+use Rattle.board_past.proofs.past.print_past.colourings.Colourings.add_lone_stone.Goals.{After-push_reserved, After-has_all_cells}
 
 count : (c : After-has_all_cells) → length c.args.self.now.older ≡ length c.self.inside.older.items
 count c =

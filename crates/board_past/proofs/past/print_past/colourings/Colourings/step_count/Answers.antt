@@ -1,6 +1,6 @@
 use Rattle.std.proofs.Common.{arith}
 use Rattle.board_past.proofs.ColouringsLemmas.{count-all}
-use Rattle.board_past.proofs.past.print_past.colourings.Colourings.steps.Goals as goal
+use Rattle.board_past.proofs.past.print_past.colourings.Colourings.step_count.Goals as goal
 
 pub returns : goal.returns
 returns c =
