@@ -16,10 +16,6 @@ asleep_if_room held table below (inr is) some room = absurd (omega (arith, some,
 pub at_once_same : (past : PastColourings) (old new : Table) (below : ℕ) → old.room_asleep ≤ new.room_asleep → ArePlayedAtOnce past old below → ArePlayedAtOnce past new below
 at_once_same past old new below more is = record { settled = is.settled; asleep = λ some. omega (arith, more, is.asleep some); not_full = is.not_full }
 
--- none is played at once
-pub at_once_none : (past : PastColourings) (table : Table) (below : ℕ) → below ≡ 0 → ArePlayedAtOnce past table below
-at_once_none past table below none = record { settled = λ some. absurd (omega (arith, none, some)); asleep = λ some. absurd (omega (arith, none, some)); not_full = λ count from low. absurd (omega (arith, none, low)) }
-
 -- a stone that is played: the number holds still
 pub at_once_more : (was : PastColourings) (table : Table) (below : ℕ) (k : Colour) (p : Point) → ArePlayedAtOnce was table below → ArePlayedAtOnce (with_next was (play (newest_grid was) k p) false) table below
 at_once_more was table below k p is = record { settled = λ _. settled_by_play (newest_grid was) k p; asleep = is.asleep; not_full = λ count from few. is.not_full count (omega (arith, from)) few }

@@ -33,8 +33,8 @@ pub struct Board {
     black: [u64; MAX_ROWS],
     /// The points with a white stone.
     white: [u64; MAX_ROWS],
-    /// Whether every stone is known to be alive. `quick` and `has_unreaching` use it. A change of a point clears it. `PrintPast`
-    /// sets it after a move, and works it out after a setup.
+    /// Whether every stone is known to be alive. `quick` and `has_unreaching` use it. A change of a point clears it. After a
+    /// move `place_and_clear` sets it, after a setup `PrintPast` works it out.
     settled: bool,
 }
 

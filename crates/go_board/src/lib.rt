@@ -34,9 +34,9 @@
 //! | reaching, capture and suicide, the area score, the colouring that a setup makes | the table of `board_stones` |
 //! | `repeat` (positional superko) | the table of `board_past` |
 //! | taking a turn; the reasons `over`, `turn` and `occupied`, in this order | `Referee::turn_in_full`, `Referee::reason_before_repeat` (`referee/turn`); the short way of `Referee::turn` is `Referee::play_at_once` |
-//! | a pass; two passes end the game | `Referee::play_pass` (`referee/turn`); `Referee::over` (`referee`) |
+//! | a pass; two passes in a row (consecutive ones) end the game | `Referee::play_pass` (`referee/turn`); `Mover::may_play`, `Referee::over` (`referee`) |
 //! | how a game begins | `Referee::new`, `Referee::reset` (`referee`) |
-//! | what PL does with stones and without; passes after a setup of stones | `Referee::setup`; `Referee::begin_anew`; `Referee::set_player` (`referee/setup`) |
+//! | PL in a setup with stones; PL alone; passes after a setup of stones | `Referee::setup`, which calls `Referee::begin_anew`; `Referee::set_player`; `Referee::begin_anew` (`referee/setup`) |
 //! | a node that changes nothing | `Referee::stay` (`referee`) |
 //! | undo; whether the newest call, or each call since some depth, left the board as it was | `Referee::undo`; `Referee::newest_left_board`, `Referee::left_board_since` (`referee`) |
 //!

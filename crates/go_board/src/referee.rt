@@ -236,7 +236,7 @@ impl<P: Past> Referee<P> {
     }
 
     /// Whether each accepted call after the first `depth` calls left the board as it was. False says nothing. If there are no such calls, this
-    /// is true. It looks at the newest calls first, and no further than at one that changed the board.
+    /// is true. It looks at the newest calls first, and no further than at a stone or a setup of stones.
     pub fn left_board_since(&self, depth: usize) -> bool
         ensures { IsTrue result → HadSameBoardSince self.now depth }
     {

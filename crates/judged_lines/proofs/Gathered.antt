@@ -15,10 +15,7 @@ use Rattle.judged_lines.specs.declared.judging.contents.Kind.{Kind}
 use Rattle.judged_lines.specs.declared.judging.contents.Kind.TheVariants.{Move as move_kind, Stones as stones_kind, Player as player_kind, Comment as comment_kind}
 use Rattle.judged_lines.specs.NodeContents.{Move, Stones}
 
--- one operation before others, and all of two lists, where each is there
-abbrev before_all : Option SetupOp → Option (List SetupOp) → Option (List SetupOp)
-before_all o os = option_and_then (λ op. option_map (λ ops. op ∷ ops) os) o
-
+-- all of two lists, if each is there
 abbrev pub both : Option (List SetupOp) → Option (List SetupOp) → Option (List SetupOp)
 both a b = option_and_then (λ xs. option_map (λ ys. xs ++ ys) b) a
 

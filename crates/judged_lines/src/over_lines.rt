@@ -1,5 +1,5 @@
-//! Going over the lines after a cursor, and what is kept from line to line. A run and a `Follower` both do it by `OverLines::next`. What is held
-//! of the line before the cursor is `StandsBy`: `next` keeps it, after a refusal, too.
+//! Going over the lines after a cursor, and what is kept from line to line. A run and a `Follower` both do it by `OverLines::next`. `StandsBy` says
+//! what is held of the line before the cursor. It holds after each `next`, even after a refusal.
 
 ghost use Rattle.std.specs.Prelude.{◌≡◌, ◌≢◌, ◌+◌, ◌<◌, ℕ, None, length, slice_get, IfNone, IfOk, IfSome, OnErr, OnOk, MatchBool};
 ghost use Rattle.sgf_outline.specs.Tree.{node_count};

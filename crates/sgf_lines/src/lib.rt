@@ -45,7 +45,7 @@
 //! | the order of the lines | `SequenceCursor::advance` of `tree_lines` (`sequence_cursor`) |
 //! | `--after`, and that no line ends there; `--limit` | `SequenceCursor::seek_after` of `tree_lines` (`sequence_cursor`); `write_lines` (`run`) |
 //! | at most 64 MiB of a source | `read_some` (`run`) |
-//! | whether an input ends too early | `RunFault::ends_too_early` (`fault`), which `Fault::row` of `sgfsplit_job` (`fault`) asks; where: the first fault, in the table of `sgf_tree` |
+//! | whether an input ends too early | `RunFault::ends_too_early` (`fault`), which `Fault::message` of `sgfsplit_job` (`fault`) asks; where: the first fault, in the table of `sgf_tree` |
 //! | PLACE, GAME and NODES of a row | `SequenceCursor::place`, `SequenceCursor::game`, `SequenceCursor::len` of `tree_lines` (`sequence_cursor`) |
 //! | a row; the row of counts | `TextRow::lay_out` (`form/text_row`); `write_counts` (`counting`); the counts: `read_extent` of `sgf_tree` (`reader`) |
 //! | what a node is; which games are judged; the reasons of a node; the verdict of a line; that a script stops before an illegal node | the table of `judged_lines` |

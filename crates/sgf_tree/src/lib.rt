@@ -44,7 +44,7 @@
 //! | Collection and GameTree; Sequence, and the `;` of a Node | `read_games`; `read_sequence` (`reader/games`) |
 //! | the properties of a Node; Property | `read_properties`; `read_property` (`reader/properties`) |
 //! | PropIdent: its first capital; the `[` after it | `read_properties` (`reader/properties`); `read_far_name` (`reader/properties`) |
-//! | white space: before the first `(`; after a parenthesis; after a `;`; after a name; after a value, so before what comes next | `read_whole` (`reader`); `read_sequence`, `read_games` (`reader/games`); `read_properties`; `read_far_name`; `read_property` (`reader/properties`), in a run after most properties the shortcut `property_end` (`quick/properties`); all by `skip_white_space` of `sgf_properties` (`scan`) |
+//! | white space: before the first `(`; after a parenthesis; after a `;`; after a name; after a value, so before what comes next | `read_whole` (`reader`); `read_sequence`, `read_games` (`reader/games`); `read_properties`; `read_far_name`; `read_property` (`reader/properties`), in a run after most properties the shortcut `property_end` (`quick/properties`); all by `skip_white_space` of `sgf_properties` (`scan`), but `skip_line_end` passes a lone line feed itself |
 //! | the byte order mark: its bytes; once, before white space | `byte_order_mark_end` (`reader/byte_order_mark`); `read_whole` (`reader`) |
 //! | the first fault | where these return `NotSgf`: `read_games`, `read_sequence` (`reader/games`), `read_far_name` (`reader/properties`), `read_far_value` (`reader/value`), `byte_order_mark_end` (`reader/byte_order_mark`); `reader/fault` says why that is the first |
 //! | at most 64 MiB | `read`, `read_outline`, `read_extent` (`reader`) |

@@ -1,10 +1,11 @@
 //! The past of a run, and how it finds a stone that repeats a colouring (positional superko).
 //!
 //! A colouring can come back only by a stone on a point that was emptied before, or by suicide. So most stones are played without a look-up
-//! (`may_repeat`). For any other one, the newest steps are gone over (`decide_by_newest`). Nearly always they tell: behind steps
-//! that only put stones no colouring has the stone that is played, and behind a fresh stone none has that one. If they don't tell, the newest
-//! colourings are compared one by one, and then a table of prints and a trie of keys decide, for all colourings at once (`play_by_print`).
-//! `ListPast` is the plainest past.
+//! (`may_repeat`). For any other one, the newest steps are gone over (`decide_by_newest`). Nearly always they tell. If they only put stones, no
+//! earlier colouring has the stone that is played. No colouring before a fresh stone has that stone. If the steps don't tell, the newest
+//! colourings are compared one by one, as long as no look-up was needed before in the game. Then a table of prints and a trie of keys decide,
+//! for all colourings at once (`play_by_print`). On a board with a stone that isn't alive, which only a setup makes, one colouring is compared
+//! (`play_on_copy`). `ListPast` is the plainest past.
 //!
 //! | Module | What it has |
 //! |---|---|
@@ -55,8 +56,8 @@ use std::marker::Model;
 
 /// A past that keeps the newest colouring whole. Of each older one it keeps what leads back to it. A colouring is looked up only in the
 /// present stretch, and only if a stone may repeat one. At first it is looked for among the newest colourings. Once these haven't told in a
-/// game, it is looked up by its print, a 64-bit number made from what stands on all its points. If two prints are equal, all points are
-/// compared, or hashes, if very many colourings have that print.
+/// game, or stones were set up after other steps, it is looked up by its print, a 64-bit number made from what stands on all its points. If
+/// two prints are equal, all points are compared, or hashes, if very many colourings have that print.
 ///
 /// A colouring that only adds one stone to the one before it takes 12 bytes. Room for its print and for a node of the trie, 24 bytes, is
 /// kept beside.
@@ -67,8 +68,8 @@ pub struct PrintPast {
     table: Table,
     /// The points that were emptied. A stone that stays can bring a colouring back only on one of these.
     emptied: Emptied,
-    /// If there were fewer steps than this, the newest colouring is settled, the table sleeps and has room, and the next step isn't a full
-    /// one. So one comparison tells whether a stone may be played at once. It is 0 if the newest isn't settled, or the table is awake.
+    /// A stone is played at once only if there were fewer steps than this. Then the newest colouring is settled, the table sleeps and has
+    /// room, and the next step isn't a full one: one comparison tells it all. It is 0 if the newest isn't settled, or the table is awake.
     at_once_below: usize,
 }
 
@@ -111,8 +112,8 @@ impl Past for PrintPast {
         self.add(board, true)
     }
 
-    /// Finds captures and suicide near the stone (`find_cleared`), unless a glance shows that there are none. If `play_at_once` would have
-    /// found by a glance alone that it can't play the stone, there is no second glance. A repetition (positional superko) is looked up by
+    /// Finds captures and suicide near the stone (`find_cleared`), unless a glance shows that there are none. It glances only if `play_at_once`
+    /// would have stopped before its glance. A repetition (positional superko) is looked up by
     /// `play_asked`. The plain ways are `Past::play` and `Board::place`; the second is taken on a board that isn't settled (`play_on_copy`).
     fn play(&mut self, colour: Colour, point: Point) -> Result<bool, MemoryFault> {
         let newest = self.colourings.newest();
@@ -141,7 +142,7 @@ impl Past for PrintPast {
         true
     }
 
-    /// The same as the plain one; then the board is settled if that can be.
+    /// As `Past::set_up`; then works out whether the board is settled.
     fn set_up(&mut self, ops: &[SetupOp]) -> Result<(), MemoryFault> {
         let mut made = self.newest().copy();
         made.colour_rectangles(ops);
@@ -289,8 +290,8 @@ impl PrintPast {
         }
     }
 
-    /// Whether the present stretch has the colouring that a stone makes, if the newest colourings tell; None if they don't. A table that is
-    /// awake tells sooner than a look back.
+    /// Whether the present stretch has the colouring that a stone makes, if the newest colourings tell; None if they don't. If the table is
+    /// awake, only the newest steps are looked at, since the table tells sooner than a look back.
     fn decide_by_newest(&self, colour: Colour, point: Point, cleared: &[u64]) -> Option<bool>
         requires stone { IsMove (newest_grid self.now) colour point cleared.now }
         ensures { IfSome result (λ has. IsTrue has ↔ Contains (present_stretch self.now) (play (newest_grid self.now) colour point)) }
@@ -340,7 +341,7 @@ impl PrintPast {
         Ok(true)
     }
 
-    /// The same as `play_asked`, by the table. Wakes it first. If a look-up is needed to tell, this puts the colouring into the trie at once.
+    /// The same as `play_asked`. Wakes the table and looks the colouring up. A new one goes into the trie at once.
     #[inline(never)]
     fn play_by_print(
         &mut self,
@@ -437,8 +438,8 @@ fn print_if_awake(
 }
 
 /// Adds the colouring that a stone makes; `cleared` is what the stone clears. `known` is what is known of the newest colouring, and whether
-/// no colouring of the present stretch has a stone on that point. `print` is the colouring's print, or None if the table sleeps. Puts the colouring into the trie if its gap there
-/// is known. After a refusal nothing is changed.
+/// no colouring of the present stretch has a stone on that point. `print` is the colouring's print, or None if the table sleeps. Puts the
+/// colouring into the trie if its gap there is known. After a refusal nothing is changed.
 // No method: between its steps the invariant of the past doesn't hold.
 #[inline(always)]
 fn add_stone(

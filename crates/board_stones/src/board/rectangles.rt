@@ -23,7 +23,7 @@ impl Board {
         for op in ops {
             self.colour_rectangle(*op);
         }
-        // where no point changed, what was known of the stones still holds
+        // if no point changed, what was known of the stones still holds
         if self.same(&before) {
             self.set_settled(before.is_settled());
         }

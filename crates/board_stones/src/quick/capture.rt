@@ -21,7 +21,7 @@ use board_points::quick::group::{add_to_either, fill_if_shut, lives_in_row};
 use board_points::rows::{has_point, no_rows, remove_all};
 
 impl Board {
-    /// Finds what a stone on an empty point clears, by capture or else by suicide. `cleared` must be empty. If the stone clears something,
+    /// Finds what a stone on an empty point clears, by capture or else by suicide. `cleared` must have no points. If the stone clears something,
     /// `cleared` becomes that; if not, false is returned, and what is in `cleared` says nothing.
     /// Before the move every stone on the board must reach empty. So after it only the stone's own group and the groups beside the
     /// stone can be without a liberty. The stone is put on the board for this search, and removed again.

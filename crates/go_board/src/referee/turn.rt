@@ -1,4 +1,4 @@
-//! A referee's turns. The past plays the stones (`Past::play`, in a run that of `PrintPast`), and doesn't play one that would repeat a
+//! A referee's turns. The past plays the stones (`Past::play_at_once`, else `Past::play`), and doesn't play one that would repeat a
 //! colouring made since the last setup of stones (positional superko).
 
 ghost use Rattle.std.specs.Prelude.{◌≡◌, ◌≢◌, ◌↔◌, if◌then◌else◌, None, Some, IfNone, IfOk, IfSome, IsErrOf, IsFalse, IsTrue, OnOk, OnErr};
@@ -22,7 +22,7 @@ impl<P: Past> Referee<P> {
     ///
     /// - `Illegal`: the first of `Over`, `Turn`, `Occupied` and `Repeat` that holds. This refusal comes even if memory is refused.
     /// - `Memory`: the turn is legal, but memory was refused.
-    // Inlined, so that its answer needs no memory. It has one caller.
+    // Inlined, so that its answer needs no memory. A run calls it in one place.
     #[inline(always)]
     pub fn turn(&mut self, colour: Colour, play: Play) -> Result<(), TurnFault>
         requires { IsPlayOn self.old.present.colouring.side play }

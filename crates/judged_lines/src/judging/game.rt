@@ -25,7 +25,7 @@ pub(crate) struct Game {
     referee: Referee<PrintPast>,
 
     /// The area scores of Black and of White on the board after the first `scored` nodes; None if they aren't known. A node that is taken
-    /// need not look at them: only a verdict asks whether the board is still the same.
+    /// need not look at them: a verdict asks whether the board is still the same, and so does the way back to fewer nodes.
     score: Option<(u32, u32)>,
     scored: usize,
 }
@@ -152,8 +152,8 @@ fn present_score(
     referee.score()
 }
 
-/// The score of the board after the first `scored` nodes, if it is known and the board is the same after the first `count`, or if that many
-/// nodes leave it alone. Else None.
+/// What is still known of the score after going back to the first `count` nodes: `score`, if `scored` is at most `count`, or if the nodes after
+/// these left the board alone.
 #[inline(always)]
 fn score_back(
     score: Option<(u32, u32)>,
@@ -164,10 +164,10 @@ fn score_back(
     requires { count < length referee.now.earlier }
     ensures { IfSome result (λ kept. (score ≡ Some kept) × ((scored ≤ count) ⊎ HadSameBoardSince referee.now count)) }
 {
-    // usually the newest node changed the board
     if score.is_none() || scored <= count {
         return score;
     }
+    // usually the newest node changed the board
     if referee.newest_left_board() && referee.left_board_since(count) {
         score
     } else {

@@ -136,7 +136,7 @@ impl Judge {
         self.game.is_none() || self.ended.is_some()
     }
 
-    /// Goes back to the first `count` nodes.
+    /// Goes back to the first `count` nodes. If one of these was illegal, nothing changes.
     #[inline(always)]
     pub(crate) fn cut_back(&mut self, count: usize)
         ensures judged { self.new.judgement ≡ back count self.old.judgement }

@@ -21,7 +21,7 @@ use sgf_tree::{MemoryFault, SequenceNodes};
 use std::alloc::Global;
 use tree_lines::{Front, SequenceCursor};
 
-/// Is told each step that is taken on a line. Most forms need no step: `()` is told them.
+/// Is told each step that is taken on a line. Most forms need no step: their keeper is `()`, which ignores them.
 pub trait StepKeeper: Drop {
     // It was told that these nodes were legal, in a game of this kind.
     ghost tells: { Self → GameKind → List LegalNode → Type 0 };

@@ -56,7 +56,7 @@ pub(crate) fn read_games<K: Visitor>(
             _ => return Err(PartFault::NotSgf(at)),
         }
     }
-    // The text ends too early: a game is unclosed, or none has begun.
+    // The text ends too early if a game is unclosed, or none has begun.
     if depth > 0 || at == start {
         return Err(PartFault::NotSgf(at));
     }

@@ -85,8 +85,8 @@ impl Colourings {
     /// Whether the newest steps show that a stone brings no colouring of the present stretch back; `cleared` is what the stone clears.
     /// False says nothing.
     ///
-    /// Behind steps that only put stones, no colouring has a stone where the newest has none, so none has the stone that is played. Behind a
-    /// fresh stone that stays, no colouring has that stone. At most `LOOK_BACK` steps are gone over.
+    /// If the newest steps only put stones, no earlier colouring has a stone where the newest has none, so none has the stone that is played. No
+    /// colouring before a fresh stone has that stone. At most `LOOK_BACK` steps are gone over.
     pub(crate) fn newest_steps_show_new(&self, point: Point, cleared: &[u64]) -> bool
         requires stone { (colour : Colour) × IsMove (newest_grid self.now) colour point cleared.now }
         ensures { (colour : Colour) → IsMove (newest_grid self.now) colour point cleared.now → IsTrue result
@@ -141,7 +141,7 @@ impl Colourings {
         board.same(&self.board_at(number))
     }
 
-    /// Whether the present stretch has this colouring. All are compared one by one: this is the plain way.
+    /// Whether the present stretch has this colouring. All are compared one by one. A run asks this of a stretch of one colouring alone.
     pub(crate) fn holds(&self, board: &Board) -> bool
         ensures { IsTrue result ↔ Contains (present_stretch self.now) board.now }
     {

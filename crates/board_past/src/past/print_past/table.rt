@@ -22,8 +22,8 @@
 //! This is so once `link` has put all colourings into the trie. `gap` calls it first.
 //!
 //! In most games the newest colourings answer all that is asked (`Colourings::look_back`). So the table sleeps at first: it has no prints,
-//! and a stone that is played at once costs nothing here. `wake` works the prints out, once a game, one for each colouring; from
-//! then on the table has those of all colourings.
+//! and a stone that is played at once costs nothing here. `wake` works the prints out, once a game, one for each colouring. A setup
+//! after other steps wakes it, too. From then on the table has those of all colourings.
 
 ghost use Rattle.std.specs.Prelude.{◌≡◌, ◌↔◌, ◌+◌, ◌*◌, ◌^◌, ◌<◌, ◌≤◌, [], ◌∷◌, List, ℕ, length, false, slice_index, IsTrue, IsFalse, IfNone, IfSome, IfOk, IfErr, OnOk, Contains};
 ghost use Rattle.board_stones.specs.Grid.{Grid};
