@@ -14,12 +14,13 @@ pub(crate) struct Asked {
 }
 
 impl Asked {
-    /// The job that the words of a command line ask for.
-    pub(crate) fn new(alloc: Global, words: &[&str]) -> Result<Asked, AllocError> {
-        let given = strings(alloc, words)?;
-        Ok(Asked {
-            job: job(alloc, &given).ok(),
-        })
+    /// The job that the words of a command line ask for, the name of the program first.
+    pub(crate) fn new(alloc: Global, words: &[&str]) -> Asked {
+        let job = match strings(alloc, words) {
+            Ok(given) => job(alloc, &given).ok(),
+            Err(_) => None,
+        };
+        Asked { job }
     }
 
     /// Does the job on a text in memory, and adds to the digest what was written and the status.
@@ -65,10 +66,9 @@ impl Asked {
     }
 }
 
-/// The name of the program and these words, as strings.
+/// These words as strings.
 fn strings(alloc: Global, words: &[&str]) -> Result<Vec<String>, AllocError> {
     let mut strings: Vec<String> = Vec::new(alloc);
-    strings.push(String::from_str(alloc, "sgfsplit")?)?;
     for word in words {
         strings.push(String::from_str(alloc, word)?)?;
     }

@@ -153,6 +153,12 @@ impl Goban {
         self.play_first(player, chance)
     }
 
+    /// Plays a careful move near the point `last`, or passes. Returns the point.
+    pub(crate) fn play_on(&mut self, player: Player, last: usize, chance: &mut Chance) -> usize {
+        self.play_somewhere(player, last, true, chance)
+            .unwrap_or(PASS)
+    }
+
     /// The point that the simplest ko forbids; `PASS` if there is none.
     pub(crate) fn forbidden(&self) -> usize {
         self.ko

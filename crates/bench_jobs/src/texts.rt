@@ -18,6 +18,8 @@ use std::alloc::{AllocError, Global};
 #[derive(Drop)]
 pub(crate) struct Text {
     bytes: Vec<u8>,
+    /// Whether memory was refused, so that something is missing.
+    is_cut: bool,
 }
 
 impl Text {
@@ -25,7 +27,13 @@ impl Text {
     pub(crate) fn new(alloc: Global) -> Text {
         Text {
             bytes: Vec::new(alloc),
+            is_cut: false,
         }
+    }
+
+    /// Whether memory was refused to the text.
+    pub(crate) fn is_cut(&self) -> bool {
+        self.is_cut
     }
 
     /// The bytes.
@@ -53,52 +61,47 @@ impl Text {
     }
 
     /// Adds bytes.
-    pub(crate) fn add(&mut self, bytes: &[u8]) -> Result<(), AllocError> {
-        self.bytes.extend_from_slice(bytes)
+    pub(crate) fn add(&mut self, bytes: &[u8]) {
+        let is_kept = self.bytes.extend_from_slice(bytes).is_ok();
+        self.keep(is_kept);
+    }
+
+    /// Notes that something is missing, unless `is_kept` is true.
+    fn keep(&mut self, is_kept: bool) {
+        self.is_cut = self.is_cut || !is_kept;
     }
 
     /// Adds a number below 1,000.
-    pub(crate) fn add_number(&mut self, number: usize) -> Result<(), AllocError> {
-        let digits = [
-            b'0' + (number / 100 % 10) as u8,
-            b'0' + (number / 10 % 10) as u8,
-            b'0' + (number % 10) as u8,
-        ];
-        self.add(&digits)
+    pub(crate) fn add_number(&mut self, number: usize) {
+        self.add(&[digit(number / 100), digit(number / 10), digit(number)]);
     }
 
     /// Adds the beginning of a game.
-    pub(crate) fn add_root(&mut self, side: usize) -> Result<(), AllocError> {
-        self.add(b"(;GM[1]FF[4]SZ[")?;
-        self.add_number(side)?;
-        self.add(b"]")
+    pub(crate) fn add_root(&mut self, side: usize) {
+        self.add(b"(;GM[1]FF[4]SZ[");
+        self.add_number(side);
+        self.add(b"]");
     }
 
     /// Adds a node with a move. `turned` picks one of the eight ways to turn the board.
-    pub(crate) fn add_move(
-        &mut self,
-        player: Player,
-        point: usize,
-        side: usize,
-        turned: usize,
-    ) -> Result<(), AllocError> {
+    pub(crate) fn add_move(&mut self, player: Player, point: usize, side: usize, turned: usize) {
         if point == PASS {
             return self.add(&[b';', player.letter(), b'[', b']']);
         }
         let (col, row) = letters(point, side, turned);
-        self.add(&[b';', player.letter(), b'[', col, row, b']'])
+        self.add(&[b';', player.letter(), b'[', col, row, b']']);
     }
 
     /// Adds the value of a setup property.
-    pub(crate) fn add_stone(
-        &mut self,
-        point: usize,
-        side: usize,
-        turned: usize,
-    ) -> Result<(), AllocError> {
+    pub(crate) fn add_stone(&mut self, point: usize, side: usize, turned: usize) {
         let (col, row) = letters(point, side, turned);
-        self.add(&[b'[', col, row, b']'])
+        self.add(&[b'[', col, row, b']']);
     }
+}
+
+/// The last digit of a number.
+fn digit(number: usize) -> u8 {
+    b'0' + (number % 10) as u8
 }
 
 /// The letters of a point's column and row, once the board was turned.
@@ -189,14 +192,9 @@ impl Words {
     }
 
     /// Adds a comment of up to so many words to a text.
-    pub(crate) fn add_comment(
-        &self,
-        text: &mut Text,
-        most: usize,
-        chance: &mut Chance,
-    ) -> Result<(), AllocError> {
-        text.add(b"C[")?;
-        text.add(self.some(most, chance))?;
-        text.add(b"]")
+    pub(crate) fn add_comment(&self, text: &mut Text, most: usize, chance: &mut Chance) {
+        text.add(b"C[");
+        text.add(self.some(most, chance));
+        text.add(b"]");
     }
 }

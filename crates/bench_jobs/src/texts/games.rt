@@ -4,7 +4,7 @@ ghost use Rattle.std.specs.Prelude.{◌≤◌, IfSome, length};
 
 use crate::chance::Chance;
 use crate::goban::{Goban, PASS, Player};
-use crate::texts::parts::{Lists, Manner, Part, add_parts};
+use crate::texts::parts::{Lists, Manner, Part, add_parts, whole};
 use crate::texts::{Text, Words};
 use std::alloc::{AllocError, Global};
 
@@ -12,10 +12,8 @@ use std::alloc::{AllocError, Global};
 #[derive(Drop)]
 pub(crate) struct Games {
     bodies: Text,
-    /// Where each body ends.
-    ends: Vec<usize>,
-    /// Where the last node of each body begins.
-    lasts: Vec<usize>,
+    /// Where the last node of each body begins, and where the body ends.
+    ends: Vec<(usize, usize)>,
 }
 
 /// How often a body can be cut off.
@@ -34,23 +32,30 @@ impl Games {
         let mut games = Games {
             bodies: Text::new(alloc),
             ends: Vec::new(alloc),
-            lasts: Vec::new(alloc),
         };
         for number in 0..count {
-            for turned in 0..8 {
-                let manner = Manner {
-                    side: 19,
-                    turned,
-                    timed: number % 4 == 0,
-                    comments: 32,
-                    words: 20,
-                };
-                // a game with variations can't go on after them
-                let again = number % 10 != 9 && chance.once_in(50);
-                games.add_body(made.list(number), again, words, manner, chance)?;
-            }
+            games.add_turned(number, made.list(number), words, chance);
+        }
+        if games.bodies.is_cut() {
+            return Err(AllocError);
         }
         Ok(games)
+    }
+
+    /// Adds the game with this number once for each way to turn the board.
+    fn add_turned(&mut self, number: usize, parts: &[Part], words: &Words, chance: &mut Chance) {
+        for turned in 0..8 {
+            let manner = Manner {
+                side: 19,
+                turned,
+                timed: number % 4 == 0,
+                comments: 32,
+                words: 20,
+            };
+            // a game with variations can't go on after them
+            let again = number % 10 != 9 && chance.once_in(50);
+            self.add_body(parts, again, words, manner, chance);
+        }
     }
 
     /// Adds a body. If `again` is true, its last two moves are on the same point.
@@ -61,64 +66,60 @@ impl Games {
         words: &Words,
         manner: Manner,
         chance: &mut Chance,
-    ) -> Result<(), AllocError> {
-        let last = add_parts(&mut self.bodies, parts, words, manner, chance)?;
+    ) {
+        let last = add_parts(&mut self.bodies, parts, words, manner, chance);
         if again {
-            self.bodies.add(b";B[dd];W[dd]")?;
+            self.bodies.add(b";B[dd];W[dd]");
         }
-        self.bodies.add(b")\n")?;
-        self.ends.push(self.bodies.len())?;
-        self.lasts.push(last)?;
-        Ok(())
+        self.bodies.add(b")\n");
+        let is_kept = self.ends.push((last, self.bodies.len())).is_ok();
+        self.bodies.keep(is_kept);
+    }
+
+    /// Where the last node of a body begins, and where the body ends; both 0 if there is no such body.
+    fn ends(&self, number: usize) -> (usize, usize) {
+        match self.ends.get(number) {
+            Some(ends) => *ends,
+            None => (0, 0),
+        }
     }
 
     /// Where a body begins, where its last node begins, and where it ends.
     fn span(&self, number: usize) -> (usize, usize, usize) {
-        let start = match self.ends.get(number.wrapping_sub(1)) {
-            Some(start) => *start,
-            None => 0,
-        };
-        match (self.lasts.get(number), self.ends.get(number)) {
-            (Some(last), Some(end)) => (start, *last, *end),
-            (_, _) => (start, start, start),
-        }
+        let (_, start) = self.ends(number.wrapping_sub(1));
+        let (last, end) = self.ends(number);
+        (start, last, end)
     }
 
     /// Adds one of the games to a text, with a long header if `full` is true. Returns the place of its last node.
-    pub(crate) fn add_one(
-        &self,
-        text: &mut Text,
-        full: bool,
-        chance: &mut Chance,
-    ) -> Result<usize, AllocError> {
+    pub(crate) fn add_one(&self, text: &mut Text, full: bool, chance: &mut Chance) -> usize {
         let (start, last, end) = self.span(chance.below(self.ends.len()));
-        text.add_root(19)?;
+        text.add_root(19);
         if full {
-            add_header(text, chance)?;
+            add_header(text, chance);
         }
         let place = text.len().wrapping_add(last).wrapping_sub(start);
-        text.add(self.bodies.part(start, end))?;
-        Ok(place)
+        text.add(self.bodies.part(start, end));
+        place
     }
 
     /// Adds one of the games to a text, without its last nodes: at most half of them. Up to 16 for each game, no two numbers give the
     /// same text.
-    pub(crate) fn add_part(
-        &self,
-        text: &mut Text,
-        number: usize,
-        full: bool,
-        chance: &mut Chance,
-    ) -> Result<(), AllocError> {
+    pub(crate) fn add_part(&self, text: &mut Text, number: usize, full: bool, chance: &mut Chance) {
         let count = self.ends.len().max(1);
-        let (start, last, end) = self.span(number % count);
         let cut = number / count % CUTS;
-        text.add(b"(;GM[1]FF[4]SZ[19]GN[Part ")?;
-        text.add_number(cut)?;
-        text.add(b"]")?;
+        text.add(b"(;GM[1]FF[4]SZ[19]GN[Part ");
+        text.add_number(cut);
+        text.add(b"]");
         if full {
-            add_header(text, chance)?;
+            add_header(text, chance);
         }
+        self.add_front(text, number % count, cut);
+    }
+
+    /// Adds the front of a body, one of `CUTS`.
+    fn add_front(&self, text: &mut Text, number: usize, cut: usize) {
+        let (start, last, end) = self.span(number);
         let body = self.bodies.part(start, last);
         let half = body.len() / 2;
         match next_node(body, half.wrapping_add((half / CUTS).wrapping_mul(cut))) {
@@ -128,24 +129,19 @@ impl Games {
     }
 
     /// Adds a library of about `size` bytes. Returns the place of a line in its middle, if the line's last node is the last move.
-    pub(crate) fn add_library(
-        &self,
-        text: &mut Text,
-        size: usize,
-        chance: &mut Chance,
-    ) -> Result<usize, AllocError> {
+    pub(crate) fn add_library(&self, text: &mut Text, size: usize, chance: &mut Chance) -> usize {
         let mut middle = 0;
         for _ in 0..size {
             if text.len() >= size {
                 break;
             }
             let before = text.len();
-            let last = self.add_one(text, true, chance)?;
+            let last = self.add_one(text, true, chance);
             if before < size / 2 {
                 middle = last;
             }
         }
-        Ok(middle)
+        middle
     }
 }
 
@@ -162,12 +158,12 @@ fn next_node(body: &[u8], least: usize) -> Option<usize>
 }
 
 /// Adds the front of a body, and ends the variation, if one has begun, and the game. No comment has a parenthesis.
-fn add_closed(text: &mut Text, front: &[u8]) -> Result<(), AllocError> {
-    text.add(front)?;
+fn add_closed(text: &mut Text, front: &[u8]) {
+    text.add(front);
     if front.contains(&b'(') {
-        text.add(b")")?;
+        text.add(b")");
     }
-    text.add(b")\n")
+    text.add(b")\n");
 }
 
 /// So many games on 19 by 19 with up to `moves` moves, at least half of these. Every tenth has a variation.
@@ -182,10 +178,10 @@ fn make_games(
     let mut line: Vec<u16> = Vec::new(alloc);
     for number in 0..count {
         let length = (moves / 2).saturating_add(chance.below(moves / 2));
-        play_game(&mut goban, &mut line, length, chance)?;
-        add_game(&mut games, &mut goban, &line, number % 10 == 9, chance)?;
+        games.keep(play_game(&mut goban, &mut line, length, chance));
+        add_game(&mut games, &mut goban, &line, number % 10 == 9, chance);
     }
-    Ok(games)
+    whole(games)
 }
 
 /// Adds a game with the moves of a line. If `branches` is true, it has a variation.
@@ -195,17 +191,17 @@ fn add_game(
     line: &[u16],
     branches: bool,
     chance: &mut Chance,
-) -> Result<(), AllocError> {
+) {
     let branch = if branches {
         chance.below(line.len())
     } else {
         line.len()
     };
-    add_line(games, line, 0, branch)?;
+    add_line(games, line, 0, branch);
     if branch < line.len() {
-        add_branches(games, goban, line, branch, chance)?;
+        add_branches(games, goban, line, branch, chance);
     }
-    games.end()
+    games.end();
 }
 
 /// Adds the rest of a line, and then a variation of it.
@@ -215,45 +211,37 @@ fn add_branches(
     line: &[u16],
     branch: usize,
     chance: &mut Chance,
-) -> Result<(), AllocError> {
-    games.add(Part::Open)?;
-    add_line(games, line, branch, line.len())?;
-    games.add(Part::Close)?;
-    games.add(Part::Open)?;
-    add_variation(games, goban, line, branch, chance)?;
-    games.add(Part::Close)
+) {
+    games.add(Part::Open);
+    add_line(games, line, branch, line.len());
+    games.add(Part::Close);
+    games.add(Part::Open);
+    add_variation(games, goban, line, branch, chance);
+    games.add(Part::Close);
 }
 
-/// Plays a game from an empty board.
-fn play_game(
-    goban: &mut Goban,
-    line: &mut Vec<u16>,
-    length: usize,
-    chance: &mut Chance,
-) -> Result<(), AllocError> {
+/// Plays a game from an empty board. Returns whether all its moves were kept.
+fn play_game(goban: &mut Goban, line: &mut Vec<u16>, length: usize, chance: &mut Chance) -> bool {
     goban.clear(19);
     line.clear();
+    let mut is_kept = true;
     let mut player = Player::Black;
     let mut last = PASS;
     for _ in 0..length {
-        let point = goban
-            .play_somewhere(player, last, true, chance)
-            .unwrap_or(PASS);
-        line.push((point % 4096) as u16)?;
+        last = goban.play_on(player, last, chance);
+        is_kept &= line.push((last % 4096) as u16).is_ok();
         player = player.other();
-        last = point;
     }
-    Ok(())
+    is_kept
 }
 
 /// Adds some of the moves of a line.
-fn add_line(games: &mut Lists, line: &[u16], start: usize, end: usize) -> Result<(), AllocError> {
+fn add_line(games: &mut Lists, line: &[u16], start: usize, end: usize) {
     for (i, point) in line.iter().enumerate() {
         if start <= i && i < end {
-            games.add_move(player_at(i), usize::from(*point))?;
+            games.add_move(player_at(i), usize::from(*point));
         }
     }
-    Ok(())
 }
 
 /// Adds moves that follow the first `branch` moves of a line.
@@ -263,24 +251,15 @@ fn add_variation(
     line: &[u16],
     branch: usize,
     chance: &mut Chance,
-) -> Result<(), AllocError> {
+) {
     goban.clear(19);
     for (i, point) in line.iter().enumerate() {
         if i < branch {
             goban.play(player_at(i), usize::from(*point));
         }
     }
-    let mut player = player_at(branch);
-    let mut last = PASS;
-    for _ in 0..chance.below(30).saturating_add(1) {
-        let point = goban
-            .play_somewhere(player, last, true, chance)
-            .unwrap_or(PASS);
-        games.add_move(player, point)?;
-        player = player.other();
-        last = point;
-    }
-    Ok(())
+    let moves = chance.below(30).saturating_add(1);
+    games.add_moves(goban, player_at(branch), moves, chance);
 }
 
 /// The player of a move, by the number of moves before it.
@@ -300,10 +279,10 @@ const HEADER: [&[u8]; 3] = [
 ];
 
 /// Adds the rest of a root.
-fn add_header(text: &mut Text, chance: &mut Chance) -> Result<(), AllocError> {
-    for words in HEADER {
-        text.add(words)?;
-        text.add_number(chance.below(1000))?;
+fn add_header(text: &mut Text, chance: &mut Chance) {
+    for words in &HEADER {
+        text.add(words);
+        text.add_number(chance.below(1000));
     }
-    text.add(b"]RE[B+R]TM[2700]\n")
+    text.add(b"]RE[B+R]TM[2700]\n");
 }

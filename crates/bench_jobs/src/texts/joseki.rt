@@ -3,7 +3,7 @@
 use crate::chance::Chance;
 use crate::goban::{Goban, PASS};
 use crate::texts::games::player_at;
-use crate::texts::parts::{Lists, Manner, Part, add_parts};
+use crate::texts::parts::{Lists, Manner, Part, add_parts, whole};
 use crate::texts::{Text, Words};
 use std::alloc::{AllocError, Global};
 
@@ -28,74 +28,65 @@ struct Growth {
 
 impl Growth {
     /// A tree that is a root alone.
-    fn new(alloc: Global) -> Result<Growth, AllocError> {
-        let mut open = Vec::new(alloc);
-        open.push(Branch {
-            left: 1 << 30,
-            depth: 0,
-        })?;
-        Ok(Growth {
+    fn new(alloc: Global, tree: &mut Lists) -> Growth {
+        let mut growth = Growth {
             goban: Goban::new(12),
             line: Vec::new(alloc),
-            open,
-        })
+            open: Vec::new(alloc),
+        };
+        growth.add(tree, 1 << 30, 0);
+        growth
+    }
+
+    /// Adds a branch that is open.
+    fn add(&mut self, tree: &mut Lists, left: usize, depth: usize) {
+        tree.keep(self.open.push(Branch { left, depth }).is_ok());
     }
 
     /// Adds the end of the newest branch, if it isn't the root.
-    fn close(&self, tree: &mut Lists) -> Result<(), AllocError> {
-        if self.open.is_empty() {
-            return Ok(());
+    fn close(&self, tree: &mut Lists) {
+        if !self.open.is_empty() {
+            tree.add(Part::Close);
         }
-        tree.add(Part::Close)
     }
 
     /// Adds a variation that begins where a branch ends. The branch stays open.
-    fn go_on(
-        &mut self,
-        tree: &mut Lists,
-        branch: Branch,
-        chance: &mut Chance,
-    ) -> Result<(), AllocError> {
-        self.open.push(Branch {
-            left: branch.left.saturating_sub(1),
-            depth: branch.depth,
-        })?;
+    fn go_on(&mut self, tree: &mut Lists, branch: Branch, chance: &mut Chance) {
+        self.add(tree, branch.left.saturating_sub(1), branch.depth);
         set_line(&mut self.goban, &mut self.line, branch.depth);
-        tree.add(Part::Open)?;
+        tree.add(Part::Open);
         let moves = 1 + chance.below(4).min(3);
-        add_branch(tree, &mut self.goban, &mut self.line, moves, chance)?;
-        let newest = newest_branch(self.line.len(), chance);
-        self.open.push(newest)?;
-        Ok(())
+        add_branch(tree, &mut self.goban, &mut self.line, moves, chance);
+        let depth = self.line.len();
+        self.add(tree, variations_at(depth, chance), depth);
     }
 }
 
-/// The branch that ends after so many moves.
-fn newest_branch(depth: usize, chance: &mut Chance) -> Branch {
-    let left = if depth < 40 {
+/// How many variations begin after so many moves.
+fn variations_at(depth: usize, chance: &mut Chance) -> usize {
+    if depth < 40 {
         2 + chance.below(3).min(2)
     } else {
         0
-    };
-    Branch { left, depth }
+    }
 }
 
 /// One list of about `parts` parts. Branches have one to four moves, and two to four variations after them.
 fn make_tree(alloc: Global, parts: usize, chance: &mut Chance) -> Result<Lists, AllocError> {
     let mut tree = Lists::new(alloc);
-    let mut growth = Growth::new(alloc)?;
+    let mut growth = Growth::new(alloc, &mut tree);
     for _ in 0..parts {
         let Some(branch) = growth.open.pop() else {
             break;
         };
         if branch.left == 0 || tree.parts() >= parts {
-            growth.close(&mut tree)?;
+            growth.close(&mut tree);
         } else {
-            growth.go_on(&mut tree, branch, chance)?;
+            growth.go_on(&mut tree, branch, chance);
         }
     }
-    tree.end()?;
-    Ok(tree)
+    tree.end();
+    whole(tree)
 }
 
 /// Cuts the line back, and sets the board to its end.
@@ -114,20 +105,17 @@ fn add_branch(
     line: &mut Vec<u16>,
     moves: usize,
     chance: &mut Chance,
-) -> Result<(), AllocError> {
+) {
     for _ in 0..moves {
         let last = match line.last() {
             Some(point) => usize::from(*point),
             None => PASS,
         };
         let player = player_at(line.len());
-        let point = goban
-            .play_somewhere(player, last, true, chance)
-            .unwrap_or(PASS);
-        line.push((point % 4096) as u16)?;
-        tree.add_move(player, point)?;
+        let point = goban.play_on(player, last, chance);
+        tree.keep(line.push((point % 4096) as u16).is_ok());
+        tree.add_move(player, point);
     }
-    Ok(())
 }
 
 /// Adds a dictionary of eight times about so many parts.
@@ -139,7 +127,7 @@ pub(crate) fn add_joseki(
     chance: &mut Chance,
 ) -> Result<(), AllocError> {
     let tree = make_tree(alloc, parts, chance)?;
-    text.add_root(19)?;
+    text.add_root(19);
     for turned in 0..8 {
         let manner = Manner {
             side: 19,
@@ -148,7 +136,8 @@ pub(crate) fn add_joseki(
             comments: 16,
             words: 20,
         };
-        add_parts(text, tree.list(0), words, manner, chance)?;
+        add_parts(text, tree.list(0), words, manner, chance);
     }
-    text.add(b")\n")
+    text.add(b")\n");
+    Ok(())
 }

@@ -1,7 +1,7 @@
 //! Lists of the parts of games, and how they are written.
 
 use crate::chance::Chance;
-use crate::goban::Player;
+use crate::goban::{Goban, PASS, Player};
 use crate::texts::{Text, Words};
 use std::alloc::{AllocError, Global};
 
@@ -30,6 +30,8 @@ pub(crate) struct Lists {
     parts: Vec<Part>,
     /// Where each list ends.
     ends: Vec<usize>,
+    /// Whether memory was refused, so that something is missing.
+    is_cut: bool,
 }
 
 impl Lists {
@@ -38,6 +40,7 @@ impl Lists {
         Lists {
             parts: Vec::new(alloc),
             ends: Vec::new(alloc),
+            is_cut: false,
         }
     }
 
@@ -52,20 +55,42 @@ impl Lists {
     }
 
     /// Adds a part to the list that hasn't ended.
-    pub(crate) fn add(&mut self, part: Part) -> Result<(), AllocError> {
-        self.parts.push(part)?;
-        Ok(())
+    pub(crate) fn add(&mut self, part: Part) {
+        let is_kept = self.parts.push(part).is_ok();
+        self.keep(is_kept);
+    }
+
+    /// Notes that something is missing, unless `is_kept` is true.
+    pub(crate) fn keep(&mut self, is_kept: bool) {
+        self.is_cut = self.is_cut || !is_kept;
     }
 
     /// Adds a move.
-    pub(crate) fn add_move(&mut self, player: Player, point: usize) -> Result<(), AllocError> {
-        self.add(Part::Move(player, (point % 4096) as u16))
+    pub(crate) fn add_move(&mut self, player: Player, point: usize) {
+        self.add(Part::Move(player, (point % 4096) as u16));
+    }
+
+    /// Adds up to so many moves, the first one by this player.
+    pub(crate) fn add_moves(
+        &mut self,
+        goban: &mut Goban,
+        first: Player,
+        moves: usize,
+        chance: &mut Chance,
+    ) {
+        let mut player = first;
+        let mut last = PASS;
+        for _ in 0..moves {
+            last = goban.play_on(player, last, chance);
+            self.add_move(player, last);
+            player = player.other();
+        }
     }
 
     /// Ends a list.
-    pub(crate) fn end(&mut self) -> Result<(), AllocError> {
-        self.ends.push(self.parts.len())?;
-        Ok(())
+    pub(crate) fn end(&mut self) {
+        let is_kept = self.ends.push(self.parts.len()).is_ok();
+        self.keep(is_kept);
     }
 
     /// A list that has ended.
@@ -84,6 +109,14 @@ impl Lists {
             &[]
         }
     }
+}
+
+/// These lists, unless memory was refused to them.
+pub(crate) fn whole(lists: Lists) -> Result<Lists, AllocError> {
+    if lists.is_cut {
+        return Err(AllocError);
+    }
+    Ok(lists)
 }
 
 /// How parts are written.
@@ -107,63 +140,55 @@ pub(crate) fn add_parts(
     words: &Words,
     manner: Manner,
     chance: &mut Chance,
-) -> Result<usize, AllocError> {
+) -> usize {
     let mut last = text.len();
     let mut until = chance.below(manner.comments);
     for part in parts {
         if let Part::Move(player, point) = *part {
             last = text.len();
-            add_timed_move(text, player, usize::from(point), manner)?;
+            add_timed_move(text, player, usize::from(point), manner);
             if until == 0 {
-                until = add_comment(text, words, manner, chance)?;
+                until = add_comment(text, words, manner, chance);
             }
             until = until.saturating_sub(1);
         } else {
-            add_other(text, *part, manner)?;
+            add_other(text, *part, manner);
         }
     }
-    Ok(last)
+    last
 }
 
 /// Adds a comment. Returns how many moves there are from this one to the next one with a comment.
-fn add_comment(
-    text: &mut Text,
-    words: &Words,
-    manner: Manner,
-    chance: &mut Chance,
-) -> Result<usize, AllocError> {
-    words.add_comment(text, manner.words, chance)?;
-    text.add(b"\n")?;
-    Ok(chance.below(2 * manner.comments.min(4096)))
+fn add_comment(text: &mut Text, words: &Words, manner: Manner, chance: &mut Chance) -> usize {
+    words.add_comment(text, manner.words, chance);
+    text.add(b"\n");
+    chance.below(2 * manner.comments.min(4096))
 }
 
 /// Adds a node with a move, and perhaps with the time left.
-fn add_timed_move(
-    text: &mut Text,
-    player: Player,
-    point: usize,
-    manner: Manner,
-) -> Result<(), AllocError> {
+fn add_timed_move(text: &mut Text, player: Player, point: usize, manner: Manner) {
     let place = text.len();
-    text.add_move(player, point, manner.side, manner.turned)?;
+    text.add_move(player, point, manner.side, manner.turned);
     if manner.timed {
-        text.add(&[player.letter(), b'L', b'[', b'1'])?;
-        text.add_number(place)?;
-        text.add(b".5]")?;
+        text.add(&[player.letter(), b'L', b'[', b'1']);
+        text.add_number(place);
+        text.add(b".5]");
     }
-    Ok(())
 }
 
 /// Adds a part that isn't a move.
-fn add_other(text: &mut Text, part: Part, manner: Manner) -> Result<(), AllocError> {
-    match part {
-        Part::Move(_, _) => Ok(()),
-        Part::Open => text.add(b"("),
-        Part::Close => text.add(b")\n"),
-        Part::Stones(Player::Black) => text.add(b"AB"),
-        Part::Stones(Player::White) => text.add(b"AW"),
-        Part::Stone(point) => text.add_stone(usize::from(point), manner.side, manner.turned),
-        Part::Asked => text.add(b"PL[B]C[Black to play and live.]\n"),
-        Part::Right => text.add(b"C[RIGHT]"),
-    }
+fn add_other(text: &mut Text, part: Part, manner: Manner) {
+    let bytes: &[u8] = match part {
+        Part::Move(_, _) => b"",
+        Part::Open => b"(",
+        Part::Close => b")\n",
+        Part::Stones(Player::Black) => b"AB",
+        Part::Stones(Player::White) => b"AW",
+        Part::Stone(point) => {
+            return text.add_stone(usize::from(point), manner.side, manner.turned);
+        }
+        Part::Asked => b"PL[B]C[Black to play and live.]\n",
+        Part::Right => b"C[RIGHT]",
+    };
+    text.add(bytes);
 }

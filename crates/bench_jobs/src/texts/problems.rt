@@ -3,7 +3,7 @@
 use crate::chance::Chance;
 use crate::goban::{Goban, PASS, Player};
 use crate::texts::games::player_at;
-use crate::texts::parts::{Lists, Manner, Part, add_parts};
+use crate::texts::parts::{Lists, Manner, Part, add_parts, whole};
 use crate::texts::{Text, Words};
 use std::alloc::{AllocError, Global};
 
@@ -18,29 +18,24 @@ pub(crate) fn make_problems(
     let mut stones: Vec<u16> = Vec::new(alloc);
     for _ in 0..count {
         let most = chance.below(30).saturating_add(10);
-        set_stones(&mut goban, &mut stones, most, chance)?;
-        add_problem(&mut problems, &mut goban, &stones, chance)?;
+        problems.keep(set_stones(&mut goban, &mut stones, most, chance));
+        add_problem(&mut problems, &mut goban, &stones, chance);
     }
-    Ok(problems)
+    whole(problems)
 }
 
 /// Adds a problem with these stones, which are black and white by turns.
-fn add_problem(
-    problems: &mut Lists,
-    goban: &mut Goban,
-    stones: &[u16],
-    chance: &mut Chance,
-) -> Result<(), AllocError> {
-    problems.add(Part::Stones(Player::Black))?;
-    add_stones(problems, stones, 0)?;
-    problems.add(Part::Stones(Player::White))?;
-    add_stones(problems, stones, 1)?;
-    problems.add(Part::Asked)?;
+fn add_problem(problems: &mut Lists, goban: &mut Goban, stones: &[u16], chance: &mut Chance) {
+    problems.add(Part::Stones(Player::Black));
+    add_stones(problems, stones, 0);
+    problems.add(Part::Stones(Player::White));
+    add_stones(problems, stones, 1);
+    problems.add(Part::Asked);
     for _ in 0..chance.below(9).saturating_add(2) {
         put_stones(goban, stones);
-        add_answer(problems, goban, chance)?;
+        add_answer(problems, goban, chance);
     }
-    problems.end()
+    problems.end();
 }
 
 /// Puts these stones on an empty board.
@@ -51,56 +46,39 @@ fn put_stones(goban: &mut Goban, stones: &[u16]) {
     }
 }
 
-/// Puts stones of both players near one another.
-fn set_stones(
-    goban: &mut Goban,
-    stones: &mut Vec<u16>,
-    most: usize,
-    chance: &mut Chance,
-) -> Result<(), AllocError> {
+/// Puts stones of both players near one another. Returns whether all of them were kept.
+fn set_stones(goban: &mut Goban, stones: &mut Vec<u16>, most: usize, chance: &mut Chance) -> bool {
     goban.clear(9);
     stones.clear();
+    let mut is_kept = true;
     let mut last = PASS;
     for i in 0..most {
         if let Some(point) = goban.play_somewhere(player_at(i), last, true, chance) {
-            stones.push((point % 4096) as u16)?;
+            is_kept &= stones.push((point % 4096) as u16).is_ok();
             last = point;
         }
     }
-    Ok(())
+    is_kept
 }
 
 /// Adds every second stone, from the one with this number on.
-fn add_stones(problems: &mut Lists, stones: &[u16], first: usize) -> Result<(), AllocError> {
+fn add_stones(problems: &mut Lists, stones: &[u16], first: usize) {
     for (i, point) in stones.iter().enumerate() {
         if i % 2 == first {
-            problems.add(Part::Stone(*point))?;
+            problems.add(Part::Stone(*point));
         }
     }
-    Ok(())
 }
 
 /// Adds an answer.
-fn add_answer(
-    problems: &mut Lists,
-    goban: &mut Goban,
-    chance: &mut Chance,
-) -> Result<(), AllocError> {
-    problems.add(Part::Open)?;
-    let mut player = Player::Black;
-    let mut last = PASS;
-    for _ in 0..chance.below(8).saturating_add(1) {
-        let point = goban
-            .play_somewhere(player, last, true, chance)
-            .unwrap_or(PASS);
-        problems.add_move(player, point)?;
-        player = player.other();
-        last = point;
-    }
+fn add_answer(problems: &mut Lists, goban: &mut Goban, chance: &mut Chance) {
+    problems.add(Part::Open);
+    let moves = chance.below(8).saturating_add(1);
+    problems.add_moves(goban, Player::Black, moves, chance);
     if chance.once_in(2) {
-        problems.add(Part::Right)?;
+        problems.add(Part::Right);
     }
-    problems.add(Part::Close)
+    problems.add(Part::Close);
 }
 
 /// Adds problems up to about `size` bytes.
@@ -110,27 +88,31 @@ pub(crate) fn add_problems(
     words: &Words,
     size: usize,
     chance: &mut Chance,
-) -> Result<(), AllocError> {
+) {
     for _ in 0..size {
         if text.len() >= size {
             break;
         }
-        let side = match chance.below(3) {
-            0 => 9,
-            1 => 13,
-            _ => 19,
-        };
-        let manner = Manner {
-            side,
-            turned: chance.below(8),
-            timed: false,
-            comments: 32,
-            words: 8,
-        };
-        let number = chance.below(problems.len());
-        text.add_root(side)?;
-        add_parts(text, problems.list(number), words, manner, chance)?;
-        text.add(b")\n")?;
+        add_problem_game(text, problems, words, chance);
     }
-    Ok(())
+}
+
+/// Adds a problem as a game.
+fn add_problem_game(text: &mut Text, problems: &Lists, words: &Words, chance: &mut Chance) {
+    let side = match chance.below(3) {
+        0 => 9,
+        1 => 13,
+        _ => 19,
+    };
+    let manner = Manner {
+        side,
+        turned: chance.below(8),
+        timed: false,
+        comments: 32,
+        words: 8,
+    };
+    let number = chance.below(problems.len());
+    text.add_root(side);
+    add_parts(text, problems.list(number), words, manner, chance);
+    text.add(b")\n");
 }
