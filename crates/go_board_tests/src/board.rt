@@ -1,118 +1,151 @@
 //! Worked examples of reaching, clearing, scores, moves and copies.
 
-ghost use Rattle.std.specs.Prelude.{◌≡◌};
+ghost use Rattle.std.specs.Prelude.{◌≡◌, ◌<◌};
 
-use crate::given::{at, size};
+use crate::given::{at, holds, size};
 use go_board::{Board, Cell, Colour, Marks, Steps};
 use std::process::Abort;
 
-const B: Cell = Cell::Black;
-
-const W: Cell = Cell::White;
-
-const E: Cell = Cell::Empty;
+/// The cell that a letter stands for: black, white or empty.
+fn cell(letter: u8) -> Cell {
+    match letter {
+        b'B' => Cell::Black,
+        b'W' => Cell::White,
+        _ => Cell::Empty,
+    }
+}
 
 /// A board of side 3 with these cells, row by row from the top.
-fn three(rt: &impl Abort, cells: [Cell; 9]) -> Board
+fn three(rt: &impl Abort, cells: &[u8; 9]) -> Board
     ensures { result.side ≡ 3 }
 {
     let mut board = Board::empty(size(rt, 3));
     for index in 0..9u8 {
-        board.set(at(index % 3, index / 3), cells[usize::from(index)]);
+        board.set(at(index % 3, index / 3), cell(cells[usize::from(index)]));
     }
     board
 }
 
-/// For each point of a board of side 3, whether it is marked: row by row from the top.
-fn marked(marks: &Marks) -> [bool; 9]
+/// Whether a board of side 3 has these cells.
+fn has_cells(board: &Board, cells: &[u8; 9]) -> bool
+    requires { board.now.side ≡ 3 }
+{
+    let mut is_so = true;
+    for index in 0..9u8 {
+        is_so &= board.at(at(index % 3, index / 3)) == cell(cells[usize::from(index)]);
+    }
+    is_so
+}
+
+/// Whether on a board of side 3 the points with an `x` are marked, and no others.
+fn are_marked(marks: &Marks, points: &[u8; 9]) -> bool
     requires { marks.now.side ≡ 3 }
 {
-    let mut found = [false; 9];
+    let mut is_so = true;
     for index in 0..9u8 {
-        found[usize::from(index)] = marks.has(at(index % 3, index / 3));
+        is_so &= marks.has(at(index % 3, index / 3)) == (points[usize::from(index)] == b'x');
     }
-    found
+    is_so
+}
+
+/// The points that reach such a cell on one board, and the number of steps that this takes.
+fn reaching(rt: &impl Abort, kind: Cell, count: u64, points: &[u8; 9]) {
+    let mut steps = Steps::new();
+    let marks = three(rt, b"BW.W.....").reaching(kind, &mut steps);
+    holds(rt, steps.count() == count, "the number of steps");
+    holds(rt, are_marked(&marks, points), "the points marked");
+}
+
+/// The board must have this score.
+fn scores_so(rt: &impl Abort, board: &Board, score: (u32, u32)) {
+    holds(rt, board.score() == score, "the score");
 }
 
 #[test]
 fn reaching_empty(rt: HostRuntime) {
-    let board = three(&rt, [B, W, E, W, E, E, E, E, E]);
-    let mut steps = Steps::new();
-    let marks = board.reaching(Cell::Empty, &mut steps);
-    assert_eq!(rt; steps.count(), 8);
-    assert!(rt; marked(&marks) == [false, true, true, true, true, true, true, true, true]);
+    reaching(&rt, Cell::Empty, 8, b".xxxxxxxx");
 }
 
 #[test]
 fn reaching_black(rt: HostRuntime) {
-    let board = three(&rt, [B, W, E, W, E, E, E, E, E]);
-    let mut steps = Steps::new();
-    let marks = board.reaching(Cell::Black, &mut steps);
-    assert_eq!(rt; steps.count(), 3);
-    assert!(rt; marked(&marks) == [true, true, false, true, false, false, false, false, false]);
+    reaching(&rt, Cell::Black, 3, b"xx.x.....");
 }
 
 #[test]
 fn reaching_nothing(rt: HostRuntime) {
     let mut steps = Steps::new();
     let marks = Board::empty(size(&rt, 25)).reaching(Cell::Black, &mut steps);
-    assert!(rt; steps.count() == 0 && !marks.has(at(24, 24)));
+    holds(&rt, steps.count() == 0, "no steps");
+    holds(&rt, !marks.has(at(24, 24)), "no mark");
     steps.tick();
-    assert_eq!(rt; steps.count(), 1);
+    holds(&rt, steps.count() == 1, "one step");
 }
 
 #[test]
 fn clearing(rt: HostRuntime) {
-    let mut board = three(&rt, [B, W, E, W, E, E, E, E, E]);
-    assert!(rt; board.has_unreaching());
+    let mut board = three(&rt, b"BW.W.....");
+    holds(&rt, board.has_unreaching(), "a stone to clear");
     board.clear(Colour::Black);
-    assert!(rt; board.at(at(0, 0)) == E && board.at(at(1, 0)) == W && !board.has_unreaching());
-    assert!(rt; board.score() == (0, 9));
-    let all_black = three(&rt, [B, B, B, B, B, B, B, B, B]);
-    assert!(rt; all_black.has_unreaching());
+    holds(&rt, has_cells(&board, b".W.W....."), "a stone cleared");
+    holds(&rt, !board.has_unreaching(), "nothing to clear");
+    scores_so(&rt, &board, (0, 9));
+    let all_black = three(&rt, b"BBBBBBBBB");
+    holds(&rt, all_black.has_unreaching(), "a full board");
 }
 
 #[test]
 fn scores(rt: HostRuntime) {
-    assert!(rt; Board::empty(size(&rt, 3)).score() == (0, 0));
-    assert!(rt; three(&rt, [W, E, E, E, B, E, E, E, E]).score() == (1, 1));
-    assert!(rt; three(&rt, [E, B, E, B, B, W, E, W, W]).score() == (4, 3));
+    scores_so(&rt, &Board::empty(size(&rt, 3)), (0, 0));
+    scores_so(&rt, &three(&rt, b"W...B...."), (1, 1));
+    scores_so(&rt, &three(&rt, b".B.BBW.WW"), (4, 3));
+}
+
+/// The only stone of a board has all its points, until there is one of the other colour.
+fn one_stone(rt: &impl Abort, side: u8, points: u32)
+    requires { 0 < side }
+{
+    let mut board = Board::empty(size(rt, side));
+    board.set(at(side - 1, side - 1), Cell::Black);
+    scores_so(rt, &board, (points, 0));
+    board.set(at(0, 0), Cell::White);
+    scores_so(rt, &board, (1, 1));
 }
 
 /// The greatest board whose rows are filled in halves of words, and the smallest one whose rows are filled in whole words.
 #[test]
 fn scores_by_one_stone(rt: HostRuntime) {
-    let mut small = Board::empty(size(&rt, 31));
-    small.set(at(30, 30), B);
-    assert!(rt; small.score() == (961, 0));
-    small.set(at(0, 0), W);
-    assert!(rt; small.score() == (1, 1));
-    let mut large = Board::empty(size(&rt, 32));
-    large.set(at(31, 31), B);
-    assert!(rt; large.score() == (1024, 0));
-    large.set(at(0, 0), W);
-    assert!(rt; large.score() == (1, 1));
+    one_stone(&rt, 31, 961);
+    one_stone(&rt, 32, 1024);
 }
 
 #[test]
 fn moves(rt: HostRuntime) {
-    let mut board = three(&rt, [B, E, W, W, W, E, E, E, E]);
+    let mut board = three(&rt, b"B.WWW....");
     if board.at(at(1, 0)) == Cell::Empty {
         board.place(Colour::Black, at(1, 0));
     }
-    assert!(rt; board.same(&three(&rt, [E, E, W, W, W, E, E, E, E])));
-    assert!(rt; board.score() == (0, 9));
+    is_three(&rt, &board, b"..WWW....");
+    scores_so(&rt, &board, (0, 9));
     let mut single = Board::empty(size(&rt, 1));
     single.place(Colour::White, at(0, 0));
-    assert!(rt; single.at(at(0, 0)) == E);
+    let cell = single.at(at(0, 0));
+    holds(&rt, cell == Cell::Empty, "the only point");
+}
+
+/// The board must be the one of side 3 with these cells.
+fn is_three(rt: &impl Abort, board: &Board, cells: &[u8; 9]) {
+    holds(rt, board.same(&three(rt, cells)), "the cells");
 }
 
 #[test]
 fn copies(rt: HostRuntime) {
-    let board = three(&rt, [B, W, E, W, E, E, E, E, B]);
+    let board = three(&rt, b"BW.W....B");
     let mut other = board.copy();
-    assert!(rt; other.same(&board) && other.size() == size(&rt, 3));
-    other.set(at(1, 1), W);
-    assert!(rt; !other.same(&board) && other.same(&three(&rt, [B, W, E, W, W, E, E, E, B])));
-    assert!(rt; !board.same(&Board::empty(size(&rt, 4))));
+    holds(&rt, other.same(&board), "a copy");
+    holds(&rt, other.size() == size(&rt, 3), "its size");
+    other.set(at(1, 1), Cell::White);
+    holds(&rt, !other.same(&board), "another copy");
+    is_three(&rt, &other, b"BW.WW...B");
+    let four = Board::empty(size(&rt, 4));
+    holds(&rt, !board.same(&four), "another size");
 }

@@ -1,11 +1,10 @@
 //! Games with captures. Both kinds of past must return the same results, and undoing must restore each board.
 
-use crate::given::{at, next_number, size};
-use crate::referee::{answers, turn, undo};
+use crate::given::{at, holds, holds_at, next_number};
+use crate::referee::{answers, begin, scores, turn, undo};
 use go_board::{Colour, ListPast, Past, Play, PrintPast, Reason, Referee, TurnFault};
 use std::alloc::Global;
 use std::process::Abort;
-use std::test::Fail;
 
 /// The column or the row that a number stands for.
 fn coordinate(rt: &impl Abort, number: u64, side: u8) -> u8 {
@@ -13,7 +12,20 @@ fn coordinate(rt: &impl Abort, number: u64, side: u8) -> u8 {
     ((number >> 40) % u64::from(side)) as u8
 }
 
-/// Plays the same pseudorandom stones over both pasts. Both must return the same results.
+/// Plays the same stone over both pasts. Both must return the same result. Returns whether it is legal.
+fn play_both(
+    rt: &impl Abort,
+    listed: &mut Referee<ListPast>,
+    printed: &mut Referee<PrintPast>,
+    colour: Colour,
+    stone: Play,
+) -> bool {
+    let answer = turn(rt, printed, colour, stone);
+    answers(rt, listed, colour, stone, answer);
+    answer.is_ok()
+}
+
+/// Plays the same pseudorandom stones over both pasts. The boards must be the same.
 fn play_in_step(
     rt: &impl Abort,
     listed: &mut Referee<ListPast>,
@@ -26,19 +38,11 @@ fn play_in_step(
     for i in 0..tries {
         let col = next_number(number);
         number = next_number(col);
-        let stone = Play::Stone(at(coordinate(rt, col, side), coordinate(rt, number, side)));
-        let answer = turn(rt, printed, colour, stone);
-        assert!(rt;
-            turn(rt, listed, colour, stone) == answer,
-            "try {i} on side {side}"
-        );
-        assert!(rt;
-            listed.board().same(printed.board()),
-            "after try {i} on side {side}"
-        );
-        if answer.is_ok() {
+        let point = at(coordinate(rt, col, side), coordinate(rt, number, side));
+        if play_both(rt, listed, printed, colour, Play::Stone(point)) {
             colour = colour.opponent();
         }
+        holds_at(rt, listed.board().same(printed.board()), "try", i, side);
     }
 }
 
@@ -51,30 +55,23 @@ fn undo_in_step(
     tries: u32,
 ) {
     for i in 0..tries {
-        assert!(rt;
-            listed.depth() == printed.depth(),
-            "undo {i} on side {side}"
-        );
+        holds_at(rt, listed.depth() == printed.depth(), "depth", i, side);
         if listed.depth() == 0 {
             break;
         }
         undo(rt, listed);
         undo(rt, printed);
-        assert!(rt;
-            listed.board().same(printed.board()),
-            "after undo {i} on side {side}"
-        );
+        holds_at(rt, listed.board().same(printed.board()), "undo", i, side);
     }
-    assert!(rt; printed.score() == (0, 0));
+    scores(rt, printed, (0, 0));
 }
 
 /// Plays the same pseudorandom stones over both pasts, and then takes all of them back.
-fn same_game(rt: &impl Abort, alloc: Global, side: u8, tries: u32) -> Result<(), Fail> {
-    let mut listed = Referee::<ListPast>::new(alloc, size(rt, side))?;
-    let mut printed = Referee::<PrintPast>::new(alloc, size(rt, side))?;
+fn same_game(rt: &impl Abort, alloc: Global, side: u8, tries: u32) {
+    let mut listed = begin::<ListPast>(rt, alloc, side);
+    let mut printed = begin::<PrintPast>(rt, alloc, side);
     play_in_step(rt, &mut listed, &mut printed, side, tries);
     undo_in_step(rt, &mut listed, &mut printed, side, tries);
-    Ok(())
 }
 
 /// The stones that lead to a ko. The last stone captures the one before it.
@@ -90,25 +87,31 @@ const INTO_KO: [(Colour, u8, u8); 9] = [
     (Colour::Black, 2, 1),
 ];
 
-/// The stone that captured last can't be captured back at once, and the refused turn leaves the board unchanged.
-fn no_taking_back<P: Past>(rt: &impl Abort, game: &mut Referee<P>) {
-    let taken = game.board().copy();
-    let repeat = Err(TurnFault::Illegal(Reason::Repeat));
-    answers(rt, game, Colour::White, Play::Stone(at(1, 1)), repeat);
-    assert!(rt; game.board().same(&taken));
-    answers(rt, game, Colour::White, Play::Stone(at(0, 3)), Ok(()));
-    undo(rt, game);
-    assert!(rt; game.board().same(&taken));
+/// A turn of White has this result. If it is legal, it is taken back. The board must be as before.
+fn tries<P: Past>(
+    rt: &impl Abort,
+    game: &mut Referee<P>,
+    col: u8,
+    row: u8,
+    answer: Result<(), TurnFault>,
+) {
+    let before = game.board().copy();
+    answers(rt, game, Colour::White, Play::Stone(at(col, row)), answer);
+    if answer.is_ok() {
+        undo(rt, game);
+    }
+    holds(rt, game.board().same(&before), "the board as before");
 }
 
 /// A ko: a stone is captured, and its capturer can't be captured back at once.
-fn ko<P: Past>(rt: &impl Abort, alloc: Global) -> Result<(), Fail> {
-    let mut game = Referee::<P>::new(alloc, size(rt, 4))?;
+fn ko<P: Past>(rt: &impl Abort, alloc: Global) {
+    let mut game = begin::<P>(rt, alloc, 4);
     for &(colour, col, row) in &INTO_KO {
         answers(rt, &mut game, colour, Play::Stone(at(col, row)), Ok(()));
     }
-    no_taking_back(rt, &mut game);
-    Ok(())
+    let repeat = Err(TurnFault::Illegal(Reason::Repeat));
+    tries(rt, &mut game, 1, 1, repeat);
+    tries(rt, &mut game, 0, 3, Ok(()));
 }
 
 /// Fills a board of side 9 with black stones, except for its last point, while White passes.
@@ -122,34 +125,27 @@ fn fill_but_one<P: Past>(rt: &impl Abort, game: &mut Referee<P>) {
     }
 }
 
-/// A white stone on the last point captures all the black ones. An undo restores them.
-fn takes_all_others<P: Past>(rt: &impl Abort, game: &mut Referee<P>) {
-    answers(rt, game, Colour::White, Play::Stone(at(8, 8)), Ok(()));
-    assert!(rt; game.score() == (0, 81));
-    undo(rt, game);
-    assert!(rt; game.score() == (81, 0));
-}
-
-/// Eighty stones are captured at once, and an undo restores them.
-fn large_capture<P: Past>(rt: &impl Abort, alloc: Global) -> Result<(), Fail> {
-    let mut game = Referee::<P>::new(alloc, size(rt, 9))?;
+/// Eighty stones are captured at once by a white stone on the last point, and an undo restores them.
+fn large_capture<P: Past>(rt: &impl Abort, alloc: Global) {
+    let mut game = begin::<P>(rt, alloc, 9);
     fill_but_one(rt, &mut game);
-    takes_all_others(rt, &mut game);
-    Ok(())
+    answers(rt, &mut game, Colour::White, Play::Stone(at(8, 8)), Ok(()));
+    scores(rt, &game, (0, 81));
+    undo(rt, &mut game);
+    scores(rt, &game, (81, 0));
 }
 
 #[test]
-fn games_with_captures(rt: HostRuntime) -> Result<(), Fail> {
+fn games_with_captures(rt: HostRuntime) {
     for (side, tries) in [(1, 8), (2, 60), (3, 300), (9, 900), (19, 1200)] {
-        same_game(&rt, rt.alloc(), side, tries)?;
+        same_game(&rt, rt.alloc(), side, tries);
     }
-    Ok(())
 }
 
 #[test]
-fn captures_over_both_pasts(rt: HostRuntime) -> Result<(), Fail> {
-    ko::<ListPast>(&rt, rt.alloc())?;
-    ko::<PrintPast>(&rt, rt.alloc())?;
-    large_capture::<ListPast>(&rt, rt.alloc())?;
-    large_capture::<PrintPast>(&rt, rt.alloc())
+fn captures_over_both_pasts(rt: HostRuntime) {
+    ko::<ListPast>(&rt, rt.alloc());
+    ko::<PrintPast>(&rt, rt.alloc());
+    large_capture::<ListPast>(&rt, rt.alloc());
+    large_capture::<PrintPast>(&rt, rt.alloc());
 }

@@ -4,15 +4,13 @@ ghost use Rattle.std.specs.Prelude.{◌≡◌, ◌≤◌, length};
 ghost use Rattle.board_past.specs.Past.{HaveSide};
 ghost use Rattle.board_points.specs.Point.{IsOn};
 
-use crate::given::{at, next_number, size};
+use crate::given::{at, begin, holds_at, next_number, push, restart, size};
 use go_board::{
-    Board, Cell, Colour, ListPast, MAX_POINTS, MAX_SIDE, MemoryFault, Past, Point, PrintPast, Rect,
-    SetupOp,
+    Board, Cell, Colour, ListPast, MAX_POINTS, MAX_SIDE, Past, Point, PrintPast, Rect, SetupOp,
 };
 use std::alloc::Global;
 use std::marker::Model;
 use std::process::Abort;
-use std::test::Fail;
 
 /// Two pasts that get the same calls.
 #[derive(Drop)]
@@ -37,40 +35,36 @@ impl Model for Both {
 }
 
 impl Both {
-    ghost use Rattle.std.specs.Prelude.{IfOk};
-
     /// Both pasts of this one colouring.
-    fn new(alloc: Global, board: &Board) -> Result<Both, MemoryFault>
-        ensures { IfOk result (λ both. both ≡ board.now.side) }
+    fn new(rt: &impl Abort, alloc: Global, board: &Board) -> Both
+        ensures { result ≡ board.now.side }
     {
-        Ok(Both {
-            listed: ListPast::new(alloc, board)?,
-            printed: PrintPast::new(alloc, board)?,
+        Both {
+            listed: begin(rt, alloc, board),
+            printed: begin(rt, alloc, board),
             side: board.size().side(),
             depth: 0,
-        })
+        }
     }
 
     /// Adds a colouring to the present stretch.
-    fn push(&mut self, board: &Board) -> Result<(), MemoryFault>
+    fn push(&mut self, rt: &impl Abort, board: &Board)
         requires { board.now.side ≡ self.old }
         ensures { self.new ≡ self.old }
     {
-        self.listed.push(board)?;
-        self.printed.push(board)?;
+        push(rt, &mut self.listed, board);
+        push(rt, &mut self.printed, board);
         self.depth = self.depth.saturating_add(1);
-        Ok(())
     }
 
     /// Adds a colouring that begins a stretch.
-    fn restart(&mut self, board: &Board) -> Result<(), MemoryFault>
+    fn restart(&mut self, rt: &impl Abort, board: &Board)
         requires { board.now.side ≡ self.old }
         ensures { self.new ≡ self.old }
     {
-        self.listed.restart(board)?;
-        self.printed.restart(board)?;
+        restart(rt, &mut self.listed, board);
+        restart(rt, &mut self.printed, board);
         self.depth = self.depth.saturating_add(1);
-        Ok(())
     }
 
     /// Takes back the newest colouring, if there is an older one.
@@ -84,29 +78,26 @@ impl Both {
         }
     }
 
-    /// Plays a stone, if its point is empty. It isn't counted in `depth`.
-    fn play(&mut self, rt: &impl Abort, colour: Colour, point: Point) -> Result<(), MemoryFault>
+    /// Plays a stone, if its point is empty. It isn't counted in `depth`. Returns whether both pasts return the same.
+    fn play(&mut self, rt: &impl Abort, colour: Colour, point: Point) -> bool
         requires { IsOn self.old point }
         ensures { self.new ≡ self.old }
     {
-        let added = play_on(rt, &mut self.listed, self.side, colour, point)?;
-        let same = play_on(rt, &mut self.printed, self.side, colour, point)? == added;
-        assert!(rt; same, "{point:?}");
-        Ok(())
+        let added = play_on(rt, &mut self.listed, self.side, colour, point);
+        play_on(rt, &mut self.printed, self.side, colour, point) == added
     }
 
     /// Colours one point of the newest colouring, which then begins a stretch. It isn't counted in `depth`.
-    fn set_up(&mut self, rt: &impl Abort, cell: Cell, point: Point) -> Result<(), MemoryFault>
+    fn set_up(&mut self, rt: &impl Abort, cell: Cell, point: Point)
         requires { IsOn self.old point }
         ensures { self.new ≡ self.old }
     {
-        set_up_on(rt, &mut self.listed, self.side, cell, point)?;
-        set_up_on(rt, &mut self.printed, self.side, cell, point)?;
-        Ok(())
+        set_up_on(rt, &mut self.listed, self.side, cell, point);
+        set_up_on(rt, &mut self.printed, self.side, cell, point);
     }
 
-    /// Makes the call that a number stands for.
-    fn call(&mut self, rt: &impl Abort, number: u64) -> Result<(), MemoryFault>
+    /// Makes the call that a number stands for. Returns whether both pasts return the same.
+    fn call(&mut self, rt: &impl Abort, number: u64) -> bool
         ensures { self.new ≡ self.old }
     {
         let board = numbered(rt, self.side, number >> 48);
@@ -117,15 +108,13 @@ impl Both {
         };
         let point = point_at(rt, self.side, (number >> 32) as usize % 16);
         match number >> 60 {
-            0 => self.restart(&board),
+            0 => self.restart(rt, &board),
             1 => self.set_up(rt, colour.stone(), point),
-            2..=4 => {
-                self.pop();
-                Ok(())
-            }
-            5..=9 => self.play(rt, colour, point),
-            _ => self.push(&board),
+            2..=4 => self.pop(),
+            5..=9 => return self.play(rt, colour, point),
+            _ => self.push(rt, &board),
         }
+        true
     }
 
     /// Whether both pasts have the same newest colouring, and both or neither hold the one with this number.
@@ -137,13 +126,7 @@ impl Both {
 }
 
 /// Plays a stone, if its point is empty. Returns whether the past has one colouring more.
-fn play_on<P: Past>(
-    rt: &impl Abort,
-    past: &mut P,
-    side: u8,
-    colour: Colour,
-    point: Point,
-) -> Result<bool, MemoryFault>
+fn play_on<P: Past>(rt: &impl Abort, past: &mut P, side: u8, colour: Colour, point: Point) -> bool
     requires side { HaveSide side (P.held past.old) }
     requires on_board { IsOn side point }
     ensures side { HaveSide side (P.held past.new) }
@@ -151,21 +134,17 @@ fn play_on<P: Past>(
 {
     assert!(rt; past.newest().size().side() == side);
     if past.newest().at(point) != Cell::Empty {
-        return Ok(false);
+        return false;
     }
-    let added = past.play(colour, point)?;
+    let Ok(added) = past.play(colour, point) else {
+        panic!(rt; "no play")
+    };
     assert!(rt; past.newest().size().side() == side);
-    Ok(added)
+    added
 }
 
 /// Colours one point of the newest colouring, which then begins a stretch.
-fn set_up_on<P: Past>(
-    rt: &impl Abort,
-    past: &mut P,
-    side: u8,
-    cell: Cell,
-    point: Point,
-) -> Result<(), MemoryFault>
+fn set_up_on<P: Past>(rt: &impl Abort, past: &mut P, side: u8, cell: Cell, point: Point)
     requires side { HaveSide side (P.held past.old) }
     requires on_board { IsOn side point }
     ensures side { HaveSide side (P.held past.new) }
@@ -176,9 +155,8 @@ fn set_up_on<P: Past>(
         first: point,
         last: point,
     };
-    past.set_up(&[SetupOp { cell, area }])?;
+    assert!(rt; past.set_up(&[SetupOp { cell, area }]).is_ok());
     assert!(rt; past.newest().size().side() == side);
-    Ok(())
 }
 
 /// The point with an index, row by row from the top, from left to right. If the board has fewer points, counting begins again.
@@ -242,23 +220,21 @@ fn set(rt: &impl Abort, board: &mut Board, index: usize, cell: Cell) {
 }
 
 /// Makes calls of both pasts on boards of one side.
-fn calls(rt: &impl Abort, alloc: Global, side: u8, count: u32) -> Result<(), Fail> {
-    let mut both = Both::new(alloc, &numbered(rt, side, 0))?;
+fn calls(rt: &impl Abort, alloc: Global, side: u8, count: u32) {
+    let mut both = Both::new(rt, alloc, &numbered(rt, side, 0));
     let mut number = u64::from(side);
     for i in 0..count {
-        both.call(rt, number)?;
+        holds_at(rt, both.call(rt, number), "call", i, side);
         for _ in 0..4 {
-            assert!(rt; both.agrees(rt, number), "call {i} on side {side}");
+            holds_at(rt, both.agrees(rt, number), "after call", i, side);
             number = next_number(number);
         }
     }
-    Ok(())
 }
 
 #[test]
-fn pasts_in_step(rt: HostRuntime) -> Result<(), Fail> {
+fn pasts_in_step(rt: HostRuntime) {
     for (side, count) in [(1, 200), (2, 1000), (3, 1000), (4, 1000), (52, 1500)] {
-        calls(&rt, rt.alloc(), side, count)?;
+        calls(&rt, rt.alloc(), side, count);
     }
-    Ok(())
 }

@@ -1,19 +1,25 @@
 //! Moves one after the other, on boards whose stones are all known to have liberties. Also a move after points were set.
 
-use go_board::{Board, Cell, Colour, Point, Size};
+ghost use Rattle.board_points.specs.Point.{IsOn};
+
+use crate::given::{holds, size};
+use go_board::{Board, Cell, Colour, Point};
 use std::process::Abort;
+
+/// The point with this column and row, which must be on the board.
+fn on(rt: &impl Abort, board: &Board, col: u8, row: u8) -> Point
+    ensures { IsOn board.now.side result }
+{
+    let side = board.size().side();
+    assert!(rt; col < side && row < side, "column {col}, row {row}");
+    Point { col, row }
+}
 
 /// Plays a stone on an empty point of the board.
 fn play(rt: &impl Abort, board: &mut Board, colour: Colour, col: u8, row: u8) {
-    let side = board.size().side();
-    assert!(rt; col < side && row < side, "column {col}, row {row}");
-    let point = Point { col, row };
-    assert!(rt; board.at(point) == Cell::Empty, "column {col}, row {row}");
+    let point = on(rt, board, col, row);
+    assert!(rt; board.at(point) == Cell::Empty);
     board.place(colour, point);
-}
-
-fn empty(rt: &impl Abort, side: u8) -> Board {
-    Board::empty(Size::new(side).expect(rt, "the side of a board"))
 }
 
 /// The number of black stones on the board, and that of white ones.
@@ -29,6 +35,11 @@ fn stones(board: &Board) -> (usize, usize) {
         }
     }
     (black, white)
+}
+
+/// So many black stones must stand on the board, and so many white ones.
+fn stand(rt: &impl Abort, board: &Board, left: (usize, usize), why: &str) {
+    holds(rt, stones(board) == left, why);
 }
 
 /// Moves one after the other. Each has the numbers of black and white stones that stand after it, and a word on why.
@@ -51,33 +62,31 @@ const SET: [(u8, u8, Cell); 3] = [
 
 #[test]
 fn captures(rt: HostRuntime) {
-    let mut board = empty(&rt, 3);
+    let mut board = Board::empty(size(&rt, 3));
     for &(colour, col, row, left, why) in &MOVES {
         play(&rt, &mut board, colour, col, row);
-        assert!(rt; stones(&board) == left, "{why}");
+        stand(&rt, &board, left, why);
     }
 }
 
 #[test]
 fn large_group(rt: HostRuntime) {
-    let mut board = empty(&rt, 9);
+    let mut board = Board::empty(size(&rt, 9));
     for index in 0..80 {
         play(&rt, &mut board, Colour::Black, index % 9, index / 9);
     }
-    assert_eq!(rt; stones(&board), (80, 0));
+    stand(&rt, &board, (80, 0), "one liberty is left");
     play(&rt, &mut board, Colour::White, 8, 8);
-    assert_eq!(rt; stones(&board), (0, 1));
+    stand(&rt, &board, (0, 1), "no liberty is left");
 }
 
 #[test]
 fn after_setting(rt: HostRuntime) {
-    let mut board = empty(&rt, 9);
+    let mut board = Board::empty(size(&rt, 9));
     for &(col, row, cell) in &SET {
-        let side = board.size().side();
-        assert!(rt; col < side && row < side);
-        board.set(Point { col, row }, cell);
+        board.set(on(&rt, &board, col, row), cell);
     }
-    assert!(rt; stones(&board) == (2, 1));
+    stand(&rt, &board, (2, 1), "stones that were set");
     play(&rt, &mut board, Colour::Black, 8, 8);
-    assert!(rt; stones(&board) == (3, 0), "a stone far away had no liberty");
+    stand(&rt, &board, (3, 0), "a stone far away had no liberty");
 }

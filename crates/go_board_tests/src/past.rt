@@ -4,11 +4,10 @@ ghost use Rattle.std.specs.Prelude.{◌≡◌};
 ghost use Rattle.board_past.specs.Past.{only, HaveSide};
 ghost use Rattle.board_points.specs.Point.{IsOn};
 
-use crate::given::{at, size};
-use go_board::{Board, Cell, ListPast, MemoryFault, Past, Point, PrintPast};
+use crate::given::{at, begin, holds, push, restart, size};
+use go_board::{Board, Cell, ListPast, Past, Point, PrintPast};
 use std::alloc::Global;
 use std::process::Abort;
-use std::test::Fail;
 
 /// The board with one more stone.
 fn with_stone(board: &Board, point: Point, cell: Cell) -> Board
@@ -31,47 +30,48 @@ fn has_alone<P: Past>(past: &P, anew: bool, empty: &Board, black: &Board, white:
 }
 
 /// A new stretch hides the earlier colourings, until the stretch is taken back.
-fn begins_anew<P: Past>(rt: &impl Abort, past: &mut P, empty: &Board) -> Result<(), MemoryFault>
+fn begins_anew<P: Past>(rt: &impl Abort, past: &mut P, empty: &Board)
     requires side { empty.now.side ≡ 3 }
     requires one { P.held past.old ≡ only empty.now }
 {
     let black = with_stone(empty, at(0, 0), Cell::Black);
     let white = with_stone(empty, at(1, 1), Cell::White);
-    past.push(&black)?;
-    assert!(rt; past.holds(empty));
-    past.restart(&white)?;
-    assert!(rt; has_alone(past, true, empty, &black, &white));
+    push(rt, past, &black);
+    holds(rt, past.holds(empty), "the first colouring");
+    restart(rt, past, &white);
+    let is_alone = has_alone(past, true, empty, &black, &white);
+    holds(rt, is_alone, "a new stretch");
     past.pop();
-    assert!(rt; has_alone(past, false, empty, &black, &white));
-    assert!(rt; past.newest().same(&black));
-    Ok(())
+    let is_alone = has_alone(past, false, empty, &black, &white);
+    holds(rt, is_alone, "the stretch before it");
+    holds(rt, past.newest().same(&black), "the newest colouring");
 }
 
 /// Begins a new stretch in a past of the empty board alone.
-fn past_begins_anew<P: Past>(rt: &impl Abort, alloc: Global) -> Result<(), MemoryFault> {
+fn past_begins_anew<P: Past>(rt: &impl Abort, alloc: Global) {
     let empty = Board::empty(size(rt, 3));
-    let mut past = P::new(alloc, &empty)?;
-    begins_anew(rt, &mut past, &empty)
+    let mut past = begin::<P>(rt, alloc, &empty);
+    begins_anew(rt, &mut past, &empty);
 }
 
 /// A past that holds one colouring doesn't hold another whose print has the same low bits.
-fn prints_alike<P: Past>(rt: &impl Abort, alloc: Global) -> Result<(), Fail> {
+fn prints_alike<P: Past>(rt: &impl Abort, alloc: Global) {
     let empty = Board::empty(size(rt, 25));
     let inner = with_stone(&empty, at(12, 4), Cell::Black);
     let last = with_stone(&empty, at(24, 24), Cell::Black);
-    let past = P::new(alloc, &inner)?;
-    assert!(rt; past.holds(&inner) && !past.holds(&last));
-    Ok(())
+    let past = begin::<P>(rt, alloc, &inner);
+    holds(rt, past.holds(&inner), "what a past has");
+    holds(rt, !past.holds(&last), "what a past doesn't have");
 }
 
 #[test]
-fn list_past(rt: HostRuntime) -> Result<(), Fail> {
-    past_begins_anew::<ListPast>(&rt, rt.alloc())?;
-    prints_alike::<ListPast>(&rt, rt.alloc())
+fn list_past(rt: HostRuntime) {
+    past_begins_anew::<ListPast>(&rt, rt.alloc());
+    prints_alike::<ListPast>(&rt, rt.alloc());
 }
 
 #[test]
-fn print_past(rt: HostRuntime) -> Result<(), Fail> {
-    past_begins_anew::<PrintPast>(&rt, rt.alloc())?;
-    prints_alike::<PrintPast>(&rt, rt.alloc())
+fn print_past(rt: HostRuntime) {
+    past_begins_anew::<PrintPast>(&rt, rt.alloc());
+    prints_alike::<PrintPast>(&rt, rt.alloc());
 }

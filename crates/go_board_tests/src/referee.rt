@@ -1,9 +1,8 @@
 //! Worked examples of a referee.
 
-use crate::given::{at, size};
+use crate::given::{at, holds, size};
 use go_board::{
-    Cell, Colour, ListPast, MemoryFault, Past, Play, PrintPast, Reason, Rect, Referee, SetupOp,
-    TurnFault,
+    Cell, Colour, ListPast, Past, Play, Point, PrintPast, Reason, Rect, Referee, SetupOp, TurnFault,
 };
 use std::alloc::Global;
 use std::process::Abort;
@@ -37,6 +36,16 @@ pub(crate) fn answers<P: Past>(
     );
 }
 
+/// A new game on a board of this side.
+pub(crate) fn begin<P: Past>(rt: &impl Abort, alloc: Global, side: u8) -> Referee<P> {
+    Referee::<P>::new(alloc, size(rt, side)).expect(rt, "a new game")
+}
+
+/// The board must have this score.
+pub(crate) fn scores<P: Past>(rt: &impl Abort, referee: &Referee<P>, score: (u32, u32)) {
+    holds(rt, referee.score() == score, "the score");
+}
+
 /// The referee must have made this many turns, be able to undo this many calls, and give this score.
 fn stands<P: Past>(
     rt: &impl Abort,
@@ -45,21 +54,19 @@ fn stands<P: Past>(
     depth: usize,
     score: (u32, u32),
 ) {
-    assert!(rt; referee.turns() == turns && referee.depth() == depth && referee.score() == score);
+    holds(rt, referee.turns() == turns, "the number of turns");
+    holds(rt, referee.depth() == depth, "the depth");
+    scores(rt, referee, score);
 }
 
 /// Colours an area, which must be on the board. Then either player may move.
-fn set_area<P: Past>(
-    rt: &impl Abort,
-    referee: &mut Referee<P>,
-    cell: Cell,
-    area: Rect,
-) -> Result<(), MemoryFault> {
+fn set_area<P: Past>(rt: &impl Abort, referee: &mut Referee<P>, cell: Cell, area: Rect) {
     let side = referee.board().size().side();
     let Rect { first, last } = area;
     assert!(rt; first.col <= last.col && last.col < side);
     assert!(rt; first.row <= last.row && last.row < side);
-    referee.setup(&[SetupOp { cell, area }], None)
+    let taken = referee.setup(&[SetupOp { cell, area }], None);
+    holds(rt, taken.is_ok(), "a setup");
 }
 
 /// Takes back the newest turn or setup.
@@ -68,107 +75,107 @@ pub(crate) fn undo<P: Past>(rt: &impl Abort, referee: &mut Referee<P>) {
     referee.undo();
 }
 
-fn illegal(reason: Reason) -> Result<(), TurnFault> {
-    Err(TurnFault::Illegal(reason))
-}
+/// What a turn may return.
+type Answer = Result<(), TurnFault>;
+
+const OCCUPIED: Answer = Err(TurnFault::Illegal(Reason::Occupied));
+
+const REPEAT: Answer = Err(TurnFault::Illegal(Reason::Repeat));
+
+const TURN: Answer = Err(TurnFault::Illegal(Reason::Turn));
+
+const OVER: Answer = Err(TurnFault::Illegal(Reason::Over));
+
+const CORNER: Play = Play::Stone(Point { col: 0, row: 0 });
+
+/// What a player plays and the result; then the number of turns made, and whether the game is over.
+type Answered = (Colour, Play, Answer, u64, bool);
 
 /// On a board of one point: Black must move first, every stone repeats the empty board, and two passes end the game.
-fn on_one<P: Past>(rt: &impl Abort, alloc: Global) -> Result<(), Fail> {
-    let mut game = Referee::<P>::new(alloc, size(rt, 1))?;
-    let pass = Play::Pass;
-    let stone = Play::Stone(at(0, 0));
-    answers(rt, &mut game, Colour::Black, stone, illegal(Reason::Repeat));
-    answers(rt, &mut game, Colour::White, pass, illegal(Reason::Turn));
-    answers(rt, &mut game, Colour::Black, pass, Ok(()));
-    stands(rt, &game, 1, 1, (0, 0));
-    assert!(rt; !game.over());
-    answers(rt, &mut game, Colour::White, pass, Ok(()));
-    assert!(rt; game.over());
-    answers(rt, &mut game, Colour::Black, pass, illegal(Reason::Over));
-    stands(rt, &game, 2, 2, (0, 0));
+const PASSES: [Answered; 5] = [
+    (Colour::Black, CORNER, REPEAT, 0, false),
+    (Colour::White, Play::Pass, TURN, 0, false),
+    (Colour::Black, Play::Pass, Ok(()), 1, false),
+    (Colour::White, Play::Pass, Ok(()), 2, true),
+    (Colour::Black, Play::Pass, OVER, 2, true),
+];
+
+/// Takes those turns, and takes back the last one.
+fn on_one<P: Past>(rt: &impl Abort, alloc: Global) {
+    let mut game = begin::<P>(rt, alloc, 1);
+    for &(colour, play, answer, turns, over) in &PASSES {
+        answers(rt, &mut game, colour, play, answer);
+        stands(rt, &game, turns, turns as usize, (0, 0));
+        holds(rt, game.over() == over, "the end of the game");
+    }
     undo(rt, &mut game);
-    assert!(rt; !game.over());
+    holds(rt, !game.over(), "a game after an undo");
     stands(rt, &game, 1, 1, (0, 0));
-    Ok(())
 }
 
+/// White's turns after she was given the top row.
+const ON_THREE: [(u8, u8, Answer); 3] = [(0, 0, OCCUPIED), (1, 1, Ok(())), (2, 2, TURN)];
+
 /// A setup colours an area, lets either player move, and is taken back as a whole.
-fn on_three<P: Past>(rt: &impl Abort, alloc: Global) -> Result<(), Fail> {
-    let mut game = Referee::<P>::new(alloc, size(rt, 3))?;
+fn on_three<P: Past>(rt: &impl Abort, alloc: Global) {
+    let mut game = begin::<P>(rt, alloc, 3);
     let top = Rect {
         first: at(0, 0),
         last: at(2, 0),
     };
-    set_area(rt, &mut game, Cell::White, top)?;
-    let turns = [
-        (at(0, 0), illegal(Reason::Occupied)),
-        (at(1, 1), Ok(())),
-        (at(2, 2), illegal(Reason::Turn)),
-    ];
-    for (point, answer) in turns {
-        answers(rt, &mut game, Colour::White, Play::Stone(point), answer);
+    set_area(rt, &mut game, Cell::White, top);
+    for &(col, row, answer) in &ON_THREE {
+        let stone = Play::Stone(at(col, row));
+        answers(rt, &mut game, Colour::White, stone, answer);
     }
     undo(rt, &mut game);
     undo(rt, &mut game);
     stands(rt, &game, 0, 0, (0, 0));
-    answers(
-        rt,
-        &mut game,
-        Colour::White,
-        Play::Pass,
-        illegal(Reason::Turn),
-    );
-    Ok(())
+    answers(rt, &mut game, Colour::White, Play::Pass, TURN);
 }
 
 /// A setup names only the player, White. She plays the only stone, and all nine points count for her.
-fn player_alone<P: Past>(rt: &impl Abort, alloc: Global) -> Result<(), Fail> {
-    let mut game = Referee::<P>::new(alloc, size(rt, 3))?;
-    game.setup(&[], Some(Colour::White))?;
-    answers(rt, &mut game, Colour::White, Play::Stone(at(0, 0)), Ok(()));
+fn player_alone<P: Past>(rt: &impl Abort, alloc: Global) {
+    let mut game = begin::<P>(rt, alloc, 3);
+    let taken = game.setup(&[], Some(Colour::White));
+    holds(rt, taken.is_ok(), "a setup of the player");
+    answers(rt, &mut game, Colour::White, CORNER, Ok(()));
     stands(rt, &game, 1, 2, (0, 9));
-    Ok(())
 }
 
 /// Takes two turns, and begins another game, on a board of this side. The referee must then be like a new one.
-fn begins_again<P: Past>(
-    rt: &impl Abort,
-    game: &mut Referee<P>,
-    side: u8,
-) -> Result<(), MemoryFault> {
-    answers(rt, game, Colour::Black, Play::Stone(at(0, 0)), Ok(()));
+fn begins_again<P: Past>(rt: &impl Abort, game: &mut Referee<P>, side: u8) {
+    answers(rt, game, Colour::Black, CORNER, Ok(()));
     answers(rt, game, Colour::White, Play::Pass, Ok(()));
-    game.reset(size(rt, side))?;
+    holds(rt, game.reset(size(rt, side)).is_ok(), "a reset");
     stands(rt, game, 0, 0, (0, 0));
-    assert!(rt; game.board().size().side() == side);
-    Ok(())
+    holds(rt, game.board().size().side() == side, "the side");
 }
 
 /// A referee that begins another game is like a new one, whether the board has another side or the same.
-fn another_game<P: Past>(rt: &impl Abort, alloc: Global) -> Result<(), Fail> {
-    let mut game = Referee::<P>::new(alloc, size(rt, 3))?;
+fn another_game<P: Past>(rt: &impl Abort, alloc: Global) {
+    let mut game = begin::<P>(rt, alloc, 3);
     for side in [2, 5, 5] {
-        begins_again(rt, &mut game, side)?;
+        begins_again(rt, &mut game, side);
     }
-    Ok(())
 }
 
 /// The examples, with one kind of past.
-fn examples<P: Past>(rt: &impl Abort, alloc: Global) -> Result<(), Fail> {
-    on_one::<P>(rt, alloc)?;
-    on_three::<P>(rt, alloc)?;
-    another_game::<P>(rt, alloc)?;
-    player_alone::<P>(rt, alloc)
+fn examples<P: Past>(rt: &impl Abort, alloc: Global) {
+    on_one::<P>(rt, alloc);
+    on_three::<P>(rt, alloc);
+    another_game::<P>(rt, alloc);
+    player_alone::<P>(rt, alloc);
 }
 
 #[test]
-fn referee_over_list_past(rt: HostRuntime) -> Result<(), Fail> {
-    examples::<ListPast>(&rt, rt.alloc())
+fn referee_over_list_past(rt: HostRuntime) {
+    examples::<ListPast>(&rt, rt.alloc());
 }
 
 #[test]
-fn referee_over_print_past(rt: HostRuntime) -> Result<(), Fail> {
-    examples::<PrintPast>(&rt, rt.alloc())
+fn referee_over_print_past(rt: HostRuntime) {
+    examples::<PrintPast>(&rt, rt.alloc());
 }
 
 #[test]

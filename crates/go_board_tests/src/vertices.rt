@@ -3,36 +3,22 @@
 use crate::given::{at, size};
 use go_board::{Vertex, vertex};
 
+/// The column, the row and the side of the board; then the letter and the row of the vertex.
+const VERTICES: [(u8, u8, u8, u8, u8); 4] = [
+    (8, 8, 9, b'J', 1),
+    (0, 0, 9, b'A', 9),
+    (24, 24, 25, b'Z', 1),
+    (24, 0, 25, b'Z', 25),
+];
+
 #[test]
 fn vertices(rt: HostRuntime) {
-    let size_9 = size(&rt, 9);
-    let size_25 = size(&rt, 25);
-    assert!(rt;
-        vertex(at(8, 8), size_9)
-            == Vertex {
-                letter: b'J',
-                row: 1
-            }
-    );
-    assert!(rt;
-        vertex(at(0, 0), size_9)
-            == Vertex {
-                letter: b'A',
-                row: 9
-            }
-    );
-    assert!(rt;
-        vertex(at(24, 24), size_25)
-            == Vertex {
-                letter: b'Z',
-                row: 1
-            }
-    );
-    assert!(rt;
-        vertex(at(24, 0), size_25)
-            == Vertex {
-                letter: b'Z',
-                row: 25
-            }
-    );
+    for &(col, above, side, letter, row) in &VERTICES {
+        assert!(rt; col < side && above < side && side <= 25);
+        let found = vertex(at(col, above), size(&rt, side));
+        assert!(rt;
+            found == Vertex { letter, row },
+            "letter {letter}, row {row}"
+        );
+    }
 }
