@@ -20,3 +20,16 @@ take_whole-requires-then-in_place-eq-TWO_MOVES-clause-read g c =
     let first_end = rw c.to.ensures at c.in_ok-first.ensures.end in
     rw c.to-then-in_place-eq-TWO_MOVES.ensures
     (move-read t c.in_ok-first.first.end (place + 12) (subst (IsMoveNode t) (sym first_end) (moves.second all)) (moves.ends all) (omega (arith, first_end)))
+
+pub take_whole-requires-then-in_place-eq-TWO_MOVES-clause-begins : goal.take_whole-requires-then-in_place-eq-TWO_MOVES-clause-begins
+take_whole-requires-then-in_place-eq-TWO_MOVES-clause-begins g c =
+    let from = c.requires in
+    let node = subst (IsMoveNode c.args.text.now) (sym (rw c.to.ensures at c.in_ok-first.ensures.end)) (c.moves_in_place-in_place.ensures.second c.if-in_place-eq-TWO_MOVES.true) in
+    record { short = from.short; inside = omega (arith, node.move.value.within); begins = node.begins; at = from.at; stack = from.stack;
+      read = c.in_ok-first.ensures.taken.more from.at from.stack from.read; few = from.few }
+
+pub returns-then-in_place-eq-TWO_MOVES : goal.returns-then-in_place-eq-TWO_MOVES
+returns-then-in_place-eq-TWO_MOVES g c =
+    let one = c.in_ok-first.ensures.taken in
+    let two = c.in_ok-second.ensures.taken in
+    record { rises = omega (arith, one.rises, two.rises); more = λ at stack read. two.more at stack (one.more at stack read) }
