@@ -113,7 +113,7 @@ impl<'c, 'a> SequenceCursor<'c, 'a> {
     }
 
     /// Moves the cursor to just after the line that ends with a sequence. After a refusal of memory the cursor is unchanged.
-    #[tactic(auto, using(crate::proofs::SequenceStarts::fewer, crate::proofs::SequenceCursors::games_are, crate::proofs::SequenceCursors::kept_sought))]
+    #[tactic(auto, using(crate::proofs::SequenceStarts::fewer, crate::proofs::SequenceCursors::games_are))]
     fn seek_end(&mut self, sequence: usize) -> Result<(), MemoryFault>
         requires within { sequence < length (sequence_starts self.old.at.games) }
         requires is_leaf { IsLeaf self.old.at.games (sequence_end self.old.at.games sequence - 1) }

@@ -3,8 +3,5 @@ use Rattle.tree_lines.proofs.Named.{each_named}
 use Rattle.tree_lines.proofs.Visits.{each_ends}
 use Rattle.tree_lines.proofs.laws.named.Goals as goal
 
-pub returns-clause-nodes : goal.returns-clause-nodes
-returns-clause-nodes c = each_named
-
-pub returns-clause-leaf : goal.returns-clause-leaf
-returns-clause-leaf c = each_ends
+pub returns : goal.returns
+returns c = record { nodes = each_named; leaf = each_ends }

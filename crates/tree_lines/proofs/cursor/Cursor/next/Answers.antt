@@ -1,9 +1,11 @@
-use Rattle.std.proofs.lemmas.Grind.{common_steps}
-use Rattle.std.proofs.Common.{◌∙◌, arith}
+use Rattle.std.proofs.Common.{◌∙◌, ap, arith, refl}
+use Rattle.tree_lines.proofs.Common.{advanced, common_steps}
 use Rattle.tree_lines.proofs.cursor.Cursor.next.Goals as goal
 
 pub invariant_of-self : goal.invariant_of-self
 invariant_of-self c = c.in_err-reserve.ensures.items ∙ c.self.invariant
 
 pub returns : goal.returns
-returns c = grind (arith, common_steps)
+returns c =
+    let moved = (rw c.in-Some.is at c.in_ok-shared.ensures.moved) ∙ ap advanced c.self.view_is in
+    ((refl, λ _. tt, moved), record { goes_on = tt; line = grind (arith, common_steps) })
