@@ -1,6 +1,6 @@
 -- What a run writes, and its answer for each way to end.
-use Rattle.std.proofs.Common.{◌≡◌, ℕ, ◌+◌, ◌<◌, List, ◌++◌, length, take, drop, slice_get, Some, Result, Ok, Err, sym, arith, add-one, Option, ap, rules, take-append-drop, length-drop, option_map, OnOk}
-use Rattle.sgf_lines.proofs.Common.{Appends, Appends-trans, common_steps, slice_get_within, MAX_LENGTH, Spells, Games, Line, lines, SequencesState, SinkState, SourceState, HasDelivered, RunFault, Form, Options, IsCutShort, read_failures, IsGood, Answers, write_failures, unread, limited, record_of, output, AnswersPlays, IsRunWithPlays, WritesLines, HasReadAll, IsStart}
+use Rattle.std.proofs.Common.{◌≡◌, ℕ, ◌+◌, ◌<◌, List, ◌++◌, length, take, drop, slice_get, Some, Result, Ok, Err, sym, arith, add-one, Option, ap, rules, take-append-drop, length-drop, option_map, OnOk, ◌∙◌}
+use Rattle.sgf_lines.proofs.Common.{Appends, Appends-trans, common_steps, slice_get_within, MAX_LENGTH, Spells, Games, Line, lines, SequencesState, SinkState, SourceState, HasDelivered, RunFault, Form, Options, IsCutShort, read_failures, IsGood, Answers, write_failures, unread, limited, record_of, output, AnswersPlays, IsRunWithPlays, WritesLines, IsReading, HasReadAll, IsStart}
 use Rattle.judged_lines.proofs.Joins.{more_texts}
 use Rattle.sgf_tree.specs.Refusal.{IsFaultyWhereNotSgf}
 use Rattle.sgf_tree.specs.declared.fault.ReadFault.{ReadFault}
@@ -61,3 +61,13 @@ module _ (o : Options) (source new_source : SourceState) (text : List ℕ) (h : 
       let good : IsGood o text new_source.to_come ls = record { whole = h.whole; has_page = record { games = c; spelled = spelled; page_is = ap (option_map (limited o.limit)) start } } in
       run_of new_sink new result plays (lines_say o text new_source.to_come sink new_sink ls plays result good w delivered) rises
       (no_read o.form ls sink new_sink plays result w) writes
+
+-- the source wasn't read to its end
+pub failed_run : (o : Options) (source new_source : SourceState) (sink : SinkState) (plays : ℕ) (text : List ℕ) (fault : RunFault) → IsReading {A = Unit {0}} source new_source text (Err fault)
+    → new_source.failures ≡ source.failures + read_failures {A = Unit {0}} (Err fault) → IsRunWithPlays o source new_source sink sink plays plays (Err fault)
+failed_run o source new_source sink plays text fault read failures = first_of (search rules, grind (arith, common_steps))
+
+-- the source was read to its end
+pub read_whole : (source new_source : SourceState) (text given : List ℕ) (unit : Unit {0}) → IsReading source new_source given (Ok unit) → text ≡ given
+    → new_source.failures ≡ source.failures + 0 → HasReadAll source new_source text
+read_whole source new_source text given unit r is failures = rw (is ∙ r.answers.1) (record { read = record { gives = r.gives; consumes = r.consumes; failures = omega arith }; whole = r.answers.0 })

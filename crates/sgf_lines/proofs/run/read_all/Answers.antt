@@ -4,3 +4,11 @@ use Rattle.sgf_lines.proofs.run.read_all.Goals as goal
 
 pub read-init : goal.read-init
 read-init g c = record { bound = search rules; room = omega arith; has_read = search rules; end_answers = omega arith }
+
+pub read-preserved : goal.read-preserved
+read-preserved g c = record {
+      bound = c.in_ok-read_some.ensures.short;
+      room = omega arith;
+      has_read = (c.in_ok-read_some.ensures.answer _ c.read.invariant.has_read).0;
+      end_answers = omega (arith, c.in_ok-read_some.ensures.goes_on);
+    }

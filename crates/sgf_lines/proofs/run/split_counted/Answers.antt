@@ -1,20 +1,30 @@
 -- A run ends where reading ends. A source that has nothing to give at once is as it was.
-use Rattle.std.proofs.Common.{arith, rules}
-use Rattle.std.proofs.lemmas.Grind.{common_steps}
+use Rattle.std.proofs.Common.{arith}
 use Rattle.std.proofs.lemmas.Result.{err_from_is_err_and}
+use Rattle.sgf_lines.proofs.Running.{failed_run, read_whole}
 use Rattle.sgf_lines.proofs.run.split_counted.Goals as goal
 
 pub returns-in_err-read_all-clause-runs : goal.returns-in_err-read_all-clause-runs
-returns-in_err-read_all-clause-runs g c = first_of (search (rules, err_from_is_err_and), grind (arith, common_steps, err_from_is_err_and))
+returns-in_err-read_all-clause-runs g c =
+    let none = rw c.in_default.is at c.give_rest.follows.holds-at-none in
+    let p = err_from_is_err_and c.from_residual.result c.from_residual.ensures.1 in
+    rw (p.1, p.2, ← none.0) (failed_run _ _ _ _ _ _ _ c.in_err-read_all.ensures.answer c.in_err-read_all.ensures.failures)
 
 pub returns-in-Some-clause-runs : goal.returns-in-Some-clause-runs
-returns-in-Some-clause-runs g c = grind (arith, common_steps)
+returns-in-Some-clause-runs g c =
+    let (short, all) = (rw c.in-Some.is at c.give_rest.follows.holds-at-none).0 in
+    c.split_text.ensures _ _ (record {
+      read = record { gives = all.given; consumes = all.to_come; failures = all.failures };
+      whole = record { at_end = all.at_end; within = short };
+    })
 
 pub returns-clause-runs : goal.returns-clause-runs
-returns-clause-runs g c = first_of (search rules, grind (arith, common_steps))
+returns-clause-runs g c =
+    let none = rw c.in_default.is at c.give_rest.follows.holds-at-none in
+    rw (← none.0) (c.split_text-2.ensures _ _ (read_whole _ _ _ _ _ c.in_ok-read_all.ensures.answer c.deref.ensures.value c.in_ok-read_all.ensures.failures))
 
 pub split_text-requires-2-clause-sink_countable : goal.split_text-requires-2-clause-sink_countable
 split_text-requires-2-clause-sink_countable g c = c.requires.sink_countable
 
 pub returns-clause-one_end : goal.returns-clause-one_end
-returns-clause-one_end g c = grind (arith, common_steps)
+returns-clause-one_end g c = omega (arith, c.in_ok-read_all.ensures.one_end, rw c.in_default.is at c.give_rest.follows.holds-at-none)
