@@ -41,11 +41,11 @@ module _ (test : ℕ → Bool) where
   -- so they are appended one after another
   pub rows-on : (row : List ℕ → List ℕ) (t : List ℕ) (end : ℕ) (old new whole : List ℕ) → IsFirstByte test t (Some end) → new ≡ old ++ row (take end t)
       → old ++ flat_map row (slice_split test t) ≡ whole → new ++ flat_map row (slice_split test (take (length t - (end + 1)) (drop (end + 1) t))) ≡ whole
-  rows-on row t end old new whole found appended before = first_of (search rules, grind (arith, common_steps, append_assoc, rows-found))
+  rows-on row t end old new whole found appended before = grind (arith, common_steps, append_assoc, rows-found)
 
 -- the comment rows of a text that isn't empty
 pub of_pieces : (bs : List ℕ) → (length bs ≡ 0 → ⊥) → text_rows bs ≡ flat_map comment_row (slice_split (λ c. c == 10) bs)
-of_pieces bs known = first_of (search rules, grind (arith, common_steps))
+of_pieces bs known = search rules
 
 -- a text in which no line feed was found is one row
 pub one_row : (t : List ℕ) (r : Option ℕ) → (length t ≡ 0 → ⊥) → IsFirstByte (λ b. b == 10) t r → is_some r ≡ false → text_rows t ≡ comment_row t
@@ -53,7 +53,7 @@ one_row t r some first never = grind (arith, common_steps, of_pieces, rows-none)
 
 -- what was appended is the text from the offset on at which it was appended
 pub appended_last : (head text whole : List ℕ) (start : ℕ) → whole ≡ head ++ text → start ≡ length head → take (length whole - start) (drop start whole) ≡ text
-appended_last head text whole start e s = first_of (search rules, grind (arith, common_steps, drop-append_seam, length-append, take_all))
+appended_last head text whole start e s = grind (arith, common_steps, drop-append_seam, length-append, take_all)
 
 -- ---- The parts of a script, appended one after another.
 
@@ -61,11 +61,11 @@ appended_last head text whole start e s = first_of (search rules, grind (arith, 
 lines_of_points : (g : Grid) (k : Colour) (ps : List Point)
     → flat_map (λ p. play_command g.side k (Stone p)) (filter (λ p. same_cell (cell_at g p) (stone_of k)) ps) ≡ flat_map (commands_at g k) ps
 lines_of_points g k [] = refl
-lines_of_points g k (p ∷ ps) = first_of (search rules, grind (arith, common_steps, lines_of_points g k ps))
+lines_of_points g k (p ∷ ps) = grind (arith, common_steps, lines_of_points g k ps)
 
 pub stones-by_point : (g : Grid) (k : Colour) → flat_map (commands_at g k) (points g.side) ≡ stone_commands g k
 stones-by_point g k = sym (lines_of_points g k (points g.side))
 
 pub joins_three : {E : Type 0} (r : Result (Unit {0}) E) (old first second new a b d : List ℕ) → first ≡ old ++ a → second ≡ first ++ b → OnOk r (new ≡ second ++ d)
     → OnOk r (new ≡ old ++ ((a ++ b) ++ d))
-joins_three r old first second new a b d e f g = first_of (search (rules, append_assoc), grind (arith, common_steps, append_assoc))
+joins_three r old first second new a b d e f g = search (rules, append_assoc)

@@ -7,7 +7,7 @@ use Rattle.sgf_outline.specs.Written.{ends_from}
 
 ends-append : (start : ℕ) (ps qs : List (List ℕ)) → ends_from start (ps ++ qs) ≡ ends_from start ps ++ ends_from (start + length (concat ps)) qs
 ends-append start [] qs = ap (λ k. ends_from k qs) (omega arith)
-ends-append start (p ∷ ps) qs = first_of (search rules, grind (arith, common_steps, length-append, ends-append (start + length p) ps qs))
+ends-append start (p ∷ ps) qs = grind (arith, common_steps, length-append, ends-append (start + length p) ps qs)
 
 ends-take : (count start : ℕ) (ps : List (List ℕ)) → take count (ends_from start ps) ≡ ends_from start (take count ps)
 ends-take zero start ps = refl
@@ -40,11 +40,11 @@ whole start (end ∷ ends) text = grind (arith, common_steps, append_assoc, take
 
 pieces_again : (start : ℕ) (ps : List (List ℕ)) (begun : List ℕ) → pieces_from start (ends_from start ps) (concat ps ++ begun) ≡ ps
 pieces_again start [] begun = refl
-pieces_again start (p ∷ ps) begun = first_of (search rules, grind (arith, common_steps, append_assoc, drop-append_seam, take-append_seam, pieces_again (start + length p) ps begun))
+pieces_again start (p ∷ ps) begun = grind (arith, common_steps, append_assoc, drop-append_seam, take-append_seam, pieces_again (start + length p) ps begun)
 
 rest_again : (start : ℕ) (ps : List (List ℕ)) (begun : List ℕ) → rest_from start (ends_from start ps) (concat ps ++ begun) ≡ begun
 rest_again start [] begun = refl
-rest_again start (p ∷ ps) begun = first_of (search rules, grind (arith, common_steps, append_assoc, drop-append_seam, rest_again (start + length p) ps begun))
+rest_again start (p ∷ ps) begun = grind (arith, common_steps, append_assoc, drop-append_seam, rest_again (start + length p) ps begun)
 
 -- a text with its ends is seen so
 abbrev pub IsSeen : List ℕ → List ℕ → PiecesState → Type 0

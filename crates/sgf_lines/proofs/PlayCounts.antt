@@ -61,7 +61,7 @@ module _ (c : Games) (rise : PlacesRise c) (first limit : ℕ) where
 
   -- no more than there are nodes
   pub few : (form : Form) (k : ℕ) → plays_of form (take k (page_from c first limit)) ≤ node_count c
-  few form k = first_of (search (rules, few_judged, cases_Bool), grind (arith, common_steps, few_judged, cases_Bool))
+  few form k = search (rules, few_judged, cases_Bool)
 
   pub few_played : (form : Form) (old new : SinkState) (plays : ℕ) (result : Result ℕ RunFault) → WritesLines form (page_from c first limit) old new plays result → plays ≤ node_count c
   few_played form old new plays (Ok k) h = omega (arith, h.2, few form (length (page_from c first limit)), ap (plays_of form) (take_all (length (page_from c first limit)) (page_from c first limit) (omega arith)))

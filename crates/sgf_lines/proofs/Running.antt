@@ -7,7 +7,7 @@ use Rattle.sgf_tree.specs.declared.fault.ReadFault.{ReadFault}
 use Rattle.sgf_tree.specs.declared.fault.ReadFault.TheVariants.{TooLong as TextTooLong}
 
 pub no_read : (form : Form) (ls : List Line) (sink new_sink : SinkState) (plays : ℕ) (result : Result ℕ RunFault) → WritesLines form ls sink new_sink plays result → read_failures result ≡ 0
-no_read form ls sink new_sink plays result known = first_of (search rules, grind (arith, common_steps))
+no_read form ls sink new_sink plays result known = search rules
 
 -- one record more
 pub one_more : (form : Form) (ls : List Line) (k : ℕ) (line : Line) → slice_get ls k ≡ Some line
@@ -29,7 +29,7 @@ cut_in form ls k line n old now new e lt before more =
 module _ (o : Options) (text : List ℕ) (to_come : Option (List ℕ)) (old new : SinkState) where
   lines_say : (ls : List Line) (plays : ℕ) (result : Result ℕ RunFault) → IsGood o text to_come ls → WritesLines o.form ls old new plays result → OnOk result (HasDelivered new)
       → Answers o text to_come old new result × AnswersPlays o text to_come plays result
-  lines_say ls plays result good wrote delivered = first_of (search rules, grind (arith, common_steps))
+  lines_say ls plays result good wrote delivered = search rules
 
 module _ (o : Options) (source new_source : SourceState) (text : List ℕ) (h : HasReadAll source new_source text) (sink : SinkState) (old : ℕ) where
   run_of : (new_sink : SinkState) (new : ℕ) (result : Result ℕ RunFault) (plays : ℕ) → Answers o text new_source.to_come sink new_sink result × AnswersPlays o text new_source.to_come plays result
@@ -45,7 +45,7 @@ module _ (o : Options) (source new_source : SourceState) (text : List ℕ) (h : 
   -- no cursor stands before the page
   pub no_start_run : (c : Games) (fault : RunFault) → Spells c text → IsStart c o.after (Err fault)
       → read_failures {A = ℕ} (Err fault) ≡ 0 → sink.failures ≡ sink.failures + write_failures {A = ℕ} (Err fault) → IsRunWithPlays o source new_source sink sink old old (Err fault)
-  no_start_run c fault spelled start reads writes = first_of (search (rules, run_of), grind (arith, common_steps, run_of))
+  no_start_run c fault spelled start reads writes = search (rules, run_of)
 
   -- the text isn't one of the grammar, or wasn't read whole
   pub unread_run : (fault : ReadFault) → (fault ≡ TextTooLong → MAX_LENGTH < length text) → IsFaultyWhereNotSgf text fault
@@ -65,7 +65,7 @@ module _ (o : Options) (source new_source : SourceState) (text : List ℕ) (h : 
 -- the source wasn't read to its end
 pub failed_run : (o : Options) (source new_source : SourceState) (sink : SinkState) (plays : ℕ) (text : List ℕ) (fault : RunFault) → IsReading {A = Unit {0}} source new_source text (Err fault)
     → new_source.failures ≡ source.failures + read_failures {A = Unit {0}} (Err fault) → IsRunWithPlays o source new_source sink sink plays plays (Err fault)
-failed_run o source new_source sink plays text fault read failures = first_of (search rules, grind (arith, common_steps))
+failed_run o source new_source sink plays text fault read failures = search rules
 
 -- the source was read to its end
 pub read_whole : (source new_source : SourceState) (text given : List ℕ) (unit : Unit {0}) → IsReading source new_source given (Ok unit) → text ≡ given

@@ -17,7 +17,7 @@ abbrev pub Carries : Engine → List ℕ → Engine → Type 0
 Carries before text after = (rest : List ℕ) → after_text before (text ++ rest) ≡ after_text after rest
 
 pub takes_row : (before : Engine) (line : List ℕ) → Each IsWithin line → Carries before (line ++ (10 ∷ [])) (after_row before line)
-takes_row before line h rest = first_of (search rules, grind (arith, common_steps, All-from_recursion, append_assoc, slice_split_at))
+takes_row before line h rest = grind (arith, common_steps, All-from_recursion, append_assoc, slice_split_at)
 
 pub takes_nothing : (engine : Engine) → Carries engine [] engine
 takes_nothing engine rest = refl
@@ -28,11 +28,11 @@ takes_both a b c t u first then rest = ap (λ x. after_text a x) (append_assoc t
 -- ---- comments
 
 pub takes_comment : (engine : Engine) (piece : List ℕ) → Each IsWithin piece → Carries engine (comment_row piece) engine
-takes_comment engine piece h rest = first_of (search (rules, takes_row), grind (arith, common_steps, takes_row))
+takes_comment engine piece h rest = search (rules, takes_row)
 
 pieces_by : (b : ℕ) (bs : List ℕ) (ends : Bool) → (b == 10) ≡ ends → Each (λ p. Each IsWithin p) (slice_split (λ c. c == 10) bs)
     → Each (λ p. Each IsWithin p) (cond ends ([] ∷ slice_split (λ c. c == 10) bs) (onto_first b (slice_split (λ c. c == 10) bs)))
-pieces_by b bs ends known known2 = first_of (search rules, grind (arith, common_steps))
+pieces_by b bs ends known known2 = search rules
 
 pieces_within : (text : List ℕ) → Each (λ p. Each IsWithin p) (slice_split (λ c. c == 10) text)
 pieces_within [] = (tt, tt)
@@ -40,7 +40,7 @@ pieces_within (b ∷ bs) = pieces_by b bs (b == 10) refl (pieces_within bs)
 
 takes_comments : (engine : Engine) (pieces : List (List ℕ)) → Each (λ p. Each IsWithin p) pieces → Carries engine (flat_map comment_row pieces) engine
 takes_comments engine [] h = takes_nothing engine
-takes_comments engine (p ∷ ps) h = first_of (search rules, grind (arith, common_steps, takes_both, takes_comment, takes_comments engine ps h.1))
+takes_comments engine (p ∷ ps) h = grind (arith, common_steps, takes_both, takes_comment, takes_comments engine ps h.1)
 
 pub takes_text_rows : (engine : Engine) (text : List ℕ) → Carries engine (text_rows text) engine
 takes_text_rows engine [] = takes_nothing engine
@@ -74,7 +74,7 @@ pub within_both : (xs ys : List ℕ) → Each IsWithin xs → Each IsWithin ys �
 within_both xs ys h k = each_append IsWithin xs ys h k
 
 verdict_within : (v : Verdict) → Each IsWithin (verdict_text v)
-verdict_within v = first_of (search (rules, decimal_within, within_both), grind (arith, common_steps, decimal_within, within_both))
+verdict_within v = search (rules, decimal_within, within_both)
 
 pub row_within : (line : Line) → Each IsWithin (list_row line)
 row_within line = search (within_both, decimal_within, verdict_within) depth 12
@@ -98,7 +98,7 @@ is_some (Some m) n = m == n
 
 some_from : (o : Option ℕ) (n : ℕ) → is_some o n ≡ true → o ≡ Some n
 unfolding is_some
-some_from o n known = first_of (search rules, grind (arith, common_steps))
+some_from o n known = search rules
 
 -- ---- the letter of a column and the number of a row
 
@@ -136,38 +136,38 @@ unfolding row_reads all_below is_some digits
 row_names n lt = some_from (magnitude_of (decimal n)) n (below_each row_reads 26 n refl lt)
 
 point_back : (side : ℕ) (p : Point) → IsOn side p → point_there side p.col (side - p.row) ≡ Some p
-point_back side p on = first_of (search rules, grind (arith, common_steps, nat_le, nat_lt, nat_tests))
+point_back side p on = search rules
 
 -- the vertex of a point names it
 pub point_names : (side : ℕ) (p : Point) → side ≤ 25 → IsOn side p → point_of side (vertex_of p side) ≡ Some p
 unfolding vertex_of
-point_names side p small on = first_of (search rules, grind (arith, common_steps, letter_is, option_and_then, point_back))
+point_names side p small on = grind (arith, common_steps, letter_is, option_and_then, point_back)
 
 -- and is read from its text
 vertex_reads : (side : ℕ) (p : Point) → side ≤ 25 → IsOn side p → vertex_named (vertex_text (vertex_of p side)) ≡ Some (vertex_of p side)
 unfolding vertex_of
-vertex_reads side p small on = first_of (search rules, grind (arith, common_steps, letter_is, option_map, row_names, slice_index))
+vertex_reads side p small on = grind (arith, common_steps, letter_is, option_map, row_names, slice_index)
 
 -- ---- a play's words
 
 no_spaces : (bs : List ℕ) → Each IsSolid bs → Each (λ b. (b == 32) ≡ false) bs
 no_spaces [] h = tt
-no_spaces (b ∷ bs) h = first_of (search (rules, (no_spaces bs h.1)), grind (arith, common_steps, no_spaces bs h.1))
+no_spaces (b ∷ bs) h = search (rules, (no_spaces bs h.1))
 
 no_comment : (bs : List ℕ) → Each IsSolid bs → before_comment bs ≡ bs
 no_comment [] h = refl
-no_comment (b ∷ bs) h = first_of (search (rules, (no_comment bs h.1)), grind (arith, common_steps, no_comment bs h.1))
+no_comment (b ∷ bs) h = search (rules, (no_comment bs h.1))
 
 pub one_word : (bs : List ℕ) → Each IsSolid bs → slice_split (λ b. b == 32) (before_comment bs) ≡ bs ∷ []
-one_word bs h = first_of (search rules, grind (arith, common_steps, All-from_recursion, no_comment, no_spaces, slice_split_none))
+one_word bs h = grind (arith, common_steps, All-from_recursion, no_comment, no_spaces, slice_split_none)
 
 play_words : (k : Colour) (b : ℕ) (bs : List ℕ) → Each IsSolid (b ∷ bs)
     → words (codes "play " ++ colour_letter k ++ codes " " ++ (b ∷ bs)) ≡ codes "play" ∷ colour_letter k ∷ (b ∷ bs) ∷ []
-play_words k b bs known = first_of (search rules, grind (arith, common_steps, one_word))
+play_words k b bs known = grind (arith, common_steps, one_word)
 
 pub vertex_solid : (side : ℕ) (p : Point) → side ≤ 25 → IsOn side p → Each IsSolid (vertex_text (vertex_of p side))
 unfolding vertex_of
-vertex_solid side p small on = first_of (search (rules, decimal_solid, letter_is), grind (arith, common_steps, decimal_solid, letter_is))
+vertex_solid side p small on = search (rules, decimal_solid, letter_is)
 
 pub play_reads : (side : ℕ) (k : Colour) (p : Point) → side ≤ 25 → IsOn side p
     → command_of (words (codes "play " ++ colour_letter k ++ codes " " ++ vertex_text (vertex_of p side))) ≡ plays_stone k (vertex_of p side)
@@ -192,15 +192,15 @@ size_reads side small =
 
 laid_out : (k : Colour) (v : Vertex) (b : ℕ) (row : List ℕ) → colour_letter k ≡ b ∷ [] → decimal v.row ≡ row
     → stone_command k v ≡ 112 ∷ 108 ∷ 97 ∷ 121 ∷ 32 ∷ b ∷ 32 ∷ v.letter ∷ (row ++ codes "\n")
-laid_out k v b row player digits = first_of (search rules, grind (arith, common_steps))
+laid_out k v b row player digits = search rules
 
 pub command-one_digit : (k : Colour) (v : Vertex) (b : ℕ) → colour_letter k ≡ b ∷ [] → v.row < 10
     → stone_command k v ≡ 112 ∷ 108 ∷ 97 ∷ 121 ∷ 32 ∷ b ∷ 32 ∷ v.letter ∷ (48 + v.row % 10) ∷ 10 ∷ []
-command-one_digit k v b player lt = first_of (search (rules, laid_out, decimal_digit), grind (arith, common_steps, laid_out, decimal_digit))
+command-one_digit k v b player lt = search (rules, laid_out, decimal_digit)
 
 pub command-two_digits : (k : Colour) (v : Vertex) (b : ℕ) → colour_letter k ≡ b ∷ [] → 10 ≤ v.row → v.row < 100
     → stone_command k v ≡ 112 ∷ 108 ∷ 97 ∷ 121 ∷ 32 ∷ b ∷ 32 ∷ v.letter ∷ (48 + v.row / 10) ∷ (48 + v.row % 10) ∷ 10 ∷ []
-command-two_digits k v b player le lt = first_of (search (rules, laid_out, decimal_step, decimal_digit), grind (arith, common_steps, laid_out, decimal_step, decimal_digit))
+command-two_digits k v b player le lt = search (rules, laid_out, decimal_step, decimal_digit)
 
 -- a row has two digits at most
 pub row-below : (p : Point) (side : ℕ) → side ≤ 25 → (vertex_of p side).row < 100

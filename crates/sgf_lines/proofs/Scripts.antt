@@ -7,27 +7,27 @@ use Rattle.sgf_lines.proofs.Recordings.{joined}
 
 -- the pieces before those that can't be said
 lt_suc : (a n : ℕ) → nat_lt (suc a) (suc n) ≡ nat_lt a n
-lt_suc a n = first_of (search rules, grind (arith, common_steps, le-ltb, lt-ltb))
+lt_suc a n = search rules
 
 any_is : (ts : List LegalNode) → nat_lt (position_or_len leaves_unreaching ts) (length ts) ≡ list_any leaves_unreaching ts
 any_is [] = refl
-any_is (t ∷ ts) = first_of (search rules, grind (arith, common_steps, lt-ltb, lt_suc, any_is ts))
+any_is (t ∷ ts) = grind (arith, common_steps, lt-ltb, lt_suc, any_is ts)
 
 position_front : (n : ℕ) (ts : List LegalNode) → position_or_len leaves_unreaching (take n ts) ≡ min n (position_or_len leaves_unreaching ts)
 position_front zero ts = omega arith
 position_front (suc n) [] = omega arith
-position_front (suc n) (t ∷ ts) = first_of (search rules, grind (arith, common_steps, position_front n ts))
+position_front (suc n) (t ∷ ts) = grind (arith, common_steps, position_front n ts)
 
 -- back to the first ones
 no_script_back : (n : ℕ) → script_back n no_script ≡ no_script
-no_script_back n = first_of (search rules, grind (arith, common_steps, add-one))
+no_script_back n = search rules
 
 -- the script of a game whose root says this
 pub script_put : (kind : GameKind) (nodes : List Node) → script_text (script_of kind (legal_on kind nodes)) ≡ commands_by kind nodes
-script_put kind nodes = first_of (search (rules, any_is, joined, length-map, lt_suc), grind (arith, common_steps, any_is, joined, length-map, lt_suc))
+script_put kind nodes = search (rules, any_is, joined, length-map, lt_suc)
 
 pub script_cut : (kind : GameKind) (taken : List LegalNode) (n : ℕ) → script_back n (script_of kind taken) ≡ script_of kind (take n taken)
-script_cut kind taken n = first_of (search (rules, no_script_back, add-one, position_front, take-map), grind (arith, common_steps, no_script_back, add-one, position_front, take-map))
+script_cut kind taken n = search (rules, no_script_back, add-one, position_front, take-map)
 
 script_more : (kind : GameKind) (taken : List LegalNode) (t : LegalNode) → said_on (script_of kind taken) (leaves_unreaching t) (legal_script t) ≡ script_of kind (taken ++ t ∷ [])
 script_more kind taken t = grind (arith, common_steps, length-map, map-append, position_or_len_push)

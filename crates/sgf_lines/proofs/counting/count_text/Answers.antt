@@ -6,4 +6,4 @@ use Rattle.sgf_lines.proofs.LineCounts.{count_of_games}
 use Rattle.sgf_lines.proofs.counting.count_text.Goals as goal
 
 pub returns-in-Ok : goal.returns-in-Ok
-returns-in-Ok c source new_source read = first_of (search (rules, count_of_games, lines_leaves), grind (arith, common_steps, count_of_games, lines_leaves))
+returns-in-Ok c source new_source read = search (rules, count_of_games, lines_leaves)

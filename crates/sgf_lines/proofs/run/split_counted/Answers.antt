@@ -1,5 +1,5 @@
 -- A run ends where reading ends. A source that has nothing to give at once is as it was.
-use Rattle.std.proofs.Common.{arith}
+use Rattle.std.proofs.Common.{ℕ, ◌+◌, ◌≤◌, arith}
 use Rattle.std.proofs.lemmas.Result.{err_from_is_err_and}
 use Rattle.sgf_lines.proofs.Running.{failed_run, read_whole}
 use Rattle.sgf_lines.proofs.run.split_counted.Goals as goal
@@ -26,5 +26,8 @@ returns-clause-runs g c =
 pub split_text-requires-2-clause-sink_countable : goal.split_text-requires-2-clause-sink_countable
 split_text-requires-2-clause-sink_countable g c = c.requires.sink_countable
 
+ended : (a b c : ℕ) → a ≤ b + 1 → b ≤ c + 0 → a ≤ c + 1
+ended a b c one none = omega arith
+
 pub returns-clause-one_end : goal.returns-clause-one_end
-returns-clause-one_end g c = omega (arith, c.in_ok-read_all.ensures.one_end, rw c.in_default.is at c.give_rest.follows.holds-at-none)
+returns-clause-one_end g c = ended _ _ _ c.in_ok-read_all.ensures.one_end (rw c.in_default.is at c.give_rest.follows.holds-at-none).1

@@ -7,4 +7,4 @@ pub returns-in-gtp-clause-named : goal.returns-in-gtp-clause-named
 returns-in-gtp-clause-named c = sym c.in-gtp.is
 
 pub returns-in-gtp-clause-all : goal.returns-in-gtp-clause-all
-returns-in-gtp-clause-all c = first_of (search rules, grind (arith, common_steps))
+returns-in-gtp-clause-all c = search rules

@@ -8,4 +8,4 @@ cut_back : (old new : ScriptState) (held : ℕ) (kind : GameKind) (taken : List 
 cut_back old new held kind taken is back = back ∙ ap (script_back held) is ∙ script_cut kind taken held
 
 pub returns-then-held-gt0-clause-kept : goal.returns-then-held-gt0-clause-kept
-returns-then-held-gt0-clause-kept c = λ some kind taken is. cut_back c.args.self.now _ c.args.held kind taken is (first_of (search rules, grind (arith, common_steps)))
+returns-then-held-gt0-clause-kept c = λ some kind taken is. cut_back c.args.self.now _ c.args.held kind taken is (search rules)
