@@ -1,6 +1,6 @@
 -- A follower goes on by a line: the verdict that it gives, and the nodes that it plays for the lines of its streak.
 use Rattle.std.proofs.Common.{◌≡◌, ℕ, ◌+◌, ◌-◌, ◌<◌, ◌≤◌, length, take, drop, slice_get, Some, sym, ap, ◌∙◌, arith, rules, option_map, take-take}
-use Rattle.judged_lines.proofs.Common.{common_steps, slice_get_within, PlacesRise, node_count, CursorState, advanced, nodes_of, line_before, nodes_before, lines, Before, Held, Verdict, FollowerState, HasPlays, StandsBy, index_by, all_judged_places, verdict, verdict_of, judged_nodes}
+use Rattle.judged_lines.proofs.Common.{slice_get_within, PlacesRise, node_count, CursorState, advanced, nodes_of, line_before, nodes_before, lines, Before, Held, Verdict, FollowerState, HasPlays, StandsBy, index_by, all_judged_places, verdict, verdict_of, judged_nodes}
 use Rattle.judged_lines.specs.GoingOn.{next_by}
 use Rattle.judged_lines.specs.inner.Followers.{state_by, Follows}
 use Rattle.judged_lines.proofs.Keeping.{line_next}
@@ -10,7 +10,7 @@ use Rattle.judged_lines.proofs.StreakPlays.{page_from, few_judged, adds_judged, 
 
 module _ (before : Before) (old : CursorState) (holds : Type 0) (plays streak : ℕ) (h : Follows before old holds plays streak) where
   streak_within : streak ≤ index_by before old.index
-  streak_within = first_of (search rules, grind (arith, common_steps))
+  streak_within = search rules
 
   abbrev first : ℕ
   first = index_by before old.index - streak

@@ -20,11 +20,11 @@ abbrev pub both : Option (List SetupOp) → Option (List SetupOp) → Option (Li
 both a b = option_and_then (λ xs. option_map (λ ys. xs ++ ys) b) a
 
 pub operations-append : (side : ℕ) (ss ts : List Stones) → operations (ss ++ ts) side ≡ both (operations ss side) (operations ts side)
-operations-append side [] ts = first_of (search rules, grind (arith, common_steps))
-operations-append side (s ∷ ss) ts = first_of (search (rules, (operations-append side ss ts)), grind (arith, common_steps, operations-append side ss ts))
+operations-append side [] ts = search rules
+operations-append side (s ∷ ss) ts = search (rules, (operations-append side ss ts))
 
 both_none : (a : Option (List SetupOp)) → both a None ≡ None
-both_none a = first_of (search rules, grind (arith, common_steps))
+both_none a = search rules
 
 pub last_player-append : (before : Option Colour) (rs qs : List (List ℕ)) → last_player before (rs ++ qs) ≡ option_and_then (λ b. last_player b qs) (last_player before rs)
 last_player-append before [] qs = refl
@@ -39,11 +39,11 @@ last_player-append before (r ∷ rs) qs = each (λ k. last_player-append (Some k
 pub rectangles_more : (side : ℕ) (cell : Cell) (front : List (List ℕ)) (raw : List ℕ) (area : Rect) (ops : List SetupOp)
     → operations (map (λ r. record { cell = cell; raw = r }) front) side ≡ Some ops → rect_value raw side ≡ Some area
     → operations (map (λ r. record { cell = cell; raw = r }) (front ++ raw ∷ [])) side ≡ Some (ops ++ record { cell = cell; area = area } ∷ [])
-rectangles_more side cell front raw area ops are is = first_of (search rules, grind (arith, common_steps, map-append, operations-append))
+rectangles_more side cell front raw area ops are is = grind (arith, common_steps, map-append, operations-append)
 
 pub rectangles_stop : (side : ℕ) (cell : Cell) (front : List (List ℕ)) (raw : List ℕ) (left all : List (List ℕ)) → front ++ raw ∷ left ≡ all → rect_value raw side ≡ None
     → operations (map (λ r. record { cell = cell; raw = r }) all) side ≡ None
-rectangles_stop side cell front raw left all whole is = first_of (search rules, grind (arith, common_steps, both_none, map-append, operations-append))
+rectangles_stop side cell front raw left all whole is = grind (arith, common_steps, both_none, map-append, operations-append)
 
 -- one value of a player later
 pub later_player : (last : Colour) (raw : List ℕ) (left all : List (List ℕ)) (o : Option Colour) → all ≡ raw ∷ left → o ≡ player_value raw
@@ -53,13 +53,13 @@ later_player last raw left all o e is = ap (last_player (Some last)) e ∙ ap (o
 -- stones more
 module _ (side : ℕ) (ops new : List SetupOp) (stones more : List Stones) (players : List (List ℕ)) (some : 0 < length more) where
   pub more_stones : (setup : Setup) (good : Bool) → IsSetup side setup ops stones players → AddsRectangles side more ops new good → IsSetup side (setup_with_stones setup good) new (stones ++ more) players
-  more_stones setup good known known2 = first_of (search (rules, length-append, operations-append, both_none), grind (arith, common_steps, length-append, operations-append, both_none))
+  more_stones setup good known known2 = search (rules, length-append, operations-append, both_none)
 
 -- players more
 module _ (side : ℕ) (ops : List SetupOp) (stones : List Stones) (players more : List (List ℕ)) (some : 0 < length more) where
   pub more_players : (setup : Setup) (last : Option Colour) → IsSetup side setup ops stones players → ((before : Option Colour) → last_player before more ≡ option_map Some last)
       → IsSetup side (setup_with_player setup last) ops stones (players ++ more)
-  more_players setup last known known2 = first_of (search (rules, last_player-append, length-append), grind (arith, common_steps, last_player-append, length-append))
+  more_players setup last known known2 = search (rules, last_player-append, length-append)
 
 -- what a property holds
 record Held : Type 0 where
@@ -89,10 +89,10 @@ one_more : {A : Type 0} (f : Property → List A) (ps : List Property) (p : Prop
 one_more f ps p xs is = flat_map-append f ps (p ∷ []) ∙ ap (λ t. flat_map f ps ++ t) (append-nil (f p) ∙ is)
 
 no_comment : (o : Option (List ℕ)) → o ≡ option_or o None
-no_comment o = first_of (search rules, grind (arith, common_steps))
+no_comment o = search rules
 
 first_is : (o : Option (Bor (List ℕ))) (first : Bor (List ℕ)) → option_copied (option_or o (Some first)) ≡ option_or (option_copied o) (Some first.now)
-first_is o first = first_of (search rules, grind (arith, common_steps))
+first_is o first = search rules
 
 -- what properties hold, and one more
 module _ (side : ℕ) (ps : List Property) (ops : List SetupOp) (old : Contents) (h : IsGathered side ps ops old) (p : Property) where
@@ -100,7 +100,7 @@ module _ (side : ℕ) (ps : List Property) (ops : List SetupOp) (old : Contents)
       → IsSetup side new.setup new_ops (flat_map stones_in ps ++ (held_by k p).stones) (flat_map players_in ps ++ (held_by k p).players)
       → option_copied new.comment ≡ option_or (option_copied old.comment) (held_by k p).comment → All (λ (op : SetupOp). IsRectOn side op.area) new_ops
       → IsGathered side (ps ++ p ∷ []) new_ops new
-  gathered_more k new_ops new is moves setup comment on_board = first_of (search (rules, by_name, find-append, one_more), grind (arith, common_steps, by_name, find-append, one_more))
+  gathered_more k new_ops new is moves setup comment on_board = search (rules, by_name, find-append, one_more)
 
   -- the moves and the setup as they were
   moves_stay : AreMoves old.moves (flat_map moves_in ps ++ [])
@@ -148,7 +148,7 @@ values_two k ms p raw left is none =
 -- properties that hold nothing, after others
 pub gathered_others : (side : ℕ) (ps rest : List Property) (contents : Contents) → IsGathered side ps [] contents → All (λ (p : Property). kind_of p ≡ None) rest → IsGathered side (ps ++ rest) [] contents
 gathered_others side ps [] contents h none = subst (λ qs. IsGathered side qs [] contents) (sym (append-nil ps)) h
-gathered_others side ps (p ∷ rest) contents h none = first_of (search rules, grind (arith, common_steps, All-head, All-tail, append_assoc, gathered_others side (ps ++ p ∷ []) rest contents (gathered_nothing side ps [] contents h p (All-head (λ (p : Property). kind_of p ≡ None) p rest none)) (All-tail (λ (p : Property). kind_of p ≡ None) p rest none)))
+gathered_others side ps (p ∷ rest) contents h none = grind (arith, common_steps, All-head, All-tail, append_assoc, gathered_others side (ps ++ p ∷ []) rest contents (gathered_nothing side ps [] contents h p (All-head (λ (p : Property). kind_of p ≡ None) p rest none)) (All-tail (λ (p : Property). kind_of p ≡ None) p rest none))
 
 pub gathered_alone : (side : ℕ) (first : Property) (properties : List Property) (contents : Contents) → IsGathered side (first ∷ []) [] contents → HoldsAlone first properties → IsGathered side properties [] contents
 gathered_alone side first properties contents h alone = grind (arith, common_steps, gathered_others side (first ∷ []) alone.rest contents h alone.nothing)
@@ -158,7 +158,7 @@ abbrev pub setup_names : List (List ℕ)
 setup_names = codes "AB" ∷ codes "AW" ∷ codes "AE" ∷ codes "PL" ∷ []
 
 led_alone : (first : Property) (properties : List Property) → IsLedBy setup_names first properties → HoldsAlone first properties
-led_alone first properties led = first_of (search (rules, bytes_eq-Decides, false_from_ne_true), grind (arith, common_steps, bytes_eq-Decides, false_from_ne_true))
+led_alone first properties led = search (rules, bytes_eq-Decides, false_from_ne_true)
 
 -- a node that was taken off
 pub comes : (node : Node) (left : List Property) (next : NextNode) → IsTakenOff setup_names node left next → ComesAs node left next

@@ -28,7 +28,7 @@ goes_on Holds Held old new held stands go = record {
 goes_on Holds Refused old new held stands go = search (rules, some_node)
 
 pub has_plays : (before : Before) (old new : SequencesState) (held : Front) → IsNext before old new held → (counts : ℕ → ℕ) → HasPlays counts before old.at (counts (fresh_plays (nodes_before new.at) held.nodes))
-has_plays before old new held next counts = first_of (search rules, grind (arith, common_steps, line_is, some_before, some_line))
+has_plays before old new held next counts = grind (arith, common_steps, line_is, some_before, some_line)
 
 -- what was counted for it
 pub plays_refused : {E F : Type 0} (A : Type 0) (counts : ℕ → ℕ) (b : Before) (at : CursorState) (old new count : ℕ) (e : E) (r : Result Bool F) → IsErr r → HasPlays counts b at count

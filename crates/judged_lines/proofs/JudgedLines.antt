@@ -110,7 +110,7 @@ module _ (nodes : List Node) (held : ℕ) (le : held ≤ length nodes) {A E : Ty
 
   pub finish : (tells : GameKind → List LegalNode → Type 0) (old : ℕ) (judge : Judging) → WentOn tells kind_of (take held nodes) (drop held nodes) old judge
       → record { judged : OnOk r (HasJudged tells kind_of nodes judge.judgement); plays : PlaysUpTo old judge.plays (fresh_plays nodes held) r }
-  finish tells old judge on = first_of (search (rules, take-append-drop, fresh), grind (arith, common_steps, take-append-drop, fresh))
+  finish tells old judge on = search (rules, take-append-drop, fresh)
 
   pub stopped : (old new : ℕ) → IsErr r → (old ≤ new) × (new ≤ old + plays_for kind_of (take held nodes) (drop held nodes)) → PlaysUpTo old new (fresh_plays nodes held) r
-  stopped old new is up = first_of (search (rules, fresh), grind (arith, common_steps, fresh))
+  stopped old new is up = search (rules, fresh)

@@ -6,7 +6,7 @@ use Rattle.judged_lines.specs.Judgement.{stepped}
 use Rattle.std.proofs.lemmas.List.Sums.{fold-append}
 use Rattle.judged_lines.specs.declared.verdict.Verdict.TheVariants.{Illegal, NotGo, BadSize}
 use Rattle.judged_lines.specs.Walk.{next_by}
-use Rattle.judged_lines.proofs.Walking.{StandsAfter, scores_there, next_is, one_judged}
+use Rattle.judged_lines.proofs.Walking.{StandsAfter, next_is, one_judged}
 use Rattle.judged_lines.specs.Walk as along
 
 -- nothing to take back
@@ -22,7 +22,7 @@ pub back_one : (s e : State) (es : List State) (depth : ℕ) → depth < length 
 back_one s e es depth lt = rw (lt-leb (length (e ∷ es)) depth lt) refl
 
 pub back_undone : (old new : States) (depth : ℕ) (s : State) → depth < length old.earlier → old ≡ followed_by new s → back_to old depth ≡ back_to new depth
-back_undone old new depth s lt is = first_of (search rules, grind (arith, common_steps, back_one))
+back_undone old new depth s lt is = search rules
 
 pub judging_more : (kind : GameKind) (nodes : List Node) (node : Node) → judging kind (nodes ++ node ∷ []) ≡ after (judging kind nodes) node
 judging_more kind nodes node = fold-append after (begun_game kind) nodes (node ∷ [])
@@ -57,7 +57,7 @@ back_within : (count : ℕ) (states : States) (ended : Option Verdict) → count
 back_within count states ended le = rw (le-leb count (length states.earlier) le) refl
 
 back_here : (count : ℕ) (j : Judgement) → Came count j → back count j ≡ j
-back_here count j known = first_of (search rules, grind (arith, common_steps, back_none, back_within, lt-leb))
+back_here count j known = grind (arith, common_steps, back_none, back_within, lt-leb)
 
 -- unless the line ended, at least this many nodes were taken
 abbrev HasTaken : ℕ → Judgement → Type 0
@@ -66,7 +66,7 @@ HasTaken count (judged states None) = count ≤ length states.earlier
 HasTaken count (judged states (Some told)) = Unit {0}
 
 came_taken : (count : ℕ) (j : Judgement) → Came count j → HasTaken count j
-came_taken count j known = first_of (search rules, grind (arith, common_steps))
+came_taken count j known = search rules
 
 back_on : (count : ℕ) (j : Judgement) (nodes : List Node) → HasTaken count j → back count (fold after j nodes) ≡ back count j
 back_on count j [] h = refl
@@ -86,7 +86,7 @@ back_on count j (n ∷ ns) h = (let next = one j h in back_on count (after j n) 
     one (judged states (Some told)) h = (tt, refl)
 
 came_first : (kind : GameKind) → Came 0 (begun_game kind)
-came_first kind = first_of (search rules, grind (arith, common_steps))
+came_first kind = search rules
 
 came_front : (kind : GameKind) (nodes : List Node) (count : ℕ) → count ≤ length nodes → Came count (judging kind (take count nodes))
 came_front kind nodes count le = subst (λ n. Came n (judging kind (take count nodes))) (omega (arith, length-take-le count nodes le)) (came_on 0 (begun_game kind) (take count nodes) (came_first kind))
@@ -112,7 +112,7 @@ next_none : (walked : Walk) (node : Node) (met : IllegalNode) → walked.illegal
 next_none walked node met some = ap (λ o. next_by walked o node) some
 
 walk_more : (j : Judgement) (walked : Walk) (node : Node) → IsOfWalk j walked → IsOfWalk (after j node) (next walked node)
-walk_more j walked node known = first_of (search rules, grind (arith, common_steps, length-append, next_is, next_none))
+walk_more j walked node known = grind (arith, common_steps, length-append, next_is, next_none)
 
 walk_on : (j : Judgement) (walked : Walk) (nodes : List Node) → IsOfWalk j walked → IsOfWalk (fold after j nodes) (fold next walked nodes)
 walk_on j walked [] h = h
@@ -122,17 +122,17 @@ of_walk : (side : ℕ) (nodes : List Node) → IsOfWalk (judging (board side) no
 of_walk side nodes = walk_on (begun_game (board side)) (before_root side) nodes (record { no_illegal = refl; state = refl }, refl)
 
 verdict_of_walk : (j : Judgement) (walked : Walk) → IsOfWalk j walked → verdict_in j ≡ verdict_at walked
-verdict_of_walk j walked known = first_of (search rules, grind (arith, common_steps, scores_there))
+verdict_of_walk j walked known = search rules
 
 pub judging_verdict : (kind : GameKind) (nodes : List Node) → verdict_in (judging kind nodes) ≡ verdict_by kind nodes
-judging_verdict kind nodes = first_of (search rules, grind (arith, common_steps, of_walk, unjudged_stays, verdict_of_walk))
+judging_verdict kind nodes = grind (arith, common_steps, of_walk, unjudged_stays, verdict_of_walk)
 
 -- the nodes that were taken
 walk_step : (side : ℕ) (nodes : List Node) (node : Node) → walk side (nodes ++ node ∷ []) ≡ next (walk side nodes) node
 walk_step side nodes node = fold-append next (before_root side) nodes (node ∷ [])
 
 taken_next : (j : Judgement) (walked : Walk) (node : Node) → IsOfWalk j walked → (next walked node).taken ≡ walked.taken ++ legal_by (state_after j node) node
-taken_next j walked node known = first_of (search rules, grind (arith, common_steps, append-nil, next_is, next_none))
+taken_next j walked node known = search rules
 
 pub taken_more : (kind : GameKind) (nodes : List Node) (node : Node) → legal_on kind (nodes ++ node ∷ []) ≡ legal_on kind nodes ++ legal_by (state_after (judging kind nodes) node) node
 taken_more kind nodes node = grind (arith, common_steps, unjudged_stays, of_walk, taken_next, walk_step)
@@ -153,7 +153,7 @@ taken_further count walked (n ∷ ns) h = (let one = by walked.illegal refl in t
     by (Some met) e = (h, refl)
 
 taken_count : (count : ℕ) (j : Judgement) (walked : Walk) → Came count j → IsOfWalk j walked → (length walked.taken ≤ count) × (walked.illegal ≡ None → count ≤ length walked.taken)
-taken_count count j walked known known2 = first_of (search rules, grind (arith, common_steps))
+taken_count count j walked known known2 = search rules
 
 walk_cut : (side : ℕ) (nodes : List Node) (count : ℕ) → count ≤ length nodes → (walk side (take count nodes)).taken ≡ take count (walk side nodes).taken
 walk_cut side nodes count le =
@@ -168,7 +168,7 @@ taken_cut kind nodes count le = grind (arith, common_steps, walk_cut)
 
 -- a node was taken only if the line had not ended, by a step that is taken
 pub taken_only : (j : Judgement) (node : Node) (s : State) → state_after j node ≡ Some s → (states : States) × (j ≡ judged states None) × (step states.present node ≡ Ok s)
-taken_only j node s known = first_of (search rules, grind (arith, common_steps))
+taken_only j node s known = search rules
 
 -- the board of a node that was taken
 pub board_after : (j : Judgement) (node : Node) (s : State) → state_after j node ≡ Some s → board_in (after j node) ≡ Some s.colouring
@@ -183,7 +183,7 @@ next_plays (judged states (Some told)) = 0
 next_plays (judged states None) = 1
 
 one_played : (j : Judgement) (walked : Walk) (node : Node) → IsOfWalk j walked → length (judged_by (next walked node)) ≡ length (judged_by walked) + next_plays j
-one_played j walked node known = first_of (search rules, grind (arith, common_steps, length-append, next_none, one_judged))
+one_played j walked node known = grind (arith, common_steps, length-append, next_none, one_judged)
 
 plays_more : (kind : GameKind) (nodes : List Node) (node : Node) → length (judged_on kind (nodes ++ node ∷ [])) ≡ length (judged_on kind nodes) + next_plays (judging kind nodes)
 plays_more not_go nodes node = omega (arith, ap next_plays (unjudged_stays NotGo nodes))
@@ -192,19 +192,19 @@ plays_more (board side) nodes node =
     ap (λ w. length (judged_by w)) (walk_step side nodes node) ∙ one_played (judging (board side) nodes) (walk side nodes) node (of_walk side nodes)
 
 pub plays_one : (kind : GameKind) (nodes : List Node) (node : Node) → IsUndecided (judging kind nodes) → length (judged_on kind (nodes ++ node ∷ [])) ≡ length (judged_on kind nodes) + 1
-plays_one kind nodes node known = first_of (search (rules, plays_more), grind (arith, common_steps, plays_more))
+plays_one kind nodes node known = search (rules, plays_more)
 
 pub undecided_by : (j : Judgement) (node : Node) (s : State) → state_after j node ≡ Some s → IsUndecided (after j node)
-undecided_by j node s some = first_of (search rules, grind (arith, common_steps))
+undecided_by j node s some = search rules
 
 pub decided_by : (j : Judgement) (node : Node) → state_after j node ≡ None → IsDecided (after j node)
-decided_by j node none = first_of (search rules, grind (arith, common_steps))
+decided_by j node none = search rules
 
 pub decided_none : (j : Judgement) (node : Node) → IsDecided j → (state_after j node ≡ None) × (next_plays j ≡ 0)
-decided_none j node known = first_of (search rules, grind (arith, common_steps))
+decided_none j node known = search rules
 
 pub decided_more : (kind : GameKind) (nodes : List Node) (node : Node) → IsDecided (judging kind nodes) → judging kind (nodes ++ node ∷ []) ≡ judging kind nodes
-decided_more kind nodes node h = first_of (search (rules, judging_more), grind (arith, common_steps, judging_more))
+decided_more kind nodes node h = search (rules, judging_more)
 
 pub decided_all : (kind : GameKind) (nodes more : List Node) → IsDecided (judging kind nodes)
     → (judging kind (nodes ++ more) ≡ judging kind nodes) × (length (judged_on kind (nodes ++ more)) ≡ length (judged_on kind nodes))
@@ -247,7 +247,7 @@ module _ (ended : Option Verdict) (referee : Option States) (r : States) (plays 
     -- a step that was refused decides the verdict
     pub refused : (node : Node) (reason : Reason) (turn place : ℕ) (new : States) → step r.present node ≡ Err reason → new ≡ r → turn ≡ new.present.turns → node.place ≡ place
         → judged new (Some (Illegal (turn + 1) place reason)) ≡ after now.judgement node
-    refused node reason turn place new took same turn_is place_is = first_of (search rules, grind (arith, common_steps, open_before))
+    refused node reason turn place new took same turn_is place_is = search rules
 
     pub leads_nowhere : (node : Node) (reason : Reason) → step r.present node ≡ Err reason → state_after now.judgement node ≡ None
     leads_nowhere node reason took = ap (λ j. state_after j node) open_before ∙ ap state_of took

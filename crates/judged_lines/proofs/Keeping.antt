@@ -40,7 +40,7 @@ module _ (old nodes : List Node) (count : ℕ) (some : 0 < count) (within : coun
   kinds = ap game_kind (same_root count old nodes some within same)
 
   judged_same : (judgement : Judgement) → judgement ≡ judging (game_kind (root_properties old)) old → back count judgement ≡ judging_front nodes count
-  judged_same judgement h = first_of (search rules, grind (arith, common_steps, judging_back, kinds))
+  judged_same judgement h = grind (arith, common_steps, judging_back, kinds)
 
   taken_same : (keeps : GameKind → List LegalNode → Type 0) → keeps (game_kind (root_properties old)) (legal_on (game_kind (root_properties old)) old)
       → (taken : List LegalNode) × keeps (game_kind (root_properties nodes)) taken × (take count taken ≡ taken_front nodes count)
@@ -56,7 +56,7 @@ line_next at = let next : at.index + 1 ≡ suc at.index = add-one at.index in ap
 -- a line that shares so many nodes with the line before it
 module _ (old new : CursorState) (shared : ℕ) (moved : new ≡ advanced old) (continues : Continues (path_before old) shared (path_before new)) where
   many_new : length (nodes_before new) ≡ shared + (continues.more + 1)
-  many_new = first_of (search rules, grind (arith, common_steps, as_long, length-append, length-range_with_len, length-take-le))
+  many_new = grind (arith, common_steps, as_long, length-append, length-range_with_len, length-take-le)
 
   pub some_node : 0 < length (nodes_before new)
   some_node = omega (arith, many_new)
@@ -84,7 +84,7 @@ module _ (holds : SequencesState → Type 0) (cursor : SequencesState) (front : 
   by_old P some of = grind (arith, common_steps)
 
   some_front : 0 < front.nodes → 0 < front.sequences
-  some_front known = first_of (search rules, grind (arith, common_steps))
+  some_front known = search rules
 
   module _ (keeps : GameKind → List LegalNode → Type 0) (j : Judgement) (of : (old : SequencesState) → holds old → HoldsLine keeps j old) where
     pub judgement_kept : KeepsJudgement (nodes_before cursor.at) front.nodes j

@@ -44,7 +44,7 @@ scored_now states scored score k is known since = search (rules, on_same, same_b
 pub scored_back : (states : States) (count scored : ℕ) (score kept : Option (ℕ × ℕ)) → count < length states.earlier → IfSome kept (λ k. (score ≡ Some k) × ((scored ≤ count) ⊎ HadSameBoardSince states count)) → IsScoreAt states scored score → IsScoreAt (back_to states count) (min scored count) kept
 scored_back states count scored score None fewer is known = tt
 scored_back states count scored score (Some k) fewer is known =
-    first_of (search (rules, cases_lt, same_back, on_same, length_back, back_back), grind (arith, common_steps, cases_lt, same_back, on_same, length_back, back_back))
+    search (rules, cases_lt, same_back, on_same, length_back, back_back)
 
 -- the step of a game is that of its referee
 pub stepped_as : {A : Type 0} (node : Node) (inside now new : States) (result : Result A TurnFault) → inside ≡ now → IsStepped (step inside.present node) inside new result → IsStepped (step now.present node) now new result

@@ -10,11 +10,11 @@ verdict_is nodes j v e h = e ∙ ap verdict_in h ∙ judging_verdict (game_kind 
 
 -- where it has a node there is a line
 pub some_line : (at : CursorState) → 0 < length (nodes_before at) → (l : Line) × (line_before at ≡ Some l)
-some_line at known = first_of (search rules, grind (arith, common_steps))
+some_line at known = search rules
 
 -- the verdict of a line's nodes is the line's
 pub told_of : (line : Option Line) (v : Verdict) → 0 < length (nodes_of line) → v ≡ verdict_of (nodes_of line) → option_map verdict line ≡ Some v
-told_of line v known known2 = first_of (search rules, grind (arith, common_steps))
+told_of line v known known2 = search rules
 
 module _ (c : Games) (leaf : ℕ) (lt : leaf < node_count c) (is_leaf : IsLeaf c leaf) where
   own : (path : Path) × IsNextLine c leaf leaf path

@@ -10,7 +10,7 @@ use Rattle.go_board.proofs.TurnLemmas.{side-set_up, side-turned}
 
 pub stones_none : (side : ℕ) (ts : List Stones) → operations ts side ≡ Some [] → ts ≡ []
 stones_none side [] e = refl
-stones_none side (t ∷ ts) e = first_of (search rules, grind (arith, common_steps))
+stones_none side (t ∷ ts) e = search rules
 
 -- once a player was named, one is the last
 some_last : (k : Colour) (raws : List (List ℕ)) → last_player (Some k) raws ≡ Some None → ⊥
@@ -23,11 +23,11 @@ some_last k (raw ∷ raws) e = each (λ l. some_last l raws) (player_value raw) 
 
 pub players_none : (raws : List (List ℕ)) → last_player None raws ≡ Some None → raws ≡ []
 players_none [] e = refl
-players_none (raw ∷ raws) e = first_of (search rules, grind (arith, common_steps, some_last))
+players_none (raw ∷ raws) e = grind (arith, common_steps, some_last)
 
 -- a turn that the referee took has no reason against it
 pub no_reason : (o : Option Reason) → ((r : Reason) → o ≡ Some r → ⊥) → o ≡ None
-no_reason o known = first_of (search rules, grind (arith, common_steps))
+no_reason o known = search rules
 
 -- what there is to set up
 pub something : (side : ℕ) (ops : List SetupOp) (player : Option Colour) (ts : List Stones) (ps : List (List ℕ)) → IsSetup side (Meant player) ops ts ps → (0 < length ops) ⊎ IsSome player
@@ -36,7 +36,7 @@ something side ops player ts ps h = grind (arith, common_steps, players_none, st
 -- their effects
 pub meant_effect : (side : ℕ) (ms : List Move) (ops : List SetupOp) (player : Option Colour) (ts : List Stones) (ps : List (List ℕ)) → AreMoves Nothing ms → IsSetup side (Meant player) ops ts ps
     → IsEffectBy side ms ts (setup_effect ops)
-meant_effect side ms ops player ts ps known known2 = first_of (search (rules, stones_none), grind (arith, common_steps, stones_none))
+meant_effect side ms ops player ts ps known known2 = grind (arith, common_steps, stones_none)
 
 -- a turn that was taken, or refused
 pub takes_turn : (old new : States) (k : Colour) (play : Play) (u : Unit {0}) → ((r : Reason) → IsErrOf (Ok u) (Illegal r) ↔ (reason_of old.present k play ≡ Some r))
@@ -59,13 +59,13 @@ side-same : (s t : State) (u : State) → side_in u ≡ side_in s → (let r : R
 side-same s t u side e = let same : u ≡ t = cc in ap side_in (sym same) ∙ side
 
 side-move : (s t : State) (k : Colour) (x : Option Play) → move_step s k x ≡ Ok t → side_in t ≡ side_in s
-side-move s t k x known = first_of (search (rules, side-same, side-turned), grind (arith, common_steps, side-same, side-turned))
+side-move s t k x known = search (rules, side-same, side-turned)
 
 side-setup : (s t : State) (o : Option (List SetupOp)) (last : Option (Option Colour)) → setup_step s o last ≡ Ok t → side_in t ≡ side_in s
-side-setup s t o last known = first_of (search rules, grind (arith, common_steps, side-same, side-set_up))
+side-setup s t o last known = grind (arith, common_steps, side-same, side-set_up)
 
 side-by : (s t : State) (ms : List Move) (ts : List Stones) (ps : List (List ℕ)) → step_by s ms ts ps ≡ Ok t → side_in t ≡ side_in s
-side-by s t ms ts ps known = first_of (search rules, grind (arith, common_steps, side-move, side-same, side-setup))
+side-by s t ms ts ps known = grind (arith, common_steps, side-move, side-same, side-setup)
 
 pub side-step : (s t : State) (n : Node) → step s n ≡ Ok t → side_in t ≡ side_in s
 side-step s t n e = side-by s t (moves n) (stones n) (players n) e

@@ -49,7 +49,7 @@ pub returns-clause-judged : goal.returns-clause-judged
 returns-clause-judged g c kind before h = ends (c.steps.invariant.going kind before h) (nil_from_length c.steps.nodes.nodes (eqb-true _ _ (sym c.is_empty.ensures ∙ c.steps-test.false)))
 
 pub take-requires-clause-countable : goal.take-requires-clause-countable
-take-requires-clause-countable g c = first_of (search (rules, some, next, countable), grind (arith, common_steps, some, next, countable))
+take-requires-clause-countable g c = search (rules, some, next, countable)
 
 pub returns-in_err-step-clause-refused : goal.returns-in_err-step-clause-refused
 returns-in_err-step-clause-refused g c kind before h =

@@ -1,7 +1,6 @@
 -- The cursor stands after the line with that place.
-use Rattle.std.proofs.Common.{rules, arith}
-use Rattle.std.proofs.lemmas.Grind.{common_steps}
+use Rattle.std.proofs.Common.{rules}
 use Rattle.judged_lines.proofs.judging.one_line.judge_at.Goals as goal
 
 pub returns-clause-verdict : goal.returns-clause-verdict
-returns-clause-verdict c = first_of (search rules, grind (arith, common_steps))
+returns-clause-verdict c = search rules

@@ -1,7 +1,7 @@
 -- There is a node with what was gathered.
-use Rattle.std.proofs.Common.{◌++◌, rules, arith}
-use Rattle.judged_lines.proofs.Common.{common_steps, told_property}
+use Rattle.std.proofs.Common.{◌++◌, rules}
+use Rattle.judged_lines.proofs.Common.{told_property}
 use Rattle.judged_lines.proofs.judging.step.take_any_step.Goals as goal
 
 pub take_contents-requires : goal.take_contents-requires
-take_contents-requires g c = (record { place = 0; properties = told_property c.args.front ++ c.args.nodes.now.properties }, first_of (search rules, grind (arith, common_steps)))
+take_contents-requires g c = (record { place = 0; properties = told_property c.args.front ++ c.args.nodes.now.properties }, search rules)

@@ -55,9 +55,6 @@ returns-in_err-held-clause-refused g c = refused c.from_residual.result c.args.s
 pub returns-in_err-held-clause-stands : goal.returns-in_err-held-clause-stands
 returns-in_err-held-clause-stands g c = rw (c.in_err-held.ensures.refused.0) tt
 
-pub returns-in_err-held-clause-plays : goal.returns-in_err-held-clause-plays
-returns-in_err-held-clause-plays g c = first_of (search rules, grind (arith, common_steps))
-
 pub returns-in_default-clause-moved : goal.returns-in_default-clause-moved
 returns-in_default-clause-moved g c = rw c.in_default.is at c.in_ok-held.ensures.none_left
 
@@ -72,9 +69,6 @@ follow-requires-clause-divided g c = c.sequences-sequences.ensures.divided
 
 pub follow-requires-clause-front : goal.follow-requires-clause-front
 follow-requires-clause-front g c = search (rules, front, some_end, next_is)
-
-pub follow-requires-clause-held : goal.follow-requires-clause-held
-follow-requires-clause-held g c = first_of (search rules, grind (arith, common_steps))
 
 pub follow-requires-clause-countable : goal.follow-requires-clause-countable
 follow-requires-clause-countable g c = grind (arith, common_steps, next_is)
