@@ -62,12 +62,14 @@ module _ (o : Options) (source new_source : SourceState) (text : List ℕ) (h : 
       run_of new_sink new result plays (lines_say o text new_source.to_come sink new_sink ls plays result good w delivered) rises
       (no_read o.form ls sink new_sink plays result w) writes
 
--- the source wasn't read to its end
-pub failed_run : (o : Options) (source new_source : SourceState) (sink : SinkState) (plays : ℕ) (text : List ℕ) (fault : RunFault) → IsReading {A = Unit {0}} source new_source text (Err fault)
-    → new_source.failures ≡ source.failures + read_failures {A = Unit {0}} (Err fault) → IsRunWithPlays o source new_source sink sink plays plays (Err fault)
-failed_run o source new_source sink plays text fault read failures = search rules
+module _ (source new_source : SourceState) where
+  -- the source wasn't read to its end
+  pub failed_run : (o : Options) (sink : SinkState) (plays : ℕ) (text : List ℕ) (fault : RunFault) → IsReading {A = Unit {0}} source new_source text (Err fault)
+      → new_source.failures ≡ source.failures + read_failures {A = Unit {0}} (Err fault) → IsRunWithPlays o source new_source sink sink plays plays (Err fault)
+  failed_run o sink plays text fault read failures = search rules
 
--- the source was read to its end
-pub read_whole : (source new_source : SourceState) (text given : List ℕ) (unit : Unit {0}) → IsReading source new_source given (Ok unit) → text ≡ given
-    → new_source.failures ≡ source.failures + 0 → HasReadAll source new_source text
-read_whole source new_source text given unit r is failures = rw (is ∙ r.answers.1) (record { read = record { gives = r.gives; consumes = r.consumes; failures = omega arith }; whole = r.answers.0 })
+  -- the source was read to its end
+  pub read_whole : (text given : List ℕ) (unit : Unit {0}) → IsReading source new_source given (Ok unit) → text ≡ given → new_source.failures ≡ source.failures + 0
+      → HasReadAll source new_source text
+  read_whole text given unit r is failures =
+      rw (is ∙ r.answers.1) (record { read = record { gives = r.gives; consumes = r.consumes; failures = omega arith }; whole = r.answers.0 })

@@ -1,6 +1,5 @@
 -- What is said of the text is said of the count, whatever source gave it. There are as many lines as leaves.
-use Rattle.std.proofs.Common.{rules, arith}
-use Rattle.std.proofs.lemmas.Grind.{common_steps}
+use Rattle.std.proofs.Common.{rules}
 use Rattle.tree_lines.proofs.LeafLines.{lines_leaves}
 use Rattle.sgf_lines.proofs.LineCounts.{count_of_games}
 use Rattle.sgf_lines.proofs.counting.count_text.Goals as goal

@@ -13,15 +13,14 @@ returns-in_err-read_all-clause-runs g c =
 pub returns-in-Some-clause-runs : goal.returns-in-Some-clause-runs
 returns-in-Some-clause-runs g c =
     let (short, all) = (rw c.in-Some.is at c.give_rest.follows.holds-at-none).0 in
-    c.split_text.ensures _ _ (record {
-      read = record { gives = all.given; consumes = all.to_come; failures = all.failures };
-      whole = record { at_end = all.at_end; within = short };
-    })
+    c.split_text.ensures _ _
+    (record { read = record { gives = all.given; consumes = all.to_come; failures = all.failures }; whole = record { at_end = all.at_end; within = short } })
 
 pub returns-clause-runs : goal.returns-clause-runs
 returns-clause-runs g c =
     let none = rw c.in_default.is at c.give_rest.follows.holds-at-none in
-    rw (← none.0) (c.split_text-2.ensures _ _ (read_whole _ _ _ _ _ c.in_ok-read_all.ensures.answer c.deref.ensures.value c.in_ok-read_all.ensures.failures))
+    let read = c.in_ok-read_all.ensures in
+    rw (← none.0) (c.split_text-2.ensures _ _ (read_whole _ _ _ _ _ read.answer c.deref.ensures.value read.failures))
 
 pub split_text-requires-2-clause-sink_countable : goal.split_text-requires-2-clause-sink_countable
 split_text-requires-2-clause-sink_countable g c = c.requires.sink_countable

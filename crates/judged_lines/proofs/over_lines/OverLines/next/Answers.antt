@@ -72,6 +72,3 @@ follow-requires-clause-front g c = search (rules, front, some_end, next_is)
 
 pub follow-requires-clause-countable : goal.follow-requires-clause-countable
 follow-requires-clause-countable g c = grind (arith, common_steps, next_is)
-
-pub returns-clause-moved : goal.returns-clause-moved
-returns-clause-moved g c = search rules

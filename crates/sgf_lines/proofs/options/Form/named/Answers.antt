@@ -1,6 +1,5 @@
 -- Answers for speed: a wrong form is refused sooner.
-use Rattle.std.proofs.Common.{sym, arith, rules}
-use Rattle.std.proofs.lemmas.Grind.{common_steps}
+use Rattle.std.proofs.Common.{sym, rules}
 use Rattle.sgf_lines.proofs.options.Form.named.Goals as goal
 
 pub returns-in-gtp-clause-named : goal.returns-in-gtp-clause-named

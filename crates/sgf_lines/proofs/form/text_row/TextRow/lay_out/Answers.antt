@@ -3,13 +3,16 @@ use Rattle.std.proofs.Common.{◌≡◌, ◌∙◌, [], ◌∷◌, ◌++◌, Lis
 use Rattle.sgf_lines.proofs.Common.{Line, Verdict, place_of, row_of, verdict_text}
 use Rattle.sgf_lines.proofs.form.text_row.TextRow.lay_out.Goals as goal
 
-made : (line : Line) (told : Verdict) (place game count : ℕ) (text : List ℕ) → Some (place_of line) ≡ Some place → Some line.game_number ≡ Some game → count ≡ length line.nodes
+made : (line : Line) (told : Verdict) (place game count : ℕ) (text : List ℕ)
+    → Some (place_of line) ≡ Some place → Some line.game_number ≡ Some game → count ≡ length line.nodes
     → text ≡ decimal place ++ (32 ∷ (decimal game ++ (32 ∷ (decimal count ++ (32 ∷ (verdict_text told ++ (10 ∷ []))))))) → text ≡ row_of line told ++ codes "\n"
 made line told place game count text p g n is = search (rules, append_assoc)
 
 pub returns-clause-text : goal.returns-clause-text
 returns-clause-text c = λ line before.
-    made line c.args.verdict c.place.result c.game.result c.len.result _ (rw before at c.place.ensures) (rw before at c.game.ensures) (rw before at c.len.ensures.nodes)
-    (c.put_number-3.ensures.text ∙ ap (λ t. decimal c.place.result ++ t) (c.put-4.ensures.text ∙ ap (λ t. 32 ∷ t) (c.put_number-2.ensures.text
-    ∙ ap (λ t. decimal c.game.result ++ t) (c.put-3.ensures.text ∙ ap (λ t. 32 ∷ t) (c.put_number.ensures.text ∙ ap (λ t. decimal c.len.result ++ t)
-    (c.put-2.ensures.text ∙ ap (λ t. 32 ∷ t) (c.put_verdict.ensures.text ∙ ap (λ t. verdict_text c.args.verdict ++ t) (c.put.ensures.text ∙ ap (λ t. 10 ∷ t) c.clear.ensures.text))))))))
+    made line c.args.verdict _ _ _ _ (rw before at c.place.ensures) (rw before at c.game.ensures) (rw before at c.len.ensures.nodes)
+    (c.put_number-3.ensures.text ∙ ap (λ t. decimal c.place.result ++ t) (c.put-4.ensures.text
+    ∙ ap (λ t. 32 ∷ t) (c.put_number-2.ensures.text ∙ ap (λ t. decimal c.game.result ++ t) (c.put-3.ensures.text
+    ∙ ap (λ t. 32 ∷ t) (c.put_number.ensures.text ∙ ap (λ t. decimal c.len.result ++ t) (c.put-2.ensures.text
+    ∙ ap (λ t. 32 ∷ t) (c.put_verdict.ensures.text ∙ ap (λ t. verdict_text c.args.verdict ++ t) (c.put.ensures.text
+    ∙ ap (λ t. 10 ∷ t) c.clear.ensures.text))))))))
