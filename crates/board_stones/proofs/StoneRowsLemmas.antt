@@ -113,6 +113,16 @@ module _ (side : ℕ) (black white : List ℕ) (row columns : ℕ) (c : Cell) (b
   unfolding with_columns
   grid-coloured = search (rules, cell_at-grid_of, chosen, is_black, is_white, same_colours)
 
+-- the same, by the grid that the board is seen as
+pub coloured : (side : ℕ) (black white : List ℕ) (g : Grid) (row at columns : ℕ) (c : Cell) (b w : ℕ) → AreStones side black white → grid_with side black white ≡ g → at ≡ row → row < g.side → ((col : ℕ) → has_bit columns col ≡ true → col < g.side) → ((col : ℕ) → has_bit b col ≡ cond (has_bit columns col) (same_cell c Black) (has_bit (get_or black at 0) col)) → ((col : ℕ) → has_bit w col ≡ cond (has_bit columns col) (same_cell c White) (has_bit (get_or white at 0) col)) → AreStones side (set black at b) (set white at w) × (grid_with side (set black at b) (set white at w) ≡ with_columns g row columns c)
+coloured side black white g row at columns c b w are is same below within in_black in_white =
+    let size : side ≡ g.side = ap (λ (h : Grid). h.side) is in
+    let at_below : at < side = omega arith in
+    let on : (col : ℕ) → has_bit columns col ≡ true → col < side = λ col there. omega (arith, within col there) in (
+      AreStones-coloured side black white at columns c b w are at_below on in_black in_white,
+      grid-coloured side black white at columns c b w are at_below on in_black in_white ∙ ap (λ r. with_columns (grid_with side black white) r columns c) same ∙ ap (λ h. with_columns h row columns c) is,
+    )
+
 row_stone : (e b w x y : Bool) → cond (cond e (b && not w) x) Black (cond (cond e w y) White Empty) ≡ cond e (cond w White (cond b Black Empty)) (cond x Black (cond y White Empty))
 row_stone e b w x y = grind (arith, common_steps)
 
@@ -123,6 +133,9 @@ module _ (side : ℕ) (black white : List ℕ) (row all b w : ℕ) (are : AreSto
 
   in_white_rows : row < length white
   in_white_rows = omega (arith, below, are.few, are.white_rows)
+
+  pub AreStones-row : AreStones side (set black row b) (set white row w)
+  AreStones-row = grind (arith, common_steps, is_set-row black row b in_black_rows, is_set-row white row w in_white_rows)
 
   pub grid-row : grid_with side (set black row b) (set white row w) ≡ with_row (grid_with side black white) row all w
   unfolding with_row

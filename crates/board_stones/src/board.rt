@@ -126,7 +126,6 @@ impl Board {
     }
 
     /// Colours the points of a row that are in a set of columns. Nothing is cleared.
-    #[tactic(auto, using(crate::proofs::StoneRowsLemmas::row_rules))]
     pub(crate) fn colour_columns(&mut self, row: u8, columns: u64, cell: Cell)
         requires row { row < self.old.side }
         requires columns { (col : ℕ) → IsTrue (has_bit columns col) → col < self.old.side }

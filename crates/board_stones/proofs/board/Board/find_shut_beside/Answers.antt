@@ -1,8 +1,8 @@
 use Rattle.std.proofs.Common.{inl, inr, sym, ◌∙◌, ap, subst, arith, Some, is_some, ◌≡◌}
-use Rattle.board_stones.proofs.Common.{false≢true, Point, IsOn, is_set, Reaches, ReachesIfStone}
+use Rattle.board_stones.proofs.Common.{false≢true, Point, IsOn, is_set, Reaches, ReachesIfStone, AreShutGroups}
 use Rattle.board_stones.specs.declared.stones.Cell.TheVariants.{Empty}
 use Rattle.board_points.proofs.PointLemmas.{Contains-take_more}
-use Rattle.board_stones.proofs.ClearedLemmas.{beside_cleared}
+use Rattle.board_stones.proofs.ClearedLemmas.{beside_cleared, AreShutGroups-none}
 use Rattle.board_stones.proofs.board.Board.find_shut_beside.Goals as goal
 use Rattle.board_stones.proofs.board.Board.find_shut_beside.Goals.{then-may_be_shut+else-is_some, else-may_be_shut}
 
@@ -41,6 +41,31 @@ loop-at-preserved c =
                 ];
           })
     ]
+
+pub find_shut_among-requires-clause-shut : goal.find_shut_among-requires-clause-shut
+find_shut_among-requires-clause-shut c =
+    subst (AreShutGroups c.args.self.now c.args.colour) (sym c.loop-at.invariant.same) (AreShutGroups-none _ _ _ c.requires.none.all c.requires.none.none)
+
+pub returns-then-is_some : goal.returns-then-is_some
+returns-then-is_some c =
+    let adds = c.find_shut_among.ensures.adds in
+    record {
+      shut = λ _. adds.shut;
+      some = adds.some;
+      beside = λ _. c.find_shut_among.ensures.beside;
+      lives = λ none q on next stone.
+          elim (c.find_shut_among.ensures.beside q on next stone) [
+            | inl there ↦ absurd (false≢true (sym (c.requires.none.none q) ∙ ap (λ l. is_set l q) (sym (adds.none none ∙ c.loop-at.invariant.same)) ∙ there))
+            | inr reaches ↦ reaches
+          ];
+      all = adds.shut.all;
+    }
+
+pub returns-in-Some-clause-some : goal.returns-in-Some-clause-some
+returns-in-Some-clause-some c = λ some. (c.in-Some.at, c.find_shut.ensures.here some)
+
+pub returns-in-Some-clause-shut : goal.returns-in-Some-clause-shut
+returns-in-Some-clause-shut c = c.find_shut.ensures.shut
 
 pub returns-in-Some-clause-beside : goal.returns-in-Some-clause-beside
 returns-in-Some-clause-beside c = λ some q on next stone.
