@@ -143,6 +143,16 @@ module _ (side : ℕ) (black white : List ℕ) (row all b w : ℕ) (are : AreSto
       same_colours side _ _
       (λ q on. grind (arith, common_steps, is_set-row black row b in_black_rows q, is_set-row white row w in_white_rows q, rest q.col (omega (arith, on.0, are.few)), row_stone, cell_at-grid_of side (stone_in black white) q on))
 
+pub row_set : (side : ℕ) (black white : List ℕ) (g : Grid) (row at all b w : ℕ) → AreStones side black white → grid_with side black white ≡ g → at ≡ row → row < g.side → ((col : ℕ) → has_bit all col ≡ true → col < g.side) → ((col : ℕ) → has_bit w col ≡ true → col < g.side) → ((col : ℕ) → col < 64 → has_bit b col ≡ (has_bit all col && not (has_bit w col))) → ((col : ℕ) → has_bit b col ≡ true → has_bit all col ≡ true) → AreStones side (set black at b) (set white at w) × (grid_with side (set black at b) (set white at w) ≡ with_row g row all w)
+row_set side black white g row at all b w are is same below black_in white_in rest off =
+    let size : side ≡ g.side = ap (λ (h : Grid). h.side) is in
+    let at_below : at < side = omega arith in
+    let all_on : (col : ℕ) → has_bit all col ≡ true → col < side = λ col there. omega (arith, black_in col there) in
+    let w_on : (col : ℕ) → has_bit w col ≡ true → col < side = λ col there. omega (arith, white_in col there) in (
+      AreStones-row side black white at all b w are at_below all_on w_on rest off,
+      grid-row side black white at all b w are at_below all_on w_on rest off ∙ ap (λ r. with_row (grid_with side black white) r all w) same ∙ ap (λ h. with_row h row all w) is,
+    )
+
 -- one point coloured is a grid with that point coloured
 pub one_coloured : (g : Grid) (p : Point) (row columns : ℕ) (c : Cell) → IsOn g.side p → length g.cells ≡ g.side * g.side → row ≡ p.row → has_bit columns p.col ≡ true → ((k : ℕ) → k ≢ p.col → has_bit columns k ≡ false) → with_columns g row columns c ≡ with_cell g p c
 unfolding with_columns
@@ -231,5 +241,3 @@ AreStones-none side black white small no_black no_white = (
 pub rows_front : (g h : Grid) (words : List ℕ) (n : ℕ) (wanted : Cell) → h ≡ g → n ≡ h.side → h.side ≤ length words → AreRowsOf h.side (λ p. same_cell (cell_at h p) wanted) (take h.side words)
     → AreRowsOf g.side (λ p. same_cell (cell_at g p) wanted) (take n words) × (length (take n words) ≡ g.side)
 rows_front g h words n wanted is all long are = rw (← is, all) (are, length-take-le h.side words long)
-
-pub ruleset row_rules = (AreStones-coloured, grid-coloured, grid-row)

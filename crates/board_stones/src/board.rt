@@ -138,7 +138,6 @@ impl Board {
     }
 
     /// Changes what stands in a row. A column that is in both words gets a white stone. Nothing is cleared.
-    #[tactic(auto, using(crate::proofs::StoneRowsLemmas::row_rules))]
     pub fn set_row(&mut self, row: u8, black: u64, white: u64)
         requires row { row < self.old.side }
         requires black { (col : ℕ) → IsTrue (has_bit black col) → col < self.old.side }
