@@ -101,9 +101,3 @@ module _ (columns left next : ℕ) (some : left ≢ 0) (low : columns < 2 ^ 64) 
 
   next_within : IsPart (has_bit next) (has_bit left)
   next_within = grind (arith, common_steps)
-
-  pub next_smaller : next < left
-  next_smaller =
-      let at_most = le_from_part next left next_within in
-      let differs : next ≢ left = λ same. false≢true (sym there ∙ ap (λ w. has_bit w lowest) same ∙ set) in
-      omega (arith, differs)

@@ -54,9 +54,6 @@ module _ (rows region : List ℕ) (row beside grown : ℕ) (within_row : row < l
       has_bit-and _ _ col
       ∙ and_from _ _ (has_bit-or (get_or rows row 0) beside col ∙ or_left _ _ is) (within (record { col = col; row = row }) is)
 
-  beside_seed : (col : ℕ) → has_bit beside col ≡ true → has_bit (get_or region row 0) col ≡ true → has_bit (seed_of rows region row beside) col ≡ true
-  beside_seed col is region_there = grind (arith, common_steps, and_from, has_bit-and, has_bit-or, or_right)
-
   above_set : (set : Point → Bool) → IsAmong (is_set rows) set → (r col : ℕ) → r ≡ row → has_bit (row_above rows r) col ≡ true → (q : Point) × (q.col ≡ col) × (q.row + 1 ≡ r) × (set q ≡ true)
   above_set set part zero col same is = absurd (false≢true (sym (has_bit-zero col) ∙ is))
   above_set set part (suc r) col same is = (record { col = col; row = r }, refl, omega arith, part (record { col = col; row = r }) is)

@@ -197,27 +197,15 @@ module _ (side : ℕ) (black white : List ℕ) (p : Point) (columns : ℕ) (are 
 
   pub black_added : AreStones side (set black p.row (bit_or black_row columns)) white × (grid_with side (set black p.row (bit_or black_row columns)) white ≡ with_cell (grid_with side black white) p Black)
   black_added =
-      let same = set-get_or white p.row 0 in
-      let b = columns_set black_row columns in
-      let w = kept white_row unset.1 in (
-        subst (λ l. AreStones side (set black p.row (bit_or black_row columns)) l) same
-            (AreStones-coloured side black white p.row columns Black (bit_or black_row columns) white_row are on.1 within b w),
-        ap (λ l. grid_with side (set black p.row (bit_or black_row columns)) l) (sym same)
-            ∙ grid-coloured side black white p.row columns Black (bit_or black_row columns) white_row are on.1 within b w
-            ∙ one_coloured (grid_with side black white) p p.row columns Black on all refl there elsewhere,
-      )
+      let new = coloured side black white _ p.row p.row columns Black (bit_or black_row columns) white_row are refl refl on.1 within (columns_set black_row columns) (kept white_row unset.1) in
+      subst (λ l. AreStones side (set black p.row (bit_or black_row columns)) l × (grid_with side (set black p.row (bit_or black_row columns)) l ≡ with_cell (grid_with side black white) p Black)) (set-get_or white p.row 0)
+      (new.0, new.1 ∙ one_coloured (grid_with side black white) p p.row columns Black on all refl there elsewhere)
 
   pub white_added : AreStones side black (set white p.row (bit_or white_row columns)) × (grid_with side black (set white p.row (bit_or white_row columns)) ≡ with_cell (grid_with side black white) p White)
   white_added =
-      let same = set-get_or black p.row 0 in
-      let b = kept black_row unset.0 in
-      let w = columns_set white_row columns in (
-        subst (λ l. AreStones side l (set white p.row (bit_or white_row columns))) same
-            (AreStones-coloured side black white p.row columns White black_row (bit_or white_row columns) are on.1 within b w),
-        ap (λ l. grid_with side l (set white p.row (bit_or white_row columns))) (sym same)
-            ∙ grid-coloured side black white p.row columns White black_row (bit_or white_row columns) are on.1 within b w
-            ∙ one_coloured (grid_with side black white) p p.row columns White on all refl there elsewhere,
-      )
+      let new = coloured side black white _ p.row p.row columns White black_row (bit_or white_row columns) are refl refl on.1 within (kept black_row unset.0) (columns_set white_row columns) in
+      subst (λ l. AreStones side l (set white p.row (bit_or white_row columns)) × (grid_with side l (set white p.row (bit_or white_row columns)) ≡ with_cell (grid_with side black white) p White)) (set-get_or black p.row 0)
+      (new.0, new.1 ∙ one_coloured (grid_with side black white) p p.row columns White on all refl there elsewhere)
 
 -- a board on which nothing stands
 pub AreStones-none : (side : ℕ) (black white : List ℕ) → side ≤ 52 → black ≡ replicate 52 0 → white ≡ replicate 52 0 → AreStones side black white × (grid_with side black white ≡ empty_grid side)

@@ -33,7 +33,7 @@ loop-at-preserved c =
           rw (w.shut-is, w.alive-is)
           (record {
             alive = w.add_to_either-some.ensures.alive;
-            adds = search (rules, adds_either, before.adds, now, w.some-is);
+            adds = adds_either g c.args.colour _ _ _ _ _ _ _ before.adds now w.some-is;
             beside = λ q among on.
                 elim ((turn q).0 among) [
                   | inl earlier ↦ cleared_still g c.args.colour _ _ q now.adds.kept (before.beside q earlier on)

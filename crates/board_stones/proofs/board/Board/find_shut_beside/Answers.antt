@@ -61,35 +61,28 @@ returns-then-is_some c =
       all = adds.shut.all;
     }
 
-pub returns-in-Some-clause-some : goal.returns-in-Some-clause-some
-returns-in-Some-clause-some c = λ some. (c.in-Some.at, c.find_shut.ensures.here some)
-
-pub returns-in-Some-clause-shut : goal.returns-in-Some-clause-shut
-returns-in-Some-clause-shut c = c.find_shut.ensures.shut
-
-pub returns-in-Some-clause-beside : goal.returns-in-Some-clause-beside
-returns-in-Some-clause-beside c = λ some q on next stone.
-    let few = c.has_all_cells.ensures.few in
-    let seen = beside_cleared c.args.point q c.neighbours-beside.result c.loop-at.at-index c.args.self.now.side c.neighbours-beside.ensures (omega (arith, c.loop-at-test.false)) few on next in
-    elim (c.loop-at.invariant.beside q seen on) [
-      | inl found ↦ (let is : c.in-Some.at ≡ q = cc in inl (ap (is_set c.find_shut.new.shut) (sym is) ∙ c.find_shut.ensures.here some))
-      | inr reaches ↦ inr (reaches stone)
-    ]
-
-pub returns-in-Some-clause-lives : goal.returns-in-Some-clause-lives
-returns-in-Some-clause-lives c = λ none q on next stone.
-    let few = c.has_all_cells.ensures.few in
-    let seen = beside_cleared c.args.point q c.neighbours-beside.result c.loop-at.at-index c.args.self.now.side c.neighbours-beside.ensures (omega (arith, c.loop-at-test.false)) few on next in
-    elim (c.loop-at.invariant.beside q seen on) [
-      | inl found ↦ (let is : c.in-Some.at ≡ q = cc in subst (Reaches c.args.self.now Empty) is (c.find_shut.ensures.lives none))
-      | inr reaches ↦ reaches stone
-    ]
+pub returns-in-Some : goal.returns-in-Some
+returns-in-Some c =
+    let found = c.find_shut.ensures in
+    record {
+      shut = found.shut;
+      some = λ some. (c.in-Some.at, found.here some);
+      beside = λ some q on next stone.
+          elim (c.loop-at.invariant.beside q (beside_cleared c.args.point q c.neighbours-beside.result c.loop-at.at-index _ c.neighbours-beside.ensures (omega (arith, c.loop-at-test.false)) c.has_all_cells.ensures.few on next) on) [
+            | inl is ↦ (let is : c.in-Some.at ≡ q = cc in inl (ap (is_set c.find_shut.new.shut) (sym is) ∙ found.here some))
+            | inr reaches ↦ inr (reaches stone)
+          ];
+      lives = λ none q on next stone.
+          elim (c.loop-at.invariant.beside q (beside_cleared c.args.point q c.neighbours-beside.result c.loop-at.at-index _ c.neighbours-beside.ensures (omega (arith, c.loop-at-test.false)) c.has_all_cells.ensures.few on next) on) [
+            | inl is ↦ (let is : c.in-Some.at ≡ q = cc in subst (Reaches c.args.self.now Empty) is (found.lives none))
+            | inr reaches ↦ reaches stone
+          ];
+      all = found.all;
+    }
 
 pub returns-in-None-clause-lives : goal.returns-in-None-clause-lives
 returns-in-None-clause-lives c = λ _ q on next stone.
-    let few = c.has_all_cells.ensures.few in
-    let seen = beside_cleared c.args.point q c.neighbours-beside.result c.loop-at.at-index c.args.self.now.side c.neighbours-beside.ensures (omega (arith, c.loop-at-test.false)) few on next in
-    elim (c.loop-at.invariant.beside q seen on) [
+    elim (c.loop-at.invariant.beside q (beside_cleared c.args.point q c.neighbours-beside.result c.loop-at.at-index _ c.neighbours-beside.ensures (omega (arith, c.loop-at-test.false)) c.has_all_cells.ensures.few on next) on) [
       | inl some ↦ absurd cc
       | inr reaches ↦ reaches stone
     ]
