@@ -240,7 +240,6 @@ impl Board {
     /// colour and not the other's. An empty point that reaches both or neither counts for nobody.
     ///
     /// After the first test, which is a shortcut for small boards (`count_halves` counts there), this is the plain way.
-    #[tactic(auto, using(crate::proofs::ScoreLemmas::score_by_rows))]
     pub fn score(&self) -> (u32, u32)
         ensures black { result.0 ≡ score_of self.now Black }
         ensures white { result.1 ≡ score_of self.now White }

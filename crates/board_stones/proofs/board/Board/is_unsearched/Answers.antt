@@ -1,0 +1,6 @@
+use Rattle.std.proofs.Common.{inr, rules}
+use Rattle.board_stones.proofs.Common.{not-false}
+use Rattle.board_stones.proofs.board.Board.is_unsearched.Goals as goal
+
+pub returns-clause-known : goal.returns-clause-known
+returns-clause-known c = λ no _ _. inr (search (rules, not-false))
