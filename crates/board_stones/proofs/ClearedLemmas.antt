@@ -17,7 +17,7 @@ opponent_differs k = grind (arith, common_steps)
 
 -- with no point there is no group
 pub IsWithoutLiberty-none : (g : Grid) (k : Colour) (test : Point → Bool) → ((p : Point) → test p ≡ false) → IsWithoutLiberty g k test
-IsWithoutLiberty-none g k test none = grind (arith, common_steps)
+IsWithoutLiberty-none g k test none = record { stones = λ p _ is. absurd (false≢true (sym (none p) ∙ is)); shut = λ p _ _ _ _ is. absurd (false≢true (sym (none p) ∙ is)); whole = λ p _ _ _ _ is. absurd (false≢true (sym (none p) ∙ is)) }
 
 -- no path leads from a group without a liberty to an empty point
 group_shut : (g : Grid) (k : Colour) (test : Point → Bool) → IsWithoutLiberty g k test → (path : List Point) (p : Point) → IsOn g.side p → test p ≡ true → Leads g (stone_of k) Empty p path → ⊥
@@ -79,7 +79,7 @@ module _ (g : Grid) (cells : List Cell) (p : Point) (k : Colour) (gone : Point �
 
   pub AllReach-after : ((q : Point) → gone q ≡ false) → AllReach (record g { cells = cells }) k
   unfolding h
-  AllReach-after none = grind (arith, common_steps, gone_or_reaches)
+  AllReach-after none = λ q on own. elim (gone_or_reaches q on own) [ inl gone_q ↦ absurd (false≢true (sym (none q) ∙ gone_q)) | inr way ↦ way ]
 
   -- so clearing the colour clears exactly these groups
   pub clear_without : length cells ≡ g.side * g.side → IsWithout (record g { cells = cells }) (clear (record g { cells = cells }) k) (λ q. IsTrue (gone q))
@@ -176,7 +176,7 @@ module _ (g : Grid) (p : Point) (k : Colour) (on : IsOn g.side p) (all : length 
 
 -- no group
 pub AreShutGroups-none : (g : Grid) (k : Colour) (rows : List ℕ) → length rows ≡ g.side → ((p : Point) → is_set rows p ≡ false) → AreShutGroups g k rows
-AreShutGroups-none g k rows all none = grind (arith, common_steps)
+AreShutGroups-none g k rows all none = record { all = all; on_grid = λ p is. absurd (false≢true (sym (none p) ∙ is)); shut = IsWithoutLiberty-none g k (is_set rows) none }
 
 -- some groups, and others
 pub AreShutGroups-both : (g : Grid) (k : Colour) (a b c : List ℕ) → AreShutGroups g k a → AreShutGroups g k b → length c ≡ length a → ((p : Point) → is_set c p ≡ (is_set a p || is_set b p)) → AreShutGroups g k c

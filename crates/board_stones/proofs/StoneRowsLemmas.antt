@@ -175,19 +175,19 @@ columns_cleared word columns c low low_columns = grind (arith, common_steps, has
 none_there : (black white : Bool) → cond black Black (cond white White Empty) ≡ Empty → (black ≡ false) × (white ≡ false)
 none_there black white is = grind (arith, common_steps)
 
-module _ (side : ℕ) (black white : List ℕ) (p : Point) (columns : ℕ) (are : AreStones side black white) (on : IsOn side p) (empty : cell_at (grid_with side black white) p ≡ Empty) (all : length (grid_with side black white).cells ≡ side * side) (there : has_bit columns p.col ≡ true) (elsewhere : (k : ℕ) → k ≢ p.col → has_bit columns k ≡ false) where
+module _ (side : ℕ) (black white : List ℕ) (g : Grid) (p : Point) (columns : ℕ) (are : AreStones side black white) (is : grid_with side black white ≡ g) (on : IsOn g.side p) (empty : cell_at g p ≡ Empty) (all : length g.cells ≡ g.side * g.side) (there : has_bit columns p.col ≡ true) (elsewhere : (k : ℕ) → k ≢ p.col → has_bit columns k ≡ false) where
   unset : (is_set black p ≡ false) × (is_set white p ≡ false)
-  unset = none_there (is_set black p) (is_set white p) (sym (cell_at-grid_of side (stone_in black white) p on) ∙ empty)
+  unset = none_there (is_set black p) (is_set white p) (sym (cell_at-grid_of side (stone_in black white) p (subst (λ h. IsOn h.side p) (sym is) on)) ∙ ap (λ h. cell_at h p) is ∙ empty)
 
   one_column : (col : ℕ) → has_bit columns col ≡ true → col ≡ p.col
-  one_column col is = elim (cases_eq col p.col) [ inl same ↦ same | inr other ↦ absurd (false≢true (sym (elsewhere col other) ∙ is)) ]
+  one_column col set = elim (cases_eq col p.col) [ inl same ↦ same | inr other ↦ absurd (false≢true (sym (elsewhere col other) ∙ set)) ]
 
   -- the word of the other colour
   kept : (word : ℕ) → has_bit word p.col ≡ false → (col : ℕ) → has_bit word col ≡ cond (has_bit columns col) false (has_bit word col)
   kept word none col = grind (arith, common_steps, cases_Bool, one_column)
 
-  within : (col : ℕ) → has_bit columns col ≡ true → col < side
-  within col is = rw (one_column col is) on.0
+  within : (col : ℕ) → has_bit columns col ≡ true → col < g.side
+  within col set = rw (one_column col set) on.0
 
   abbrev black_row : ℕ
   black_row = get_or black p.row 0
@@ -195,17 +195,17 @@ module _ (side : ℕ) (black white : List ℕ) (p : Point) (columns : ℕ) (are 
   abbrev white_row : ℕ
   white_row = get_or white p.row 0
 
-  pub black_added : AreStones side (set black p.row (bit_or black_row columns)) white × (grid_with side (set black p.row (bit_or black_row columns)) white ≡ with_cell (grid_with side black white) p Black)
+  pub black_added : AreStones side (set black p.row (bit_or black_row columns)) white × (grid_with side (set black p.row (bit_or black_row columns)) white ≡ with_cell g p Black)
   black_added =
-      let new = coloured side black white _ p.row p.row columns Black (bit_or black_row columns) white_row are refl refl on.1 within (columns_set black_row columns) (kept white_row unset.1) in
-      subst (λ l. AreStones side (set black p.row (bit_or black_row columns)) l × (grid_with side (set black p.row (bit_or black_row columns)) l ≡ with_cell (grid_with side black white) p Black)) (set-get_or white p.row 0)
-      (new.0, new.1 ∙ one_coloured (grid_with side black white) p p.row columns Black on all refl there elsewhere)
+      let new = coloured side black white g p.row p.row columns Black (bit_or black_row columns) white_row are is refl on.1 within (columns_set black_row columns) (kept white_row unset.1) in
+      subst (λ l. AreStones side (set black p.row (bit_or black_row columns)) l × (grid_with side (set black p.row (bit_or black_row columns)) l ≡ with_cell g p Black)) (set-get_or white p.row 0)
+      (new.0, new.1 ∙ one_coloured g p p.row columns Black on all refl there elsewhere)
 
-  pub white_added : AreStones side black (set white p.row (bit_or white_row columns)) × (grid_with side black (set white p.row (bit_or white_row columns)) ≡ with_cell (grid_with side black white) p White)
+  pub white_added : AreStones side black (set white p.row (bit_or white_row columns)) × (grid_with side black (set white p.row (bit_or white_row columns)) ≡ with_cell g p White)
   white_added =
-      let new = coloured side black white _ p.row p.row columns White black_row (bit_or white_row columns) are refl refl on.1 within (kept black_row unset.0) (columns_set white_row columns) in
-      subst (λ l. AreStones side l (set white p.row (bit_or white_row columns)) × (grid_with side l (set white p.row (bit_or white_row columns)) ≡ with_cell (grid_with side black white) p White)) (set-get_or black p.row 0)
-      (new.0, new.1 ∙ one_coloured (grid_with side black white) p p.row columns White on all refl there elsewhere)
+      let new = coloured side black white g p.row p.row columns White black_row (bit_or white_row columns) are is refl on.1 within (kept black_row unset.0) (columns_set white_row columns) in
+      subst (λ l. AreStones side l (set white p.row (bit_or white_row columns)) × (grid_with side l (set white p.row (bit_or white_row columns)) ≡ with_cell g p White)) (set-get_or black p.row 0)
+      (new.0, new.1 ∙ one_coloured g p p.row columns White on all refl there elsewhere)
 
 -- a board on which nothing stands
 pub AreStones-none : (side : ℕ) (black white : List ℕ) → side ≤ 52 → black ≡ replicate 52 0 → white ≡ replicate 52 0 → AreStones side black white × (grid_with side black white ≡ empty_grid side)

@@ -18,19 +18,10 @@ both c =
     let i = c.self.inside in
     let p = c.args.point in
     let column = c.with_column-column.result in
-    let is : grid_with i.size i.black i.white ≡ c.args.self.now = c.self.view_is in
-    let side : i.size ≡ c.args.self.now.side = ap (λ (h : Grid). h.side) is in
-    let on : IsOn i.size p = subst (λ n. IsOn n p) (sym side) c.requires.on_board in
-    let empty = ap (λ h. cell_at h p) is ∙ c.requires.empty in
-    let all = ap (λ (h : Grid). length h.cells) is ∙ c.has_all_cells.ensures.all ∙ ap (λ n. n * n) (sym side) in
     let e = c.with_column-column.ensures in
     let there : has_bit column p.col ≡ true = subst (λ k. has_bit column k ≡ true) c.from.ensures (e.there ∙ or-true _) in
     let elsewhere : (k : ℕ) → k ≢ p.col → has_bit column k ≡ false = λ k other. e.elsewhere k (λ at. other (at ∙ c.from.ensures)) ∙ has_bit-zero k in
-    let black = black_added i.size i.black i.white p column c.self.invariant.0 on empty all there elsewhere in
-    let white = white_added i.size i.black i.white p column c.self.invariant.0 on empty all there elsewhere in (
-      (black.0, black.1 ∙ ap (λ h. with_cell h p Black) is),
-      (white.0, white.1 ∙ ap (λ h. with_cell h p White) is),
-    )
+    (black_added i.size i.black i.white c.args.self.now p column c.self.invariant.0 c.self.view_is c.requires.on_board c.requires.empty c.has_all_cells.ensures.all there elsewhere, white_added i.size i.black i.white c.args.self.now p column c.self.invariant.0 c.self.view_is c.requires.on_board c.requires.empty c.has_all_cells.ensures.all there elsewhere)
 
 pub invariant_of-self : goal.invariant_of-self
 invariant_of-self c = (

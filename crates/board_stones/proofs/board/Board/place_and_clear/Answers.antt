@@ -12,16 +12,10 @@ played g h i k p rows all here is takes =
 
 pub set_settled-requires : goal.set_settled-requires
 set_settled-requires c = λ _.
-    let g = c.args.self.now in
-    let k = c.args.colour in
-    let p = c.args.point in
-    ap has_unreaching (played g c.add.new.self c.empty_set.new.self k p c.args.cleared.now c.has_all_cells.ensures.all c.add.ensures c.empty_set.ensures c.requires.cleared)
-    ∙ settled_by_play g k p
+    ap has_unreaching (played c.args.self.now _ _ c.args.colour c.args.point _ c.has_all_cells.ensures.all c.add.ensures c.empty_set.ensures c.requires.cleared)
+    ∙ settled_by_play c.args.self.now c.args.colour c.args.point
 
 pub returns : goal.returns
 returns c =
-    let g = c.args.self.now in
-    let k = c.args.colour in
-    let p = c.args.point in
     c.set_settled.ensures
-    ∙ played g c.add.new.self c.empty_set.new.self k p c.args.cleared.now c.has_all_cells.ensures.all c.add.ensures c.empty_set.ensures c.requires.cleared
+    ∙ played c.args.self.now _ _ c.args.colour c.args.point _ c.has_all_cells.ensures.all c.add.ensures c.empty_set.ensures c.requires.cleared

@@ -7,16 +7,12 @@ use Rattle.board_stones.proofs.board.Board.rows_of.Goals as goal
 
 pub returns-in-Black : goal.returns-in-Black
 returns-in-Black c =
-    let g = c.args.self.now in
     let are = c.self.invariant.0 in
-    let long : c.self.inside.size ≤ length c.self.inside.black = omega (arith, are.few, are.black_rows) in
-    let front = rows_front g _ c.self.inside.black c.from-side.result BlackCell c.self.view_is (c.from-side.ensures ∙ c.side.ensures.value) long (black_front _ _ _ are) in
-    record { are = rows_of_colour g Black c.args.colour _ c.in-Black.is front.0; rows = front.1 }
+    let front = rows_front c.args.self.now _ c.self.inside.black c.from-side.result BlackCell c.self.view_is (c.from-side.ensures ∙ c.side.ensures.value) (omega (arith, are.few, are.black_rows)) (black_front _ _ _ are) in
+    record { are = rows_of_colour c.args.self.now Black c.args.colour _ c.in-Black.is front.0; rows = front.1 }
 
 pub returns-in-White : goal.returns-in-White
 returns-in-White c =
-    let g = c.args.self.now in
     let are = c.self.invariant.0 in
-    let long : c.self.inside.size ≤ length c.self.inside.white = omega (arith, are.few, are.white_rows) in
-    let front = rows_front g _ c.self.inside.white c.from-side.result WhiteCell c.self.view_is (c.from-side.ensures ∙ c.side.ensures.value) long (white_front _ _ _ are) in
-    record { are = rows_of_colour g White c.args.colour _ c.in-White.is front.0; rows = front.1 }
+    let front = rows_front c.args.self.now _ c.self.inside.white c.from-side.result WhiteCell c.self.view_is (c.from-side.ensures ∙ c.side.ensures.value) (omega (arith, are.few, are.white_rows)) (white_front _ _ _ are) in
+    record { are = rows_of_colour c.args.self.now White c.args.colour _ c.in-White.is front.0; rows = front.1 }
