@@ -45,27 +45,23 @@ leaves_along : (c : After-columns_beside-in_doubt) → NoneInDoubt c → LeavesA
 leaves_along c none q set next =
     let in_doubt = c.columns_beside-in_doubt in
     let middle = c.columns_shut-middle in
-    let low : c.args.here.others < 2 ^ 64 = search rules in
     let column : c.from-col.result < 64 = omega (arith, c.from-col.ensures, c.requires.on_board.0, c.requires.rows.few) in
-    left_there c.args.own.now c.args.others.now c.args.point 1 c.args.above.taken (here c) c.args.below.taken (along c) middle.result middle.ensures q low
+    left_there c.args.own.now c.args.others.now c.args.point 1 c.args.above.taken (here c) c.args.below.taken (along c) middle.result middle.ensures q (search rules)
     (λ is. false≢true (sym none ∙ in_doubt.ensures.to c.from-col.result column (inr (inr (q.col, subst (λ n. DifferByOne n q.col) (sym c.from-col.ensures) next.1, is)))))
     (omega (arith, next.0)) set
 
 leaves_across : (c : After-columns_beside-in_doubt) → NoneInDoubt c → LeavesAcross c.args.own.now c.args.others.now c.args.point
 leaves_across c none q set next =
-    let own = c.args.own.now in
-    let others = c.args.others.now in
     let in_doubt = c.columns_beside-in_doubt in
     let above = c.columns_shut-up in
     let below = c.columns_shut-down in
-    let below_low : c.args.below.others < 2 ^ 64 = search rules in
     let column : c.from-col.result < 64 = omega (arith, c.from-col.ensures, c.requires.on_board.0, c.requires.rows.few) in
     let same = c.from-col.ensures ∙ next.0 in
     elim next.1 [
-      | inl row ↦ left_there own others c.args.point 2 (2 ^ 64 - 1) c.args.below c.args.last.taken (down c) below.result below.ensures q below_low
+      | inl row ↦ left_there c.args.own.now c.args.others.now c.args.point 2 (2 ^ 64 - 1) c.args.below c.args.last.taken (down c) below.result below.ensures q (search rules)
           (λ is. false≢true (sym none ∙ in_doubt.ensures.to c.from-col.result column (inr (inl (ap (has_bit (bit_and c.args.below.others below.result)) same ∙ is)))))
           (omega (arith, row)) set
-      | inr row ↦ left_there own others c.args.point 0 c.args.first.taken c.args.above (2 ^ 64 - 1) (up c) above.result above.ensures q (search rules)
+      | inr row ↦ left_there c.args.own.now c.args.others.now c.args.point 0 c.args.first.taken c.args.above (2 ^ 64 - 1) (up c) above.result above.ensures q (search rules)
           (λ is. false≢true (sym none ∙ in_doubt.ensures.to c.from-col.result column (inl (ap (has_bit (bit_and c.args.above.others above.result)) same ∙ is))))
           (omega (arith, row)) set
     ]
@@ -88,22 +84,17 @@ pub returns : goal.returns
 returns c = λ some.
     let b = (goal.at.returns c).After-columns_beside-in_doubt in
     let p = c.args.point in
-    let own = c.args.own.now in
-    let others = c.args.others.now in
     let above = c.columns_shut-up in
     let middle = c.columns_shut-middle in
     let below = c.columns_shut-down in
     let low : p.col < 63 = omega (arith, c.requires.on_board.0, c.requires.rows.few) in
-    let up_few : above.result < 2 ^ 64 = search rules in
-    let few : middle.result < 2 ^ 64 = search rules in
-    let down_few : below.result < 2 ^ 64 = search rules in
     let none = sym c.has_column.ensures ∙ c.if-has_column.false in
     let there = ap (has_bit c.columns_beside-friends.result) (sym c.from-col.ensures) ∙ sym c.has_column-3.ensures ∙ some in
-    let lives : Lives own others p =
+    let lives : Lives c.args.own.now c.args.others.now p =
     elim (c.columns_beside-friends.ensures.from p.col there) [
-      | inl is ↦ friend_there own others p 0 c.args.first.taken c.args.above (2 ^ 64 - 1) (up b) above.result above.ensures p.col up_few (omega (arith, low)) (λ q at. inl (sym at.0, inr (omega (arith, at.1)))) is
-      | inr (inl is) ↦ friend_there own others p 2 (2 ^ 64 - 1) c.args.below c.args.last.taken (down b) below.result below.ensures p.col down_few (omega (arith, low)) (λ q at. inl (sym at.0, inl (omega (arith, at.1)))) is
-      | inr (inr w) ↦ friend_there own others p 1 c.args.above.taken (here b) c.args.below.taken (along b) middle.result middle.ensures w.0 few (omega (arith, low, w.1))
+      | inl is ↦ friend_there c.args.own.now c.args.others.now p 0 c.args.first.taken c.args.above (2 ^ 64 - 1) (up b) above.result above.ensures p.col (search rules) (omega (arith, low)) (λ q at. inl (sym at.0, inr (omega (arith, at.1)))) is
+      | inr (inl is) ↦ friend_there c.args.own.now c.args.others.now p 2 (2 ^ 64 - 1) c.args.below c.args.last.taken (down b) below.result below.ensures p.col (search rules) (omega (arith, low)) (λ q at. inl (sym at.0, inl (omega (arith, at.1)))) is
+      | inr (inr w) ↦ friend_there c.args.own.now c.args.others.now p 1 c.args.above.taken (here b) c.args.below.taken (along b) middle.result middle.ensures w.0 (search rules) (omega (arith, low, w.1))
           (λ q at. inr (omega (arith, at.1), subst (DifferByOne p.col) (sym at.0) w.1)) w.2
     ] in
     record { lives = lives; along = leaves_along b none; across = leaves_across b none }
