@@ -1,5 +1,5 @@
-use Rattle.std.proofs.Common.{◌≡◌, ◌≢◌, ℕ, ◌*◌, true, false, List, length, set, bit_or, get_or, subst, sym, ap, ◌∙◌}
-use Rattle.board_stones.proofs.Common.{or-true, false≢true, IsOn, has_bit, Cell, Grid, cell_at, with_cell, AreStones, grid_with}
+use Rattle.std.proofs.Common.{◌≡◌, ◌≢◌, ℕ, true, false, List, set, bit_or, get_or, subst, ◌∙◌}
+use Rattle.board_stones.proofs.Common.{or-true, false≢true, has_bit, Cell, with_cell, AreStones, grid_with}
 use Rattle.board_points.proofs.WordLemmas.{has_bit-zero}
 use Rattle.board_stones.specs.declared.stones.Cell.TheVariants.{Black, White}
 use Rattle.board_stones.proofs.StoneRowsLemmas.{black_added, white_added}

@@ -17,8 +17,6 @@ lives_in_row-requires c =
 
 pub returns-clause-lives : goal.returns-clause-lives
 returns-clause-lives c = λ lives on stone.
-    let own = c.rows_of in
-    let other = c.rows_of-2 in
-    let are = rows_of_opponent c.args.self.now c.args.colour c.opponent.result other.result.now c.opponent.ensures other.ensures.are in
+    let are = rows_of_opponent c.args.self.now c.args.colour c.opponent.result c.rows_of-2.result.now c.opponent.ensures c.rows_of-2.ensures.are in
     let w = c.lives_in_row.ensures (not-false c.lives_in_row.result lives) in
-    Reaches-liberty c.args.self.now c.args.colour own.result.now other.result.now c.args.point own.ensures.rows own.ensures.are are on stone w.0 w.1
+    Reaches-liberty c.args.self.now c.args.colour c.rows_of.result.now c.rows_of-2.result.now c.args.point c.rows_of.ensures.rows c.rows_of.ensures.are are on stone w.0 w.1
