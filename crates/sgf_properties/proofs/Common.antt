@@ -2,6 +2,7 @@
 pub use Rattle.std.specs.Int.Count.{count_trailing_zeros}
 pub use Rattle.std.specs.List.{list_all}
 pub use Rattle.std.specs.Simd.Lanes.{chunk, mask_l, top, zip2}
+pub use Rattle.std.proofs.Common.{append-nil, append_assoc, arith}
 pub use Rattle.std.proofs.lemmas.Bool.{and_parts, cases_eq, cases_lt, eqb-false, false_from_ne_true, false≢true, not-true, or_cases, or_left, or_right}
 pub use Rattle.std.proofs.lemmas.Grind.{common_steps}
 pub use Rattle.std.proofs.lemmas.List.{drop_all, length-map, take_more, take_rest}

@@ -1,0 +1,6 @@
+use Rattle.std.proofs.lemmas.List.Elements.{filter_more}
+use Rattle.sgf_properties.proofs.Common.{append-nil, append_assoc, arith, is_upper}
+use Rattle.sgf_properties.proofs.property.PropRef.push_name.Goals as goal
+
+pub loop-letter-preserved : goal.loop-letter-preserved
+loop-letter-preserved c = grind (arith, append-nil, append_assoc, filter_more is_upper c.self.inside.identifier.now c.loop-letter.letter-index 0 (omega arith)) steps 2400000
