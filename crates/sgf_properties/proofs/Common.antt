@@ -2,7 +2,7 @@
 pub use Rattle.std.specs.Int.Count.{count_trailing_zeros}
 pub use Rattle.std.specs.List.{list_all}
 pub use Rattle.std.specs.Simd.Lanes.{chunk, mask_l, top, zip2}
-pub use Rattle.std.proofs.Common.{append-nil, append_assoc, arith}
+pub use Rattle.std.proofs.Common.{Bool, IsTrue, List, MatchOption, None, Option, Some, [], add-one, ap, append-nil, append_assoc, arith, cond, drop, drop-cons, drop-drop, eq-eqb, eqb, eqb-true, false, filter, get_or, get_or-drop, get_or-take, if◌then◌else◌, inl, inr, le-leb, leb, leb-true, length, length-append, length-drop, length-take, length-take-le, ltb, map, mul-le-mul_right, nat_le, ne_eqb, not, option_copied, pow-suc, refl, replicate, rules, slice_range, subst, suc, sym, take, take-add, take-append-drop, true, w64, w8, zero, ℕ, ◌%◌, ◌&&◌, ◌*◌, ◌++◌, ◌+◌, ◌-◌, ◌/◌, ◌<◌, ◌==◌, ◌^◌, ◌∙◌, ◌∷◌, ◌≡◌, ◌≢◌, ◌≤◌, ◌⊎◌}
 pub use Rattle.std.proofs.lemmas.Bool.{and_parts, cases_eq, cases_lt, eqb-false, false_from_ne_true, false≢true, not-true, or_cases, or_left, or_right}
 pub use Rattle.std.proofs.lemmas.Grind.{common_steps}
 pub use Rattle.std.proofs.lemmas.List.{drop_all, length-map, take_more, take_rest}

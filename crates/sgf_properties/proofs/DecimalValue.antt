@@ -1,6 +1,5 @@
 -- The value of digits: at one more digit, and how large it is.
-use Rattle.sgf_properties.proofs.Common.{list_all, common_steps, take_more, is_digit, decimal_value}
-use Rattle.std.proofs.Common.{◌≡◌, ℕ, suc, ◌+◌, ◌-◌, ◌*◌, ◌^◌, ◌<◌, ◌≤◌, true, ◌&&◌, List, [], ◌∷◌, ◌++◌, length, take, get_or, ap, ◌∙◌, arith, length-append, rules, pow-suc, mul-le-mul_right, length-take-le}
+use Rattle.sgf_properties.proofs.Common.{◌≡◌, ℕ, suc, ◌+◌, ◌-◌, ◌*◌, ◌^◌, ◌<◌, ◌≤◌, true, ◌&&◌, List, [], ◌∷◌, ◌++◌, length, take, get_or, ap, ◌∙◌, arith, length-append, rules, pow-suc, mul-le-mul_right, length-take-le, list_all, common_steps, take_more, is_digit, decimal_value}
 use Rattle.std.proofs.Math.Bool.{and-true}
 use Rattle.std.proofs.Math.Nat.{pow-le-pow_right}
 use Rattle.std.proofs.lemmas.List.Folds.{list_all-append}

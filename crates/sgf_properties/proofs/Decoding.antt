@@ -1,6 +1,5 @@
 -- The rules of decoding, and the function that computes by them.
-use Rattle.std.proofs.Common.{◌≡◌, ◌≢◌, ℕ, Bool, true, false, ◌==◌, List, [], ◌∷◌, ◌++◌, refl, sym, ap, subst, ◌∙◌, append-nil, arith, rules, eqb-true}
-use Rattle.sgf_properties.proofs.Common.{is_break, is_pair, MakesNoPair, IsDecoded, nothing, last_backslash, escaped_pair, escaped_break, escaped_byte, pair, line_break, ordinary_byte, unescaped, after_backslash, text_of}
+use Rattle.sgf_properties.proofs.Common.{◌≡◌, ◌≢◌, ℕ, Bool, true, false, ◌==◌, List, [], ◌∷◌, ◌++◌, refl, sym, ap, subst, ◌∙◌, append-nil, arith, rules, eqb-true, is_break, is_pair, MakesNoPair, IsDecoded, nothing, last_backslash, escaped_pair, escaped_break, escaped_byte, pair, line_break, ordinary_byte, unescaped, after_backslash, text_of}
 
 no_backslash : (b : ℕ) → (b == 92) ≡ false → b ≢ 92
 no_backslash b h = grind arith

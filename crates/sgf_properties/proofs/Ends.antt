@@ -1,6 +1,5 @@
 -- What is left after a thing is an end of what was left before it.
-use Rattle.sgf_properties.proofs.Common.{common_steps, Property, IsValue, no_unit, ordinary, escaped, WhiteSpace, no_white_space, white_space, Letters, no_letter, upper, lower, IsPropValue, prop_value, ArePropValues, no_value, value, IsProperty, property, AreProperties, no_property, properties}
-use Rattle.std.proofs.Common.{◌≡◌, ℕ, ◌+◌, ◌-◌, ◌≤◌, List, ◌∷◌, length, drop, sym, ap, ◌∙◌, arith, drop-drop}
+use Rattle.sgf_properties.proofs.Common.{◌≡◌, ℕ, ◌+◌, ◌-◌, ◌≤◌, List, ◌∷◌, length, drop, sym, ap, ◌∙◌, arith, drop-drop, common_steps, Property, IsValue, no_unit, ordinary, escaped, WhiteSpace, no_white_space, white_space, Letters, no_letter, upper, lower, IsPropValue, prop_value, ArePropValues, no_value, value, IsProperty, property, AreProperties, no_property, properties}
 
 -- s is the end of t
 pub data IsEnd (t : List ℕ) : List ℕ → Type 0 where

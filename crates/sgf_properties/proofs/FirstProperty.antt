@@ -1,6 +1,5 @@
 -- The first property of a text has one form, and the others come after it.
-use Rattle.sgf_properties.proofs.Common.{cases_lt, false≢true, common_steps, is_letter, left_after, front, values_in, name_in, after_values_up_to, properties_in, NoValueFollows, NoPropertyFollows, ArePropertiesIn, IsSpan, Property, is_white_space, WhiteSpace, IsProperty, property, AreProperties, no_property, properties}
-use Rattle.std.proofs.Common.{◌≡◌, ◌≢◌, ℕ, ◌-◌, ◌<◌, Bool, true, false, IsTrue, List, [], ◌∷◌, ◌++◌, length, get_or, drop, refl, sym, ap, subst, ◌∙◌, inl, inr, arith, get_or-drop, length-drop, rules}
+use Rattle.sgf_properties.proofs.Common.{◌≡◌, ◌≢◌, ℕ, ◌-◌, ◌<◌, Bool, true, false, IsTrue, List, [], ◌∷◌, ◌++◌, length, get_or, drop, refl, sym, ap, subst, ◌∙◌, inl, inr, arith, get_or-drop, length-drop, rules, cases_lt, false≢true, common_steps, is_letter, left_after, front, values_in, name_in, after_values_up_to, properties_in, NoValueFollows, NoPropertyFollows, ArePropertiesIn, IsSpan, Property, is_white_space, WhiteSpace, IsProperty, property, AreProperties, no_property, properties}
 use Rattle.sgf_properties.proofs.Classes.{upper-not_white_space, white-not_bracket}
 use Rattle.sgf_properties.proofs.FrontSpelled.{white-byte, white-same, white-none, ends-values, property-is, properties-in}
 use Rattle.sgf_properties.proofs.Iterating.{white-to, white-all, run-drop}

@@ -1,6 +1,5 @@
 -- What stands at the front of a text, by its functions and by the grammar.
-use Rattle.sgf_properties.proofs.Common.{false≢true, or_right, common_steps, is_letter, left_after, front, raw_value, after_raw_value, by_front, values_up_to, after_values_up_to, values_in, property_from, name_in, properties_up_to, properties_in, NoValueFollows, NoPropertyFollows, Property, IsValue, no_unit, ordinary, escaped, is_white_space, is_upper, WhiteSpace, no_white_space, white_space, Letters, no_letter, upper, lower, IsPropValue, prop_value, ArePropValues, no_value, value, IsProperty, property, AreProperties, no_property, properties, IsNoPropValue}
-use Rattle.std.proofs.Common.{◌≡◌, ℕ, zero, suc, ◌+◌, ◌<◌, ◌≤◌, Bool, true, false, ◌==◌, if◌then◌else◌, IsTrue, List, [], ◌∷◌, length, filter, refl, sym, ap, subst, ◌∙◌, ◌⊎◌, inl, inr, arith, ne_eqb, rules}
+use Rattle.sgf_properties.proofs.Common.{◌≡◌, ℕ, zero, suc, ◌+◌, ◌<◌, ◌≤◌, Bool, true, false, ◌==◌, if◌then◌else◌, IsTrue, List, [], ◌∷◌, length, filter, refl, sym, ap, subst, ◌∙◌, ◌⊎◌, inl, inr, arith, ne_eqb, rules, false≢true, or_right, common_steps, is_letter, left_after, front, raw_value, after_raw_value, by_front, values_up_to, after_values_up_to, values_in, property_from, name_in, properties_up_to, properties_in, NoValueFollows, NoPropertyFollows, Property, IsValue, no_unit, ordinary, escaped, is_white_space, is_upper, WhiteSpace, no_white_space, white_space, Letters, no_letter, upper, lower, IsPropValue, prop_value, ArePropValues, no_value, value, IsProperty, property, AreProperties, no_property, properties, IsNoPropValue}
 use Rattle.sgf_properties.proofs.Classes.{upper-not_white_space, upper-not_bracket, white-not_upper, white-not_lower, lower-not_upper}
 use Rattle.sgf_properties.proofs.Ends.{all, tail, end-drop, end-WhiteSpace, end-Letters, end-IsValue, end-IsPropValue, end-ArePropValues}
 use Rattle.sgf_properties.proofs.ValueSpelled.{value-same}

@@ -1,6 +1,5 @@
 -- A step forward over the properties in front of a text, or over the values.
-use Rattle.sgf_properties.proofs.Common.{cases_lt, false≢true, common_steps, drop_all, is_letter, left_after, front, values_in, property_from, name_in, properties_in, NoPropertyFollows, AreValuesIn, ArePropertiesIn, IsSpan, SpellsValue, Property, IsValue, is_white_space, is_upper, WhiteSpace, no_white_space, IsPropValue, prop_value, ArePropValues, no_value, value, IsProperty, property, AreProperties, no_property, properties, IsNoPropValue, IsPastValues, SpellsNoValue}
-use Rattle.std.proofs.Common.{rules, ◌≡◌, ◌≢◌, ℕ, zero, suc, ◌+◌, ◌-◌, ◌<◌, ◌≤◌, Bool, true, false, IsTrue, List, [], ◌∷◌, ◌++◌, length, get_or, take, drop, slice_range, filter, refl, sym, ap, subst, ◌∙◌, arith, add-one, get_or-drop, length-drop, drop-cons}
+use Rattle.sgf_properties.proofs.Common.{rules, ◌≡◌, ◌≢◌, ℕ, zero, suc, ◌+◌, ◌-◌, ◌<◌, ◌≤◌, Bool, true, false, IsTrue, List, [], ◌∷◌, ◌++◌, length, get_or, take, drop, slice_range, filter, refl, sym, ap, subst, ◌∙◌, arith, add-one, get_or-drop, length-drop, drop-cons, cases_lt, false≢true, common_steps, drop_all, is_letter, left_after, front, values_in, property_from, name_in, properties_in, NoPropertyFollows, AreValuesIn, ArePropertiesIn, IsSpan, SpellsValue, Property, IsValue, is_white_space, is_upper, WhiteSpace, no_white_space, IsPropValue, prop_value, ArePropValues, no_value, value, IsProperty, property, AreProperties, no_property, properties, IsNoPropValue, IsPastValues, SpellsNoValue}
 use Rattle.sgf_properties.proofs.Classes.{upper-not_white_space}
 use Rattle.sgf_properties.proofs.ValueEnds.{drop-span}
 use Rattle.sgf_properties.proofs.FrontSpelled.{white-same, white-none, white-join, white-past, prop-same, ends-value, past-same, white-left, values-in, ends-values, property-is, properties-in, count-values, count-properties}

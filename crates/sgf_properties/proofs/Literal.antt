@@ -1,6 +1,5 @@
 -- The bytes that stand for themselves, whatever follows.
-use Rattle.std.proofs.Common.{◌≡◌, ℕ, zero, suc, ◌≤◌, true, false, ◌==◌, List, [], ◌∷◌, ◌++◌, length, take, drop, refl, ap, sym, ◌∙◌, arith, rules, take-append-drop}
-use Rattle.sgf_properties.proofs.Common.{list_all, text_of, is_pair, unescaped, is_literal, AreLiterals}
+use Rattle.sgf_properties.proofs.Common.{◌≡◌, ℕ, zero, suc, ◌≤◌, true, false, ◌==◌, List, [], ◌∷◌, ◌++◌, length, take, drop, refl, ap, sym, ◌∙◌, arith, rules, take-append-drop, list_all, text_of, is_pair, unescaped, is_literal, AreLiterals}
 
 not_backslash : (a : ℕ) → is_literal a ≡ true → (a == 92) ≡ false
 not_backslash a h = grind arith

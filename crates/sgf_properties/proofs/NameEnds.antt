@@ -1,6 +1,5 @@
 -- Where the identifier of a property begins and ends.
-use Rattle.sgf_properties.proofs.Common.{cases_lt, or_left, false≢true, common_steps, take_more, is_letter, IsSpan, IsBracket, is_white_space, is_upper}
-use Rattle.std.proofs.Common.{◌≡◌, ℕ, ◌+◌, ◌<◌, IsTrue, List, [], ◌∷◌, length, get_or, slice_range, ap, arith, get_or-drop, length-drop}
+use Rattle.sgf_properties.proofs.Common.{◌≡◌, ℕ, ◌+◌, ◌<◌, IsTrue, List, [], ◌∷◌, length, get_or, slice_range, ap, arith, get_or-drop, length-drop, cases_lt, or_left, false≢true, common_steps, take_more, is_letter, IsSpan, IsBracket, is_white_space, is_upper}
 use Rattle.sgf_properties.proofs.Spans.{empty-span}
 use Rattle.sgf_properties.proofs.ValueEnds.{span-join}
 

@@ -1,6 +1,5 @@
 -- The first `]` of sixteen bytes, by the mask of those that are one.
-use Rattle.std.proofs.Common.{◌≡◌, ◌≢◌, ℕ, ◌+◌, ◌^◌, ◌%◌, ◌≤◌, false, cond, eqb, List, map, replicate, length, get_or, sym, ◌∙◌, arith, w8, rules, eqb-true, eq-eqb}
-use Rattle.sgf_properties.proofs.Common.{count_trailing_zeros, chunk, zip2, mask_l, top, false≢true, length-chunk, bitmask_splat, none_from_empty_mask, HasNoBracket, IsNextBracket}
+use Rattle.sgf_properties.proofs.Common.{◌≡◌, ◌≢◌, ℕ, ◌+◌, ◌^◌, ◌%◌, ◌≤◌, false, cond, eqb, List, map, replicate, length, get_or, sym, ◌∙◌, arith, w8, rules, eqb-true, eq-eqb, count_trailing_zeros, chunk, zip2, mask_l, top, false≢true, length-chunk, bitmask_splat, none_from_empty_mask, HasNoBracket, IsNextBracket}
 use Rattle.sgf_properties.proofs.NearBits
 
 not-bracket : (b : ℕ) → eqb b 93 ≡ false → b ≢ 93

@@ -1,6 +1,5 @@
 -- The bytes of four values such as `[pd]`, all compared at once with the least one that may stand there.
-use Rattle.sgf_properties.proofs.Common.{cases_lt, common_steps, is_ordinary, IsPoint, ArePoints}
-use Rattle.std.proofs.Common.{◌≡◌, ◌∙◌, ℕ, zero, suc, ◌+◌, ◌*◌, ◌/◌, ◌%◌, ◌^◌, ◌<◌, ◌≤◌, List, [], ◌∷◌, length, get_or, refl, sym, ap, subst, IsTrue, arith}
+use Rattle.sgf_properties.proofs.Common.{◌≡◌, ◌∙◌, ℕ, zero, suc, ◌+◌, ◌*◌, ◌/◌, ◌%◌, ◌^◌, ◌<◌, ◌≤◌, List, [], ◌∷◌, length, get_or, refl, sym, ap, subst, IsTrue, arith, cases_lt, common_steps, is_ordinary, IsPoint, ArePoints}
 use Rattle.sgf_properties.proofs.PlacedBytes
 use Rattle.sgf_properties.proofs.PlacedBytes.{above}
 use Rattle.sgf_properties.proofs.ValueEnds.{other-ordinary}

@@ -1,6 +1,5 @@
 -- Values such as `[pd]`, one after the other.
-use Rattle.std.proofs.Common.{◌≡◌, ℕ, zero, suc, ◌+◌, ◌-◌, ◌*◌, ◌<◌, ◌≤◌, List, [], ◌∷◌, length, drop, slice_range, inl, inr, subst, arith, rules}
-use Rattle.sgf_properties.proofs.Common.{cases_lt, IsValueEnd, IsPoint, ArePoints, IsBracket, IsPropValue, ArePropValues, no_value, value}
+use Rattle.sgf_properties.proofs.Common.{◌≡◌, ℕ, zero, suc, ◌+◌, ◌-◌, ◌*◌, ◌<◌, ◌≤◌, List, [], ◌∷◌, length, drop, slice_range, inl, inr, subst, arith, rules, cases_lt, IsValueEnd, IsPoint, ArePoints, IsBracket, IsPropValue, ArePropValues, no_value, value}
 use Rattle.sgf_properties.proofs.Iterating.{first-value}
 use Rattle.sgf_properties.proofs.NameEnds.{bracket-here}
 use Rattle.sgf_properties.proofs.ValueUnits.{no-units, ordinary-units, units-ended}

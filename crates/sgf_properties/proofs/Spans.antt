@@ -1,6 +1,5 @@
 -- Spans of a text, by the offsets of their bytes.
-use Rattle.std.proofs.Common.{false, ◌≡◌, ℕ, ◌+◌, ◌-◌, ◌<◌, ◌≤◌, List, [], ◌∷◌, ◌++◌, length, get_or, slice_range, get_or-drop, length-drop, arith, rules}
-use Rattle.sgf_properties.proofs.Common.{take_more, IsSpan, is_white_space}
+use Rattle.sgf_properties.proofs.Common.{false, ◌≡◌, ℕ, ◌+◌, ◌-◌, ◌<◌, ◌≤◌, List, [], ◌∷◌, ◌++◌, length, get_or, slice_range, get_or-drop, length-drop, arith, rules, take_more, IsSpan, is_white_space}
 
 module _ (t : List ℕ) where
   -- no white space, before a byte that is none

@@ -1,6 +1,5 @@
 -- The bytes of a raw value, and where the next `]` stands.
-use Rattle.sgf_properties.proofs.Common.{and_parts, not-true, eqb-false, common_steps, is_ordinary, HasNoBracket, IsNextBracket}
-use Rattle.std.proofs.Common.{rules, ◌≡◌, ◌≢◌, ℕ, ◌+◌, ◌-◌, ◌<◌, ◌≤◌, true, not, List, ◌++◌, length, get_or, take, drop, slice_range, Some, None, sym, ap, ◌∙◌, arith, eqb-true, get_or-take, get_or-drop, ne_eqb, length-take, length-drop, take-add, eq-eqb, drop-drop}
+use Rattle.sgf_properties.proofs.Common.{rules, ◌≡◌, ◌≢◌, ℕ, ◌+◌, ◌-◌, ◌<◌, ◌≤◌, true, not, List, ◌++◌, length, get_or, take, drop, slice_range, Some, None, sym, ap, ◌∙◌, arith, eqb-true, get_or-take, get_or-drop, ne_eqb, length-take, length-drop, take-add, eq-eqb, drop-drop, and_parts, not-true, eqb-false, common_steps, is_ordinary, HasNoBracket, IsNextBracket}
 use Rattle.memchr.specs.Find.{IsFirstByte, is_byte}
 
 pub drop-span : {A : Type 0} (t : List A) (a b : ℕ) → a ≤ b → drop (b - a) (drop a t) ≡ drop b t

@@ -1,6 +1,5 @@
 -- Raw values, by the grammar: how one is put together from its units, and that it has one end.
-use Rattle.sgf_properties.proofs.Common.{common_steps, AreOrdinary, SpellsValue, IsValue, no_unit, ordinary, escaped, SpellsNoValue}
-use Rattle.std.proofs.Common.{◌≡◌, ◌≢◌, ℕ, zero, suc, ◌+◌, ◌-◌, ◌<◌, ◌≤◌, List, [], ◌∷◌, ◌++◌, length, get_or, take, drop, slice_range, refl, sym, ap, subst, ◌∙◌, arith, length-drop, get_or-drop, drop-drop}
+use Rattle.sgf_properties.proofs.Common.{◌≡◌, ◌≢◌, ℕ, zero, suc, ◌+◌, ◌-◌, ◌<◌, ◌≤◌, List, [], ◌∷◌, ◌++◌, length, get_or, take, drop, slice_range, refl, sym, ap, subst, ◌∙◌, arith, length-drop, get_or-drop, drop-drop, common_steps, AreOrdinary, SpellsValue, IsValue, no_unit, ordinary, escaped, SpellsNoValue}
 use Rattle.sgf_properties.proofs.ValueEnds.{drop-span, span-join, ordinary-other}
 
 -- units after units

@@ -1,6 +1,5 @@
 -- Which `]` ends a raw value: the first one with an even number of `\` directly before it.
-use Rattle.sgf_properties.proofs.Common.{cases_eq, common_steps, AreOrdinary, SpellsValue, IsValueEnd, IsUnended, in_units, in_escape, IsValue, HasNoBracket, IsNextBracket, AreBackslashesBefore, AreEscapes, SpellsNoValue}
-use Rattle.std.proofs.Common.{◌≡◌, ◌≢◌, ℕ, zero, suc, ◌+◌, ◌-◌, ◌*◌, ◌/◌, ◌%◌, ◌<◌, ◌≤◌, ◌⊎◌, inl, inr, List, length, get_or, drop, slice_range, Option, Some, None, MatchOption, subst, arith, rules}
+use Rattle.sgf_properties.proofs.Common.{◌≡◌, ◌≢◌, ℕ, zero, suc, ◌+◌, ◌-◌, ◌*◌, ◌/◌, ◌%◌, ◌<◌, ◌≤◌, ◌⊎◌, inl, inr, List, length, get_or, drop, slice_range, Option, Some, None, MatchOption, subst, arith, rules, cases_eq, common_steps, AreOrdinary, SpellsValue, IsValueEnd, IsUnended, in_units, in_escape, IsValue, HasNoBracket, IsNextBracket, AreBackslashesBefore, AreEscapes, SpellsNoValue}
 use Rattle.std.proofs.Math.Seq.{drop-length}
 use Rattle.sgf_properties.proofs.ValueEnds.{other-ordinary}
 use Rattle.sgf_properties.proofs.ValueSpelled.{spelled-none, spelled-ordinary, spelled-escape, value-unended, none-cut}

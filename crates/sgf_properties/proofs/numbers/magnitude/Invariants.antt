@@ -1,5 +1,4 @@
-use Rattle.std.proofs.Common.{◌≡◌, true, take}
-use Rattle.sgf_properties.proofs.Common.{list_all, is_digit, decimal_value}
+use Rattle.sgf_properties.proofs.Common.{◌≡◌, true, take, list_all, is_digit, decimal_value}
 use Rattle.sgf_properties.proofs.numbers.magnitude.Given as goal
 
 -- the bytes so far are digits, and this is their value

@@ -1,8 +1,16 @@
-use Rattle.sgf_properties.proofs.Common.{arith, common_steps}
+use Rattle.sgf_properties.proofs.Common.{◌≡◌, ◌<◌, ◌-◌, ℕ, true, false, List, [], ◌∷◌, ◌++◌, length, get_or, take, drop, arith, text_of, is_pair, after_backslash, take_rest, common_steps}
 use Rattle.sgf_properties.proofs.text.decode_front.Goals as goal
 
+-- a line break of two bytes, and an escaped byte, in front
+pair : (s : List ℕ) → is_pair (get_or s 0 0) (get_or s 1 0) ≡ true → text_of s ≡ 10 ∷ text_of (take (length s - 2) (drop 2 s))
+pair s h = rw take_rest (grind (arith, common_steps))
+
+escaped : (xs s : List ℕ) → (1 < length s) × (get_or s 0 0 ≡ 92) × (2 < length s → is_pair (get_or s 1 0) (get_or s 2 0) ≡ false) × (after_backslash (get_or s 1 0) ≡ xs) →
+    text_of s ≡ xs ++ text_of (take (length s - 2) (drop 2 s))
+escaped xs s h = rw take_rest (grind (arith, common_steps))
+
 pub returns-in-92-3-clause-decoded : goal.returns-in-92-3-clause-decoded
-returns-in-92-3-clause-decoded c = grind (arith, common_steps) steps 1200000
+returns-in-92-3-clause-decoded c = escaped (_ ∷ []) c.args.raw.now (grind arith)
 
 pub returns-in-13-clause-decoded : goal.returns-in-13-clause-decoded
-returns-in-13-clause-decoded c = grind (arith, common_steps) steps 400000
+returns-in-13-clause-decoded c = pair c.args.raw.now (grind arith)

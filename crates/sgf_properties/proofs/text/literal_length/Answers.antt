@@ -1,5 +1,4 @@
-use Rattle.sgf_properties.proofs.Common.{cases_lt, common_steps}
-use Rattle.std.proofs.Common.{◌+◌, inl, inr, arith}
+use Rattle.sgf_properties.proofs.Common.{◌+◌, inl, inr, arith, cases_lt, common_steps}
 use Rattle.sgf_properties.proofs.Literal.{text_of_literals_before}
 use Rattle.sgf_properties.proofs.text.literal_length.Goals as goal
 

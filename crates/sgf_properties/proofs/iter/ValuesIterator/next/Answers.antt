@@ -1,5 +1,4 @@
-use Rattle.std.proofs.Common.{◌≡◌, ◌∙◌, [], ◌∷◌, length, sym, ap, arith, option_copied}
-use Rattle.sgf_properties.proofs.Common.{values_in, values_left}
+use Rattle.sgf_properties.proofs.Common.{◌≡◌, ◌∙◌, [], ◌∷◌, length, sym, ap, arith, option_copied, values_in, values_left}
 use Rattle.sgf_properties.proofs.Iterating.{no-value, next-value}
 use Rattle.sgf_properties.proofs.iter.ValuesIterator.next.Goals as goal
 use Rattle.sgf_properties.proofs.iter.ValuesIterator.next.Goals.{In_default, After-part}

@@ -1,5 +1,4 @@
-use Rattle.std.proofs.Common.{◌∷◌, ◌∙◌, ap, sym, get_or, filter, if◌then◌else◌}
-use Rattle.sgf_properties.proofs.Common.{Property, is_upper}
+use Rattle.sgf_properties.proofs.Common.{◌∷◌, ◌∙◌, ap, sym, get_or, filter, if◌then◌else◌, Property, is_upper}
 use Rattle.sgf_properties.proofs.property.PropRef.initial.Goals as goal
 
 pub returns : goal.returns

@@ -1,5 +1,4 @@
-use Rattle.std.proofs.Common.{eqb, ltb, arith, w8}
-use Rattle.sgf_properties.proofs.Common.{chunk, length-chunk, bitmask_splat}
+use Rattle.sgf_properties.proofs.Common.{eqb, ltb, arith, w8, chunk, length-chunk, bitmask_splat}
 use Rattle.sgf_properties.proofs.NearBits.{before-lowest}
 use Rattle.sgf_properties.proofs.NearLiterals.{near-literals}
 use Rattle.sgf_properties.proofs.quick.literals.near_literals.Goals as goal
