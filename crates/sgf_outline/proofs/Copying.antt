@@ -1,6 +1,5 @@
 -- What the sgf form copies of a text, as a reader tells it.
-use Rattle.std.proofs.Common.{◌≡◌, ℕ, ◌<◌, ◌≤◌, List, [], ◌++◌, length, slice_range, append_assoc, append-nil, rules}
-use Rattle.sgf_outline.proofs.Common.{Segment, Stack, Coming, IsCopied, Copies}
+use Rattle.sgf_outline.proofs.Common.{◌≡◌, ℕ, ◌<◌, ◌≤◌, List, [], ◌++◌, length, slice_range, append_assoc, append-nil, rules, Segment, Stack, Coming, IsCopied, Copies}
 use Rattle.sgf_properties.proofs.ValueEnds.{span-join}
 
 -- a visitor that keeps the same in other words

@@ -1,6 +1,5 @@
 -- What is left after a node, or after games, is an end of what was left before.
-use Rattle.std.proofs.Common.{ℕ, List}
-use Rattle.sgf_outline.proofs.Common.{IsNode, node, AreNodes, no_node, nodes, AreGames, no_game, games, ByteOrderMark, no_byte_order_mark, byte_order_mark, Node, Games}
+use Rattle.sgf_outline.proofs.Common.{ℕ, List, IsNode, node, AreNodes, no_node, nodes, AreGames, no_game, games, ByteOrderMark, no_byte_order_mark, byte_order_mark, Node, Games}
 use Rattle.sgf_properties.proofs.Ends.{IsEnd, tail, end-WhiteSpace, end-AreProperties}
 
 module _ {t : List ℕ} where

@@ -1,6 +1,5 @@
 -- A game that ends: how many games and nodes there are then.
-use Rattle.sgf_outline.proofs.Common.{common_steps, UnclosedGame, Stack, after_game, whole_game, close, close_in, Games, no_games, game, joined, game_count, node_count, unclosed_count}
-use Rattle.std.proofs.Common.{◌≡◌, ℕ, ◌+◌, ◌≤◌, Bool, true, false, cond, List, [], ◌∷◌, length, Some, arith, ne_eqb, rules, eqb}
+use Rattle.sgf_outline.proofs.Common.{◌≡◌, ℕ, ◌+◌, ◌≤◌, Bool, true, false, cond, List, [], ◌∷◌, length, Some, arith, ne_eqb, rules, eqb, common_steps, UnclosedGame, Stack, after_game, whole_game, close, close_in, Games, no_games, game, joined, game_count, node_count, unclosed_count}
 
 -- games at the end of the innermost unclosed game, or of all
 abbrev pub add_games : Games → List UnclosedGame → Games → Stack

@@ -1,6 +1,5 @@
 -- What the table of sequences keeps: with one more sequence, and after a game that ends.
-use Rattle.sgf_outline.proofs.Common.{common_steps, drop-append-le, slice_get-get_or, slice_get_within, Segment, KeptSegment, Sequence, Sequences, Listed, unclosed_list, UnclosedGame, Stack, after_game, whole_game, close, outer_by, start_by, is_last_by, nodes_of, AreTold, AreWhole, HasSegments, IsKept, AreKept, HoldsSequences, Coming, nothing, with_text, coming_of, is_written, IsCopied, AreOwnNodes, own_of, with_game, Node, Games, no_games, unclosed_count, node_text}
-use Rattle.std.proofs.Common.{◌≡◌, ℕ, ◌+◌, ◌-◌, ◌/◌, ◌%◌, ◌<◌, ◌≤◌, Bool, true, false, cond, inl, inr, List, [], ◌∷◌, ◌++◌, length, get_or, drop, slice_get, slice_range, Option, Some, None, refl, sym, ap, subst, ◌∙◌, arith, length-append, rules, eqb, eqb-true, flat_map}
+use Rattle.sgf_outline.proofs.Common.{◌≡◌, ℕ, ◌+◌, ◌-◌, ◌/◌, ◌%◌, ◌<◌, ◌≤◌, Bool, true, false, cond, inl, inr, List, [], ◌∷◌, ◌++◌, length, get_or, drop, slice_get, slice_range, Option, Some, None, refl, sym, ap, subst, ◌∙◌, arith, length-append, rules, eqb, eqb-true, flat_map, common_steps, drop-append-le, slice_get-get_or, slice_get_within, Segment, KeptSegment, Sequence, Sequences, Listed, unclosed_list, UnclosedGame, Stack, after_game, whole_game, close, outer_by, start_by, is_last_by, nodes_of, AreTold, AreWhole, HasSegments, IsKept, AreKept, HoldsSequences, Coming, nothing, with_text, coming_of, is_written, IsCopied, AreOwnNodes, own_of, with_game, Node, Games, no_games, unclosed_count, node_text}
 use Rattle.std.proofs.Math.Seq.{drop-length}
 use Rattle.sgf_outline.specs.declared.layout.OwnNodes.{OwnNodes}
 use Rattle.sgf_outline.proofs.GameEnds.{add_games, game-ends, unclosed_games-least, unclosed_count-closed, game_count-closed}

@@ -1,6 +1,5 @@
 -- The listing of sequences: games side by side, one more unclosed game, and a game that ends.
-use Rattle.sgf_outline.proofs.Common.{common_steps, Listed, listed, unclosed_list, UnclosedGame, whole_game, Games, no_games, game, joined, game_count, node_count, unclosed_count}
-use Rattle.std.proofs.Common.{◌≡◌, ℕ, ◌+◌, ◌≤◌, List, [], ◌∷◌, ◌++◌, length, Option, Some, None, refl, arith, append_assoc, append-nil, length-append, rules}
+use Rattle.sgf_outline.proofs.Common.{◌≡◌, ℕ, ◌+◌, ◌≤◌, List, [], ◌∷◌, ◌++◌, length, Option, Some, None, refl, arith, append_assoc, append-nil, length-append, rules, common_steps, Listed, listed, unclosed_list, UnclosedGame, whole_game, Games, no_games, game, joined, game_count, node_count, unclosed_count}
 use Rattle.sgf_outline.proofs.GameEnds.{add_games}
 use Rattle.sgf_outline.proofs.ListedNodes.{length-listed, starts-rise}
 use Rattle.sgf_outline.proofs.Rises.{rises-count}

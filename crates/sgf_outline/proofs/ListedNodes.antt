@@ -1,6 +1,5 @@
 -- Where the listed sequences stand among the ordered nodes.
-use Rattle.sgf_outline.proofs.Common.{cases_lt, common_steps, map-append, length-map, OrderedNode, further_nodes, nodes_from, game_of, Listed, listed, Node, Games, no_games, game, node_count}
-use Rattle.std.proofs.Common.{◌≡◌, ℕ, zero, suc, ◌+◌, ◌-◌, ◌<◌, ◌⊎◌, inl, inr, true, List, [], ◌∷◌, ◌++◌, length, map, get_or, slice_get, Option, Some, refl, sym, ap, subst, ◌∙◌, arith, append_assoc, length-append, rules, get_or-append-add}
+use Rattle.sgf_outline.proofs.Common.{◌≡◌, ℕ, zero, suc, ◌+◌, ◌-◌, ◌<◌, ◌⊎◌, inl, inr, true, List, [], ◌∷◌, ◌++◌, length, map, get_or, slice_get, Option, Some, refl, sym, ap, subst, ◌∙◌, arith, append_assoc, length-append, rules, get_or-append-add, cases_lt, common_steps, map-append, length-map, OrderedNode, further_nodes, nodes_from, game_of, Listed, listed, Node, Games, no_games, game, node_count}
 use Rattle.sgf_outline.proofs.Lists.{slice_get-left, slice_get-right, get_or-joined}
 use Rattle.sgf_outline.proofs.Rises.{Rises, rises-low, rises-append}
 use Rattle.sgf_outline.proofs.OrderedNodes.{length-further_nodes, length-nodes_from, game-first, game-after}

@@ -1,6 +1,5 @@
 -- The bytes of two moves, all compared at once with the least one that may stand there.
-use Rattle.sgf_outline.proofs.Common.{and_from, cases_lt, common_steps, IsMove, IsMoveNode, EndsNode}
-use Rattle.std.proofs.Common.{◌≡◌, ◌∙◌, ℕ, ◌+◌, ◌/◌, ◌%◌, ◌^◌, ◌<◌, ◌≤◌, List, [], ◌∷◌, length, get_or, refl, ap, arith, le-leb}
+use Rattle.sgf_outline.proofs.Common.{◌≡◌, ◌∙◌, ℕ, ◌+◌, ◌/◌, ◌%◌, ◌^◌, ◌<◌, ◌≤◌, List, [], ◌∷◌, length, get_or, refl, ap, arith, le-leb, and_from, cases_lt, common_steps, IsMove, IsMoveNode, EndsNode}
 use Rattle.sgf_properties.proofs.PlacedBytes
 use Rattle.sgf_properties.proofs.PlacedBytes.{above}
 use Rattle.sgf_properties.proofs.PointBytes.{other-than, in-place}

@@ -1,6 +1,5 @@
 -- Laws on the ordered nodes of a collection: where parents stand, and in which game.
-use Rattle.sgf_outline.proofs.Common.{cases_lt, common_steps, OrderedNode, further_nodes, nodes_from, ordered_nodes, parent_at, game_of, Node, Games, no_games, game, node_count}
-use Rattle.std.proofs.Common.{◌≡◌, ℕ, zero, suc, ◌+◌, ◌-◌, ◌<◌, ◌≤◌, ◌⊎◌, inl, inr, true, List, [], ◌∷◌, ◌++◌, length, slice_get, Option, Some, None, option_map, refl, sym, ap, ◌∙◌, arith, length-append, rules, lt-ltb, le-ltb}
+use Rattle.sgf_outline.proofs.Common.{◌≡◌, ℕ, zero, suc, ◌+◌, ◌-◌, ◌<◌, ◌≤◌, ◌⊎◌, inl, inr, true, List, [], ◌∷◌, ◌++◌, length, slice_get, Option, Some, None, option_map, refl, sym, ap, ◌∙◌, arith, length-append, rules, lt-ltb, le-ltb, cases_lt, common_steps, OrderedNode, further_nodes, nodes_from, ordered_nodes, parent_at, game_of, Node, Games, no_games, game, node_count}
 use Rattle.sgf_outline.proofs.Lists.{slice_get-left, slice_get-right}
 
 -- the parent of the node of a number

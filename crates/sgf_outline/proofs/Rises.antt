@@ -1,6 +1,5 @@
 -- Numbers that rise strictly.
-use Rattle.sgf_outline.proofs.Common.{cases_lt, common_steps, slice_get-get_or}
-use Rattle.std.proofs.Common.{rules, ◌≡◌, ℕ, zero, suc, ◌+◌, ◌<◌, ◌≤◌, List, [], ◌∷◌, ◌++◌, length, get_or, Some, slice_get, arith}
+use Rattle.sgf_outline.proofs.Common.{rules, ◌≡◌, ℕ, zero, suc, ◌+◌, ◌<◌, ◌≤◌, List, [], ◌∷◌, ◌++◌, length, get_or, Some, slice_get, arith, cases_lt, common_steps, slice_get-get_or}
 
 -- the numbers rise strictly, from low on and below high
 abbrev pub Rises : ℕ → List ℕ → ℕ → Type 0

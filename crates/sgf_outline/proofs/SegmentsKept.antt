@@ -1,6 +1,5 @@
 -- Segments that are kept: with one more, and up to the last one of a sequence.
-use Rattle.std.proofs.Common.{◌≡◌, ℕ, ◌+◌, ◌<◌, ◌≤◌, true, false, List, [], ◌∷◌, ◌++◌, length, drop, get_or, slice_range, refl, sym, ap, subst, ◌∙◌, append_assoc, append-nil, rules}
-use Rattle.sgf_outline.proofs.Common.{cases_lt, false≢true, drop_all, drop_more, KeptSegment, start_by, is_last_by, IsCopiedFirst, AreTold, AreWhole}
+use Rattle.sgf_outline.proofs.Common.{◌≡◌, ℕ, ◌+◌, ◌<◌, ◌≤◌, true, false, List, [], ◌∷◌, ◌++◌, length, drop, get_or, slice_range, refl, sym, ap, subst, ◌∙◌, append_assoc, append-nil, rules, cases_lt, false≢true, drop_all, drop_more, KeptSegment, start_by, is_last_by, IsCopiedFirst, AreTold, AreWhole}
 
 module _ (t : List ℕ) where
   -- the text of a kept segment

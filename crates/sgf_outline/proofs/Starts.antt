@@ -1,6 +1,5 @@
 -- Where the sequences of games begin.
-use Rattle.sgf_outline.proofs.Common.{common_steps, OrderedNode, further_nodes, nodes_from, opening_numbers, sequence_starts, Node, Games, no_games, game, node_count}
-use Rattle.std.proofs.Common.{◌≡◌, ℕ, ◌+◌, List, [], ◌∷◌, ◌++◌, None, length, get_or, Option, Some, refl, arith, length-append, rules}
+use Rattle.sgf_outline.proofs.Common.{◌≡◌, ℕ, ◌+◌, List, [], ◌∷◌, ◌++◌, None, length, get_or, Option, Some, refl, arith, length-append, rules, common_steps, OrderedNode, further_nodes, nodes_from, opening_numbers, sequence_starts, Node, Games, no_games, game, node_count}
 use Rattle.sgf_outline.proofs.OrderedNodes.{length-further_nodes, length-nodes_from}
 
 abbrev pub starts_from : ℕ → Games → List ℕ

@@ -1,6 +1,5 @@
 -- With the properties that are left, the node is appended.
-use Rattle.std.proofs.Common.{◌≡◌, ◌++◌, drop, flat_map}
-use Rattle.sgf_outline.proofs.Common.{properties_in, GoesOn, property_text, node_text}
+use Rattle.sgf_outline.proofs.Common.{◌≡◌, ◌++◌, drop, flat_map, properties_in, GoesOn, property_text, node_text}
 use Rattle.sgf_outline.proofs.written.push_node.Given as goal
 
 abbrev pub invariant-loop-property : goal.invariant-loop-property

@@ -1,5 +1,4 @@
-use Rattle.sgf_outline.proofs.Common.{false≢true, common_steps}
-use Rattle.std.proofs.Common.{◌≡◌, ℕ, Bool, not, IsTrue, Option, None, Some, refl, sym, ap, ◌∙◌, arith, ne_eqb, eq-eqb, nat_eq, ◌≢◌}
+use Rattle.sgf_outline.proofs.Common.{◌≡◌, ℕ, Bool, not, IsTrue, Option, None, Some, refl, sym, ap, ◌∙◌, arith, ne_eqb, eq-eqb, nat_eq, ◌≢◌, false≢true, common_steps}
 use Rattle.std.specs.Option.{option_eq}
 use Rattle.std.proofs.Math.Dec.{eqb_refl}
 use Rattle.sgf_outline.proofs.Outlined.{end-leaf, leaf-if, if-leaf}

@@ -1,5 +1,4 @@
-use Rattle.sgf_outline.proofs.Common.{common_steps, outer_by}
-use Rattle.std.proofs.Common.{◌≡◌, None, arith, rules}
+use Rattle.sgf_outline.proofs.Common.{◌≡◌, None, arith, rules, common_steps, outer_by}
 use Rattle.sgf_outline.proofs.Outlined.{IsEntryOf, entry-in, game-outer, outer-none}
 use Rattle.sgf_outline.proofs.outline.Outline.game_of.Goals as goal
 use Rattle.sgf_outline.proofs.outline.Outline.game_of.Goals.{After-index}

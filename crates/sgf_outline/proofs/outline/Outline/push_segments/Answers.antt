@@ -1,5 +1,4 @@
-use Rattle.std.proofs.Common.{◌+◌, ◌∙◌, [], ◌∷◌, drop, slice_range, refl, sym, arith, append_assoc, append-nil, rules, flat_map}
-use Rattle.sgf_outline.proofs.Common.{nodes_at, sequence_numbers, AreWhole, node_text}
+use Rattle.sgf_outline.proofs.Common.{◌+◌, ◌∙◌, [], ◌∷◌, drop, slice_range, refl, sym, arith, append_assoc, append-nil, rules, flat_map, nodes_at, sequence_numbers, AreWhole, node_text}
 use Rattle.sgf_outline.proofs.Outlined.{IsEntryOf, entry-in}
 use Rattle.sgf_outline.proofs.SegmentsKept.{whole-first}
 use Rattle.sgf_outline.proofs.outline.Outline.push_segments.Goals as goal

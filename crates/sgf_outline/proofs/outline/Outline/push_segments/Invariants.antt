@@ -1,6 +1,5 @@
 -- With the segments that are left, up to the last one of the sequence, all is appended.
-use Rattle.std.proofs.Common.{◌≡◌, ℕ, ◌-◌, List, ◌++◌, length, drop, flat_map}
-use Rattle.sgf_outline.proofs.Common.{GoesOn, nodes_at, sequence_numbers, AreWhole, node_text}
+use Rattle.sgf_outline.proofs.Common.{◌≡◌, ℕ, ◌-◌, List, ◌++◌, length, drop, flat_map, GoesOn, nodes_at, sequence_numbers, AreWhole, node_text}
 use Rattle.sgf_outline.proofs.outline.Outline.push_segments.Given as goal
 
 abbrev pub invariant-segments : goal.invariant-segments

@@ -1,5 +1,4 @@
-use Rattle.sgf_outline.proofs.Common.{common_steps, sequence_end}
-use Rattle.std.proofs.Common.{◌≡◌, ◌+◌, ◌∙◌, arith, rules}
+use Rattle.sgf_outline.proofs.Common.{◌≡◌, ◌+◌, ◌∙◌, arith, rules, common_steps, sequence_end}
 use Rattle.sgf_outline.proofs.Outlined.{table_length, entry-in, sequence-some, sequence-within, next-start, last-end}
 use Rattle.sgf_outline.proofs.outline.Outline.sequence_end.Goals as goal
 use Rattle.sgf_outline.proofs.outline.Outline.sequence_end.Goals.{After-index, Else-i-len}

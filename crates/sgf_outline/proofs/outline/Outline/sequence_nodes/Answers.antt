@@ -1,5 +1,4 @@
-use Rattle.std.proofs.Common.{◌<◌, [], ap, length, sym, subst, ◌∙◌, rules}
-use Rattle.sgf_outline.proofs.Common.{sequence_starts, sequence_start, sequence_end, games_in, nodes_between}
+use Rattle.sgf_outline.proofs.Common.{◌<◌, [], ap, length, sym, subst, ◌∙◌, rules, sequence_starts, sequence_start, sequence_end, games_in, nodes_between}
 use Rattle.sgf_outline.proofs.Traversing.{sequence-traversal}
 use Rattle.sgf_outline.proofs.outline.Outline.sequence_nodes.Goals as goal
 

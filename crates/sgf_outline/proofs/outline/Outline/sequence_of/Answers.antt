@@ -1,6 +1,5 @@
 -- All nodes stand before the end of the last sequence.
-use Rattle.sgf_outline.proofs.Common.{get_or_past}
-use Rattle.std.proofs.Common.{rules}
+use Rattle.sgf_outline.proofs.Common.{rules, get_or_past}
 use Rattle.sgf_outline.proofs.Outlined.{starts-first}
 use Rattle.sgf_outline.proofs.outline.Outline.sequence_of.Goals as goal
 

@@ -1,6 +1,5 @@
 -- The node stands from the sequence `low` on and before the sequence `high`.
-use Rattle.std.proofs.Common.{◌-◌, ◌<◌, ◌≤◌, length, get_or}
-use Rattle.sgf_outline.proofs.Common.{sequence_starts, sequence_start, node_count}
+use Rattle.sgf_outline.proofs.Common.{◌-◌, ◌<◌, ◌≤◌, length, get_or, sequence_starts, sequence_start, node_count}
 use Rattle.sgf_outline.proofs.outline.Outline.sequence_of.Given as goal
 
 abbrev pub invariant-halves : goal.invariant-halves

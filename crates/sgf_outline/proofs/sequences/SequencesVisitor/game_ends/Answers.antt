@@ -1,5 +1,4 @@
-use Rattle.std.proofs.Common.{◌≡◌, ℕ, ◌+◌, cond, get_or, Some, ap, arith, rules, eqb}
-use Rattle.sgf_outline.proofs.Common.{Sequence, outer_by, nothing}
+use Rattle.sgf_outline.proofs.Common.{◌≡◌, ℕ, ◌+◌, cond, get_or, Some, ap, arith, rules, eqb, Sequence, outer_by, nothing}
 use Rattle.sgf_outline.proofs.GameEnds.{unclosed_games-least, cast-to, at_most_1}
 use Rattle.sgf_outline.proofs.KeptSequences.{innermost-within, sequences-ended}
 use Rattle.sgf_outline.proofs.sequences.SequencesVisitor.game_ends.Goals.{in-Some, in_default}

@@ -1,5 +1,4 @@
-use Rattle.std.proofs.Common.{◌≡◌, ℕ, ◌+◌, ◌<◌, ◌≤◌, cond, false, List, [], ◌∷◌, ◌++◌, length, None, Some, refl, sym, ap, ◌∙◌, arith, append-nil, rules}
-use Rattle.sgf_outline.proofs.Common.{false≢true, KeptSegment, Sequences, is_written}
+use Rattle.sgf_outline.proofs.Common.{◌≡◌, ℕ, ◌+◌, ◌<◌, ◌≤◌, cond, false, List, [], ◌∷◌, ◌++◌, length, None, Some, refl, sym, ap, ◌∙◌, arith, append-nil, rules, false≢true, KeptSegment, Sequences, is_written}
 use Rattle.sgf_outline.proofs.KeptSequences.{innermost-within, sequences-few, packs-new, sequences-opened}
 use Rattle.sgf_outline.proofs.sequences.SequencesVisitor.own_nodes.Goals.{in-Some, in-None, then-is_written, else-is_written+in_ok-push_segment, Joined-is_written}
 use Rattle.sgf_outline.proofs.sequences.SequencesVisitor.own_nodes.Goals as goal

@@ -1,5 +1,4 @@
-use Rattle.sgf_outline.proofs.Common.{common_steps, NodesLeft, IsLedNode, IsEmptyNode, node_in}
-use Rattle.std.proofs.Common.{◌∙◌, drop, refl, sym, ap, subst, arith, rules}
+use Rattle.sgf_outline.proofs.Common.{◌∙◌, drop, refl, sym, ap, subst, arith, rules, common_steps, NodesLeft, IsLedNode, IsEmptyNode, node_in}
 use Rattle.sgf_outline.proofs.Leading.{led-properties, led-next, empty-next}
 use Rattle.sgf_outline.proofs.Traversing.{between_some}
 use Rattle.sgf_outline.proofs.traversal.SequenceNodes.next.Goals as goal

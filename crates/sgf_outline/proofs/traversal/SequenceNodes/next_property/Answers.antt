@@ -1,5 +1,4 @@
-use Rattle.sgf_outline.proofs.Common.{common_steps, properties_in, IsSpan, is_white_space}
-use Rattle.std.proofs.Common.{◌≡◌, ◌-◌, ◌∙◌, ◌∷◌, drop, refl, sym, ap, subst, arith}
+use Rattle.sgf_outline.proofs.Common.{◌≡◌, ◌-◌, ◌∙◌, ◌∷◌, drop, refl, sym, ap, subst, arith, common_steps, properties_in, IsSpan, is_white_space}
 use Rattle.sgf_properties.proofs.Iterating.{no-property, run-drop}
 use Rattle.sgf_properties.proofs.KeptLengths.{kept-drop}
 use Rattle.sgf_outline.proofs.Traversing.{past-property}

@@ -1,6 +1,5 @@
 -- No property is left, so the traversal is at the `;` of its next node.
-use Rattle.std.proofs.Common.{◌≡◌, ◌<◌, ◌∙◌, length, sym, ap, arith, refl}
-use Rattle.sgf_outline.proofs.Common.{games_in, NodesLeft, node_in, nodes_between}
+use Rattle.sgf_outline.proofs.Common.{◌≡◌, ◌<◌, ◌∙◌, length, sym, ap, arith, refl, games_in, NodesLeft, node_in, nodes_between}
 use Rattle.sgf_outline.proofs.Traversing.{IsNextAt, some-between, next-closed, into-node, past-front}
 use Rattle.sgf_outline.proofs.traversal.SequenceNodes.next_unread.Goals as goal
 use Rattle.sgf_outline.proofs.traversal.SequenceNodes.next_unread.Goals.{After-rest_from-node}
