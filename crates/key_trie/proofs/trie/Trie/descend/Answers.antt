@@ -1,6 +1,6 @@
 use Rattle.std.proofs.Common.{◌-◌, ◌<◌, ◌∙◌, ℕ, Bool, List, length, arith, rules, sym, ap, subst}
 use Rattle.key_trie.proofs.Common.{Node, IsTrieOf, IsOnWay, depth_of}
-use Rattle.key_trie.proofs.TrieLemmas.{trie_tree, way_goes_on, way_names}
+use Rattle.key_trie.proofs.TrieLemmas.{trie_tree, way_begins, way_goes_on, way_names}
 use Rattle.key_trie.proofs.trie.Trie.descend.Given.{Over}
 use Rattle.key_trie.proofs.trie.Trie.descend.Goals as goal
 use Rattle.key_trie.proofs.trie.Trie.descend.Goals.{After-as_slice-nodes, After-child-below-in-down}
@@ -34,3 +34,11 @@ down-preserved g c =
       there = next_there g w.After-child-below-in-down (is_trie g w.After-as_slice-nodes);
       deeper = search rules;
     }
+
+pub bounds-nodes-below-in-down : goal.bounds-nodes-below-in-down
+bounds-nodes-below-in-down g c =
+    let w = goal.at.bounds-nodes-below-in-down g c in
+    next_there g w.After-child-below-in-down (is_trie g w.After-as_slice-nodes)
+
+pub down-init : goal.down-init
+down-init g c = grind (arith, trie_tree, way_begins, way_names)
