@@ -166,10 +166,7 @@ kept_rest {row = row} h count high same = record {
   added = h.added;
   are = h.are;
   few = omega (arith, h.few, high);
-  each = λ r low. elim (cases_lt r row) [
-    | inl before ↦ h.each r before
-    | inr rest ↦ inr (same r rest low)
-  ];
+  each = λ r low. elim (cases_lt r row) [ inl before ↦ h.each r before | inr rest ↦ inr (same r rest low) ];
 }
 
 -- a row that has neither the stone nor what it clears

@@ -246,11 +246,7 @@ there-newest g start older changes held number end same is is_end past =
     let none : length older - number ≡ 0 = omega arith in
     let whole : take number older ≡ older = take_all number older (omega arith) in
     let all_changes : take end changes ≡ changes = take_all end changes (omega arith) in
-    record {
-      past = rw (whole, all_changes) past;
-      whole = rw (none, whole, all_changes) (sym same);
-      within = omega arith;
-    }
+    record { past = rw (whole, all_changes) past; whole = rw (none, whole, all_changes) (sym same); within = omega arith }
 
 -- that some colouring of the grid's side is there
 abbrev pub IsSomeThere : Grid → List Held → List Older → List Change → ℕ → ℕ → Type 0
@@ -318,18 +314,6 @@ passed_none newest start older changes held number point same is past all =
     }
 
 module _ (held : List Held) (older : List Older) (changes : List Change) (start number : ℕ) (newest : Grid) (point : Point) (on : IsOn newest.side point) (empty : cell_at newest point ≡ Empty) (at : IsPassed held older changes start number newest point) where
-  -- where the stretch starts, none is left
-  pub passed_all : start ≡ number → (made : Grid) → cell_at made point ≢ Empty → Contains (stretch_of held) made → ⊥
-  passed_all first made stone has =
-      let count : length (reverse (take number older)) ≡ number = length-reverse (take number older) ∙ length-take number older ∙ omega (arith, at.high) in
-      let begins : (start == length (reverse (take number older))) ≡ true = eq-eqb start _ (first ∙ sym count) in
-      let only : stretch_of (drop (length older - number) held) ≡ at.board ∷ [] =
-      ap stretch_of at.there.whole ∙ ap (λ b. at.board ∷ cond b [] (stretch_of (held_before at.board (reverse (take number older)) (take at.end changes)))) begins in
-      none_left ((contains-others at.board [] made (λ e. stone (ap (λ (g : Grid). cell_at g point) (sym e) ∙ at.fewer point on empty))).0 (subst (λ (gs : List Grid). Contains gs made) only (at.rest made stone has)))
-    where
-      none_left : Contains [] made → ⊥
-      none_left (k, h, e) = absurd (omega (arith, h))
-
   module _ (one : Older) (some : 0 < number) (is_one : one ≡ get_or older (number - 1) one) (later : start ≢ number) where
     look : IsLook held older number start at.board one
     look = look-from held older changes number at.end start at.board one some at.high is_one at.there later

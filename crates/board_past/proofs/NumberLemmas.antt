@@ -41,16 +41,10 @@ side-number side (x ∷ xs) all number g low at = elim (cases-number x xs number
 
 pub start-le : (held : List Held) → start_of held ≤ length held
 start-le [] = omega arith
-start-le (x ∷ xs) = elim (cases_Bool x.begins) [
-  | inl first ↦ rw first (omega arith)
-  | inr later ↦ rw later (omega (arith, start-le xs))
-]
+start-le (x ∷ xs) = elim (cases_Bool x.begins) [ inl first ↦ rw first (omega arith) | inr later ↦ rw later (omega (arith, start-le xs)) ]
 
 pub start-low : (x : Held) (xs : List Held) → start_of (x ∷ xs) ≤ length xs
-start-low x xs = elim (cases_Bool x.begins) [
-  | inl first ↦ rw first (omega arith)
-  | inr later ↦ rw later (start-le xs)
-]
+start-low x xs = elim (cases_Bool x.begins) [ inl first ↦ rw first (omega arith) | inr later ↦ rw later (start-le xs) ]
 
 -- a number of the present stretch has its start
 pub start-since : (held : List Held) (number : ℕ) → start_of held ≤ number → number < length held → start_of (since number held) ≡ start_of held

@@ -159,15 +159,8 @@ links_with held old now trie is same more room next linked =
 
 -- other hashes that are right may be kept
 pub with_hashes : (held : List Held) (table : Table) (hashes : Hashes) → IsAwakeTable held table → HasHashes held hashes → IsAwakeTable held (record table { hashes = hashes })
-with_hashes held table hashes is kept = record {
-  awake = is.awake;
-  printed = is.printed;
-  few = is.few;
-  linked = is.linked;
-  room = is.room;
-  most = is.most;
-  kept = kept;
-}
+with_hashes held table hashes is kept =
+    record { awake = is.awake; printed = is.printed; few = is.few; linked = is.linked; room = is.room; most = is.most; kept = kept }
 
 -- a number has one colouring, and so one hash
 pub at_number : (held : List Held) (number : ℕ) (one other : Grid) → IsNumber held number one → IsNumber held number other → hash_of one ≡ hash_of other
@@ -193,11 +186,11 @@ tabled_more held table after next print is printed pushed awake room most few tr
       kept = kept;
     }
 
--- the same while the table sleeps
-pub asleep_more : (held : List Held) (table : Table) (next : Held) → IsAsleepTable held table → HasRoomForNext held table → IsAsleepTable (next ∷ held) table
-asleep_more held table next is room = record {
+-- the same while the table sleeps: it has none of the colourings, but room for them
+asleep_with : (held other : List Held) (table : Table) → length other ≤ table.room_asleep → IsAsleepTable held table → IsAsleepTable other table
+asleep_with held other table fits is = record {
   asleep = is.asleep;
-  fits = omega (arith, room.asleep is.asleep);
+  fits = fits;
   no_prints = is.no_prints;
   no_items = is.no_items;
   room = is.room;
@@ -206,17 +199,11 @@ asleep_more held table next is room = record {
   kept = is.kept;
 }
 
+pub asleep_more : (held : List Held) (table : Table) (next : Held) → IsAsleepTable held table → HasRoomForNext held table → IsAsleepTable (next ∷ held) table
+asleep_more held table next is room = asleep_with held (next ∷ held) table (omega (arith, room.asleep is.asleep)) is
+
 pub asleep_less : (table : Table) (newest : Held) (older : List Held) → IsAsleepTable (newest ∷ older) table → IsAsleepTable older table
-asleep_less table newest older is = record {
-  asleep = is.asleep;
-  fits = omega (arith, is.fits);
-  no_prints = is.no_prints;
-  no_items = is.no_items;
-  room = is.room;
-  prints_room = is.prints_room;
-  most = is.most;
-  kept = is.kept;
-}
+asleep_less table newest older is = asleep_with (newest ∷ older) older table (omega (arith, is.fits)) is
 
 pub printed_back : (prints left : List ℕ) (last : ℕ) (newest : Held) (older : List Held) → prints ≡ left ++ last ∷ [] → reverse prints ≡ prints_of (newest ∷ older) → reverse left ≡ prints_of older
 printed_back prints left last newest older parts printed =

@@ -1,5 +1,5 @@
 use Rattle.std.proofs.Common.{false, arith}
-use Rattle.board_past.proofs.Common.{Point, Colour, play, Held, PastColourings, all_of, newest_grid, with_next}
+use Rattle.board_past.proofs.Common.{Point, Colour, play, Held, PastColourings, all_of, newest_grid, with_next, Fits-of_lt}
 use Rattle.board_past.proofs.RepeatLemmas.{emptied_by_play}
 use Rattle.board_past.proofs.AtOnceLemmas.{at_once_more, at_once_same}
 use Rattle.board_past.proofs.TableLemmas.{few_all, gap_same, print_same, table_same}
@@ -69,3 +69,6 @@ returns-clause-at_once c = λ below is.
     rw c.in_ok-add_stone.ensures.ok
     (at_once_same (with_next was (play (newest_grid was) c.args.colour c.args.point) false) c.args.table.now c.push.new.self below (omega (arith, c.push.ensures.room, c.reserve-2.ensures.room))
     (at_once_more was c.args.table.now below c.args.colour c.args.point is))
+
+pub overflow_cast-number : goal.overflow_cast-number
+overflow_cast-number c = Fits-of_lt (omega (arith, c.len-number.ensures, few_all (all_of c.args.colourings.now) c.args.table.now c.requires.table))

@@ -1,7 +1,7 @@
-use Rattle.std.proofs.Common.{◌∙◌, false, ap}
-use Rattle.board_past.proofs.Common.{play, PastColourings, newest_grid, with_next}
+use Rattle.std.proofs.Common.{◌∙◌, false, ap, arith}
+use Rattle.board_past.proofs.Common.{play, PastColourings, newest_grid, with_next, all_of}
 use Rattle.board_past.proofs.RepeatLemmas.{played_new, played_refused}
-use Rattle.board_past.proofs.TableLemmas.{gap_never}
+use Rattle.board_past.proofs.TableLemmas.{gap_never, tabled}
 use Rattle.board_past.proofs.past.print_past.PrintPast.play_by_print.Goals as goal
 
 pub returns-in_err-add_stone : goal.returns-in_err-add_stone
@@ -18,3 +18,6 @@ returns c =
     played_new k p c.args.self.now c.add_stone.new.colourings
     (gap_never c.self.inside.colourings c.args.self.now k p c.gap_of_stone.new.table c.in-Some.gap c.self.view_is c.in-Some.ensures.gap)
     (c.in_ok-add_stone.ensures.ok ∙ ap (λ (past : PastColourings). with_next past (play (newest_grid past) k p) false) c.self.view_is)
+
+pub newest-requires : goal.newest-requires
+newest-requires c = omega (arith, tabled (all_of c.self.inside.colourings) c.wake.new.self c.wake.ensures)

@@ -16,3 +16,9 @@ invariant_of-self c =
       emptied_in = emptied_more_at_once was.colourings was.table was.emptied was.at_once_below k p low is move c.self.invariant.emptied_in;
       at_once = at_once_more was.colourings was.table was.at_once_below k p is;
     })
+
+pub add_lone_stone-requires-clause-fresh : goal.add_lone_stone-requires-clause-fresh
+add_lone_stone-requires-clause-fresh c = λ _. rw c.self.view_is (c.may_repeat.ensures.fresh c.args.colour (rw (← c.self.view_is, ← c.newest-newest.ensures) (c.if-not-clears_nothing_at_a_glance.ensures refl)) (cc))
+
+pub returns-clause-new : goal.returns-clause-new
+returns-clause-new c = λ _. c.may_repeat.ensures.never c.args.colour (rw (← c.self.view_is, ← c.newest-newest.ensures) (c.if-not-clears_nothing_at_a_glance.ensures refl)) (cc)

@@ -1,3 +1,4 @@
+use Rattle.std.proofs.lemmas.Grind.{common_steps}
 use Rattle.std.proofs.Common.{◌≡◌, ◌+◌, ◌++◌, [], ◌∷◌, false, length, reverse, refl, ap, sym, subst, ◌∙◌, ◌<◌, IsTrue, arith, rules}
 use Rattle.board_past.proofs.Common.{Fits-of_lt, has_unreaching, play, IsMove, Older, PastColourings, newest_grid, with_next, is_full, is_fresh, is_settled, IsFreshStone, IsPast, KeepRows}
 use Rattle.board_past.proofs.ChangesLemmas.{play_cells}
@@ -47,3 +48,6 @@ invariant_of-self-2 c =
 
 pub returns-clause-ok : goal.returns-clause-ok
 returns-clause-ok c = (next (goal.at.returns-clause-ok c).After-push_reserved).1
+
+pub add_lone_stone-requires-clause-stone : goal.add_lone_stone-requires-clause-stone
+add_lone_stone-requires-clause-stone c = grind (arith, common_steps)

@@ -1,6 +1,7 @@
-use Rattle.std.proofs.Common.{◌≡◌, ◌↔◌, ◌-◌, ◌<◌, not, Contains, List, length, take, slice_range, reverse, drop, ap, sym, subst, ◌∙◌, arith, length-take}
+use Rattle.std.proofs.lemmas.Grind.{common_steps}
+use Rattle.std.proofs.Common.{◌≡◌, ◌↔◌, ◌-◌, ◌<◌, not, Contains, List, length, take, slice_range, reverse, drop, ap, sym, subst, ◌∙◌, arith, length-take, rules}
 use Rattle.board_past.proofs.Common.{false≢true, length-reverse, Empty, Grid, cell_at, all_of, present_stretch, stretch_of, step_back}
-use Rattle.board_past.proofs.ColouringsLemmas.{IsThere, IsStep, IsLook, started-le, step-from, look-from, contains-others}
+use Rattle.board_past.proofs.ColouringsLemmas.{IsThere, IsStep, IsLook, started-le, step-from, look-from, contains-others, there-newest}
 use Rattle.board_stones.proofs.GridLemmas.{Decides-cell_eq}
 use Rattle.board_past.proofs.past.print_past.colourings.Colourings.look_back.Goals as goal
 use Rattle.board_past.proofs.past.print_past.colourings.Colourings.look_back.Goals.{After-index-kept}
@@ -62,3 +63,22 @@ each-preserved c =
       high = omega (arith, c.each.invariant.high);
       same = earlier at;
     }
+
+pub returns-then-at-self : goal.returns-then-at-self
+returns-then-at-self c = grind (arith, common_steps)
+
+pub slice_bounds-step_back-count : goal.slice_bounds-step_back-count
+slice_bounds-step_back-count c = (step (goal.at.slice_bounds-step_back-count c).After-index-kept).low
+
+pub slice_bounds-step_back-start : goal.slice_bounds-step_back-start
+slice_bounds-step_back-start c = (step (goal.at.slice_bounds-step_back-start c).After-index-kept).low
+
+pub overflow_sub-cost : goal.overflow_sub-cost
+overflow_sub-cost c = (step (goal.at.overflow_sub-cost c).After-index-kept).low
+
+pub each-init : goal.each-init
+each-init c =
+    let p = c.self.inside in
+    let count : c.len-at.result ≡ length p.older.items = search rules in
+    let first = there-newest p.newest p.stretch_start p.older.items p.changes.items (all_of c.args.self.now) c.len-at.result c.len-end.result (ap all_of c.self.view_is) count (c.len-end.ensures ∙ p.changes.ok.0) c.self.invariant.0 in
+    record { there = rw c.copy-past.ensures first; side = search rules; high = omega (arith, count); same = grind arith }

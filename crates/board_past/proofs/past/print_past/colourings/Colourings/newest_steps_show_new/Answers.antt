@@ -1,3 +1,4 @@
+use Rattle.std.proofs.lemmas.Grind.{common_steps}
 use Rattle.std.proofs.Common.{◌≡◌, ◌≢◌, ◌<◌, length, take, reverse, ap, sym, subst, ◌∙◌, arith, rules, Contains, length-take}
 use Rattle.board_past.proofs.Common.{not-false, length-reverse, play, Grid, IsMove, PastColourings, all_of, newest_grid, present_stretch}
 use Rattle.board_past.proofs.ColouringsLemmas.{started-le, passed_none, passed_one, passed_fresh, fresh_on, fresh_there}
@@ -47,3 +48,6 @@ each-preserved c =
     let move = subst (λ (grid : Grid). IsMove grid c.requires.stone.0 c.args.point c.args.cleared.now) (same at) c.requires.stone.1 in
     passed_one (all_of c.args.self.now) p.older.items p.changes.items p.stretch_start c.each.number p.newest c.args.point move.on_board move.empty c.each.invariant c.index-step.result.now (some at) c.index-step.ensures
     (λ e. omega (arith, e, c.if-number-self.false)) (not-false _ c.if-not-step.false)
+
+pub returns-then-number-self : goal.returns-then-number-self
+returns-then-number-self c = grind (arith, common_steps)

@@ -91,3 +91,6 @@ returns-in-None-clause-has c =
     repeats held t is start.result c.args.print c.hash_in_key-hash.result c.child-near.result board past.0 start.ensures.start (omega (arith, start.ensures.below, tabled held t is, is.room, is.most))
     c.requires.print near past.1 side c.has_all_cells.ensures.few past.2 c.has_all_cells.ensures.all
     (subst (λ x. Agree x (keys_of t.hashed held c.child-near.result) WIDTH) c.new-key.ensures c.in-None.ensures.apart)
+
+pub returns-in-None-clause-gap : goal.returns-in-None-clause-gap
+returns-in-None-clause-gap c = tt
