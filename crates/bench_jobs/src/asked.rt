@@ -10,6 +10,7 @@ use std::alloc::{AllocError, Global};
 /// A job that is done on one text after another, and the digest of all that was written.
 #[derive(Drop)]
 pub(crate) struct Asked {
+    /// `None` if the words ask for no job, or if memory was refused.
     job: Option<Job>,
 }
 

@@ -1,4 +1,5 @@
-//! A board for making up games. It is quick and small, and knows captures, suicide and the simplest ko.
+//! A toy board for making up games, not the program's: quick and small, it knows captures and the simplest ko. The rules that the program
+//! judges by stand in `board_stones`, `board_past` and `go_board`.
 
 use crate::chance::Chance;
 
