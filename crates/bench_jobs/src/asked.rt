@@ -7,10 +7,10 @@ use sgf_lines::{BufferedSink, ReadSource, SliceSource, Source, WriteSink};
 use sgfsplit_job::{Job, act, job};
 use std::alloc::{AllocError, Global};
 
-/// A job that is done on one text after another, and the digest of all that was written.
+/// A job that is done on one text after another.
 #[derive(Drop)]
 pub(crate) struct Asked {
-    /// `None` if the words ask for no job, or if memory was refused.
+    /// `None` if memory was refused, or if the words ask for no job.
     job: Option<Job>,
 }
 
@@ -54,8 +54,7 @@ impl Asked {
         requires { (S.state source.old).failures < u64.MAX }
     {
         let Some(job) = &self.job else {
-            digest.add(99);
-            return Ok(());
+            return Err(AllocError);
         };
         let mut output = BufferedSink::new(alloc, Digest::new())?;
         let mut faults = WriteSink::new(Digest::new());

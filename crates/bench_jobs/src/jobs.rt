@@ -17,7 +17,7 @@ use std::alloc::{AllocError, Global};
 /// The bytes that a size stands for.
 const UNIT: usize = 1 << 16;
 
-/// The names of the jobs: libraries and collections of problems in list form, libraries in sgf form, libraries and collections of problems
+/// The names of the jobs, in the order of `run_one`: libraries and collections of problems in list form, libraries in sgf form, libraries and collections of problems
 /// in gtp form, joseki dictionaries, small games, what is rare, and libraries and games that a reader gives.
 const NAMES: [&str; 7] = [
     "verdicts", "games", "scripts", "joseki", "small", "awkward", "reader",
@@ -175,7 +175,7 @@ impl Bench {
         page.run(alloc, self.text.bytes(), &mut self.digest)
     }
 
-    /// Joseki dictionaries of so many parts, in list form and in sgf form.
+    /// Joseki dictionaries, which grow with `parts`, in list form and in sgf form.
     fn joseki(&mut self, alloc: Global, parts: usize) -> Result<(), AllocError> {
         let words = Words::new(alloc, 4096, &mut self.chance)?;
         for _ in 0..2 {
@@ -184,7 +184,7 @@ impl Bench {
         Ok(())
     }
 
-    /// A dictionary of so many parts, in list form and in sgf form.
+    /// One of these dictionaries.
     fn dictionary(&mut self, alloc: Global, words: &Words, parts: usize) -> Result<(), AllocError> {
         self.text.clear();
         add_joseki(alloc, &mut self.text, words, parts, &mut self.chance)?;

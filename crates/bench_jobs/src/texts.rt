@@ -18,7 +18,7 @@ use std::alloc::{AllocError, Global};
 #[derive(Drop)]
 pub(crate) struct Text {
     bytes: Vec<u8>,
-    /// Whether memory was refused, so that something is missing.
+    /// Whether memory was refused, so that something is missing, in this text or in one before it.
     is_cut: bool,
 }
 

@@ -1,4 +1,4 @@
-//! Points, sizes, pasts and numbers for the tests.
+//! Points, sizes, pasts, numbers and checks for the tests.
 
 ghost use Rattle.std.specs.Prelude.{◌≡◌, true, false};
 ghost use Rattle.board_past.specs.Past.{only, with_next, HaveSide};

@@ -11,7 +11,7 @@
 //! | `referee` | turns, setup, undo, another game; the messages of the faults |
 //! | `captures` | games with captures over both pasts |
 //! | `in_step` | the same calls of both pasts, also on many colourings with one print |
-//! | `given` | nothing: it has points, sizes and numbers for the other modules |
+//! | `given` | nothing: it has points, sizes, pasts, numbers and checks for the other modules |
 #![tactic(auto)]
 
 #[cfg(test)]

@@ -41,7 +41,7 @@ pub(crate) fn begin<P: Past>(rt: &impl Abort, alloc: Global, side: u8) -> Refere
     Referee::<P>::new(alloc, size(rt, side)).expect(rt, "a new game")
 }
 
-/// The board must have this score.
+/// The game must have this score.
 pub(crate) fn scores<P: Past>(rt: &impl Abort, referee: &Referee<P>, score: (u32, u32)) {
     holds(rt, referee.score() == score, "the score");
 }
@@ -100,7 +100,7 @@ const PASSES: [Answered; 5] = [
     (Colour::Black, Play::Pass, OVER, 2, true),
 ];
 
-/// Takes those turns, and takes back the last one.
+/// Takes those turns, and takes back White's pass.
 fn on_one<P: Past>(rt: &impl Abort, alloc: Global) {
     let mut game = begin::<P>(rt, alloc, 1);
     for &(colour, play, answer, turns, over) in &PASSES {

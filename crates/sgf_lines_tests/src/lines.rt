@@ -51,73 +51,56 @@ fn ko(alloc: Global, seen: &mut Seen) {
     judged(alloc, &ko, 2, repeat, seen);
 }
 
-/// The path and the place of a line, if there is one.
-type Line<'a> = Option<(&'a [usize], u64)>;
-
-/// The first line of `TWO`.
-const FIRST: Line<'static> = Some((&[0, 1], 8));
-
-/// Its second line.
-const SECOND: Line<'static> = Some((&[0, 2, 3], 22));
-
 /// Goes over the lines of the game of two lines, and seeks places.
 fn goes_over(alloc: Global, two: &Collection<'_>, seen: &mut Seen) {
     let outline = two.outline();
-    both(&mut Cursor::new(alloc, outline), seen);
-    places(&mut Cursor::new(alloc, outline), seen);
     let mut cursor = Cursor::new(alloc, outline);
-    next(&mut cursor, FIRST, seen);
+    both(&mut cursor, seen);
+    cursor = Cursor::new(alloc, outline);
+    places(&mut cursor, seen);
+    cursor = Cursor::new(alloc, outline);
+    next(&mut cursor, Some((&[0, 1], 8)), seen);
     // If memory is refused to the seek, the cursor stays before the second line.
     if cursor.seek_after(22).is_err() {
         seen.want();
     } else {
         cursor = Cursor::new(alloc, outline);
-        next(&mut cursor, FIRST, seen);
+        next(&mut cursor, Some((&[0, 1], 8)), seen);
     }
-    next(&mut cursor, SECOND, seen);
+    next(&mut cursor, Some((&[0, 2, 3], 22)), seen);
 }
 
 /// Goes over both lines. Two more calls must then find the end.
 fn both(cursor: &mut Cursor<'_, '_>, seen: &mut Seen) {
-    for line in [FIRST, SECOND, None, None] {
-        next(cursor, line, seen);
-    }
+    next(cursor, Some((&[0, 1], 8)), seen);
+    next(cursor, Some((&[0, 2, 3], 22)), seen);
+    next(cursor, None, seen);
+    next(cursor, None, seen);
 }
-
-/// Places to seek, whether a line has each, and the line after it.
-const PLACES: [(u64, bool, Line<'static>); 3] = [
-    (8, true, SECOND),
-    (16, false, None),
-    (22, true, None),
-];
 
 /// Seeks the places of both lines, and a place that no line has.
 fn places(cursor: &mut Cursor<'_, '_>, seen: &mut Seen) {
-    for &(place, is_line, line) in &PLACES {
-        seek(cursor, place, is_line, seen);
-        next(cursor, line, seen);
-    }
+    seek(cursor, 8, true, seen);
+    next(cursor, Some((&[0, 2, 3], 22)), seen);
+    seek(cursor, 16, false, seen);
+    next(cursor, None, seen);
+    seek(cursor, 22, true, seen);
+    next(cursor, None, seen);
 }
+
+/// The path and the place of a line, if there is one.
+type Line<'a> = Option<(&'a [usize], u64)>;
 
 /// Goes on by one line, which must be `line`. If memory was refused, the second call must give that line.
 fn next(cursor: &mut Cursor<'_, '_>, line: Line<'_>, seen: &mut Seen) {
     seen.call();
-    if is_refused(cursor, line, seen) && is_refused(cursor, line, seen) {
-        seen.wrong("a line was refused twice");
+    if let Ok(given) = cursor.next() {
+        return seen.right(is_line(given, line), "a line");
     }
-}
-
-/// Goes on by one line. Returns whether memory was refused.
-fn is_refused(cursor: &mut Cursor<'_, '_>, line: Line<'_>, seen: &mut Seen) -> bool {
+    seen.want();
     match cursor.next() {
-        Ok(given) => {
-            seen.right(is_line(given, line), "a line");
-            false
-        }
-        Err(_) => {
-            seen.want();
-            true
-        }
+        Ok(given) => seen.right(is_line(given, line), "a line after a refused one"),
+        Err(_) => seen.wrong("a line was refused twice"),
     }
 }
 
@@ -151,46 +134,35 @@ fn seek(cursor: &mut Cursor<'_, '_>, place: u64, is_line: bool, seen: &mut Seen)
     }
 }
 
-/// The scores of Black and White at the end of a line, and the line's place.
-type Followed = Option<(u32, u32, u64)>;
-
-/// The lines of `TWO`, and the end after them.
-const FOLLOWED: [Followed; 3] = [Some((9, 0, 8)), Some((1, 1, 22)), None];
-
 /// Follows both lines of the game of two lines. The next call must find the end. Then follows the line after the first.
 fn follows(alloc: Global, two: &Collection<'_>, seen: &mut Seen) {
-    follow_each(&mut Follower::new(alloc, two.outline()), &FOLLOWED, seen);
+    let mut follower = Follower::new(alloc, two.outline());
+    follow(&mut follower, Some((9, 0, 8)), seen);
+    follow(&mut follower, Some((1, 1, 22)), seen);
+    follow(&mut follower, None, seen);
     let mut cursor = Cursor::new(alloc, two.outline());
     seek(&mut cursor, 8, true, seen);
-    follow_each(&mut Follower::after(alloc, cursor), &FOLLOWED[1..], seen);
+    follower = Follower::after(alloc, cursor);
+    follow(&mut follower, Some((1, 1, 22)), seen);
+    follow(&mut follower, None, seen);
 }
 
-/// Follows these lines.
-fn follow_each(follower: &mut Follower<'_, '_>, lines: &[Followed], seen: &mut Seen) {
-    for line in lines {
-        follow(follower, *line, seen);
-    }
-}
+/// The scores of Black and White at the end of a line, and the line's place.
+type Followed = Option<(u32, u32, u64)>;
 
 /// Follows a line, which must be `line`. If memory was refused, the second call must give that line.
 fn follow(follower: &mut Follower<'_, '_>, line: Followed, seen: &mut Seen) {
     seen.call();
-    if isnt_followed(follower, line, seen) && isnt_followed(follower, line, seen) {
-        seen.wrong("a line was refused twice");
+    match follower.next() {
+        Ok(Some(verdict)) => return is_followed(follower, verdict, line, seen),
+        Ok(None) => return seen.right(line.is_none(), "the end of the lines"),
+        Err(_) => seen.want(),
     }
-}
-
-/// Follows a line. Returns whether memory was refused.
-fn isnt_followed(follower: &mut Follower<'_, '_>, line: Followed, seen: &mut Seen) -> bool {
     match follower.next() {
         Ok(Some(verdict)) => is_followed(follower, verdict, line, seen),
-        Ok(None) => seen.right(line.is_none(), "the end of the lines"),
-        Err(_) => {
-            seen.want();
-            return true;
-        }
+        Ok(None) => seen.right(line.is_none(), "the end after a refused line"),
+        Err(_) => seen.wrong("a line was refused twice"),
     }
-    false
 }
 
 /// The line that was followed must have this verdict and this place.
@@ -221,63 +193,51 @@ fn judged(
         return seen.wrong("no leaf");
     }
     seen.call();
-    let given = match judge(alloc, collection, leaf) {
-        Err(_) => {
-            seen.want();
-            judge(alloc, collection, leaf)
-        }
-        given => given,
-    };
-    seen.right(given == Ok(verdict), "a verdict");
+    if let Ok(given) = judge(alloc, collection, leaf) {
+        return seen.right(given == verdict, "a verdict");
+    }
+    seen.want();
+    match judge(alloc, collection, leaf) {
+        Ok(given) => seen.right(given == verdict, "a verdict after a refused one"),
+        Err(_) => seen.wrong("a verdict was refused twice"),
+    }
 }
-
-/// The counts of the game of two lines.
-const COUNTS: Counts = Counts {
-    games: 1,
-    nodes: 4,
-    lines: 2,
-};
 
 /// Counts the game of two lines, and counts again if memory was refused. Then writes the counts, which takes no memory.
 fn counts(alloc: Global, seen: &mut Seen) {
+    let mut source = SliceSource::new(TWO);
     seen.call();
-    if !is_counted(alloc, seen) && !is_counted(alloc, seen) {
-        seen.wrong("a count was refused twice");
-    }
-    let mut page = Page::new();
-    seen.call();
-    let written = write_counts(&mut page, &COUNTS);
-    seen.right(written == Ok(()), "counts written");
-    is_row(page.as_slice(), b"1 4 2\n", seen);
-    seen.right(page.flushes() == 1, "one flush of counts");
-    counts_without_room(seen);
-}
-
-/// Counts the game of two lines. Returns whether memory was not refused.
-fn is_counted(alloc: Global, seen: &mut Seen) -> bool {
-    match count(alloc, &mut SliceSource::new(TWO)) {
+    let counted = match count(alloc, &mut source) {
         Err(RunFault::Memory { lines: 0 }) => {
             seen.want();
-            false
+            let mut source = SliceSource::new(TWO);
+            count(alloc, &mut source)
         }
-        counted => {
-            seen.right(counted == Ok(COUNTS), "counts");
-            true
-        }
-    }
-}
-
-/// These bytes must be the row of counts, or its front.
-fn is_row(bytes: &[u8], row: &[u8], seen: &mut Seen) {
-    seen.right(bytes == row, "the row of counts");
+        counted => counted,
+    };
+    let counts = Counts {
+        games: 1,
+        nodes: 4,
+        lines: 2,
+    };
+    seen.right(counted == Ok(counts), "counts");
+    let mut page = Page::new();
+    seen.call();
+    let written = write_counts(&mut page, &counts);
+    seen.right(written == Ok(()), "counts written");
+    let is_row = page.as_slice() == b"1 4 2\n".as_slice();
+    seen.right(is_row, "the row of counts");
+    seen.right(page.flushes() == 1, "one flush of counts");
+    counts_without_room(&counts, seen);
 }
 
 /// Writes counts to an array in which their row doesn't fit.
-fn counts_without_room(seen: &mut Seen) {
+fn counts_without_room(counts: &Counts, seen: &mut Seen) {
     let mut sink = ArraySink::<3>::new();
     seen.call();
-    let written = write_counts(&mut sink, &COUNTS);
+    let written = write_counts(&mut sink, counts);
     let is_told = written == Err(RunFault::Write { lines: 0 });
     seen.right(is_told, "counts without room");
-    is_row(sink.as_slice(), b"1 4", seen);
+    let is_front = sink.as_slice() == b"1 4".as_slice();
+    seen.right(is_front, "the front of the row of counts");
 }

@@ -1,9 +1,9 @@
 //! Two games, one with more turns and one with more setups than a referee and its past have room for at first. Memory may be refused
 //! whenever they need more room.
 
-use crate::referee::{Shown, begin, set_up, turn, undo};
+use crate::referee::{Shown, begin, turn, undo};
 use crate::seen::Seen;
-use go_board::{Cell, Colour, Past, Play, Point, Reason, Rect, Referee};
+use go_board::{Cell, Colour, Past, Play, Point, Reason, Rect, Referee, SetupOp};
 use std::alloc::Global;
 
 /// The side of the boards.
@@ -103,15 +103,32 @@ fn many_setups<P: Past>(game: &mut Referee<P>, seen: &mut Seen) {
         } else {
             Cell::Black
         };
+        let before = Shown::of(game);
         let at = point(number % POINTS / SIDE * 2 * SIDE + number % SIDE);
-        let area = Rect {
-            first: at,
-            last: at,
-        };
-        set_up(game, cell, area, seen);
+        set_up(&before, game, cell, at, seen);
     }
     // Black has 110 stones and four rows between them, White has 80 stones and three rows.
     seen.right(game.score() == (186, 137), "the score of many setups");
+}
+
+/// Sets a stone up. `before` is what the game shows before the setup. If memory was refused, the game must still show that,
+/// and the stone is set up once more.
+fn set_up<P: Past>(before: &Shown, game: &mut Referee<P>, cell: Cell, at: Point, seen: &mut Seen) {
+    let side = game.board().size().side();
+    if at.col >= side || at.row >= side {
+        return seen.wrong("a point off the board");
+    }
+    let area = Rect {
+        first: at,
+        last: at,
+    };
+    let ops = [SetupOp { cell, area }];
+    seen.call();
+    if game.setup(&ops, None).is_err() {
+        seen.want();
+        seen.right(before.is_of(game), "a long game after a refused setup");
+        seen.right(game.setup(&ops, None).is_ok(), "a setup asked for again");
+    }
 }
 
 /// Takes back all that was done. The game must then be like `start`, which stays at its beginning.

@@ -112,72 +112,55 @@ impl Source for LineFeeds {
 /// Counts a text, and counts it again if memory was refused.
 fn counted(alloc: Global, read: Read, fails_late: bool, seen: &mut Seen) {
     seen.call();
-    if !is_counted(alloc, read, fails_late, seen) && !is_counted(alloc, read, fails_late, seen) {
-        seen.wrong("a count was refused twice");
-    }
-}
-
-/// Counts a text. Returns whether memory was not refused. Then there must be one game of one node, and the source must have been
-/// asked as often as needed.
-fn is_counted(alloc: Global, read: Read, fails_late: bool, seen: &mut Seen) -> bool {
     let mut source = source_of(read, fails_late);
     match count(alloc, &mut source) {
-        Err(RunFault::Memory { .. }) => {
-            seen.want();
-            false
-        }
-        answer => {
-            seen.right(answer == Ok(COUNTS), "the counts of a long text");
-            is_asked(&source, read, seen);
-            true
-        }
+        Err(RunFault::Memory { .. }) => seen.want(),
+        answer => return is_counted(answer, read, &source, seen),
     }
+    let mut source = source_of(read, fails_late);
+    let answer = count(alloc, &mut source);
+    is_counted(answer, read, &source, seen);
 }
 
-/// The counts of each text.
-const COUNTS: Counts = Counts {
-    games: 1,
-    nodes: 1,
-    lines: 1,
-};
-
-/// The source must have been asked as often as needed.
-fn is_asked(source: &LineFeeds, read: Read, seen: &mut Seen) {
+/// There must be one game of one node, and the source must have been asked as often as needed.
+fn is_counted(answer: Result<Counts, RunFault>, read: Read, source: &LineFeeds, seen: &mut Seen) {
     let (_, _, asked, _) = read;
-    seen.right(source.asked == asked, "how often a source is asked");
+    let counts = Counts {
+        games: 1,
+        nodes: 1,
+        lines: 1,
+    };
+    seen.right(answer == Ok(counts), "the counts of a long text");
+    seen.right(source.asked == asked, "how often a count asks");
 }
 
 /// Splits a text, and splits it again if memory was refused.
 fn splits(alloc: Global, read: Read, seen: &mut Seen) {
-    seen.call();
-    if !is_split(alloc, read, seen) && !is_split(alloc, read, seen) {
-        seen.wrong("a run was refused twice");
-    }
-}
-
-/// Splits a text. Returns whether memory was not refused. Then there must be one row, and the source must have been asked as often
-/// as needed.
-fn is_split(alloc: Global, read: Read, seen: &mut Seen) -> bool {
     let options = Options::all(Form::List);
+    seen.call();
     let mut source = source_of(read, false);
     let mut page = Page::new();
     match split(alloc, &mut source, &mut page, &options) {
-        Err(RunFault::Memory { .. }) => {
-            seen.want();
-            false
-        }
-        answer => {
-            seen.right(answer == Ok(1), "the line of a long text");
-            is_row(&page, read, seen);
-            is_asked(&source, read, seen);
-            true
-        }
+        Err(RunFault::Memory { .. }) => seen.want(),
+        answer => return is_split(answer, read, &source, &page, seen),
     }
+    let mut source = source_of(read, false);
+    let mut page = Page::new();
+    let answer = split(alloc, &mut source, &mut page, &options);
+    is_split(answer, read, &source, &page, seen);
 }
 
-/// The page must have the row of the text.
-fn is_row(page: &Page, read: Read, seen: &mut Seen) {
-    let (_, _, _, row) = read;
+/// There must be one row, and the source must have been asked as often as needed.
+fn is_split(
+    answer: Result<u64, RunFault>,
+    read: Read,
+    source: &LineFeeds,
+    page: &Page,
+    seen: &mut Seen,
+) {
+    let (_, _, asked, row) = read;
+    seen.right(answer == Ok(1), "the line of a long text");
     let is_whole = page.flushes() == 1 && page.as_slice() == row;
     seen.right(is_whole, "the row of a long text");
+    seen.right(source.asked == asked, "how often a run asks");
 }

@@ -84,8 +84,9 @@ fn push<P: Past>(
     if past.push(board).is_ok() {
         return Ok(());
     }
+    seen.want();
     let is_newest = past.newest().same(only);
-    seen.refused(is_newest, "the newest colouring after a refused push");
+    seen.right(is_newest, "the newest colouring after a refused push");
     let holds_one = past.holds(only) && !past.holds(board);
     seen.right(holds_one, "a past after a refused push");
     let again = past.push(board);
@@ -110,8 +111,9 @@ fn restart<P: Past>(
     if past.restart(board).is_ok() {
         return Ok(());
     }
+    seen.want();
     let is_newest = past.newest().same(second);
-    seen.refused(is_newest, "the newest colouring after a refused restart");
+    seen.right(is_newest, "the newest colouring after a refused restart");
     let holds_both = past.holds(first) && past.holds(second);
     seen.right(holds_both, "a stretch after a refused restart");
     seen.right(!past.holds(board), "a past after a refused restart");

@@ -157,7 +157,8 @@ fn turn_from<P: Past>(
     seen.call();
     let taken = match game.turn(colour, play) {
         Err(TurnFault::Memory) => {
-            seen.refused(before.is_of(game), "a game after a refused turn");
+            seen.want();
+            seen.right(before.is_of(game), "a game after a refused turn");
             seen.right(answer.is_ok(), "memory for an illegal turn");
             game.turn(colour, play)
         }
@@ -173,41 +174,33 @@ fn turn_from<P: Past>(
     }
 }
 
-/// Sets up white stones on the top row of three points.
+/// Sets up white stones on the top row of three points. If memory was
+/// refused, the game must be unchanged, and the stones are set up once more.
 fn set_top_up<P: Past>(game: &mut Referee<P>, seen: &mut Seen) {
+    let before = Shown::of(game);
+    set_top_up_from(&before, game, seen);
+}
+
+/// Sets up those stones. `before` is what the game shows before the setup.
+fn set_top_up_from<P: Past>(before: &Shown, game: &mut Referee<P>, seen: &mut Seen) {
+    if game.board().size().side() < 3 {
+        return seen.wrong("a board of fewer than three columns");
+    }
     let area = Rect {
         first: Point { col: 0, row: 0 },
         last: Point { col: 2, row: 0 },
     };
-    set_up(game, Cell::White, area, seen);
-    seen.right(game.depth() == 1, "a game after a setup");
-}
-
-/// Sets up stones in an area. If memory was refused, the game must be unchanged, and the stones are set up once more.
-pub fn set_up<P: Past>(game: &mut Referee<P>, cell: Cell, area: Rect, seen: &mut Seen) {
-    let before = Shown::of(game);
-    set_up_from(&before, game, cell, area, seen);
-}
-
-/// Sets up those stones. `before` is what the game shows before the setup.
-fn set_up_from<P: Past>(
-    before: &Shown,
-    game: &mut Referee<P>,
-    cell: Cell,
-    area: Rect,
-    seen: &mut Seen,
-) {
-    let side = game.board().size().side();
-    let Rect { first, last } = area;
-    if first.col > last.col || last.col >= side || first.row > last.row || last.row >= side {
-        return seen.wrong("an area that isn't on the board");
-    }
-    let ops = [SetupOp { cell, area }];
+    let ops = [SetupOp {
+        cell: Cell::White,
+        area,
+    }];
     seen.call();
     if game.setup(&ops, None).is_err() {
-        seen.refused(before.is_of(game), "a game after a refused setup");
+        seen.want();
+        seen.right(before.is_of(game), "a game after a refused setup");
         seen.right(game.setup(&ops, None).is_ok(), "a setup asked for again");
     }
+    seen.right(game.depth() == 1, "a game after a setup");
 }
 
 /// Adds the present state once more, and undoes that.
@@ -220,7 +213,8 @@ fn stay<P: Past>(game: &mut Referee<P>, seen: &mut Seen) {
 fn stay_from<P: Past>(before: &Shown, game: &mut Referee<P>, seen: &mut Seen) {
     seen.call();
     if game.stay().is_err() {
-        seen.refused(before.is_of(game), "a game after a refused stay");
+        seen.want();
+        seen.right(before.is_of(game), "a game after a refused stay");
         seen.right(game.stay().is_ok(), "a stay asked for again");
     }
     seen.right(game.depth() > before.depth, "a game after a stay");

@@ -30,44 +30,20 @@ pub fn calls(alloc: Global, seen: &mut Seen) {
     seen.no_growth();
 }
 
-/// What a text with many nodes is made of.
-#[derive(Clone, Copy)]
-enum Many {
-    Games,
-    Variations,
-    Nodes,
-}
-
-/// Reads a text with many nodes, and measures it. `counts` are the numbers of its games, nodes and leaves.
-fn reads(alloc: Global, text: &[u8], many: Many, counts: (usize, usize, usize), seen: &mut Seen) {
-    let (games, nodes, _) = counts;
-    if let Ok(collection) = collection(alloc, text, seen) {
-        seen.right(collection.games() == games, "the number of games");
-        seen.right(collection.nodes() == nodes, "the number of nodes");
-        match many {
-            Many::Games => each_is_a_game(&collection, seen),
-            Many::Variations => each_is_a_variation(&collection, seen),
-            Many::Nodes => each_goes_on(&collection, nodes.saturating_sub(1), seen),
-        }
-    }
-    measures(alloc, text, counts, seen);
-}
-
-/// The bytes `(;)(;)..`, from an offset on, after semicolons.
-fn many_games(first: usize) -> [u8; MOST] {
-    let mut text = [b';'; MOST];
-    for i in first..MOST {
-        text[i] = byte_of_games(i - first);
-    }
-    text
-}
-
 /// A text of games of a node each: `(;)(;)..(;)`.
 fn games(alloc: Global, count: u8, seen: &mut Seen) {
     let count = usize::from(count);
-    let text = many_games(0);
+    let mut text = [b';'; MOST];
+    for i in 0..MOST {
+        text[i] = byte_of_games(i);
+    }
     let text = front(&text, 3 * count);
-    reads(alloc, text, Many::Games, (count, count, count), seen);
+    if let Ok(collection) = collection(alloc, text, seen) {
+        seen.right(collection.games() == count, "the number of games");
+        has_nodes(&collection, count, seen);
+        each_is_a_game(&collection, seen);
+    }
+    measures(alloc, text, (count, count, count), seen);
 }
 
 /// Each node must be a game of its own.
@@ -82,11 +58,18 @@ fn each_is_a_game(collection: &Collection<'_>, seen: &mut Seen) {
 /// A text of a game with variations of a node each: `(;(;)(;)..(;))`.
 fn variations(alloc: Global, count: u8, seen: &mut Seen) {
     let count = usize::from(count);
-    let mut text = many_games(2);
+    let mut text = [b';'; MOST];
+    for i in 2..MOST {
+        text[i] = byte_of_games(i - 2);
+    }
     text[0] = b'(';
     text[(3 * count + 2).min(MOST - 1)] = b')';
     let text = front(&text, 3 * count + 3);
-    reads(alloc, text, Many::Variations, (1, count + 1, count), seen);
+    if let Ok(collection) = collection(alloc, text, seen) {
+        has_nodes(&collection, count + 1, seen);
+        each_is_a_variation(&collection, seen);
+    }
+    measures(alloc, text, (1, count + 1, count), seen);
 }
 
 /// Each node but the root must be a variation.
@@ -101,11 +84,16 @@ fn each_is_a_variation(collection: &Collection<'_>, seen: &mut Seen) {
 /// A text of a game without variations: `(;;..;)`.
 fn nodes(alloc: Global, count: u8, seen: &mut Seen) {
     let count = usize::from(count);
+    let last = count.saturating_sub(1);
     let mut text = [b';'; MOST];
     text[0] = b'(';
     text[(count + 1).min(MOST - 1)] = b')';
     let text = front(&text, count + 2);
-    reads(alloc, text, Many::Nodes, (1, count, 1), seen);
+    if let Ok(collection) = collection(alloc, text, seen) {
+        has_nodes(&collection, count, seen);
+        each_goes_on(&collection, last, seen);
+    }
+    measures(alloc, text, (1, count, 1), seen);
 }
 
 /// Each node must go on from the one before, up to the last.
@@ -133,6 +121,11 @@ fn front(bytes: &[u8], length: usize) -> &[u8] {
     } else {
         &[]
     }
+}
+
+/// The collection must have so many nodes.
+fn has_nodes(collection: &Collection<'_>, count: usize, seen: &mut Seen) {
+    seen.right(collection.nodes() == count, "the number of nodes");
 }
 
 /// Measures a text without long values. No memory may be asked for.

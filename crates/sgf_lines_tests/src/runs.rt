@@ -56,112 +56,104 @@ const SCRIPT: &[u8] =
 
 /// What a run reads, and what it writes.
 #[derive(Clone, Copy)]
-struct Run {
-    text: &'static [u8],
+struct Run<'a> {
+    text: &'a [u8],
     options: Options,
     /// The records, in order.
-    records: &'static [&'static [u8]],
+    records: &'a [&'a [u8]],
     /// How many nodes are played for the first 0, 1, 2 .. records.
-    plays: &'static [u64],
+    plays: &'a [u64],
 }
-
-/// The text, the form, the place before the page, the limit, the records, and the numbers of nodes played.
-type Row = (
-    &'static [u8],
-    Form,
-    Option<u64>,
-    Option<u64>,
-    &'static [&'static [u8]],
-    &'static [u64],
-);
-
-const RUNS: [Row; 12] = [
-    (TWO, Form::List, None, None, &[FIRST, SECOND], &[0, 2, 4]),
-    (TWO, Form::List, Some(8), None, &[SECOND], &[0, 3]),
-    (TWO, Form::List, Some(22), None, &[], &[0]),
-    (TWO, Form::List, None, Some(1), &[FIRST], &[0, 2]),
-    (TWO, Form::List, None, Some(0), &[], &[0]),
-    (TWO, Form::List, Some(8), Some(1), &[SECOND], &[0, 3]),
-    (COMMENT, Form::Gtp, None, None, &[SCRIPT], &[0, 3]),
-    (ILLEGAL, Form::List, None, None, &ILLEGAL_ROWS, &[0, 2, 2]),
-    (PASSES, Form::List, None, None, &PASSES_ROWS, &[0, 3, 4, 6]),
-    (PASSES, Form::Sgf, None, None, &PASSES_GAMES, &[0, 0, 0, 0]),
-    (TWO_GAMES, Form::Gtp, None, None, &TWO_SCRIPTS, &[0, 1, 2]),
-    (OTHER_GAME, Form::List, None, None, &OTHER_ROWS, &[0, 0, 0]),
-];
 
 /// Makes the runs.
 pub fn calls(alloc: Global, seen: &mut Seen) {
-    for &(text, form, after, limit, records, plays) in &RUNS {
+    pages(alloc, seen);
+    for (text, form, records, plays) in [
+        (COMMENT, Form::Gtp, [SCRIPT].as_slice(), [0, 3].as_slice()),
+        (ILLEGAL, Form::List, &ILLEGAL_ROWS, &[0, 2, 2]),
+        (PASSES, Form::List, &PASSES_ROWS, &[0, 3, 4, 6]),
+        (PASSES, Form::Sgf, &PASSES_GAMES, &[0, 0, 0, 0]),
+        (TWO_GAMES, Form::Gtp, &TWO_SCRIPTS, &[0, 1, 2]),
+        (OTHER_GAME, Form::List, &OTHER_ROWS, &[0, 0, 0]),
+    ] {
         let run = Run {
             text,
-            options: Options { form, after, limit },
+            options: Options::all(form),
             records,
             plays,
         };
-        both_ways(alloc, run, seen);
+        splits(alloc, run, seen);
+        splits_with_plays(alloc, run, seen);
     }
 }
 
-/// Splits a text, and does so with a count of plays. If memory was refused, does the same once more.
-fn both_ways(alloc: Global, run: Run, seen: &mut Seen) {
-    seen.call();
-    if is_refused(alloc, run, seen) && is_refused(alloc, run, seen) {
-        seen.wrong("a run was refused twice");
-    }
-    seen.call();
-    if is_refused_with_plays(alloc, run, seen) && is_refused_with_plays(alloc, run, seen) {
-        seen.wrong("a run with plays was refused twice");
+/// Makes the runs over pages of the game of two lines.
+fn pages(alloc: Global, seen: &mut Seen) {
+    for (after, limit, records, plays) in [
+        (None, None, [FIRST, SECOND].as_slice(), [0, 2, 4].as_slice()),
+        (Some(8), None, &[SECOND], &[0, 3]),
+        (Some(22), None, &[], &[0]),
+        (None, Some(1), &[FIRST], &[0, 2]),
+        (None, Some(0), &[], &[0]),
+        (Some(8), Some(1), &[SECOND], &[0, 3]),
+    ] {
+        let run = Run {
+            text: TWO,
+            options: Options {
+                form: Form::List,
+                after,
+                limit,
+            },
+            records,
+            plays,
+        };
+        splits(alloc, run, seen);
+        splits_with_plays(alloc, run, seen);
     }
 }
 
-/// Splits a text. Returns whether memory was refused. The sink must then hold whole records of
-/// the first lines and nothing else, and not be flushed.
-fn is_refused(alloc: Global, run: Run, seen: &mut Seen) -> bool {
+/// Splits a text. If memory was refused, the sink must hold whole records of
+/// the first lines and nothing else, and not be flushed. Then splits once more.
+fn splits(alloc: Global, run: Run<'_>, seen: &mut Seen) {
+    seen.call();
     let mut source = SliceSource::new(run.text);
     let mut page = Page::new();
     match split(alloc, &mut source, &mut page, &run.options) {
-        Err(RunFault::Memory { lines }) => {
-            is_cut(lines, &page, run, seen);
-            true
-        }
-        answer => {
-            is_whole(answer, &page, run, seen);
-            false
-        }
+        Err(RunFault::Memory { lines }) => is_cut(lines, &page, run, seen),
+        answer => return is_whole(answer, &page, run, seen),
     }
+    let mut source = SliceSource::new(run.text);
+    let mut page = Page::new();
+    let answer = split(alloc, &mut source, &mut page, &run.options);
+    is_whole(answer, &page, run, seen);
 }
 
 /// Does the same with a count of plays. If memory was refused, the count must be at least
 /// the number of plays for the written lines, and at most that for one more line.
-fn is_refused_with_plays(alloc: Global, run: Run, seen: &mut Seen) -> bool {
+fn splits_with_plays(alloc: Global, run: Run<'_>, seen: &mut Seen) {
+    seen.call();
     let mut source = SliceSource::new(run.text);
     let mut page = Page::new();
     let mut plays = Plays::new();
     match split_counted(alloc, &mut source, &mut page, &run.options, &mut plays) {
         Err(RunFault::Memory { lines }) => {
             is_cut(lines, &page, run, seen);
-            is_cut_in_plays(lines, plays.count(), run, seen);
-            true
+            let next = lines.saturating_add(1).min(run.records.len() as u64);
+            let count = plays.count();
+            seen.right(plays_of(run, lines) <= count, "plays of the lines");
+            seen.right(count <= plays_of(run, next), "plays of the next line");
         }
-        answer => {
-            is_whole(answer, &page, run, seen);
-            let all = plays_of(run, run.records.len() as u64);
-            seen.right(plays.count() == all, "the plays");
-            false
-        }
+        answer => return is_whole_with_plays(answer, &page, &plays, run, seen),
     }
-}
-
-/// So many plays must be at least those of the written lines, and at most those of one line more.
-fn is_cut_in_plays(lines: u64, count: u64, run: Run, seen: &mut Seen) {
-    let next = lines.saturating_add(1).min(run.records.len() as u64);
-    seen.right(plays_of(run, lines) <= count, "plays of the lines");
-    seen.right(count <= plays_of(run, next), "plays of the next line");
+    let mut source = SliceSource::new(run.text);
+    let mut page = Page::new();
+    let mut plays = Plays::new();
+    let answer = split_counted(alloc, &mut source, &mut page, &run.options, &mut plays);
+    is_whole_with_plays(answer, &page, &plays, run, seen);
 }
 
 /// How many nodes are played for the first `lines` records.
-fn plays_of(run: Run, lines: u64) -> u64 {
+fn plays_of(run: Run<'_>, lines: u64) -> u64 {
     match run.plays.get(lines as usize) {
         Some(plays) => *plays,
         None => u64::MAX,
@@ -169,14 +161,28 @@ fn plays_of(run: Run, lines: u64) -> u64 {
 }
 
 /// The run must have written the first `lines` records, and not flushed.
-fn is_cut(lines: u64, page: &Page, run: Run, seen: &mut Seen) {
-    seen.refused(page.flushes() == 0, "a flush after refused memory");
+fn is_cut(lines: u64, page: &Page, run: Run<'_>, seen: &mut Seen) {
+    seen.want();
+    seen.right(page.flushes() == 0, "a flush after refused memory");
     let are_first = has_first(page.as_slice(), run.records, lines);
     seen.right(are_first, "records after refused memory");
 }
 
+/// The run must have written all records, flushed once, and counted the plays for all records.
+fn is_whole_with_plays(
+    answer: Result<u64, RunFault>,
+    page: &Page,
+    plays: &Plays,
+    run: Run<'_>,
+    seen: &mut Seen,
+) {
+    is_whole(answer, page, run, seen);
+    let all = plays_of(run, run.records.len() as u64);
+    seen.right(plays.count() == all, "the plays");
+}
+
 /// The run must have written all records, and flushed once.
-fn is_whole(answer: Result<u64, RunFault>, page: &Page, run: Run, seen: &mut Seen) {
+fn is_whole(answer: Result<u64, RunFault>, page: &Page, run: Run<'_>, seen: &mut Seen) {
     let lines = run.records.len() as u64;
     seen.right(answer == Ok(lines), "the answer of a run");
     let are_all = has_first(page.as_slice(), run.records, lines);
@@ -191,10 +197,14 @@ fn has_first(bytes: &[u8], records: &[&[u8]], lines: u64) -> bool {
     }
     let mut rest = bytes;
     for record in &records[..lines as usize] {
-        match rest.strip_prefix(*record) {
-            Some(after) => rest = after,
-            None => return false,
+        if rest.len() < record.len() {
+            return false;
         }
+        let (front, after) = rest.split_at(record.len());
+        if front != *record {
+            return false;
+        }
+        rest = after;
     }
     rest.is_empty()
 }

@@ -50,12 +50,6 @@ impl Seen {
         self.wanted_in = self.growth;
     }
 
-    /// Counts a call to which memory was refused. If `holds` is false, keeps `what` as wrong.
-    pub fn refused(&mut self, holds: bool, what: &'static str) {
-        self.want();
-        self.right(holds, what);
-    }
-
     /// If `holds` is false, keeps `what` as wrong.
     pub fn right(&mut self, holds: bool, what: &'static str) {
         if !holds {

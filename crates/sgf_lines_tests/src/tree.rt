@@ -8,11 +8,11 @@ use std::alloc::Global;
 pub const TWO: &[u8] = b"(;SZ[3](;B[aa])(;B[bb];W[aa]))";
 
 /// For each node of `TWO`: its parent, its place, whether it is a leaf, and the last node below it.
-const NODES: [(Option<usize>, usize, (bool, usize)); 4] = [
-    (None, 1, (false, 3)),
-    (Some(0), 8, (true, 1)),
-    (Some(0), 16, (false, 3)),
-    (Some(2), 22, (true, 3)),
+const NODES: [(Option<usize>, usize, bool, usize); 4] = [
+    (None, 1, false, 3),
+    (Some(0), 8, true, 1),
+    (Some(0), 16, false, 3),
+    (Some(2), 22, true, 3),
 ];
 
 /// Raw values, and their decoded text.
@@ -95,12 +95,14 @@ pub fn collection<'a>(
 
 /// Whether the collection has exactly the nodes of `TWO`.
 fn is_two(collection: &Collection<'_>) -> bool {
-    for (i, node) in NODES.iter().enumerate() {
-        if i >= collection.nodes() || collection.game_of(i) != 1 {
-            return false;
-        }
-        let ends = (collection.is_leaf(i), collection.last_below(i));
-        if (collection.parent(i), collection.place(i), ends) != *node {
+    for (i, (parent, place, is_leaf, last_below)) in NODES.iter().enumerate() {
+        if i >= collection.nodes()
+            || collection.game_of(i) != 1
+            || collection.parent(i) != *parent
+            || collection.place(i) != *place
+            || collection.is_leaf(i) != *is_leaf
+            || collection.last_below(i) != *last_below
+        {
             return false;
         }
     }
@@ -125,14 +127,9 @@ fn name(collection: &Collection<'_>, out: &mut Vec<u8>, seen: &mut Seen) {
     };
     append_text(b"x", b"", out, seen);
     append_name(&property, b"x", out, seen);
-    has(out, b"xGM", "a name appended", seen);
+    seen.right(out.as_slice() == b"xGM".as_slice(), "a name appended");
     append_node(&collection.node(0), b"xGM", out, seen);
-    has(out, b"xGM;GM[1]", "a node appended", seen);
-}
-
-/// The vector must have these bytes.
-fn has(out: &Vec<u8>, bytes: &[u8], what: &'static str, seen: &mut Seen) {
-    seen.right(out.as_slice() == bytes, what);
+    seen.right(out.as_slice() == b"xGM;GM[1]".as_slice(), "a node appended");
 }
 
 /// Appends a name to a vector with these bytes. If memory was refused, the
@@ -141,7 +138,7 @@ fn append_name(property: &PropRef<'_>, before: &[u8], out: &mut Vec<u8>, seen: &
     seen.call();
     if property.push_name(out).is_err() {
         seen.want();
-        has(out, before, "a vector after a refused name", seen);
+        seen.right(out.as_slice() == before, "a vector after a refused name");
         seen.right(property.push_name(out).is_ok(), "a name asked for again");
     }
 }
@@ -152,7 +149,7 @@ fn append_node(node: &NodeRef<'_, '_>, before: &[u8], out: &mut Vec<u8>, seen: &
     seen.call();
     if node.push_to(out).is_err() {
         seen.want();
-        has(out, before, "a vector after a refused node", seen);
+        seen.right(out.as_slice() == before, "a vector after a refused node");
         seen.right(node.push_to(out).is_ok(), "a node asked for again");
     }
 }
@@ -168,7 +165,7 @@ fn texts(alloc: Global, seen: &mut Seen) {
 /// Appends a decoded text to an empty vector, and then once more.
 fn text_twice(raw: &[u8], text: &[u8], out: &mut Vec<u8>, seen: &mut Seen) {
     append_text(raw, b"", out, seen);
-    has(out, text, "a decoded text", seen);
+    seen.right(out.as_slice() == text, "a decoded text");
     append_text(raw, text, out, seen);
     let (first, second) = out.as_slice().split_at(out.len() / 2);
     let is_twice = first == text && second == text;
@@ -181,7 +178,7 @@ fn append_text(raw: &[u8], before: &[u8], out: &mut Vec<u8>, seen: &mut Seen) {
     seen.call();
     if push_text(raw, out).is_err() {
         seen.want();
-        has(out, before, "a vector after a refused text", seen);
+        seen.right(out.as_slice() == before, "a vector after a refused text");
         seen.right(push_text(raw, out).is_ok(), "a text asked for again");
     }
 }
