@@ -1,6 +1,6 @@
 //! The board: reading and setting points, moves and the score (Tromp-Taylor).
 
-ghost use Rattle.std.specs.Prelude.{◌≡◌, IsTrue, false, ◌*◌, ◌<◌, ◌≤◌, ◌↔◌, ℕ, length};
+ghost use Rattle.std.specs.Prelude.{◌≡◌, IsTrue, false, ◌*◌, ◌<◌, ◌≤◌, ◌↔◌, ℕ, length, if◌then◌else◌};
 ghost use Rattle.board_stones.specs.declared.stones.Cell.TheVariants.{Empty};
 ghost use Rattle.board_stones.specs.declared.stones.Colour.TheVariants.{Black, White};
 ghost use Rattle.board_points.specs.declared.points.Point.{Point};
@@ -15,11 +15,9 @@ ghost use Rattle.board_stones.specs.inner.Regions.{AreStones, grid_with, with_co
 mod flood;
 mod rectangles;
 pub(crate) mod regions;
-pub(crate) mod stone_rows;
 
-use crate::board::stone_rows::{cell_in, with_columns};
 use crate::stones::{Cell, Colour};
-use board_points::columns::{columns_left, with_column};
+use board_points::columns::{columns_left, has_column, with_column};
 use board_points::quick::halves::HALF;
 use board_points::rows::{count_apart, no_rows};
 use board_points::{MAX_POINTS, MAX_ROWS, Point, Size};
@@ -85,7 +83,15 @@ impl Board {
         ensures { result ≡ cell_at self.now point }
     {
         let row = usize::from(point.row);
-        cell_in(self.black[row], self.white[row], usize::from(point.col))
+        let col = usize::from(point.col);
+        if has_column(self.black[row], col) {
+            return Cell::Black;
+        }
+        if has_column(self.white[row], col) {
+            Cell::White
+        } else {
+            Cell::Empty
+        }
     }
 
     /// The columns of a row that have a stone of a colour, as a word with a bit for each column.
@@ -267,5 +273,18 @@ impl Board {
         let black_reach = self.all_reach(Colour::Black);
         let white_reach = self.all_reach(Colour::White);
         !(black_reach & white_reach)
+    }
+}
+
+/// The word of the stones of one kind, once some columns have a cell.
+#[tactic(auto, using(crate::proofs::StoneRowsLemmas::columns_set, crate::proofs::StoneRowsLemmas::columns_cleared, crate::proofs::GridLemmas::grid_rules))]
+fn with_columns(word: u64, columns: u64, cell: Cell, stone: Cell) -> u64
+    ensures { (col : ℕ) → has_bit result col
+        ≡ (if has_bit columns col then same_cell cell stone else has_bit word col) }
+{
+    if cell == stone {
+        word | columns
+    } else {
+        word & !columns
     }
 }

@@ -15,7 +15,6 @@
 //! | `setup_op` | one operation of a setup: an area, and what its points become |
 //! | `steps` | a count of work |
 //! | `board` | the board: reading, setting, moves, score |
-//! | `board/stone_rows` | the stones of a row as bits |
 //! | `board/flood` | the flood that counts its steps |
 //! | `board/regions` | sets of points by what stands on them; filling these shows the score and who reaches empty |
 //! | `board/rectangles` | colouring the rectangles of a setup, and emptying sets of points |
