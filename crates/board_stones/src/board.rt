@@ -9,7 +9,7 @@ ghost use Rattle.board_stones.specs.Grid.{Grid, cell_at, with_cell, empty_grid, 
 ghost use Rattle.board_points.specs.Point.{IsOn};
 ghost use Rattle.board_stones.specs.Colour.{same_cell, stone_of};
 ghost use Rattle.board_stones.specs.Score.{score_of};
-ghost use Rattle.board_points.specs.Rows.{has_bit};
+ghost use Rattle.board_points.specs.Rows.{has_bit, AreRowsOf};
 ghost use Rattle.board_stones.specs.inner.Regions.{AreStones, grid_with, with_columns};
 
 mod flood;
@@ -91,6 +91,18 @@ impl Board {
             Cell::White
         } else {
             Cell::Empty
+        }
+    }
+
+    /// The points with a stone of a colour.
+    pub fn rows_of(&self, colour: Colour) -> &[u64]
+        ensures are { AreRowsOf self.now.side (λ p. same_cell (cell_at self.now p) (stone_of colour)) result.now }
+        ensures rows { length result.now ≡ self.now.side }
+    {
+        let side = usize::from(self.size.side());
+        match colour {
+            Colour::Black => &self.black[..side],
+            Colour::White => &self.white[..side],
         }
     }
 

@@ -2,8 +2,7 @@
 
 ghost use Rattle.std.specs.Prelude.{◌≡◌, ◌↔◌, IsTrue, length};
 ghost use Rattle.board_stones.specs.declared.stones.Cell.TheVariants.{Empty};
-ghost use Rattle.board_stones.specs.Colour.{same_cell, stone_of};
-ghost use Rattle.board_stones.specs.Grid.{cell_at};
+ghost use Rattle.board_stones.specs.Colour.{stone_of};
 ghost use Rattle.board_stones.specs.inner.Groups.{AllReach, is_shut};
 ghost use Rattle.board_points.specs.Rows.{AreRowsOf};
 ghost use Rattle.board_stones.specs.inner.Regions.{reaches_through_own};
@@ -26,18 +25,6 @@ impl Board {
         area.copy_from_slice(self.rows_of(colour));
         other_points(self.rows_of(colour.opponent()), region);
         fill(area, region);
-    }
-
-    /// The points with a stone of a colour.
-    pub fn rows_of(&self, colour: Colour) -> &[u64]
-        ensures are { AreRowsOf self.now.side (λ p. same_cell (cell_at self.now p) (stone_of colour)) result.now }
-        ensures rows { length result.now ≡ self.now.side }
-    {
-        let side = usize::from(self.size.side());
-        match colour {
-            Colour::Black => &self.black[..side],
-            Colour::White => &self.white[..side],
-        }
     }
 
     /// Whether all stones of a colour reach empty.
