@@ -1,13 +1,13 @@
-//! What a stone clears, as rows of bits: the groups beside it that it captures, or its own group by suicide. `Board::place` is the
+//! What a stone clears, as rows of bits: nothing, the groups beside it that it captures, or its own group by suicide. `Board::place` is the
 //! plain way.
 
-ghost use Rattle.std.specs.Prelude.{◌≡◌, ◌↔◌, ◌⊎◌, [], IsTrue, IsFalse, length};
+ghost use Rattle.std.specs.Prelude.{◌≡◌, ◌↔◌, ◌⊎◌, [], false, IsTrue, IsFalse, length};
 ghost use Rattle.board_stones.specs.declared.stones.Cell.TheVariants.{Empty};
 ghost use Rattle.board_points.specs.declared.points.Point.{Point};
 ghost use Rattle.board_points.specs.Point.{IsOn};
 ghost use Rattle.board_stones.specs.Colour.{stone_of};
 ghost use Rattle.board_stones.specs.Grid.{cell_at};
-ghost use Rattle.board_stones.specs.Clearing.{play};
+ghost use Rattle.board_stones.specs.Clearing.{has_unreaching, play};
 ghost use Rattle.board_stones.specs.Reaching.{Reaches};
 ghost use Rattle.board_stones.specs.inner.Groups.{AreKnownAlive, ReachesIfStone, AddsGroup, AddsShut, AreShutGroups, AreClearedOrReachBeside, IsAsked, ReachBeside};
 ghost use Rattle.board_stones.specs.Move.{IsEmptyOnSettled, IsMove, Clears};
@@ -17,10 +17,25 @@ use crate::board::Board;
 use crate::stones::{Cell, Colour};
 use board_points::Point;
 use board_points::columns::has_column;
+use board_points::quick::glance::leaves_all_alive;
 use board_points::quick::group::{add_to_either, fill_if_shut, lives_in_row};
 use board_points::rows::{has_point, no_rows, remove_all};
 
 impl Board {
+    /// Whether a glance at the rows around an empty point shows that a stone there captures nothing, and isn't suicide. It shows this of
+    /// most stones, and of the others nothing.
+    #[inline(always)]
+    pub fn clears_nothing_at_a_glance(&self, colour: Colour, point: Point) -> bool
+        requires on_board { IsOn self.now.side point }
+        requires settled { has_unreaching self.now ≡ false }
+        ensures { IsTrue result → Clears self.now colour point [] }
+    {
+        self.has_all_cells();
+        let own = self.rows_of(colour);
+        let others = self.rows_of(colour.opponent());
+        leaves_all_alive(own, others, point)
+    }
+
     /// Finds what a stone on an empty point clears, by capture or else by suicide. `cleared` must have no points. If the stone clears something,
     /// `cleared` becomes that; if not, false is returned, and what is in `cleared` says nothing.
     /// Before the move every stone on the board must reach empty. So after it only the stone's own group and the groups beside the
