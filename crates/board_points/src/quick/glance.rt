@@ -38,7 +38,13 @@ pub fn leaves_all_alive(own: &[u64], others: &[u64], point: Point) -> bool
     if row < 2 || own.len() <= row + 2 {
         return alive_near_the_edge(own, others, point);
     }
-    alive_inside(own, others, point)
+    let off = columns_off(own.len());
+    let first = row_inside(own, others, off, row - 2);
+    let above = row_inside(own, others, off, row - 1);
+    let here = row_inside(own, others, off, row);
+    let below = row_inside(own, others, off, row + 1);
+    let last = row_inside(own, others, off, row + 2);
+    five_rows_show_alive(own, others, point, off, first, above, here, below, last)
 }
 
 /// Whether a player's stone on a point has a free point above or below it, and no stone of the opponent beside it. This is the quickest to
@@ -95,25 +101,6 @@ fn next_below(own: &[u64], others: &[u64], row: usize) -> NextRow
         own: u64::MAX,
         others: 0,
     }
-}
-
-/// The same as `leaves_all_alive`, for a point that has two rows above it and two below it.
-#[inline(always)]
-fn alive_inside(own: &[u64], others: &[u64], point: Point) -> bool
-    requires rows { AreOfOneBoard own.now others.now }
-    requires on_board { IsOn (length own.now) point }
-    requires above { 2 ≤ point.row }
-    requires below { point.row + 2 < length own.now }
-    ensures { IsTrue result → LeavesAllAlive own.now others.now point }
-{
-    let off = columns_off(own.len());
-    let row = usize::from(point.row);
-    let first = row_inside(own, others, off, row - 2);
-    let above = row_inside(own, others, off, row - 1);
-    let here = row_inside(own, others, off, row);
-    let below = row_inside(own, others, off, row + 1);
-    let last = row_inside(own, others, off, row + 2);
-    five_rows_show_alive(own, others, point, off, first, above, here, below, last)
 }
 
 /// The same as `leaves_all_alive`, for every point.
