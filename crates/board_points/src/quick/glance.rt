@@ -1,10 +1,10 @@
 //! A glance at the rows around a player's stone. It shows of most stones that they are alive, and that the opponent's stones beside
 //! them still are. Of the others it shows nothing.
 
-ghost use Rattle.std.specs.Prelude.{◌≡◌, ◌+◌, ◌<◌, ◌≤◌, false, ℕ, IsTrue, length};
+ghost use Rattle.std.specs.Prelude.{◌≡◌, ◌+◌, ◌<◌, false, ℕ, IsTrue, IsFalse, length};
 ghost use Rattle.board_points.specs.declared.points.Point.{Point};
 ghost use Rattle.board_points.specs.Point.{IsOn};
-ghost use Rattle.board_points.specs.Rows.{has_bit};
+ghost use Rattle.board_points.specs.Rows.{has_bit, is_set};
 ghost use Rattle.board_points.specs.inner.Columns.{IsOpenBeside};
 ghost use Rattle.board_points.specs.inner.Look.{AreColumnsOff, IsNextRow, IsRowAt};
 ghost use Rattle.board_points.specs.Glance.{LeavesAllAlive};
@@ -56,45 +56,26 @@ fn stands_apart(own: &[u64], others: &[u64], point: Point) -> bool
     ensures { IsTrue result → LeavesAllAlive own.now others.now point }
 {
     let row = usize::from(point.row);
-    let above = next_above(own, others, row);
-    let below = next_below(own, others, row);
+    let above = next_row(own, others, row > 0, row.wrapping_sub(1));
+    let below = next_row(own, others, row + 1 < own.len(), row + 1);
     let touched = columns_beside(above.others, others[row], below.others);
     let closed = above.own & below.own;
     !has_column(touched | closed, usize::from(point.col))
 }
 
-/// The row above a row.
-#[tactic(auto, using(crate::proofs::GlanceLemmas::next_row, crate::proofs::GlanceLemmas::no_next_row))]
+/// The row `next` next to a row. `there` tells whether the board has it.
 #[inline(always)]
-fn next_above(own: &[u64], others: &[u64], row: usize) -> NextRow
+fn next_row(own: &[u64], others: &[u64], there: bool, next: usize) -> NextRow
     requires rows { AreOfOneBoard own.now others.now }
-    requires row { row < length own.now }
-    ensures { IsNextRow own.now others.now row 1 result }
+    requires there { IsTrue there → next < length own.now }
+    ensures { (row i : ℕ) → (IsTrue there → next + 2 ≡ row + i)
+        → (IsFalse there → (point : Point) → point.row + 2 ≡ row + i → is_set others.now point ≡ false)
+        → IsNextRow own.now others.now row i result }
 {
-    if row > 0 {
+    if there {
         return NextRow {
-            own: own[row - 1],
-            others: others[row - 1],
-        };
-    }
-    NextRow {
-        own: u64::MAX,
-        others: 0,
-    }
-}
-
-/// The row below a row.
-#[tactic(auto, using(crate::proofs::GrowLemmas::row_below, crate::proofs::GlanceLemmas::next_row, crate::proofs::GlanceLemmas::no_next_row))]
-#[inline(always)]
-fn next_below(own: &[u64], others: &[u64], row: usize) -> NextRow
-    requires rows { AreOfOneBoard own.now others.now }
-    requires row { row < length own.now }
-    ensures { IsNextRow own.now others.now row 3 result }
-{
-    if row + 1 < own.len() {
-        return NextRow {
-            own: own[row + 1],
-            others: others[row + 1],
+            own: own[next],
+            others: others[next],
         };
     }
     NextRow {
