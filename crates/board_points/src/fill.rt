@@ -4,7 +4,7 @@ ghost use Rattle.std.specs.Prelude.{◌≡◌, ◌≢◌, ℕ, ◌+◌, ◌<◌,
 ghost use Rattle.board_points.specs.declared.fill.Direction.TheVariants.{Up};
 ghost use Rattle.board_points.specs.inner.Fill.{IsFilledBut, IsNext, AreRowsBelow, HaveMore};
 ghost use Rattle.board_points.specs.Rows.{IsWithin, has_bit, is_set, IsClosed, Grows};
-ghost use Rattle.board_points.specs.inner.Columns.{IsPart, HasBeside, IsWidened};
+ghost use Rattle.board_points.specs.inner.Columns.{IsPart, HasBeside};
 
 use crate::columns::{columns_apart, with_column, without_column};
 
@@ -167,7 +167,8 @@ pub(crate) fn widened(seed: u64, region: u64) -> (u64, u64)
         → IsPart (has_bit result.0) set }
     ensures left { (col : ℕ) → has_bit result.1 col ≡ (has_bit region col && not (has_bit result.0 col)) }
 {
-    let mut word = carried(seed, region);
+    // the carry of a sum finds the columns of the region that follow one of the seed without a gap
+    let mut word = region & !region.wrapping_add(seed) | seed;
     let mut left = columns_apart(region, word);
     'widen: loop {
         let before = word >> 1 & left;
@@ -177,12 +178,4 @@ pub(crate) fn widened(seed: u64, region: u64) -> (u64, u64)
         word |= before;
         left = columns_apart(left, before);
     }
-}
-
-/// A set of columns, widened by the columns of the region that follow one of them without a gap. The carry of a sum finds these.
-fn carried(seed: u64, region: u64) -> u64
-    requires { IsPart (has_bit seed) (has_bit region) }
-    ensures { IsWidened region seed result }
-{
-    region & !region.wrapping_add(seed) | seed
 }

@@ -1,7 +1,16 @@
-use Rattle.std.proofs.Common.{◌/◌, ◌^◌, bit_and, sym, ◌∙◌, rules}
+use Rattle.std.proofs.Common.{◌/◌, ◌^◌, bit_and, sym, ◌∙◌, arith, rules}
 use Rattle.std.proofs.lemmas.Bool.{and_parts}
-use Rattle.board_points.proofs.CarryLemmas.{IsWidened-before, in_before, HasBeside-none, AreLeft-before, fewer_left}
+use Rattle.board_points.proofs.CarryLemmas.{IsWidened-carried, IsWidened-before, in_before, HasBeside-none, AreLeft-before, fewer_left}
 use Rattle.board_points.proofs.fill.widened.Goals as goal
+
+pub columns_apart-left-requires : goal.columns_apart-left-requires
+columns_apart-left-requires c = (IsWidened-carried c.args.region c.args.seed (omega (arith, c.ranges.region.fits)) c.requires).within
+
+pub widen-init : goal.widen-init
+widen-init c = record {
+  wide = IsWidened-carried c.args.region c.args.seed (omega (arith, c.ranges.region.fits)) c.requires;
+  left = c.columns_apart-left.ensures;
+}
 
 pub returns-then-before-eq0-clause-closed : goal.returns-then-before-eq0-clause-closed
 returns-then-before-eq0-clause-closed c =
