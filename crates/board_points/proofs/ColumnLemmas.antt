@@ -1,8 +1,8 @@
 -- Words as sets of columns: the columns of a row, those between two of them, and a word with a column added or taken.
 use Rattle.std.proofs.Common.{◌≡◌, ◌≢◌, inl, inr, ℕ, ◌+◌, ◌-◌, ◌*◌, ◌^◌, ◌%◌, ◌<◌, ◌==◌, ◌||◌, ◌&&◌, Bool, true, false, not, bit_and, bit_or, w64, refl, sym, ap, ◌∙◌, arith, ◌≤◌, nat_le, leb-true, le-leb, mod-eq_of_lt, pow_pos}
-use Rattle.board_points.proofs.Common.{bit_at, bit_not, trailing_zeros, leading_zeros, or-true, and-true, and-false, or_right, and_parts, and_from, false≢true, cases_eq, cases_lt, common_steps, pow_below, mod_below, leading_top, bit_at_set_same, bit_at_set_other, bit_at_mask_inside, bit_at_mask_above, bit_at_mask_below, bit_at-trailing_zeros, bit_at_cat_high, has_bit, IsPart}
+use Rattle.board_points.proofs.Common.{bit_at, bit_not, trailing_zeros, leading_zeros, or-true, and-true, and-false, or_right, and_parts, and_from, false≢true, cases_eq, cases_lt, common_steps, pow_below, mod_below, leading_top, bit_at_set_same, bit_at_set_other, bit_at_mask_inside, bit_at_mask_above, bit_at_mask_below, bit_at-trailing_zeros, bit_at_cat_high, has_bit, AreAllColumns, IsPart}
 use Rattle.std.proofs.Math.Nat.{two-pow-succ}
-use Rattle.board_points.proofs.WordLemmas.{has_bit-and, has_bit-without, has_bit-zero, has_bit-less, same_bools, le_from_part}
+use Rattle.board_points.proofs.WordLemmas.{has_bit-zero, has_bit-less, same_bools, le_from_part}
 
 -- a word with one bit set
 pub set_bit_there : (word col : ℕ) (b : Bool) → b ≡ true → col < 64 → has_bit (bit_or word (1 * 2 ^ col % 2 ^ 64)) col ≡ (has_bit word col || b)
@@ -12,28 +12,27 @@ set_bit_there word col b is low =
 pub set_bit_elsewhere : (word col : ℕ) → col < 64 → (k : ℕ) → k ≢ col → has_bit (bit_or word (1 * 2 ^ col % 2 ^ 64)) k ≡ has_bit word k
 set_bit_elsewhere word col low k other = ap (λ n. n == 1) (bit_at_set_other w64 word col low k other)
 
--- the columns of a row that aren't in a set
+-- all columns of a row
 mask_is : (side : ℕ) → side < 64 → 1 * 2 ^ side % 2 ^ 64 - 1 ≡ 2 ^ side - 2 ^ 0
 mask_is side small = grind (arith, common_steps, mod-eq_of_lt, pow_below)
 
-pub others_within : (word side col : ℕ) → word < 2 ^ 64 → side < 64 → col < side → has_bit (bit_and (1 * 2 ^ side % 2 ^ 64 - 1) (bit_not w64 word)) col ≡ not (has_bit word col)
-others_within word side col low small below =
-    let inside : has_bit (1 * 2 ^ side % 2 ^ 64 - 1) col ≡ true = ap (λ n. has_bit n col) (mask_is side small) ∙ ap (λ n. n == 1) (bit_at_mask_inside 0 side col (omega arith) below) in
-    has_bit-without (1 * 2 ^ side % 2 ^ 64 - 1) word col low (omega (arith, below, small)) ∙ ap (λ b. b && not (has_bit word col)) inside
-
-pub others_off : (word side col : ℕ) → side < 64 → has_bit (bit_and (1 * 2 ^ side % 2 ^ 64 - 1) (bit_not w64 word)) col ≡ true → col < side
-others_off word side col small is =
-    elim (cases_lt col side) [
-      | inl below ↦ below
-      | inr past ↦
-          let outside : has_bit (1 * 2 ^ side % 2 ^ 64 - 1) col ≡ false = ap (λ n. has_bit n col) (mask_is side small) ∙ ap (λ n. n == 1) (bit_at_mask_above 0 side col past) in
-          absurd (false≢true (sym outside ∙ (and_parts _ _ (sym (has_bit-and _ _ col) ∙ is)).0))
-    ]
+pub all_in_mask : (side : ℕ) → side < 64 → AreAllColumns side (1 * 2 ^ side % 2 ^ 64 - 1)
+all_in_mask side small = record {
+  within = λ col below. ap (λ n. has_bit n col) (mask_is side small) ∙ ap (λ n. n == 1) (bit_at_mask_inside 0 side col (omega arith) below);
+  off = λ col is.
+      elim (cases_lt col side) [
+        | inl below ↦ below
+        | inr past ↦ absurd (false≢true (sym (ap (λ n. has_bit n col) (mask_is side small) ∙ ap (λ n. n == 1) (bit_at_mask_above 0 side col past)) ∙ is))
+      ];
+}
 
 -- the columns of a row that aren't in a set
 abbrev pub AreOthers : ℕ → ℕ → ℕ → Type 0
 AreOthers side word others =
     ((col : ℕ) → col < side → has_bit others col ≡ not (has_bit word col)) × ((col : ℕ) → has_bit others col ≡ true → col < side)
+
+pub others_of_all : (side columns word : ℕ) → AreAllColumns side columns → columns < 2 ^ 64 → word < 2 ^ 64 → AreOthers side word (bit_and columns (bit_not w64 word))
+others_of_all side columns word all fits low = grind (arith, common_steps, and_parts, has_bit-less)
 
 -- a word without the bit of a column
 abbrev bit_of : ℕ → ℕ

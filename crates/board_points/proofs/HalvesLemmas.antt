@@ -1,6 +1,6 @@
 -- Sets of points in the halves of words.
 use Rattle.std.proofs.Common.{◌≡◌, ◌≢◌, inl, inr, ℕ, ◌+◌, ◌-◌, ◌*◌, ◌/◌, ◌%◌, ◌^◌, ◌<◌, ◌≤◌, ◌==◌, ◌&&◌, true, false, not, nat_lt, max, bit_and, count_ones, w64, List, slice_index, sym, ap, ◌∙◌, arith, length, subst, pow_pos}
-use Rattle.board_points.proofs.Common.{bit_at, bit_not, rotate_left, and_parts, and_from, cases_lt, Decides-ltb, common_steps, length-map, mod_below, ones_cat, bit_at_above, bit_at_cat_high, bit_at_cat_low, bit_at_or, bit_at-zero, same_from_bits, Point, low_halves, high_halves, AreOthersPaired, AreAdjacent, has_bit, is_set, AreAllColumns, IsAmong, IsClosed, IsPart}
+use Rattle.board_points.proofs.Common.{bit_at, bit_not, rotate_left, and_parts, and_from, cases_lt, Decides-ltb, common_steps, length-map, mod_below, ones_cat, bit_at_above, bit_at_cat_high, bit_at_cat_low, bit_at_or, bit_at-zero, same_from_bits, Point, low_halves, high_halves, AreOthersPaired, AreAdjacent, has_bit, is_set, IsAmong, IsClosed, IsPart}
 use Rattle.std.proofs.Math.ListN.{get_or-map}
 use Rattle.board_points.proofs.WordLemmas.{same_bools, bit_at-mod, column_below, has_bit-less, not_in_part, same_word}
 use Rattle.board_points.proofs.ColumnLemmas.{AreOthers}
@@ -181,10 +181,6 @@ pub ones_by_halves : (word : ℕ) → count_ones word ≡ count_ones (word / 2 ^
 ones_by_halves word =
     let whole : word ≡ (word / 2 ^ 32) * 2 ^ 32 + word % 2 ^ 32 = omega arith in
     ap count_ones whole ∙ ones_cat 32 (word / 2 ^ 32) (word % 2 ^ 32) (mod_below word (2 ^ 32) (pow_pos 32))
-
--- all columns but those of a word
-pub others_of_all : (side columns word : ℕ) → AreAllColumns side columns → columns < 2 ^ 64 → word < 2 ^ 64 → AreOthers side word (bit_and columns (bit_not w64 word))
-others_of_all side columns word all fits low = grind (arith, common_steps, and_parts, has_bit-less)
 
 -- the words of two sets, row by row
 abbrev pub IsPair : List ℕ → List ℕ → ℕ → ℕ → Type 0

@@ -36,12 +36,11 @@ pub fn without_column(word: u64, col: usize) -> u64
 }
 
 /// All columns of a row that has `side` columns. There must be fewer than 64.
-#[tactic(auto, using(crate::proofs::WordLemmas::bits_of_words))]
 pub fn all_columns(side: usize) -> u64
     requires { side < 64 }
     ensures { AreAllColumns side result }
 {
-    other_columns(0, side)
+    (1 << side) - 1
 }
 
 /// The columns that a row with `side` columns doesn't have. There must be fewer than 64.
@@ -51,16 +50,6 @@ pub(crate) fn columns_off(side: usize) -> u64
     ensures { AreColumnsOff side result }
 {
     !all_columns(side)
-}
-
-/// The columns of a row that aren't in `word`. The row has `side` columns.
-#[tactic(auto, using(crate::proofs::ColumnLemmas::others_within, crate::proofs::ColumnLemmas::others_off))]
-pub(crate) fn other_columns(word: u64, side: usize) -> u64
-    requires { side < 64 }
-    ensures within { (col : ℕ) → col < side → has_bit result col ≡ not (has_bit word col) }
-    ensures off { (col : ℕ) → IsTrue (has_bit result col) → col < side }
-{
-    ((1 << side) - 1) & !word
 }
 
 /// The columns of `all` that aren't in `word`.

@@ -6,7 +6,7 @@ ghost use Rattle.board_points.specs.declared.points.Point.{Point};
 ghost use Rattle.board_points.specs.Point.{IsOn};
 ghost use Rattle.board_points.specs.Rows.{is_set, AreRowsOf, HasNoPoint, IsDifference, count_apart};
 
-use crate::columns::{has_column, other_columns};
+use crate::columns::{all_columns, has_column};
 use crate::points::Point;
 use crate::size::MAX_ROWS;
 
@@ -58,8 +58,9 @@ pub fn other_points(rows: &[u64], others: &mut [u64])
     ensures { AreRowsOf (length rows.now) (λ p. not (is_set rows.now p)) others.new }
 {
     let side = rows.len();
+    let all = all_columns(side);
     for row in 0..side {
-        others[row] = other_columns(rows[row], side);
+        others[row] = all & !rows[row];
     }
 }
 

@@ -1,6 +1,7 @@
 use Rattle.std.proofs.Common.{◌≡◌, ◌∙◌, ◌<◌, ◌/◌, ◌%◌, ◌^◌, sym, length, slice_index, arith, rules}
+use Rattle.board_points.proofs.ColumnLemmas.{others_of_all}
 use Rattle.board_points.proofs.RowLemmas.{written_more}
-use Rattle.board_points.proofs.HalvesLemmas.{fits_half, left_low, left_high, others_of_all, IsPair, IsPairOfOthers, others_paired_all}
+use Rattle.board_points.proofs.HalvesLemmas.{fits_half, left_low, left_high, IsPair, IsPairOfOthers, others_paired_all}
 use Rattle.board_points.proofs.quick.halves.pair_rows.Goals as goal
 
 pub paired-all-requires-clause-low : goal.paired-all-requires-clause-low
