@@ -9,7 +9,7 @@ ghost use Rattle.board_stones.specs.Colour.{stone_of};
 ghost use Rattle.board_stones.specs.Grid.{cell_at};
 ghost use Rattle.board_stones.specs.Clearing.{has_unreaching, play};
 ghost use Rattle.board_stones.specs.Reaching.{Reaches};
-ghost use Rattle.board_stones.specs.inner.Groups.{AreKnownAlive, ReachesIfStone, AddsGroup, AddsShut, AreShutGroups, AreClearedOrReachBeside, IsAsked, ReachBeside};
+ghost use Rattle.board_stones.specs.inner.Groups.{AreKnownAlive, ReachesIfStone, AddsShut, AreShutGroups, AreClearedOrReachBeside, ReachBeside};
 ghost use Rattle.board_stones.specs.Move.{IsEmptyOnSettled, IsMove, Clears};
 ghost use Rattle.board_points.specs.Rows.{is_set, HasNoPoint};
 
@@ -113,13 +113,15 @@ impl Board {
         ensures beside { AreClearedOrReachBeside self.now colour point shut.new }
     {
         self.has_all_cells();
+        let own = self.rows_of(colour);
+        let others = self.rows_of(colour.opponent());
         let mut words = no_rows();
-        let alive = &mut words[..usize::from(self.size().side())];
+        let alive = &mut words[..own.len()];
         let mut some = false;
         let beside = point.neighbours();
         for at in beside {
             if self.is_unsearched(colour, at, shut, alive) {
-                some |= self.add_to_either(colour, at, shut, alive);
+                some |= add_to_either(own, others, at, shut, alive);
             }
         }
         some
@@ -154,29 +156,6 @@ impl Board {
             return false;
         }
         !has_point(alive, point)
-    }
-
-    /// Adds the group of the stone on a point to `shut` if it has no liberty, otherwise stones of it to `alive`. Returns whether it has none.
-    fn add_to_either(
-        &self,
-        colour: Colour,
-        point: Point,
-        shut: &mut [u64],
-        alive: &mut [u64],
-    ) -> bool
-        requires asked { IsAsked self.now colour point shut.old }
-        requires alive { AreKnownAlive self.now colour alive.old }
-        ensures group { AddsGroup self.now colour point shut.old shut.new result }
-        ensures alive { AreKnownAlive self.now colour alive.new }
-    {
-        self.has_all_cells();
-        add_to_either(
-            self.rows_of(colour),
-            self.rows_of(colour.opponent()),
-            point,
-            shut,
-            alive,
-        )
     }
 
     /// Whether the group of the stone on a point has no liberty. If so, `shut` becomes the group. It must be empty.

@@ -1,9 +1,11 @@
-use Rattle.std.proofs.Common.{◌∙◌, inl, inr, sym, ap, subst, refl, arith, rules}
+use Rattle.std.proofs.Common.{◌∙◌, length, inl, inr, sym, ap, subst, refl, arith, rules}
 use Rattle.board_stones.proofs.Common.{false≢true, Point, IsOn, is_set, cell_at, Reaches, IsClearedOrReaches}
 use Rattle.board_stones.specs.declared.stones.Cell.TheVariants.{Empty}
 use Rattle.board_points.proofs.LinkedLemmas.{none_in_front}
 use Rattle.board_points.proofs.PointLemmas.{Contains-take_more}
-use Rattle.board_stones.proofs.ClearedLemmas.{adds_either, cleared_still, beside_cleared}
+use Rattle.board_stones.proofs.GridLemmas.{Decides-same_cell}
+use Rattle.board_stones.proofs.LibertyLemmas.{rows_of_opponent, Reaches-liberty}
+use Rattle.board_stones.proofs.ClearedLemmas.{AddsGroup-rows, adds_either, cleared_still, beside_cleared}
 use Rattle.board_stones.proofs.board.Board.find_shut_among.Goals as goal
 use Rattle.board_stones.proofs.board.Board.find_shut_among.Goals.{then-is_unsearched, else-is_unsearched}
 
@@ -17,22 +19,48 @@ loop-at-init c = record {
   };
   alive = record {
     all = search rules;
-    reach = λ p is. absurd (false≢true (sym (none_in_front c.from.result 52 c.no_rows-words.result p c.no_rows-words.ensures) ∙ is));
+    reach = λ p is. absurd (false≢true (sym (none_in_front (length c.rows_of-own.result.now) 52 c.no_rows-words.result p c.no_rows-words.ensures) ∙ is));
   };
   beside = search rules;
 }
 
+pub add_to_either-some-requires-clause-stone : goal.add_to_either-some-requires-clause-stone
+add_to_either-some-requires-clause-stone c =
+    let known = c.is_unsearched.ensures.stone c.if-is_unsearched.true in
+    record {
+      rows = search rules;
+      on_board = search (rules, known);
+      there = c.rows_of-own.ensures.are.on _ known.0 ∙ (Decides-same_cell _ _).1 known.1;
+    }
+
 pub loop-at-preserved : goal.loop-at-preserved
 loop-at-preserved c =
     let g = c.args.self.now in
+    let k = c.args.colour in
+    let own = c.rows_of-own in
+    let other = c.rows_of-others in
+    let are = rows_of_opponent g k c.opponent.result other.result.now c.opponent.ensures other.ensures.are in
     let before = c.loop-at.invariant in
     let turn = λ (q : Point). Contains-take_more c.neighbours-beside.result c.loop-at.at-index q (omega arith) in
     elim c.if-is_unsearched.branch [
       | then-is_unsearched w ↦
-          let now = w.add_to_either-some.ensures.group in
+          let known = c.is_unsearched.ensures.stone w.if-is_unsearched.true in
+          let found = w.add_to_either-some in
+          let now = AddsGroup-rows g k own.result.now other.result.now _ found.new.shut _ found.result own.ensures.rows own.ensures.are are
+          (record { on_board = known.0; stone = known.1; shut = before.adds.shut }) found.ensures.shut in
           rw (w.shut-is, w.alive-is)
           (record {
-            alive = w.add_to_either-some.ensures.alive;
+            alive = record {
+              all = found.ensures.alive.all ∙ before.alive.all;
+              reach = λ p is.
+                  elim (found.ensures.alive.alive p is) [
+                    | inl old ↦ before.alive.reach p old
+                    | inr new ↦
+                        (let on = own.ensures.are.off p new.0 in
+                        let stone = (Decides-same_cell _ _).0 (sym (own.ensures.are.on p on) ∙ new.0) in
+                        Reaches-liberty g k own.result.now other.result.now p own.ensures.rows own.ensures.are are on stone new.1.0 new.1.1)
+                  ];
+            };
             adds = adds_either g c.args.colour _ _ _ _ _ _ _ before.adds now w.some-is;
             beside = λ q among on.
                 elim ((turn q).0 among) [
