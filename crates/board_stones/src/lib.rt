@@ -25,7 +25,7 @@
 //! |---|---|
 //! | reaching a colour | `fill` of `board_points` (`fill`), which clearing and the score use. `Board::reaching` (`board/flood`) goes point by point, and only the tests call it here |
 //! | clearing a colour, which captures its groups without a liberty | `Board::clear` (`board`); which stones have none: `Board::shut_stones` (`board/regions`) |
-//! | a stone: capture, then suicide | in a run `Board::clears_nothing_at_a_glance`, else `Board::find_cleared` and `Board::find_suicide`, by `fill_if_shut` and `add_to_either` of `board_points` (`quick/group`); then `Board::place_and_clear` (`quick/capture`). The plain way is `Board::place` (`board`), which a run takes only after a setup that leaves a stone without a liberty |
+//! | a stone: capture, then suicide | in a run `Board::clears_nothing_at_a_glance`, else `Board::find_cleared`, by `fill_if_shut` and `add_to_either` of `board_points` (`quick/group`); then `Board::place_and_clear` (`quick/capture`). The plain way is `Board::place` (`board`), which a run takes only after a setup that leaves a stone without a liberty |
 //! | the area score; an empty point that reaches both colours or neither counts for nobody | `Board::score` (`board`), by `area_of` (`board/regions`), and `count_apart` of `board_points` (`rows`); shortcut below side 32: `Board::score_in_halves` (`quick`), by `count_halves` of `board_points` (`quick/halves`) |
 //! | the colouring that a setup makes (AB, AW, AE), whatever stood there | `Board::colour_rectangles` (`board/rectangles`) |
 //!

@@ -50,29 +50,14 @@ impl Board {
         self.has_all_cells();
         self.add(colour, point);
         let mut some = self.find_shut_beside(colour.opponent(), point, cleared);
-        if !some {
-            some = self.find_suicide(colour, point, cleared);
+        if !some && self.may_be_shut(colour, point) {
+            // a search that found a liberty left stones here
+            remove_all(cleared);
+            some = self.find_shut(colour, point, cleared);
         }
         self.set(point, Cell::Empty);
         self.set_settled(true);
         some
-    }
-
-    /// Whether the group of the stone on a point has no liberty. If so, `shut` becomes the group.
-    fn find_suicide(&self, colour: Colour, point: Point, shut: &mut [u64]) -> bool
-        requires on_board { IsOn self.now.side point }
-        requires stone { cell_at self.now point ≡ stone_of colour }
-        requires all { length shut.old ≡ self.now.side }
-        ensures shut { IsTrue result → AreShutGroups self.now colour shut.new }
-        ensures here { IsTrue result → IsTrue (is_set shut.new point) }
-        ensures lives { IsFalse result → Reaches self.now Empty point }
-    {
-        if !self.may_be_shut(colour, point) {
-            return false;
-        }
-        // a search that found a liberty left stones here
-        remove_all(shut);
-        self.find_shut(colour, point, shut)
     }
 
     /// Whether a group of a colour beside a point has no liberty. If so, `shut` becomes all such groups. It must be empty.
