@@ -1,7 +1,6 @@
 -- A path within the points of one half of the words stays in this half. So one filling finds the areas of both colours.
-use Rattle.std.proofs.Common.{◌≡◌, ◌≢◌, inl, inr, ℕ, ◌<◌, ◌≤◌, ◌&&◌, Bool, true, nat_lt, List, sym, ap, ◌∙◌, arith, cond, length}
-use Rattle.board_stones.proofs.Common.{and_parts, and_from, cases_lt, false_from_ne_true, Decides-ltb, common_steps, Point, low_halves, high_halves, ArePaired, AreOthersPaired, is_set, IsAmong, IsClosed, Grows, AreRowsOf, same_cell, Grid, cell_at, reaches, is_either, reaches_through_own}
-use Rattle.board_stones.specs.declared.stones.Cell.TheVariants.{Black as BlackStone, White as WhiteStone, Empty}
+use Rattle.board_stones.proofs.Common.{◌≡◌, ◌≢◌, inl, inr, ℕ, ◌<◌, ◌≤◌, ◌&&◌, Bool, true, nat_lt, List, sym, ap, ◌∙◌, arith, cond, length, and_parts, and_from, cases_lt, false_from_ne_true, Decides-ltb, common_steps, Point, low_halves, high_halves, ArePaired, AreOthersPaired, is_set, IsAmong, IsClosed, Grows, AreRowsOf, same_cell, Grid, cell_at, reaches, is_either, reaches_through_own, Empty}
+use Rattle.board_stones.specs.declared.stones.Cell.TheVariants.{Black as BlackStone, White as WhiteStone}
 use Rattle.board_stones.specs.declared.stones.Colour.TheVariants.{Black, White}
 use Rattle.board_stones.proofs.RegionLemmas.{AreRowsOf-filled, region_is, reaching_closed, seed_reaches}
 use Rattle.board_points.proofs.HalvesLemmas.{shifted, unshifted, back_again, in_high, low_from, low_parts, high_from, among_by_halves, adjacent_unshifted, stays_low, stays_high, IsClosed-low, IsClosed-high, among_low, among_high}

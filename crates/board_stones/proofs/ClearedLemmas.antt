@@ -1,11 +1,7 @@
 -- A move on a grid where every stone reaches empty: clearing the groups without a liberty beside the stone, or else its own where that
 -- has none, is the whole move. What is cleared, as rows.
-use Rattle.std.proofs.Common.{◌≡◌, ◌⊎◌, inl, inr, ◌*◌, ◌≤◌, ◌||◌, true, false, ℕ, List, [], length, take, Contains, ◌↔◌, refl, sym, ap, subst, ◌∙◌, arith, ◌≢◌, Bool, ◌∷◌, IsTrue, rules, length-set, take_all}
-use Rattle.board_stones.proofs.Common.{cases_Bool, or_cases, or_parts, or_left, or_right, false≢true, common_steps, get_or_past, Point, AddsIfShut, IsOn, index_of, AreAdjacent, is_set, IsAmong, AreRowsOf, Cell, Colour, play, has_unreaching, clear, stone_of, same_cell, opponent, Grid, cell_at, with_cell, IsWithout, Clears, Leads, Reaches, AddsGroup, AddsShut, AreShutGroups, IsClearedOrReaches, AllLive, IsWithoutLiberty, AllReach, ReachBeside, AreClearedOrReachBeside, IsAsked}
-use Rattle.board_stones.specs.declared.stones.Cell.TheVariants.{Empty}
-use Rattle.board_points.proofs.PointLemmas.{same_or_not, AreAdjacent-sym}
+use Rattle.board_stones.proofs.Common.{◌≡◌, ◌⊎◌, inl, inr, ◌*◌, ◌≤◌, ◌||◌, true, false, ℕ, List, [], length, take, Contains, ◌↔◌, refl, sym, ap, subst, ◌∙◌, arith, ◌≢◌, Bool, ◌∷◌, IsTrue, rules, length-set, take_all, cases_Bool, or_cases, or_parts, or_left, or_right, false≢true, common_steps, get_or_past, Point, AddsIfShut, IsOn, index_of, AreAdjacent, is_set, IsAmong, AreRowsOf, Cell, Colour, play, has_unreaching, clear, stone_of, same_cell, opponent, Grid, cell_at, with_cell, IsWithout, Clears, Leads, Reaches, AddsShut, AreShutGroups, IsClearedOrReaches, AllLive, IsWithoutLiberty, AllReach, ReachBeside, AreClearedOrReachBeside, Empty, same_or_not, AreAdjacent-sym, has_bit-zero}
 use Rattle.board_stones.proofs.GridLemmas.{cell_at-with_cell, cell_at-with_cell_elsewhere}
-use Rattle.board_points.proofs.WordLemmas.{has_bit-zero}
 use Rattle.board_stones.proofs.ReachingLemmas.{Leads-on, Leads-next, path_by_step}
 use Rattle.board_stones.proofs.RuleLemmas.{side-clear, length-clear, cell_at-clear, emptied, kept, others_kept}
 use Rattle.board_stones.proofs.GroupLemmas.{coloured_or_not, stone_of≢Empty, one_colouring}
@@ -213,6 +209,17 @@ clears_nothing-alone g p k rows all none takes =
 -- a point beside another is among the first of its neighbours, if these are all of them
 pub beside_cleared : (p q : Point) (neighbours : List Point) (count side : ℕ) → ((other : Point) → IsOn 52 other → (Contains neighbours other ↔ AreAdjacent p other)) → length neighbours ≤ count → side ≤ 52 → IsOn side q → AreAdjacent p q → Contains (take count neighbours) q
 beside_cleared p q neighbours count side are all few on next = subst (λ l. Contains l q) (sym (take_all count neighbours all)) ((are q (omega (arith, few, on), omega (arith, few, on))).1 next)
+
+-- a stone of a colour, and rows that have whole groups of that colour, each without a liberty
+pub record IsAsked (grid : Grid) (colour : Colour) (point : Point) (rows : List ℕ) : Type 0 where
+  pub on_board : IsOn grid.side point
+  pub stone : cell_at grid point ≡ stone_of colour
+  pub shut : AreShutGroups grid colour rows
+
+-- The group of the stone on the point was added to the rows if it has no liberty. `added` tells whether it was.
+pub record AddsGroup (grid : Grid) (colour : Colour) (point : Point) (old new : List ℕ) (added : Bool) : Type 0 where
+  pub adds : AddsShut grid colour old new added
+  pub here : IsClearedOrReaches grid colour new point
 
 -- the group of a stone was added to rows if it has no liberty, by the rows of both colours
 pub AddsGroup-rows : (g : Grid) (k : Colour) (own others old new : List ℕ) (p : Point) (added : Bool) → length own ≡ g.side → AreRowsOf g.side (λ q. same_cell (cell_at g q) (stone_of k)) own

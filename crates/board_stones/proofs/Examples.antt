@@ -1,8 +1,7 @@
 -- The definitions, computed on worked examples: small boards.
-use Rattle.std.proofs.Common.{◌≡◌, true, false, [], ◌∷◌, refl}
+use Rattle.board_stones.proofs.Common.{◌≡◌, true, false, [], ◌∷◌, refl, points, clear, play, cleared_cell, has_unreaching, Grid, empty_grid, reaches, reaching_within, spread, score_of, counts_for}
 use Rattle.board_stones.specs.declared.stones.Cell.TheVariants.{Black as B, White as W, Empty as E}
 use Rattle.board_stones.specs.declared.stones.Colour.TheVariants.{Black, White}
-use Rattle.board_stones.proofs.Common.{points, clear, play, cleared_cell, has_unreaching, Grid, empty_grid, reaches, reaching_within, spread, score_of, counts_for}
 
 -- a black stone in the corner between two white ones
 corner : Grid

@@ -1,8 +1,7 @@
 -- Once no point of a flood waits, exactly what reaches the colour is marked.
-use Rattle.std.proofs.Common.{◌≡◌, ◌⊎◌, inl, inr, List, [], ◌∷◌, ◌++◌, length, sym, ap, ◌∙◌, subst, arith, IsTrue, Contains}
+use Rattle.board_stones.proofs.Common.{◌≡◌, ◌⊎◌, inl, inr, List, [], ◌∷◌, length, sym, ap, ◌∙◌, subst, arith, IsTrue, Contains, Point, is_marked, IsOn, Searched, Finds, Cell, Grid, Leads, Reaches, ReachesThrough, IsUnderWay, AreAdjacent-sym}
+use Rattle.std.proofs.Common.{◌++◌}
 use Rattle.std.proofs.lemmas.List.Elements.{Contains-push_cases}
-use Rattle.board_stones.proofs.Common.{Point, is_marked, IsOn, Searched, Finds, Cell, Grid, Leads, Reaches, ReachesThrough, IsUnderWay}
-use Rattle.board_points.proofs.PointLemmas.{AreAdjacent-sym}
 use Rattle.board_stones.proofs.ReachingLemmas.{Leads-on, step_kind, path_by_step}
 
 -- a neighbour reaches the colour through a point that reaches it

@@ -1,7 +1,5 @@
 -- What the rows around a point tell of a stone, once it is on the grid.
-use Rattle.std.proofs.Common.{◌≡◌, inl, inr, ℕ, List, [], length, sym, ◌∙◌, subst}
-use Rattle.board_stones.specs.declared.stones.Cell.TheVariants.{Empty}
-use Rattle.board_stones.proofs.Common.{Point, IsOn, AreRowsOf, Colour, opponent, stone_of, same_cell, Grid, cell_at, with_cell, Reaches, AllLive}
+use Rattle.board_stones.proofs.Common.{◌≡◌, inl, inr, ℕ, List, [], length, sym, ◌∙◌, subst, Empty, Point, IsOn, AreRowsOf, Colour, opponent, stone_of, same_cell, Grid, cell_at, with_cell, Reaches, AllLive}
 use Rattle.board_points.specs.Glance.{KeepsLiberty, LeavesAllAlive}
 use Rattle.board_stones.proofs.GridLemmas.{Decides-same_cell, cell_at-with_cell_elsewhere}
 use Rattle.board_stones.proofs.GroupLemmas.{neither_stone}

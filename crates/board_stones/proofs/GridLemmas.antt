@@ -1,9 +1,9 @@
 -- Reading the grids that functions of the points make, and grids after a point was set.
-use Rattle.std.proofs.Common.{◌≡◌, ◌≢◌, ℕ, ◌*◌, length, ap, ◌∙◌, Decides, rules, arith, get_or-set_same, get_or-set_other}
-use Rattle.board_stones.proofs.Common.{same_from_decides, common_steps, length-map, Point, IsOn, points, Cell, same_cell, Grid, cell_at, with_cell, grid_of}
+use Rattle.board_stones.proofs.Common.{◌≡◌, ◌≢◌, ℕ, ◌*◌, length, ap, ◌∙◌, Decides, rules, arith, same_from_decides, common_steps, length-map, Point, IsOn, points, Cell, same_cell, Grid, cell_at, with_cell, grid_of, Empty}
+use Rattle.std.proofs.Common.{get_or-set_same, get_or-set_other}
 use denote.Enum.Bare.{sameb, same_true, true_same}
 use Rattle.board_stones.specs.contracts.stones.Cell.{the_type}
-use Rattle.board_stones.specs.declared.stones.Cell.TheVariants.{Black, White, Empty}
+use Rattle.board_stones.specs.declared.stones.Cell.TheVariants.{Black, White}
 use Rattle.board_points.proofs.PointLemmas.{index_below, index_of-injective, length-points, get_or-map-points}
 
 pub Decides-same_cell : (a b : Cell) → Decides (same_cell a b) (a ≡ b)

@@ -1,8 +1,6 @@
 -- A group without a liberty can be removed before its colour is cleared: the cleared grid is the same.
-use Rattle.std.proofs.Common.{◌≡◌, ◌≢◌, ◌⊎◌, ℕ, ◌*◌, false, List, [], ◌∷◌, length, get_or, refl, sym, ap, subst, ◌∙◌, arith, true≢false}
-use Rattle.board_stones.proofs.Common.{not_from_Decides, common_steps, Point, IsOn, point_at, Cell, Colour, opponent, stone_of, same_cell, Grid, cell_at, grid_of, Leads, Reaches}
-use Rattle.board_stones.specs.declared.stones.Cell.TheVariants.{Empty}
-use Rattle.board_points.proofs.PointLemmas.{is_map-points, index_of-point_at, IsOn-point_at}
+use Rattle.board_stones.proofs.Common.{◌≡◌, ◌≢◌, ◌⊎◌, ℕ, ◌*◌, false, List, [], ◌∷◌, length, get_or, refl, sym, ap, subst, ◌∙◌, arith, true≢false, not_from_Decides, common_steps, Point, IsOn, point_at, Cell, Colour, opponent, stone_of, same_cell, Grid, cell_at, grid_of, Leads, Reaches, Empty, index_of-point_at, IsOn-point_at}
+use Rattle.board_points.proofs.PointLemmas.{is_map-points}
 use Rattle.board_stones.proofs.GridLemmas.{Decides-same_cell, cell_at-grid_of, length-grid_of}
 
 -- a point has that colour or not

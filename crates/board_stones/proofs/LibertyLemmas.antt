@@ -1,15 +1,12 @@
 -- What the rows of words tell of a grid: whether a stone reaches empty, or its group has no liberty, and which stones of a colour don't reach empty.
-use Rattle.std.proofs.Common.{◌≡◌, Decides, inl, inr, ℕ, ◌≤◌, ◌&&◌, Bool, true, false, not, List, [], ◌∷◌, length, refl, sym, ap, ◌∙◌, arith, subst, ◌<◌, slice_index}
-use Rattle.board_stones.proofs.Common.{and_parts, and_from, false≢true, cases_Bool, common_steps, Point, HaveLiberty, IsFree, HasLiberty, IsLiberty, IsShutIn, IsOn, is_set, IsAmong, IsClosed, Grows, has_bit, AreRowsOf, IsDifference, Cell, Colour, has_unreaching, opponent, stone_of, same_cell, Grid, cell_at, Leads, reaches, Reaches, AllReach, is_shut, IsWithoutLiberty}
-use Rattle.board_stones.specs.declared.stones.Cell.TheVariants.{Empty}
+use Rattle.board_stones.proofs.Common.{◌≡◌, Decides, inl, inr, ℕ, ◌≤◌, ◌&&◌, Bool, true, false, not, List, [], ◌∷◌, length, refl, sym, ap, ◌∙◌, arith, subst, ◌<◌, slice_index, and_parts, and_from, false≢true, cases_Bool, common_steps, Point, HaveLiberty, IsFree, HasLiberty, IsLiberty, IsShutIn, IsOn, is_set, IsAmong, IsClosed, Grows, has_bit, AreRowsOf, IsDifference, Cell, Colour, has_unreaching, opponent, stone_of, same_cell, Grid, cell_at, Leads, reaches, Reaches, AllReach, is_shut, IsWithoutLiberty, Empty, AreAdjacent-sym, same_bools}
 use Rattle.board_stones.specs.declared.stones.Colour.TheVariants.{Black, White}
 use Rattle.board_stones.proofs.GridLemmas.{Decides-same_cell}
 use Rattle.board_stones.proofs.SettledLemmas.{both_reach, AllReach-settled}
 use Rattle.board_stones.proofs.ReachingLemmas.{Decides-reaches, path_by_step}
 use Rattle.board_stones.proofs.GroupLemmas.{stone_of≢Empty, neither_stone}
-use Rattle.board_points.proofs.PointLemmas.{AreAdjacent-sym}
 use Rattle.board_points.proofs.GrowLemmas.{Grows-none}
-use Rattle.board_points.proofs.WordLemmas.{in_the_other, same_bools}
+use Rattle.board_points.proofs.WordLemmas.{in_the_other}
 
 -- a stone with a liberty reaches empty
 pub liberty_reaches : (g : Grid) (k : Colour) (own others : List ℕ) → length own ≡ g.side → AreRowsOf g.side (λ p. same_cell (cell_at g p) (stone_of k)) own → AreRowsOf g.side (λ p. same_cell (cell_at g p) (stone_of (opponent k))) others → (p : Point) → IsOn g.side p → HasLiberty own others p → Reaches g Empty p

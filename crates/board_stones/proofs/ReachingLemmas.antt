@@ -1,7 +1,7 @@
 -- The function `reaches` and the paths: they agree at each point of the grid.
-use Rattle.std.proofs.Common.{◌≡◌, ◌⊎◌, inl, inr, ℕ, zero, suc, ◌+◌, ◌*◌, ◌<◌, Bool, true, false, List, [], ◌∷◌, length, get_or, refl, sym, ap, subst, ◌∙◌, arith, Decides, count_by, cond}
-use Rattle.board_stones.proofs.Common.{Decides-and, Decides-or, Decides-at, Decides-like, common_steps, count_by-le-length, sum_by-cons, Point, Marking, is_marked, IsOn, AreAdjacent, point_at, Cell, same_cell, Grid, cell_at, Leads, Reaches, leads_on, spread, reaching_within, reaches}
-use Rattle.board_points.proofs.PointLemmas.{Decides-some_point, Decides-are_adjacent, index_of-point_at, IsOn-point_at}
+use Rattle.board_stones.proofs.Common.{◌≡◌, ◌⊎◌, inl, inr, ℕ, ◌+◌, ◌*◌, ◌<◌, Bool, true, false, List, [], ◌∷◌, length, get_or, refl, sym, ap, subst, ◌∙◌, arith, Decides, cond, Decides-and, Decides-or, Decides-at, Decides-like, common_steps, count_by-le-length, sum_by-cons, Point, Marking, is_marked, IsOn, AreAdjacent, point_at, Cell, same_cell, Grid, cell_at, Leads, Reaches, leads_on, spread, reaching_within, reaches, Decides-some_point, index_of-point_at, IsOn-point_at}
+use Rattle.std.proofs.Common.{zero, suc, count_by}
+use Rattle.board_points.proofs.PointLemmas.{Decides-are_adjacent}
 use Rattle.board_stones.proofs.GridLemmas.{Decides-same_cell}
 use Rattle.board_points.proofs.MarkingLemmas.{is_marked-marking_of, length-marking_of}
 

@@ -1,6 +1,6 @@
 -- A rectangle coloured row by row.
-use Rattle.std.proofs.Common.{◌≡◌, ℕ, ◌+◌, ◌<◌, ◌≤◌, ◌&&◌, true, nat_le, List, [], ◌∷◌, fold, length, get_or, take, refl, ◌∙◌, arith, leb-true, le-leb}
-use Rattle.board_stones.proofs.Common.{and-true, and_from, and_parts, common_steps, fold_more, Point, has_bit, Grid, is_in, with_rectangle}
+use Rattle.board_stones.proofs.Common.{◌≡◌, ℕ, ◌+◌, ◌<◌, ◌≤◌, ◌&&◌, true, List, [], ◌∷◌, fold, length, get_or, take, refl, ◌∙◌, arith, and-true, and_from, and_parts, common_steps, fold_more, Point, has_bit, Grid, is_in, with_rectangle}
+use Rattle.std.proofs.Common.{nat_le, leb-true, le-leb}
 use Rattle.board_points.specs.declared.points.Rect.{Rect}
 use Rattle.board_stones.specs.declared.setup_op.SetupOp.{SetupOp}
 

@@ -1,9 +1,6 @@
 -- Rows of words that have the points of a grid with certain cells, and those that reach a colour through them.
-use Rattle.std.proofs.Common.{◌≡◌, ◌⊎◌, inl, inr, ℕ, ◌&&◌, true, not, List, [], ◌∷◌, length, sym, ◌∙◌, arith}
-use Rattle.board_stones.proofs.Common.{or_cases, or_left, or_right, and_parts, and_from, common_steps, Point, IsOn, AreAdjacent, is_set, IsAmong, IsClosed, Grows, AreRowsOf, Cell, Colour, opponent, stone_of, same_cell, Grid, cell_at, Leads, reaches, is_either, reaches_through_own}
-use Rattle.board_stones.specs.declared.stones.Cell.TheVariants.{Empty}
+use Rattle.board_stones.proofs.Common.{◌≡◌, ◌⊎◌, inl, inr, ℕ, ◌&&◌, true, not, List, [], ◌∷◌, length, sym, ◌∙◌, arith, or_cases, or_left, or_right, and_parts, and_from, common_steps, Point, IsOn, AreAdjacent, is_set, IsAmong, IsClosed, Grows, AreRowsOf, Cell, Colour, opponent, stone_of, same_cell, Grid, cell_at, Leads, reaches, is_either, reaches_through_own, Empty, same_bools}
 use Rattle.board_points.proofs.RowLemmas.{AreRowsOf-same}
-use Rattle.board_points.proofs.WordLemmas.{same_bools}
 use Rattle.board_stones.proofs.GridLemmas.{Decides-same_cell}
 use Rattle.board_stones.proofs.ReachingLemmas.{Decides-reaches, path_by_step}
 

@@ -1,8 +1,5 @@
 -- Clearing, stones that don't reach empty, and the points that count for a player, by paths.
-use Rattle.std.proofs.Common.{◌≡◌, ◌≢◌, ◌*◌, Bool, true, false, not, ◌&&◌, cond, length, refl, Decides, arith}
-use Rattle.board_stones.proofs.Common.{false_from_ne_true, Decides-and, Decides-or, Decides-not, Decides-like, common_steps, Point, IsOn, Cell, Colour, cleared_cell, clear, HasUnreaching, has_unreaching, stone_of, Grid, cell_at, Reaches, CountsFor, counts_for}
-use Rattle.board_stones.specs.declared.stones.Cell.TheVariants.{Empty}
-use Rattle.board_points.proofs.PointLemmas.{Decides-some_point}
+use Rattle.board_stones.proofs.Common.{◌≡◌, ◌≢◌, ◌*◌, Bool, true, false, not, ◌&&◌, cond, length, refl, Decides, arith, false_from_ne_true, Decides-and, Decides-or, Decides-not, Decides-like, common_steps, Point, IsOn, Cell, Colour, cleared_cell, clear, HasUnreaching, has_unreaching, stone_of, Grid, cell_at, Reaches, CountsFor, counts_for, Empty, Decides-some_point}
 use Rattle.board_stones.proofs.GridLemmas.{Decides-same_cell, cell_at-grid_of, length-grid_of}
 use Rattle.board_stones.proofs.ReachingLemmas.{Decides-reaches}
 

@@ -1,7 +1,5 @@
 -- A score by rows of words: a colour's area without the points of the other's.
-use Rattle.std.proofs.Common.{◌≡◌, ℕ, ◌||◌, ◌&&◌, Bool, true, not, List, [], ap, ◌∙◌, arith}
-use Rattle.board_stones.proofs.Common.{common_steps, is_set, AreRowsOf, count_apart, Cell, Colour, opponent, stone_of, same_cell, Grid, cell_at, reaches, score_of, counts_for, is_either, reaches_through_own}
-use Rattle.board_stones.specs.declared.stones.Cell.TheVariants.{Empty}
+use Rattle.board_stones.proofs.Common.{◌≡◌, ℕ, ◌||◌, ◌&&◌, Bool, true, not, List, [], ap, ◌∙◌, arith, common_steps, is_set, AreRowsOf, count_apart, Cell, Colour, opponent, stone_of, same_cell, Grid, cell_at, reaches, score_of, counts_for, is_either, reaches_through_own, Empty}
 use Rattle.board_stones.proofs.ReachingLemmas.{Decides-reaches}
 use Rattle.board_points.proofs.CountLemmas.{count_alike}
 

@@ -1,8 +1,5 @@
 -- Grids on which stones reach empty: clearing them changes nothing, and after a move all do.
-use Rattle.std.proofs.Common.{◌≡◌, ◌≢◌, ◌⊎◌, inl, inr, ◌*◌, false, List, [], ◌∷◌, length, sym, ◌∙◌, ℕ, arith, true≢false}
-use Rattle.board_stones.proofs.Common.{cases_Bool, not_from_Decides, common_steps, Point, IsOn, Cell, Colour, cleared_cell, clear, play, has_unreaching, opponent, stone_of, Grid, cell_at, with_cell, empty_grid, Leads, Reaches, reaches, AllReach}
-use Rattle.board_stones.specs.declared.stones.Cell.TheVariants.{Empty}
-use Rattle.board_points.proofs.MarkingLemmas.{get_or-replicate_default}
+use Rattle.board_stones.proofs.Common.{◌≡◌, ◌≢◌, ◌⊎◌, inl, inr, ◌*◌, false, List, [], ◌∷◌, length, sym, ◌∙◌, ℕ, arith, true≢false, cases_Bool, not_from_Decides, common_steps, Point, IsOn, Cell, Colour, cleared_cell, clear, play, has_unreaching, opponent, stone_of, Grid, cell_at, with_cell, empty_grid, Leads, Reaches, reaches, AllReach, Empty, get_or-replicate_default}
 use Rattle.board_stones.proofs.ReachingLemmas.{Decides-reaches}
 use Rattle.board_stones.proofs.RuleLemmas.{side-clear, cell_at-clear, emptied, kept, others_kept, Decides-has_unreaching}
 use Rattle.board_stones.proofs.GroupLemmas.{coloured_or_not, stone_of≢Empty, Reaches-Leads, grid_of-cells}

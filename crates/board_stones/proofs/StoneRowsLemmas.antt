@@ -1,13 +1,13 @@
 -- The rows of the stones of a board: the grid that they make, and points of a row coloured anew.
-use Rattle.std.proofs.Common.{◌≡◌, ◌≢◌, ◌↔◌, inl, inr, ℕ, ◌*◌, ◌<◌, ◌≤◌, ◌^◌, ◌==◌, ◌&&◌, Bool, true, false, not, cond, List, length, get_or, set, take, replicate, bit_and, bit_or, w64, refl, sym, ap, ◌∙◌, arith, subst, rules, ext_get_or, get_or-take, length-set, length-take-le}
-use Rattle.board_stones.proofs.Common.{cases_Bool, cases_eq, false≢true, Decides-eqb, common_steps, length-replicate, set-get_or, Point, IsOn, index_of, has_bit, is_set, AreRowsOf, Cell, same_cell, Grid, cell_at, with_cell, empty_grid, with_row, AreStones, grid_with, stone_in, with_columns}
+use Rattle.board_stones.proofs.Common.{◌≡◌, ◌≢◌, ◌↔◌, inl, inr, ℕ, ◌*◌, ◌<◌, ◌≤◌, ◌==◌, ◌&&◌, Bool, true, false, not, cond, List, length, get_or, set, take, bit_or, refl, sym, ap, ◌∙◌, arith, subst, rules, length-set, cases_Bool, cases_eq, false≢true, Decides-eqb, common_steps, length-replicate, set-get_or, Point, IsOn, index_of, has_bit, is_set, AreRowsOf, Cell, same_cell, Grid, cell_at, with_cell, empty_grid, with_row, AreStones, grid_with, stone_in, with_columns, Empty, same_bools, row_below, get_or-replicate_default, same_or_not}
+use Rattle.std.proofs.Common.{◌^◌, replicate, bit_and, w64, ext_get_or, get_or-take, length-take-le}
 use Rattle.std.specs.Int.{bit_at, bit_not}
 use Rattle.std.proofs.lemmas.Nat.Bits.{same_from_bits}
-use Rattle.board_stones.specs.declared.stones.Cell.TheVariants.{Black, White, Empty}
-use Rattle.board_points.proofs.WordLemmas.{has_bit-or, has_bit-less, bit_at-there, bit_at-gone, same_bools}
-use Rattle.board_points.proofs.GrowLemmas.{row_below, set_there, set_elsewhere}
-use Rattle.board_points.proofs.MarkingLemmas.{is_set-none, get_or-replicate_default}
-use Rattle.board_points.proofs.PointLemmas.{one_point, same_or_not}
+use Rattle.board_stones.specs.declared.stones.Cell.TheVariants.{Black, White}
+use Rattle.board_points.proofs.WordLemmas.{has_bit-or, has_bit-less, bit_at-there, bit_at-gone}
+use Rattle.board_points.proofs.GrowLemmas.{set_there, set_elsewhere}
+use Rattle.board_points.proofs.MarkingLemmas.{is_set-none}
+use Rattle.board_points.proofs.PointLemmas.{one_point}
 use Rattle.board_stones.proofs.GridLemmas.{cell_at-grid_of, length-grid_of, cell_at-with_cell, cell_at-with_cell_elsewhere}
 use Rattle.board_stones.proofs.GroupLemmas.{grid_of-cells, same_colours}
 

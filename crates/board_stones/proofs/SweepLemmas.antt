@@ -1,11 +1,7 @@
 -- Grids coloured row by row, and cleared ones.
-use Rattle.std.proofs.Common.{◌≡◌, ℕ, ◌+◌, ◌*◌, ◌<◌, ◌≤◌, ◌==◌, ◌&&◌, Bool, cond, true, false, nat_lt, List, length, refl, sym, ap, subst, ◌∙◌, arith, IsTrue, rules, true≢false}
-use Rattle.board_stones.proofs.Common.{and-false, and_parts, and_from, false_from_ne_true, Decides-eqb, Decides-ltb, nat_tests, common_steps, Point, IsOn, has_bit, is_set, AreRowsOf, Cell, Colour, cleared_cell, clear, Grid, cell_at, grid_of, IsWithout, is_shut, with_columns}
-use Rattle.board_stones.specs.declared.stones.Cell.TheVariants.{Empty}
+use Rattle.board_stones.proofs.Common.{◌≡◌, ℕ, ◌+◌, ◌*◌, ◌<◌, ◌≤◌, ◌==◌, ◌&&◌, Bool, cond, true, false, nat_lt, List, length, refl, sym, ap, subst, ◌∙◌, arith, IsTrue, rules, true≢false, and-false, and_parts, and_from, false_from_ne_true, Decides-eqb, Decides-ltb, nat_tests, common_steps, Point, IsOn, has_bit, is_set, AreRowsOf, Cell, Colour, cleared_cell, clear, Grid, cell_at, grid_of, IsWithout, is_shut, with_columns, Empty, same_bools, has_bit-zero, row_below}
 use Rattle.board_stones.proofs.GridLemmas.{cell_at-grid_of, length-grid_of}
 use Rattle.board_stones.proofs.GroupLemmas.{grid_of-cells, same_colours}
-use Rattle.board_points.proofs.WordLemmas.{same_bools, has_bit-zero}
-use Rattle.board_points.proofs.GrowLemmas.{row_below}
 
 -- a board without the stones of a colour that are shut in is cleared
 pub without_shut : (g h : Grid) (k : Colour) (shut : List ℕ) → length g.cells ≡ g.side * g.side → AreRowsOf g.side (is_shut g k) shut → IsWithout g h (λ p. IsTrue (is_set shut p)) → h ≡ clear g k

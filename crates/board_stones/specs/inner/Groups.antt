@@ -31,12 +31,6 @@ pub record AddsShut (grid : Grid) (colour : Colour) (old new : List ℕ) (added 
   pub none : IsFalse added → new ≡ old
   pub some : IsTrue added → (point : Point) × IsTrue (is_set new point)
 
--- a stone of a colour, and rows that have whole groups of that colour, each without a liberty
-pub record IsAsked (grid : Grid) (colour : Colour) (point : Point) (rows : List ℕ) : Type 0 where
-  pub on_board : IsOn grid.side point
-  pub stone : cell_at grid point ≡ stone_of colour
-  pub shut : AreShutGroups grid colour rows
-
 -- all stones of a colour reach empty
 abbrev pub AllReach : Grid → Colour → Type 0
 AllReach grid colour =
@@ -64,11 +58,6 @@ AllLive grid colour point = ReachesIfStone grid colour point × ReachBeside grid
 abbrev pub IsClearedOrReaches : Grid → Colour → List ℕ → Point → Type 0
 IsClearedOrReaches grid colour rows point =
     cell_at grid point ≡ stone_of colour → IsTrue (is_set rows point) ⊎ Reaches grid Empty point
-
--- The group of the stone on the point was added to the rows if it has no liberty. `added` tells whether it was.
-pub record AddsGroup (grid : Grid) (colour : Colour) (point : Point) (old new : List ℕ) (added : Bool) : Type 0 where
-  pub adds : AddsShut grid colour old new added
-  pub here : IsClearedOrReaches grid colour new point
 
 -- `IsClearedOrReaches` for each stone of the colour beside a point
 abbrev pub AreClearedOrReachBeside : Grid → Colour → Point → List ℕ → Type 0

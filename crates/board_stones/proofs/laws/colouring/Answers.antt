@@ -1,5 +1,4 @@
-use Rattle.std.proofs.Common.{sym, ap, ◌∙◌, refl, subst}
-use Rattle.board_stones.proofs.Common.{IsOn, Grid, cell_at, grid_of}
+use Rattle.board_stones.proofs.Common.{sym, ap, ◌∙◌, refl, subst, IsOn, Grid, cell_at, grid_of}
 use Rattle.board_stones.proofs.GroupLemmas.{grid_of-cells}
 use Rattle.board_stones.proofs.laws.colouring.Goals as goal
 

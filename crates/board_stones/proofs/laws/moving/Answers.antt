@@ -1,4 +1,4 @@
-use Rattle.std.proofs.Common.{sym, ◌∙◌, true≢false}
+use Rattle.board_stones.proofs.Common.{sym, ◌∙◌, true≢false}
 use Rattle.board_stones.proofs.RuleLemmas.{Decides-has_unreaching}
 use Rattle.board_stones.proofs.SettledLemmas.{settled_by_play}
 use Rattle.board_stones.proofs.laws.moving.Goals as goal

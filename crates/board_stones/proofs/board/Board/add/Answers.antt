@@ -1,6 +1,4 @@
-use Rattle.std.proofs.Common.{◌≡◌, ◌≢◌, ℕ, true, false, List, set, bit_or, get_or, subst, ◌∙◌}
-use Rattle.board_stones.proofs.Common.{or-true, false≢true, has_bit, Cell, with_cell, AreStones, grid_with}
-use Rattle.board_points.proofs.WordLemmas.{has_bit-zero}
+use Rattle.board_stones.proofs.Common.{◌≡◌, ◌≢◌, ℕ, true, false, List, set, bit_or, get_or, subst, ◌∙◌, or-true, false≢true, has_bit, Cell, with_cell, AreStones, grid_with, has_bit-zero}
 use Rattle.board_stones.specs.declared.stones.Cell.TheVariants.{Black, White}
 use Rattle.board_stones.proofs.StoneRowsLemmas.{black_added, white_added}
 use Rattle.board_stones.proofs.board.Board.add.Goals as goal

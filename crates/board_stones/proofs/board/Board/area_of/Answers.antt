@@ -1,6 +1,4 @@
-use Rattle.std.proofs.Common.{◌≡◌, sym, subst, rules}
-use Rattle.board_stones.specs.declared.stones.Cell.TheVariants.{Empty}
-use Rattle.board_stones.proofs.Common.{AreRowsOf, same_cell, stone_of, cell_at}
+use Rattle.board_stones.proofs.Common.{◌≡◌, sym, subst, rules, Empty, AreRowsOf, same_cell, stone_of, cell_at}
 use Rattle.board_stones.proofs.LibertyLemmas.{rows_of_opponent}
 use Rattle.board_stones.proofs.RegionLemmas.{region_is, filled_reaches, AreRowsOf-filled}
 use Rattle.board_stones.proofs.board.Board.area_of.Goals as goal

@@ -1,5 +1,4 @@
-use Rattle.std.proofs.Common.{◌∙◌, sym, ap, arith}
-use Rattle.board_stones.proofs.Common.{is_in, with_rectangle, with_columns}
+use Rattle.board_stones.proofs.Common.{◌∙◌, sym, ap, arith, is_in, with_rectangle, with_columns}
 use Rattle.board_stones.proofs.RectangleLemmas.{rectangle_columns, rectangle_rows}
 use Rattle.board_stones.proofs.SweepLemmas.{painted_none, painted_more, painted_all}
 use Rattle.board_stones.proofs.board.Board.colour_rectangle.Goals as goal

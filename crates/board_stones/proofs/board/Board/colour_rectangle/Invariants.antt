@@ -1,5 +1,4 @@
-use Rattle.std.proofs.Common.{◌≡◌}
-use Rattle.board_stones.specs.Rectangle.{is_in}
+use Rattle.board_stones.proofs.Common.{◌≡◌, is_in}
 use Rattle.board_stones.proofs.SweepLemmas.{painted}
 use Rattle.board_stones.proofs.board.Board.colour_rectangle.Given as goal
 

@@ -1,4 +1,4 @@
-use Rattle.std.proofs.Common.{◌≡◌, take, fold}
+use Rattle.board_stones.proofs.Common.{◌≡◌, take, fold}
 use Rattle.board_stones.specs.Rectangle.{with_rectangle}
 use Rattle.board_stones.proofs.board.Board.colour_rectangles.Given as goal
 

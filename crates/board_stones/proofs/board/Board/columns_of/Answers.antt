@@ -1,4 +1,4 @@
-use Rattle.std.proofs.Common.{refl}
+use Rattle.board_stones.proofs.Common.{refl}
 use Rattle.board_stones.proofs.LibertyLemmas.{columns_at}
 use Rattle.board_stones.proofs.board.Board.columns_of.Goals as goal
 

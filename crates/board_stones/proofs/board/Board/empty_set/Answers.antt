@@ -1,6 +1,4 @@
-use Rattle.std.proofs.Common.{◌≡◌, ◌∙◌, slice_index, true, ap, sym, arith, subst}
-use Rattle.board_stones.specs.declared.stones.Cell.TheVariants.{Empty}
-use Rattle.board_stones.proofs.Common.{has_bit, is_set, Grid, IsWithout, with_columns}
+use Rattle.board_stones.proofs.Common.{◌≡◌, ◌∙◌, slice_index, true, ap, sym, arith, subst, Empty, has_bit, is_set, Grid, IsWithout, with_columns}
 use Rattle.board_stones.proofs.SweepLemmas.{painted_none, painted_more, painted_same, painted_empty}
 use Rattle.board_stones.proofs.board.Board.empty_set.Goals as goal
 use Rattle.board_stones.proofs.board.Board.empty_set.Goals.{then-columns-ne0, else-columns-ne0}

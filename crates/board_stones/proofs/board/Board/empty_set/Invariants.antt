@@ -1,6 +1,4 @@
-use Rattle.std.proofs.Common.{◌≡◌}
-use Rattle.board_stones.specs.declared.stones.Cell.TheVariants.{Empty}
-use Rattle.board_points.specs.Rows.{is_set}
+use Rattle.board_stones.proofs.Common.{◌≡◌, Empty, is_set}
 use Rattle.board_stones.proofs.SweepLemmas.{painted}
 use Rattle.board_stones.proofs.board.Board.empty_set.Given as goal
 

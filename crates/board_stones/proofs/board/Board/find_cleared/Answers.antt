@@ -1,6 +1,4 @@
-use Rattle.std.proofs.Common.{◌≡◌, false, inl, ap, sym, ◌∙◌, subst, arith, rules}
-use Rattle.board_stones.proofs.Common.{false≢true, has_unreaching, IsOn, ReachesIfStone, opponent, stone_of, Grid, cell_at, with_cell, Clears, AreShutGroups, AreClearedOrReachBeside, ReachBeside}
-use Rattle.board_stones.specs.declared.stones.Cell.TheVariants.{Empty}
+use Rattle.board_stones.proofs.Common.{◌≡◌, false, inl, ap, sym, ◌∙◌, subst, arith, rules, false≢true, has_unreaching, IsOn, ReachesIfStone, opponent, stone_of, Grid, cell_at, with_cell, Clears, AreShutGroups, AreClearedOrReachBeside, ReachBeside, Empty}
 use Rattle.board_stones.proofs.GridLemmas.{cell_at-with_cell}
 use Rattle.board_stones.proofs.ClearedLemmas.{cleared_away, clears_nothing, clears_beside, clears_own}
 use Rattle.board_stones.proofs.board.Board.find_cleared.Goals as goal

@@ -1,8 +1,7 @@
-use Rattle.std.proofs.Common.{◌≡◌, ◌||◌, true, sym, ap, ◌∙◌, arith, rules}
-use Rattle.board_stones.proofs.Common.{false≢true, is_set, AddsGroup}
+use Rattle.board_stones.proofs.Common.{◌≡◌, ◌||◌, true, sym, ap, ◌∙◌, arith, rules, false≢true, is_set}
 use Rattle.board_stones.proofs.GridLemmas.{Decides-same_cell}
 use Rattle.board_stones.proofs.LibertyLemmas.{rows_of_opponent, Reaches-liberty}
-use Rattle.board_stones.proofs.ClearedLemmas.{AddsGroup-rows, AreShutGroups-none}
+use Rattle.board_stones.proofs.ClearedLemmas.{AddsGroup, AddsGroup-rows, AreShutGroups-none}
 use Rattle.board_stones.proofs.board.Board.find_shut.Goals as goal
 use Rattle.board_stones.proofs.board.Board.find_shut.Goals.{After-fill_if_shut}
 

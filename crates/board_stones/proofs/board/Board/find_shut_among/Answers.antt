@@ -1,8 +1,5 @@
-use Rattle.std.proofs.Common.{◌∙◌, length, inl, inr, sym, ap, subst, refl, arith, rules}
-use Rattle.board_stones.proofs.Common.{false≢true, Point, IsOn, is_set, cell_at, Reaches, IsClearedOrReaches}
-use Rattle.board_stones.specs.declared.stones.Cell.TheVariants.{Empty}
+use Rattle.board_stones.proofs.Common.{◌∙◌, length, inl, inr, sym, ap, subst, refl, arith, rules, false≢true, Point, IsOn, is_set, cell_at, Reaches, IsClearedOrReaches, Empty, Contains-take_more}
 use Rattle.board_points.proofs.LinkedLemmas.{none_in_front}
-use Rattle.board_points.proofs.PointLemmas.{Contains-take_more}
 use Rattle.board_stones.proofs.GridLemmas.{Decides-same_cell}
 use Rattle.board_stones.proofs.LibertyLemmas.{rows_of_opponent, Reaches-liberty}
 use Rattle.board_stones.proofs.ClearedLemmas.{AddsGroup-rows, adds_either, cleared_still, beside_cleared}

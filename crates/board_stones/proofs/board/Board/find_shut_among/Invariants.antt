@@ -1,5 +1,4 @@
-use Rattle.std.proofs.Common.{Contains, take}
-use Rattle.board_stones.proofs.Common.{IsOn, AddsShut, AreKnownAlive, IsClearedOrReaches}
+use Rattle.board_stones.proofs.Common.{Contains, take, IsOn, AddsShut, AreKnownAlive, IsClearedOrReaches}
 use Rattle.board_stones.proofs.board.Board.find_shut_among.Given as goal
 
 abbrev pub invariant-loop-at : goal.invariant-loop-at

@@ -1,7 +1,5 @@
-use Rattle.std.proofs.Common.{inl, inr, sym, ◌∙◌, ap, subst, arith, Some, is_some, ◌≡◌}
-use Rattle.board_stones.proofs.Common.{false≢true, Point, IsOn, is_set, Reaches, ReachesIfStone, AreShutGroups}
-use Rattle.board_stones.specs.declared.stones.Cell.TheVariants.{Empty}
-use Rattle.board_points.proofs.PointLemmas.{Contains-take_more}
+use Rattle.board_stones.proofs.Common.{inl, inr, sym, ◌∙◌, ap, subst, arith, Some, ◌≡◌, false≢true, Point, IsOn, is_set, Reaches, ReachesIfStone, AreShutGroups, Empty, Contains-take_more}
+use Rattle.std.proofs.Common.{is_some}
 use Rattle.board_stones.proofs.ClearedLemmas.{beside_cleared, AreShutGroups-none}
 use Rattle.board_stones.proofs.board.Board.find_shut_beside.Goals as goal
 use Rattle.board_stones.proofs.board.Board.find_shut_beside.Goals.{then-may_be_shut+else-is_some, else-may_be_shut}

@@ -1,5 +1,5 @@
-use Rattle.std.proofs.Common.{◌≡◌, ◌⊎◌, Contains, take, Some, IfSome}
-use Rattle.board_stones.proofs.Common.{IsOn, stone_of, cell_at, ReachesIfStone}
+use Rattle.board_stones.proofs.Common.{◌≡◌, ◌⊎◌, Contains, take, Some, IsOn, stone_of, cell_at, ReachesIfStone}
+use Rattle.std.proofs.Common.{IfSome}
 use Rattle.board_stones.proofs.board.Board.find_shut_beside.Given as goal
 
 abbrev pub invariant-loop-at : goal.invariant-loop-at

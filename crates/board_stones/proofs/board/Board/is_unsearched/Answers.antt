@@ -1,5 +1,4 @@
-use Rattle.std.proofs.Common.{inr, rules}
-use Rattle.board_stones.proofs.Common.{not-false}
+use Rattle.board_stones.proofs.Common.{inr, rules, not-false}
 use Rattle.board_stones.proofs.board.Board.is_unsearched.Goals as goal
 
 pub returns-clause-known : goal.returns-clause-known

@@ -1,5 +1,4 @@
-use Rattle.std.proofs.Common.{◌∙◌, rules}
-use Rattle.std.proofs.lemmas.Bool.{not-false}
+use Rattle.board_stones.proofs.Common.{◌∙◌, rules, not-false}
 use Rattle.board_stones.proofs.GridLemmas.{Decides-same_cell}
 use Rattle.board_stones.proofs.LibertyLemmas.{rows_of_opponent, Reaches-liberty}
 use Rattle.board_stones.proofs.board.Board.may_be_shut.Goals as goal

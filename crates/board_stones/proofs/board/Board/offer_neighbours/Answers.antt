@@ -1,7 +1,6 @@
-use Rattle.std.proofs.Common.{◌≡◌, ◌⊎◌, inl, inr, sym, subst, arith, Contains, take_all}
+use Rattle.board_stones.proofs.Common.{◌≡◌, ◌⊎◌, inl, inr, sym, subst, arith, Contains, take_all, Point, IsOn, cell_at, Contains-take_more}
 use Rattle.std.proofs.lemmas.List.Elements.{Contains-get_or}
-use Rattle.board_stones.proofs.Common.{Point, IsOn, cell_at}
-use Rattle.board_points.proofs.PointLemmas.{origin, Contains-take_more}
+use Rattle.board_points.proofs.PointLemmas.{origin}
 use Rattle.board_points.proofs.SearchLemmas.{Finds-then, Finds-same}
 use Rattle.board_stones.proofs.board.Board.offer_neighbours.Goals as goal
 

@@ -1,5 +1,4 @@
-use Rattle.std.proofs.Common.{Contains, take}
-use Rattle.board_stones.proofs.Common.{Finds, ReachesThrough}
+use Rattle.board_stones.proofs.Common.{Contains, take, Finds, ReachesThrough}
 use Rattle.board_stones.proofs.board.Board.offer_neighbours.Given as goal
 
 abbrev pub invariant-loop-to : goal.invariant-loop-to

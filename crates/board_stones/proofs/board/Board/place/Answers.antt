@@ -1,5 +1,4 @@
-use Rattle.std.proofs.Common.{ap, ◌∙◌}
-use Rattle.board_stones.proofs.Common.{clear, play, opponent, Grid, with_cell}
+use Rattle.board_stones.proofs.Common.{ap, ◌∙◌, clear, play, opponent, Grid, with_cell}
 use Rattle.board_stones.proofs.board.Board.place.Goals as goal
 
 pub returns-clause-value : goal.returns-clause-value

@@ -1,5 +1,4 @@
-use Rattle.std.proofs.Common.{◌≡◌, ◌*◌, ap, ◌∙◌, List, ℕ, length, true, subst, length-set}
-use Rattle.board_stones.proofs.Common.{Point, index_of, is_set, Colour, play, has_unreaching, stone_of, Grid, with_cell, IsWithout, Clears}
+use Rattle.board_stones.proofs.Common.{◌≡◌, ◌*◌, ap, ◌∙◌, List, ℕ, length, true, subst, length-set, Point, index_of, is_set, Colour, play, has_unreaching, stone_of, Grid, with_cell, IsWithout, Clears}
 use Rattle.board_stones.proofs.SettledLemmas.{settled_by_play}
 use Rattle.board_stones.proofs.ClearedLemmas.{same_without}
 use Rattle.board_stones.proofs.board.Board.place_and_clear.Goals as goal

@@ -1,5 +1,4 @@
-use Rattle.std.proofs.Common.{◌≡◌, length, sym, ap, ◌∙◌, subst, arith, IsTrue}
-use Rattle.board_stones.proofs.Common.{length_push, count_by-le-length, is_marked, marked_count, IsOn, cell_at}
+use Rattle.board_stones.proofs.Common.{◌≡◌, length, sym, ap, ◌∙◌, subst, arith, IsTrue, length_push, count_by-le-length, is_marked, marked_count, IsOn, cell_at}
 use Rattle.board_stones.proofs.FloodLemmas.{IsUnderWay-step, complete}
 use Rattle.board_stones.proofs.board.Board.reaching.Goals as goal
 

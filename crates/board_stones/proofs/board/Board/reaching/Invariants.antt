@@ -1,5 +1,5 @@
-use Rattle.std.proofs.Common.{◌≡◌, ◌+◌, ◌*◌, ◌-◌, length}
-use Rattle.board_stones.proofs.Common.{marked_count, IsUnderWay}
+use Rattle.board_stones.proofs.Common.{◌≡◌, ◌+◌, ◌*◌, length, marked_count, IsUnderWay}
+use Rattle.std.proofs.Common.{◌-◌}
 use Rattle.board_stones.proofs.board.Board.reaching.Given as goal
 
 abbrev pub invariant-loop-point : goal.invariant-loop-point

@@ -1,4 +1,4 @@
-use Rattle.std.proofs.Common.{◌∙◌, arith}
+use Rattle.board_stones.proofs.Common.{◌∙◌, arith}
 use Rattle.board_stones.specs.declared.stones.Cell.TheVariants.{Black as BlackCell, White as WhiteCell}
 use Rattle.board_stones.specs.declared.stones.Colour.TheVariants.{Black, White}
 use Rattle.board_stones.proofs.LibertyLemmas.{rows_of_colour}

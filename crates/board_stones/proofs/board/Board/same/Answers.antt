@@ -1,5 +1,4 @@
-use Rattle.std.proofs.Common.{sym, ◌∙◌}
-use Rattle.board_stones.proofs.Common.{false≢true, not-false, Decides-eqb}
+use Rattle.board_stones.proofs.Common.{sym, ◌∙◌, false≢true, not-false, Decides-eqb}
 use Rattle.std.proofs.lemmas.Slice.Eq.{slice_eq-Decides}
 use Rattle.board_stones.proofs.StoneRowsLemmas.{same_rows}
 use Rattle.board_stones.proofs.board.Board.same.Goals as goal

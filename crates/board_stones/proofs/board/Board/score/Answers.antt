@@ -1,6 +1,5 @@
-use Rattle.std.proofs.Common.{ap, ◌∙◌, arith}
+use Rattle.board_stones.proofs.Common.{ap, ◌∙◌, arith, count_apart, Grid}
 use Rattle.board_stones.specs.declared.stones.Colour.TheVariants.{Black, White}
-use Rattle.board_stones.proofs.Common.{count_apart, Grid}
 use Rattle.board_stones.proofs.ScoreLemmas.{score_by_rows}
 use Rattle.board_stones.proofs.board.Board.score.Goals as goal
 

@@ -1,7 +1,5 @@
-use Rattle.std.proofs.Common.{◌≡◌, ap, sym, subst, ◌∙◌, length, rules}
-use Rattle.board_stones.specs.declared.stones.Cell.TheVariants.{Empty}
+use Rattle.board_stones.proofs.Common.{◌≡◌, ap, sym, subst, ◌∙◌, length, rules, Empty, low_halves, high_halves, IsOn, AreRowsOf, count_apart, stone_of, reaches_through_own}
 use Rattle.board_stones.specs.declared.stones.Colour.TheVariants.{Black, White}
-use Rattle.board_stones.proofs.Common.{low_halves, high_halves, IsOn, AreRowsOf, count_apart, stone_of, reaches_through_own}
 use Rattle.board_stones.proofs.ScoreLemmas.{score_by_rows}
 use Rattle.board_stones.proofs.BothAreasLemmas.{stones_within, areas}
 use Rattle.board_stones.proofs.board.Board.score_in_halves.Goals as goal

@@ -1,5 +1,4 @@
-use Rattle.std.proofs.Common.{◌≡◌, ◌<◌}
-use Rattle.board_stones.proofs.Common.{index_of, Finds, nothing_found, cell_at}
+use Rattle.board_stones.proofs.Common.{◌≡◌, ◌<◌, index_of, Finds, nothing_found, cell_at}
 use Rattle.board_stones.proofs.board.Board.search_from.Given as goal
 
 abbrev pub invariant-loop-index : goal.invariant-loop-index

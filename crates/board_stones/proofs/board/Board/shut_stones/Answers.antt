@@ -1,4 +1,4 @@
-use Rattle.std.proofs.Common.{◌≤◌, arith}
+use Rattle.board_stones.proofs.Common.{◌≤◌, arith}
 use Rattle.board_stones.proofs.LibertyLemmas.{Grows-first, IsClosed-full, shut_left, rows_of_opponent}
 use Rattle.board_stones.proofs.board.Board.shut_stones.Goals as goal
 
