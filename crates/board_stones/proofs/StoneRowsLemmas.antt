@@ -1,5 +1,5 @@
 -- The rows of the stones of a board: the grid that they make, and points of a row coloured anew.
-use Rattle.board_stones.proofs.Common.{◌≡◌, ◌≢◌, ◌↔◌, inl, inr, ℕ, ◌*◌, ◌<◌, ◌≤◌, ◌==◌, ◌&&◌, Bool, true, false, not, cond, List, length, get_or, set, take, bit_or, refl, sym, ap, ◌∙◌, arith, subst, rules, length-set, cases_Bool, cases_eq, false≢true, Decides-eqb, common_steps, length-replicate, set-get_or, Point, IsOn, index_of, has_bit, is_set, AreRowsOf, Cell, same_cell, Grid, cell_at, with_cell, empty_grid, with_row, AreStones, grid_with, stone_in, with_columns, Empty, same_bools, row_below, get_or-replicate_default, same_or_not}
+use Rattle.board_stones.proofs.Common.{◌≡◌, ◌≢◌, ◌↔◌, inl, inr, ℕ, ◌*◌, ◌<◌, ◌≤◌, ◌==◌, ◌&&◌, Bool, true, false, not, cond, List, length, get_or, set, take, bit_or, refl, sym, ap, ◌∙◌, arith, subst, rules, length-set, cases_Bool, cases_eq, false≢true, Decides-eqb, common_steps, length-replicate, set-get_or, Point, IsOn, index_of, has_bit, has_bit-zero, is_set, AreRowsOf, Cell, same_cell, Grid, cell_at, with_cell, empty_grid, with_row, AreStones, grid_with, stone_in, with_columns, Empty, same_bools, row_below, get_or-replicate_default, same_or_not}
 use Rattle.std.proofs.Common.{◌^◌, replicate, bit_and, w64, ext_get_or, get_or-take, length-take-le}
 use Rattle.std.specs.Int.{bit_at, bit_not}
 use Rattle.std.proofs.lemmas.Nat.Bits.{same_from_bits}
@@ -106,10 +106,10 @@ module _ (side : ℕ) (black white : List ℕ) (row columns : ℕ) (c : Cell) (b
   is_white = is_set-coloured white row columns w c White (omega (arith, are.few, are.white_rows)) in_white
 
   -- the words still hold the stones of a board
-  pub AreStones-coloured : AreStones side (set black row b) (set white row w)
+  AreStones-coloured : AreStones side (set black row b) (set white row w)
   AreStones-coloured = grind (arith, common_steps, is_black, is_white)
 
-  pub grid-coloured : grid_with side (set black row b) (set white row w) ≡ with_columns (grid_with side black white) row columns c
+  grid-coloured : grid_with side (set black row b) (set white row w) ≡ with_columns (grid_with side black white) row columns c
   unfolding with_columns
   grid-coloured = search (rules, cell_at-grid_of, chosen, is_black, is_white, same_colours)
 
@@ -134,10 +134,10 @@ module _ (side : ℕ) (black white : List ℕ) (row all b w : ℕ) (are : AreSto
   in_white_rows : row < length white
   in_white_rows = omega (arith, below, are.few, are.white_rows)
 
-  pub AreStones-row : AreStones side (set black row b) (set white row w)
+  AreStones-row : AreStones side (set black row b) (set white row w)
   AreStones-row = grind (arith, common_steps, is_set-row black row b in_black_rows, is_set-row white row w in_white_rows)
 
-  pub grid-row : grid_with side (set black row b) (set white row w) ≡ with_row (grid_with side black white) row all w
+  grid-row : grid_with side (set black row b) (set white row w) ≡ with_row (grid_with side black white) row all w
   unfolding with_row
   grid-row =
       same_colours side _ _
@@ -168,8 +168,9 @@ one_coloured g p row columns c on all at there elsewhere =
 pub columns_set : (word columns c : ℕ) → has_bit (bit_or word columns) c ≡ cond (has_bit columns c) true (has_bit word c)
 columns_set word columns c = grind (arith, common_steps, has_bit-or)
 
-pub columns_cleared : (word columns c : ℕ) → word < 2 ^ 64 → columns < 2 ^ 64 → has_bit (bit_and word (bit_not w64 columns)) c ≡ cond (has_bit columns c) false (has_bit word c)
-columns_cleared word columns c low low_columns = grind (arith, common_steps, has_bit-less)
+-- a word without some columns, or with them
+pub recoloured : (word columns put c : ℕ) (asked wanted : Bool) → word < 2 ^ 64 → columns < 2 ^ 64 → asked ≡ wanted → put ≡ cond asked columns 0 → has_bit (bit_or (bit_and word (bit_not w64 columns)) put) c ≡ cond (has_bit columns c) wanted (has_bit word c)
+recoloured word columns put c asked wanted fits low same is = grind (arith, common_steps, has_bit-or, has_bit-less, has_bit-zero)
 
 -- a stone that is added on an empty point
 none_there : (black white : Bool) → cond black Black (cond white White Empty) ≡ Empty → (black ≡ false) × (white ≡ false)

@@ -1,6 +1,6 @@
 //! The board: reading and setting points, moves and the score (Tromp-Taylor).
 
-ghost use Rattle.std.specs.Prelude.{◌≡◌, IsTrue, false, ◌*◌, ◌<◌, ◌≤◌, ◌↔◌, ℕ, length, if◌then◌else◌};
+ghost use Rattle.std.specs.Prelude.{◌≡◌, IsTrue, false, ◌*◌, ◌<◌, ◌≤◌, ◌↔◌, ℕ, length};
 ghost use Rattle.board_stones.specs.declared.stones.Cell.TheVariants.{Empty};
 ghost use Rattle.board_stones.specs.declared.stones.Colour.TheVariants.{Black, White};
 ghost use Rattle.board_points.specs.declared.points.Point.{Point};
@@ -150,8 +150,10 @@ impl Board {
         ensures { self.new ≡ with_columns self.old row columns cell }
     {
         let row = usize::from(row);
-        self.black[row] = with_columns(self.black[row], columns, cell, Cell::Black);
-        self.white[row] = with_columns(self.white[row], columns, cell, Cell::White);
+        let black = if cell == Cell::Black { columns } else { 0 };
+        let white = if cell == Cell::White { columns } else { 0 };
+        self.black[row] = self.black[row] & !columns | black;
+        self.white[row] = self.white[row] & !columns | white;
         self.settled = false;
     }
 
@@ -285,18 +287,5 @@ impl Board {
         let black_reach = self.all_reach(Colour::Black);
         let white_reach = self.all_reach(Colour::White);
         !(black_reach & white_reach)
-    }
-}
-
-/// The word of the stones of one kind, once some columns have a cell.
-#[tactic(auto, using(crate::proofs::StoneRowsLemmas::columns_set, crate::proofs::StoneRowsLemmas::columns_cleared, crate::proofs::GridLemmas::grid_rules))]
-fn with_columns(word: u64, columns: u64, cell: Cell, stone: Cell) -> u64
-    ensures { (col : ℕ) → has_bit result col
-        ≡ (if has_bit columns col then same_cell cell stone else has_bit word col) }
-{
-    if cell == stone {
-        word | columns
-    } else {
-        word & !columns
     }
 }
