@@ -105,7 +105,7 @@ impl Board {
         let mut some = false;
         let beside = point.neighbours();
         for at in beside {
-            if self.is_unsearched(colour, at, shut, alive) {
+            if self.has_stone(colour, at) && !has_point(shut, at) && !has_point(alive, at) {
                 some |= add_to_either(own, others, at, shut, alive);
             }
         }
@@ -123,24 +123,6 @@ impl Board {
             return false;
         }
         !lives_in_row(self.rows_of(colour), self.rows_of(colour.opponent()), point)
-    }
-
-    /// Whether a point has a stone of a colour that isn't among those found already.
-    fn is_unsearched(&self, colour: Colour, point: Point, shut: &[u64], alive: &[u64]) -> bool
-        requires shut { length shut.now ≡ self.now.side }
-        requires alive { length alive.now ≡ self.now.side }
-        ensures stone { IsTrue result → IsOn self.now.side point × (cell_at self.now point ≡ stone_of colour) }
-        ensures known { IsFalse result → IsOn self.now.side point → cell_at self.now point ≡ stone_of colour
-            → IsTrue (is_set shut.now point) ⊎ IsTrue (is_set alive.now point) }
-    {
-        self.has_all_cells();
-        if !self.has_stone(colour, point) {
-            return false;
-        }
-        if has_point(shut, point) {
-            return false;
-        }
-        !has_point(alive, point)
     }
 
     /// Whether the group of the stone on a point has no liberty. If so, `shut` becomes the group. It must be empty.

@@ -4,7 +4,7 @@ use Rattle.board_stones.proofs.GridLemmas.{Decides-same_cell}
 use Rattle.board_stones.proofs.LibertyLemmas.{rows_of_opponent, Reaches-liberty}
 use Rattle.board_stones.proofs.ClearedLemmas.{AddsGroup-rows, adds_either, cleared_still, beside_cleared}
 use Rattle.board_stones.proofs.board.Board.find_shut_among.Goals as goal
-use Rattle.board_stones.proofs.board.Board.find_shut_among.Goals.{then-is_unsearched, else-is_unsearched}
+use Rattle.board_stones.proofs.board.Board.find_shut_among.Goals.{then-has_stone+then-not-has_point+then-not-has_point-2, else-has_stone, else-has_stone-via-else-has_stone, else-has_stone-via-then-has_stone+else-not-has_point, else-has_stone-via-then-has_stone+then-not-has_point+else-not-has_point-2}
 
 pub loop-at-init : goal.loop-at-init
 loop-at-init c = record {
@@ -23,7 +23,7 @@ loop-at-init c = record {
 
 pub add_to_either-some-requires-clause-stone : goal.add_to_either-some-requires-clause-stone
 add_to_either-some-requires-clause-stone c =
-    let known = c.is_unsearched.ensures.stone c.if-is_unsearched.true in
+    let known = c.has_stone.ensures.0 c.if-has_stone.true in
     record {
       rows = search rules;
       on_board = search (rules, known);
@@ -39,9 +39,9 @@ loop-at-preserved c =
     let are = rows_of_opponent g k c.opponent.result other.result.now c.opponent.ensures other.ensures.are in
     let before = c.loop-at.invariant in
     let turn = λ (q : Point). Contains-take_more c.neighbours-beside.result c.loop-at.at-index q (omega arith) in
-    elim c.if-is_unsearched.branch [
-      | then-is_unsearched w ↦
-          let known = c.is_unsearched.ensures.stone w.if-is_unsearched.true in
+    elim c.if-has_stone.branch [
+      | then-has_stone+then-not-has_point+then-not-has_point-2 w ↦
+          let known = c.has_stone.ensures.0 w.if-has_stone.true in
           let found = w.add_to_either-some in
           let now = AddsGroup-rows g k own.result.now other.result.now _ found.new.shut _ found.result own.ensures.rows own.ensures.are are
           (record { on_board = known.0; stone = known.1; shut = before.adds.shut }) found.ensures.shut in
@@ -65,7 +65,7 @@ loop-at-preserved c =
                   | inr is ↦ subst (IsClearedOrReaches g c.args.colour w.add_to_either-some.new.shut) (sym is) now.here
                 ];
           })
-      | else-is_unsearched w ↦
+      | else-has_stone w ↦
           rw (w.shut-is, w.alive-is)
           (record {
             alive = before.alive;
@@ -74,9 +74,12 @@ loop-at-preserved c =
                 elim ((turn q).0 among) [
                   | inl earlier ↦ before.beside q earlier on stone
                   | inr is ↦
-                      elim (c.is_unsearched.ensures.known w.if-is_unsearched.false (subst (IsOn g.side) is on) (ap (cell_at g) (sym is) ∙ stone)) [
-                        | inl shut ↦ inl (ap (is_set _) is ∙ shut)
-                        | inr alive ↦ inr (subst (Reaches g Empty) (sym is) (before.alive.reach _ alive))
+                      elim w.else-has_stone.branch [
+                        | else-has_stone-via-else-has_stone v ↦
+                            absurd (false≢true (sym v.if-has_stone.false ∙ c.has_stone.ensures.1 (subst (IsOn g.side) is on, ap (cell_at g) (sym is) ∙ stone)))
+                        | else-has_stone-via-then-has_stone+else-not-has_point v ↦ inl (ap (is_set _) is ∙ sym v.has_point.ensures ∙ v.if-not-has_point.false)
+                        | else-has_stone-via-then-has_stone+then-not-has_point+else-not-has_point-2 v ↦
+                            inr (subst (Reaches g Empty) (sym is) (before.alive.reach _ (sym v.has_point-then-not-has_point.ensures ∙ v.if-not-has_point-2.false)))
                       ]
                 ];
           })
