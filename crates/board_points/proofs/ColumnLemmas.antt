@@ -1,7 +1,6 @@
 -- Words as sets of columns: the columns of a row, those between two of them, and a word with a column added or taken.
-use Rattle.std.proofs.Common.{◌≡◌, ◌≢◌, inl, inr, ℕ, ◌+◌, ◌-◌, ◌*◌, ◌^◌, ◌%◌, ◌<◌, ◌==◌, ◌||◌, ◌&&◌, Bool, true, false, not, bit_and, bit_or, w64, refl, sym, ap, ◌∙◌, arith, ◌≤◌, nat_le, leb-true, le-leb, mod-eq_of_lt, pow_pos}
-use Rattle.board_points.proofs.Common.{bit_at, bit_not, trailing_zeros, leading_zeros, or-true, and-true, and-false, or_right, and_parts, and_from, false≢true, cases_eq, cases_lt, common_steps, pow_below, mod_below, leading_top, bit_at_set_same, bit_at_set_other, bit_at_mask_inside, bit_at_mask_above, bit_at_mask_below, bit_at-trailing_zeros, bit_at_cat_high, has_bit, AreAllColumns, IsPart}
-use Rattle.std.proofs.Math.Nat.{two-pow-succ}
+use Rattle.board_points.proofs.Common.{◌≡◌, ◌≢◌, inl, inr, ℕ, ◌+◌, ◌-◌, ◌*◌, ◌^◌, ◌%◌, ◌<◌, ◌==◌, ◌||◌, ◌&&◌, Bool, true, false, not, bit_and, bit_or, w64, refl, sym, ap, ◌∙◌, arith, ◌≤◌, mod-eq_of_lt, pow_pos, bit_at, bit_not, trailing_zeros, leading_zeros, or-true, and-true, and-false, or_right, and_parts, and_from, false≢true, cases_eq, cases_lt, common_steps, pow_below, mod_below, leading_top, bit_at_set_same, bit_at_set_other, bit_at_mask_inside, bit_at_mask_above, bit_at_mask_below, bit_at-trailing_zeros, bit_at_cat_high, has_bit, AreAllColumns, IsPart, two-pow-succ}
+use Rattle.std.proofs.Common.{nat_le, leb-true, le-leb}
 use Rattle.board_points.proofs.WordLemmas.{has_bit-zero, has_bit-less, same_bools, le_from_part}
 
 -- a word with one bit set
@@ -89,14 +88,3 @@ without_smaller word next col is gone elsewhere =
     ] in
     let differs : next ≢ word = λ same. false≢true (sym gone ∙ ap (λ w. has_bit w col) same ∙ is) in
     omega (arith, le_from_part next word part, differs)
-
--- what is left without its lowest column
-module _ (columns left next : ℕ) (some : left ≢ 0) (low : columns < 2 ^ 64) (part : IsPart (has_bit left) (has_bit columns)) (there : has_bit next (trailing_zeros w64 left) ≡ false) (elsewhere : (k : ℕ) → k ≢ trailing_zeros w64 left → has_bit next k ≡ has_bit left k) where
-  abbrev lowest : ℕ
-  lowest = trailing_zeros w64 left
-
-  set : has_bit left lowest ≡ true
-  set = (lowest_left columns left some low part).0
-
-  next_within : IsPart (has_bit next) (has_bit left)
-  next_within = grind (arith, common_steps)

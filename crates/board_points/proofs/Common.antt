@@ -1,8 +1,10 @@
 -- What the proofs of this crate import together: words of specs, types, and lemmas of the standard library.
 pub use Rattle.std.specs.Int.{bit_at, bit_not, leading_zeros, rotate_left, trailing_zeros}
 pub use Rattle.std.specs.List.{list_any, range_with_len}
+pub use Rattle.std.proofs.Common.{[], ap, arith, bit_and, bit_or, Bool, Contains, count_ones, eqb-true, false, get_or, get_or-set_other, get_or-set_same, inl, inr, IsTrue, length, length-set, List, map, max, mod-eq_of_lt, nat_eq, nat_lt, not, pow_pos, refl, replicate, rules, set, slice_index, Some, subst, suc, sym, take, true, w64, zero, ℕ, ◌%◌, ◌&&◌, ◌*◌, ◌+◌, ◌-◌, ◌/◌, ◌<◌, ◌==◌, ◌^◌, ◌||◌, ◌∙◌, ◌∷◌, ◌≡◌, ◌≢◌, ◌≤◌, ◌⊎◌}
 pub use Rattle.std.proofs.Math.Bool.{and-false, and-true, or-false, or-true}
-pub use Rattle.std.proofs.lemmas.Bool.{and_cases, and_from, and_parts, cases_Bool, cases_eq, cases_lt, eqb-false, false_from_ne_true, false≢true, not-true, or_cases, or_left, or_parts, or_right}
+pub use Rattle.std.proofs.Math.Nat.{two-pow-succ}
+pub use Rattle.std.proofs.lemmas.Bool.{and_cases, and_from, and_parts, cases_Bool, cases_eq, cases_lt, eqb-false, false_from_ne_true, false≢true, not-true, or_cases, or_from, or_left, or_parts, or_right}
 pub use Rattle.std.proofs.lemmas.Bool.Decides.{Decides-and, Decides-by_or, Decides-eqb, Decides-ltb, Decides-or}
 pub use Rattle.std.proofs.lemmas.Grind.{common_steps}
 pub use Rattle.std.proofs.lemmas.List.{get_or_past, length-map, length-replicate, length_push, take_more, take_more_set}

@@ -1,6 +1,6 @@
 -- Counting points by the bits of words.
-use Rattle.std.proofs.Common.{◌≡◌, inl, inr, ℕ, zero, suc, ◌+◌, ◌*◌, ◌^◌, ◌%◌, ◌<◌, ◌≤◌, ◌==◌, ◌&&◌, Bool, true, not, cond, IsTrue, List, map, get_or, bit_and, count_ones, count_by, sum, sum_by, refl, sym, ap, ◌∙◌, arith, w64, add_assoc, pow_pos}
-use Rattle.board_points.proofs.Common.{bit_not, range_with_len, and_parts, cases_lt, false_from_ne_true, common_steps, length-map, sum_by-map-range_with_len_more, sum-map, and_le_l, ones-le, ones_cat, mod-pow-add, mod_below, bit_at-lt, bit_at_above, same_from_bits, Point, IsOn, point_at, points, has_bit, is_set, count_apart}
+use Rattle.board_points.proofs.Common.{◌≡◌, inl, inr, ℕ, zero, suc, ◌+◌, ◌*◌, ◌^◌, ◌%◌, ◌<◌, ◌≤◌, ◌==◌, ◌&&◌, Bool, true, not, IsTrue, List, map, get_or, bit_and, count_ones, refl, sym, ap, ◌∙◌, arith, w64, pow_pos, bit_not, range_with_len, and_parts, cases_lt, false_from_ne_true, common_steps, length-map, sum_by-map-range_with_len_more, sum-map, and_le_l, ones-le, ones_cat, mod-pow-add, mod_below, bit_at-lt, bit_at_above, same_from_bits, Point, IsOn, point_at, points, has_bit, is_set, count_apart}
+use Rattle.std.proofs.Common.{cond, count_by, sum, sum_by, add_assoc}
 use lib.Count.{ones}
 use Rattle.board_points.proofs.PointLemmas.{point_at-index_of, is_map-points, length-points, IsOn-point_at, index_of-point_at, get_or-map-points}
 use Rattle.board_points.proofs.WordLemmas.{has_bit-and, has_bit-without, bit_at-gone, bit_at-mod}

@@ -1,6 +1,5 @@
 -- Rows that give their points to the rows beside them, as a set is filled.
-use Rattle.std.proofs.Common.{◌≡◌, ◌≢◌, inl, inr, ℕ, ◌+◌, ◌-◌, ◌^◌, ◌<◌, ◌≤◌, ◌⊎◌, ◌&&◌, ◌||◌, Bool, true, false, not, nat_eq, List, length, set, bit_and, bit_or, refl, sym, ap, ◌∙◌, arith, slice_index, subst, w64, length-set}
-use Rattle.board_points.proofs.Common.{trailing_zeros, or_cases, or_left, or_right, and_parts, and_from, false≢true, cases_eq, cases_Bool, Up, Down, has_bit, is_set, IsAmong, IsClosed, Grows, IsPart, HasBeside, IsTaken, row_above, IsNext, opposite, AreRowsBelow, HaveGiven, HaveGivenBut, IsFilledBut, HaveMore, lacking}
+use Rattle.board_points.proofs.Common.{◌≡◌, ◌≢◌, inl, inr, ℕ, ◌+◌, ◌-◌, ◌^◌, ◌<◌, ◌≤◌, ◌⊎◌, ◌&&◌, ◌||◌, Bool, true, false, not, nat_eq, List, length, set, bit_and, bit_or, refl, sym, ap, ◌∙◌, arith, slice_index, subst, w64, length-set, trailing_zeros, or_cases, or_left, or_right, and_parts, and_from, false≢true, cases_eq, cases_Bool, Up, Down, has_bit, is_set, IsAmong, IsClosed, Grows, IsPart, HasBeside, IsTaken, row_above, IsNext, opposite, AreRowsBelow, HaveGiven, HaveGivenBut, IsFilledBut, HaveMore, lacking}
 use Rattle.board_points.specs.declared.fill.Direction.{Direction}
 use Rattle.board_points.proofs.WordLemmas.{has_bit-or, has_bit-and, has_bit-zero, not_in_part, le_from_part}
 use Rattle.board_points.proofs.ColumnLemmas.{lowest_left}

@@ -1,6 +1,5 @@
 -- What the words of bits around a point tell of a stone on it.
-use Rattle.std.proofs.Common.{◌≡◌, ◌≢◌, inl, inr, ℕ, zero, suc, ◌+◌, ◌-◌, ◌*◌, ◌/◌, ◌%◌, ◌^◌, ◌<◌, ◌==◌, ◌||◌, Bool, true, false, List, length, get_or, bit_and, bit_or, w64, refl, sym, ap, ◌∙◌, arith, subst, rules}
-use Rattle.board_points.proofs.Common.{bit_not, or_parts, and_parts, and_cases, and_from, not-true, false≢true, false_from_ne_true, common_steps, bit_at_ones, RowStones, Point, KeepsLiberty, Lives, IsOn, DifferByOne, AreAdjacent, has_bit, is_set, IsOpenBeside, AreColumnsOff, IsInRowAround, IsRowAt, IsNextRow, AreFree, IsLookedAt}
+use Rattle.board_points.proofs.Common.{◌≡◌, ◌≢◌, inl, inr, ℕ, zero, suc, ◌+◌, ◌-◌, ◌*◌, ◌/◌, ◌%◌, ◌^◌, ◌<◌, ◌==◌, true, false, List, length, get_or, bit_and, bit_or, w64, refl, sym, ap, ◌∙◌, arith, subst, rules, bit_not, or_from, or_parts, and_parts, and_cases, and_from, not-true, false≢true, false_from_ne_true, common_steps, bit_at_ones, RowStones, Point, KeepsLiberty, Lives, IsOn, DifferByOne, AreAdjacent, has_bit, is_set, IsOpenBeside, AreColumnsOff, IsInRowAround, IsRowAt, IsNextRow, AreFree, IsLookedAt}
 use Rattle.board_points.proofs.WordLemmas.{has_bit-or, has_bit-and, has_bit-left, has_bit-right, has_bit-without, has_bit-zero, column_below}
 
 -- a word of all bits has each column
@@ -23,9 +22,6 @@ row_inside own others middle i r off at below is_off = record {
 pub row_outside : (own others : List ℕ) (middle i : ℕ) → ((p : Point) → p.row + 2 ≡ middle + i → is_set others p ≡ true → ⊥)
     → IsRowAt own others middle i (record { own = 0; others = 0; taken = 2 ^ 64 - 1 })
 row_outside own others middle i none = grind (arith, common_steps, false≢true, has_bit-full, has_bit-zero)
-
-or_from : (a b : Bool) → a ≡ false → b ≡ false → (a || b) ≡ false
-or_from a b first second = rw (first, second)
 
 pub row_free : (own others : List ℕ) (middle i r off : ℕ) → r + 2 ≡ middle + i → AreColumnsOff (length own) off
     → (p : Point) → p.row + 2 ≡ middle + i → IsOn (length own) p → is_set own p ≡ false → is_set others p ≡ false

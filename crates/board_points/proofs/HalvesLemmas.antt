@@ -1,6 +1,5 @@
 -- Sets of points in the halves of words.
-use Rattle.std.proofs.Common.{◌≡◌, ◌≢◌, inl, inr, ℕ, ◌+◌, ◌-◌, ◌*◌, ◌/◌, ◌%◌, ◌^◌, ◌<◌, ◌≤◌, ◌==◌, ◌&&◌, true, false, not, nat_lt, max, bit_and, count_ones, w64, List, slice_index, sym, ap, ◌∙◌, arith, length, subst, pow_pos}
-use Rattle.board_points.proofs.Common.{bit_at, bit_not, rotate_left, and_parts, and_from, cases_lt, Decides-ltb, common_steps, length-map, mod_below, ones_cat, bit_at_above, bit_at_cat_high, bit_at_cat_low, bit_at_or, bit_at-zero, same_from_bits, Point, low_halves, high_halves, AreOthersPaired, AreAdjacent, has_bit, is_set, IsAmong, IsClosed, IsPart}
+use Rattle.board_points.proofs.Common.{◌≡◌, ◌≢◌, inl, inr, ℕ, ◌+◌, ◌-◌, ◌*◌, ◌/◌, ◌%◌, ◌^◌, ◌<◌, ◌≤◌, ◌==◌, ◌&&◌, true, false, not, nat_lt, max, bit_and, count_ones, w64, List, slice_index, sym, ap, ◌∙◌, arith, length, subst, pow_pos, bit_at, bit_not, rotate_left, and_parts, and_from, cases_lt, Decides-ltb, common_steps, length-map, mod_below, ones_cat, bit_at_above, bit_at_cat_high, bit_at_cat_low, bit_at_or, bit_at-zero, same_from_bits, Point, low_halves, high_halves, AreOthersPaired, AreAdjacent, has_bit, is_set, IsAmong, IsClosed, IsPart}
 use Rattle.std.proofs.Math.ListN.{get_or-map}
 use Rattle.board_points.proofs.WordLemmas.{same_bools, bit_at-mod, column_below, has_bit-less, not_in_part, same_word}
 use Rattle.board_points.proofs.ColumnLemmas.{AreOthers}

@@ -1,6 +1,5 @@
 -- The group of a stone, and the points beside it.
-use Rattle.std.proofs.Common.{◌≡◌, ◌≢◌, inl, inr, ℕ, zero, suc, ◌+◌, ◌*◌, ◌/◌, ◌%◌, ◌^◌, ◌<◌, subst, Bool, not, ◌&&◌, ◌||◌, true, false, w64, List, length, set, take, replicate, bit_and, bit_or, slice_index, refl, sym, ap, ◌∙◌, arith, rules}
-use Rattle.board_points.proofs.Common.{bit_not, trailing_zeros, or_cases, or_left, or_right, or_parts, and_parts, and_from, false≢true, cases_Bool, common_steps, RowStones, Point, HasLiberty, IsLinked, IsLiberty, IsOn, DifferByOne, AreAdjacent, has_bit, is_set, IsAmong, IsClosed, Grows, IsPart, IsInOrBeside, HasOneAlive, IsRowAt}
+use Rattle.board_points.proofs.Common.{◌≡◌, ◌≢◌, inl, inr, ℕ, zero, suc, ◌+◌, ◌*◌, ◌/◌, ◌%◌, ◌^◌, ◌<◌, subst, Bool, not, ◌&&◌, ◌||◌, true, false, w64, List, length, set, take, replicate, bit_and, bit_or, slice_index, refl, sym, ap, ◌∙◌, arith, rules, bit_not, trailing_zeros, or_cases, or_left, or_right, or_parts, and_parts, and_from, false≢true, cases_Bool, common_steps, RowStones, Point, HasLiberty, IsLinked, IsLiberty, IsOn, DifferByOne, AreAdjacent, has_bit, is_set, IsAmong, IsClosed, Grows, IsPart, IsInOrBeside, HasOneAlive, IsRowAt}
 use Rattle.board_points.proofs.PointLemmas.{AreAdjacent-sym, DifferByOne-sym}
 use Rattle.board_points.proofs.GrowLemmas.{set_there, set_elsewhere}
 use Rattle.board_points.proofs.WordLemmas.{has_bit-not, in_complement, has_bit-or, has_bit-and, has_bit-left, from_left, has_bit-right, has_bit-zero, column_below}
@@ -30,7 +29,6 @@ none_lives own others row word alive low to none stone at there free =
     (sym (ap (λ w. has_bit w stone.col) none ∙ has_bit-zero stone.col) ∙ has_bit-and word alive stone.col
     ∙ and_from _ _ there (to stone at (column_below 64 word stone.col low there) free))
 
--- with no row set no point is
 -- a column of the last word is in neither of the others, if none is in common
 pub none_in_both : (a b word col : ℕ) → bit_and (bit_or a b) word ≡ 0 → has_bit word col ≡ true → (has_bit a col ≡ false) × (has_bit b col ≡ false)
 none_in_both a b word col none is =

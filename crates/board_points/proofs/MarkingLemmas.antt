@@ -1,6 +1,5 @@
 -- Markings that functions of the points make, and rows of bits as a marking.
-use Rattle.std.proofs.Common.{◌≡◌, ◌≢◌, ℕ, ◌*◌, Bool, false, length, get_or, refl, ap, ◌∙◌, replicate, zero, suc, arith, inl, inr, ◌<◌, ◌≤◌, true, List, set, sym, ◌/◌, ◌%◌, ◌^◌, ◌==◌, map, bit_and, bit_or, w64, get_or-set_same, get_or-set_other, length-set}
-use Rattle.board_points.proofs.Common.{cases_eq, common_steps, length-map, length-replicate, bit_at-zero, shr_and_one, bit_at_set_same, bit_at_set_other, Point, is_marked, marking_of, with_mark, no_marks, IsOn, points, index_of, point_at, has_bit, is_set}
+use Rattle.board_points.proofs.Common.{◌≡◌, ◌≢◌, ℕ, ◌*◌, Bool, false, length, get_or, refl, ap, ◌∙◌, replicate, zero, suc, arith, inl, inr, ◌<◌, ◌≤◌, true, List, set, sym, ◌/◌, ◌%◌, ◌^◌, ◌==◌, map, bit_and, bit_or, w64, get_or-set_same, get_or-set_other, length-set, cases_eq, common_steps, length-map, length-replicate, bit_at-zero, shr_and_one, bit_at_set_same, bit_at_set_other, Point, is_marked, marking_of, with_mark, no_marks, IsOn, points, index_of, point_at, has_bit, is_set}
 use Rattle.board_points.proofs.PointLemmas.{index_below, length-points, get_or-map-points, one_point, is_map-points, IsOn-point_at, index_of-point_at, point_at-index_of}
 use Rattle.board_points.proofs.GrowLemmas.{set_there, set_elsewhere}
 

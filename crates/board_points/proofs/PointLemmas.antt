@@ -1,6 +1,6 @@
 -- Points, their indices in a list that goes row by row, and tests on the points of a grid.
-use Rattle.std.proofs.Common.{◌≡◌, ◌≢◌, ◌↔◌, Some, slice_get, subst, ℕ, ◌+◌, ◌*◌, ◌<◌, ◌⊎◌, Bool, true, List, [], ◌∷◌, map, take, length, get_or, refl, sym, ap, ◌∙◌, arith, Decides, inl, inr, Contains, ext_get_or}
-use Rattle.board_points.proofs.Common.{list_any, Decides-eqb, Decides-and, Decides-or, Decides-by_or, common_steps, length-map, take_more, Contains-append_left, Contains-push, Contains-push_cases, length-map-range_with_len, get_or-map-range_with_len, mul-add-lt, mod-mul-add, div-mul-add, rows, Point, IsOn, AreAdjacent, are_adjacent, index_of, point_at, points, DifferByOne}
+use Rattle.board_points.proofs.Common.{◌≡◌, ◌≢◌, Some, subst, ℕ, ◌+◌, ◌*◌, ◌<◌, ◌⊎◌, Bool, true, List, [], ◌∷◌, map, take, length, get_or, refl, sym, ap, ◌∙◌, arith, inl, inr, Contains, list_any, Decides-eqb, Decides-and, Decides-or, Decides-by_or, common_steps, length-map, take_more, Contains-append_left, Contains-push, Contains-push_cases, length-map-range_with_len, get_or-map-range_with_len, mul-add-lt, mod-mul-add, div-mul-add, rows, Point, IsOn, AreAdjacent, are_adjacent, index_of, point_at, points, DifferByOne}
+use Rattle.std.proofs.Common.{◌↔◌, slice_get, Decides, ext_get_or}
 use Rattle.std.proofs.lemmas.List.{get_or-map}
 use Rattle.std.proofs.lemmas.Option.{slice_get-get_or, get_or_from_slice_get, slice_get_within}
 use Rattle.std.proofs.lemmas.List.Folds.{list_any_at}
@@ -105,11 +105,6 @@ Decides-are_adjacent p q = grind (arith, common_steps, Decides-and, Decides-eqb,
 -- two points are one or not
 pub same_or_not : (p q : Point) → (p ≡ q) ⊎ (p ≢ q)
 same_or_not p q = grind (arith, common_steps, one_point)
-
--- a point at an index of a list that goes row by row; after its end, only the index is known
-pub record IsAt (side index : ℕ) (p : Point) : Type 0 where
-  pub at_index : index_of side p ≡ index
-  pub in_columns : index < side * side → p.col < side
 
 pub DifferByOne-sym : (a b : ℕ) → DifferByOne a b → DifferByOne b a
 DifferByOne-sym a b differ = grind (arith, common_steps)

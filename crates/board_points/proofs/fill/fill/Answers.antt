@@ -1,5 +1,4 @@
-use Rattle.std.proofs.Common.{subst, arith}
-use Rattle.board_points.proofs.Common.{Up, Down, IsFilledBut}
+use Rattle.board_points.proofs.Common.{subst, arith, Up, Down, IsFilledBut}
 use Rattle.board_points.proofs.GiveLemmas.{turned, IsClosed-all}
 use Rattle.board_points.proofs.fill.fill.Goals as goal
 

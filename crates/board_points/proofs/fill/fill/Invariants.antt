@@ -1,6 +1,5 @@
 -- The rows are filled, but for those that can give to the row above them. More rows lack less; else fewer rows are flagged.
-use Rattle.std.proofs.Common.{◌+◌, ◌*◌, ◌^◌}
-use Rattle.board_points.proofs.Common.{Up, lacking, IsFilledBut}
+use Rattle.board_points.proofs.Common.{◌+◌, ◌*◌, ◌^◌, Up, lacking, IsFilledBut}
 use Rattle.board_points.proofs.fill.fill.Given as goal
 
 abbrev pub invariant-passes : goal.invariant-passes

@@ -1,5 +1,4 @@
-use Rattle.std.proofs.Common.{◌≡◌, ◌<◌, length, set, slice_index, bit_or, inr, sym, ap, ◌∙◌, arith, rules, length-set}
-use Rattle.board_points.proofs.Common.{and_parts, has_bit}
+use Rattle.board_points.proofs.Common.{◌≡◌, ◌<◌, length, set, slice_index, bit_or, inr, sym, ap, ◌∙◌, arith, rules, length-set, and_parts, has_bit}
 use Rattle.board_points.proofs.WordLemmas.{has_bit-and}
 use Rattle.board_points.proofs.GiveLemmas.{IsFilledBut-last, IsFilledBut-give, has_all, row_there, HaveMore-twice, IsAmong-taken, taken-there, left-there, lacking-taken}
 use Rattle.board_points.proofs.fill.give.Goals as goal

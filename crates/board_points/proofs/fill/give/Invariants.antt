@@ -1,6 +1,5 @@
 -- The row has yet to give `given` to the next one.
-use Rattle.std.proofs.Common.{◌≡◌, ◌<◌, List, ℕ, ◌&&◌, not, length, slice_index}
-use Rattle.board_points.proofs.Common.{has_bit, IsWithin, IsPart, HaveMore, IsFilledBut, lacking}
+use Rattle.board_points.proofs.Common.{◌≡◌, ◌<◌, List, ℕ, ◌&&◌, not, length, slice_index, has_bit, IsWithin, IsPart, HaveMore, IsFilledBut, lacking}
 use Rattle.board_points.proofs.fill.give.Given as goal
 
 abbrev pub invariant-rows : goal.invariant-rows

@@ -1,5 +1,4 @@
-use Rattle.std.proofs.Common.{inl, inr, sym, ap, ◌∙◌, subst}
-use Rattle.board_points.proofs.Common.{cases_eq, false≢true, has_bit, IsFilledBut}
+use Rattle.board_points.proofs.Common.{inl, inr, sym, ap, ◌∙◌, subst, cases_eq, false≢true, has_bit, IsFilledBut}
 use Rattle.board_points.proofs.ColumnLemmas.{without_smaller}
 use Rattle.board_points.proofs.GiveLemmas.{IsFilledBut-first, HaveMore-twice}
 use Rattle.board_points.proofs.fill.give_all.Goals as goal

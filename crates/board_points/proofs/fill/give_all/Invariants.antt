@@ -1,6 +1,5 @@
 -- The rows that were taken out of the flagged ones have given all that they had.
-use Rattle.std.proofs.Common.{List, ℕ, length}
-use Rattle.board_points.proofs.Common.{IsWithin, AreRowsBelow, HaveMore, IsFilledBut}
+use Rattle.board_points.proofs.Common.{List, ℕ, length, IsWithin, AreRowsBelow, HaveMore, IsFilledBut}
 use Rattle.board_points.proofs.fill.give_all.Given as goal
 
 abbrev pub invariant-flags : goal.invariant-flags

@@ -1,5 +1,4 @@
-use Rattle.std.proofs.Common.{◌≡◌, ◌<◌, length, set, slice_index, sym, ap, ◌∙◌, arith, rules, suc, ◌+◌, get_or-set_same}
-use Rattle.board_points.proofs.Common.{and_parts, row_above}
+use Rattle.board_points.proofs.Common.{◌≡◌, ◌<◌, length, set, slice_index, sym, ap, ◌∙◌, arith, rules, suc, ◌+◌, get_or-set_same, and_parts, row_above}
 use Rattle.board_points.proofs.WordLemmas.{has_bit-and}
 use Rattle.board_points.proofs.GiveLemmas.{IsSwept-more, IsFilledBut-swept, after_sweep}
 use Rattle.board_points.proofs.fill.give_down_once.Goals as goal

@@ -1,5 +1,4 @@
-use Rattle.std.proofs.Common.{◌≡◌, ℕ, ◌+◌, ◌&&◌, not, slice_index}
-use Rattle.board_points.proofs.Common.{has_bit, row_above}
+use Rattle.board_points.proofs.Common.{◌≡◌, ℕ, ◌+◌, ◌&&◌, not, slice_index, has_bit, row_above}
 use Rattle.board_points.proofs.GiveLemmas.{IsSwept}
 use Rattle.board_points.proofs.fill.give_down_once.Given as goal
 

@@ -1,5 +1,4 @@
-use Rattle.std.proofs.Common.{◌/◌, ◌^◌, bit_and, sym, ◌∙◌, arith, rules}
-use Rattle.std.proofs.lemmas.Bool.{and_parts}
+use Rattle.board_points.proofs.Common.{◌/◌, ◌^◌, bit_and, sym, ◌∙◌, arith, rules, and_parts}
 use Rattle.board_points.proofs.CarryLemmas.{IsWidened-carried, IsWidened-before, in_before, HasBeside-none, AreLeft-before, fewer_left}
 use Rattle.board_points.proofs.fill.widened.Goals as goal
 

@@ -1,4 +1,4 @@
-use Rattle.board_points.specs.inner.Columns.{IsWidened}
+use Rattle.board_points.proofs.Common.{IsWidened}
 use Rattle.board_points.proofs.CarryLemmas.{AreLeft}
 use Rattle.board_points.proofs.fill.widened.Given as goal
 

@@ -1,4 +1,4 @@
-use Rattle.std.proofs.Common.{rules}
+use Rattle.board_points.proofs.Common.{rules}
 use Rattle.board_points.proofs.LinkedLemmas.{free_beside, has_free, liberty_beside}
 use Rattle.board_points.proofs.liberty.columns_with_liberty.Goals as goal
 

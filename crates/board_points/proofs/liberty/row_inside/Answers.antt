@@ -1,4 +1,4 @@
-use Rattle.std.proofs.Common.{arith}
+use Rattle.board_points.proofs.Common.{arith}
 use Rattle.board_points.proofs.GlanceLemmas.{row_inside, row_free}
 use Rattle.board_points.proofs.liberty.row_inside.Goals as goal
 

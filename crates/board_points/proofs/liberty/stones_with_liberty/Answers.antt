@@ -1,4 +1,4 @@
-use Rattle.std.proofs.Common.{refl, arith}
+use Rattle.board_points.proofs.Common.{refl, arith}
 use Rattle.board_points.proofs.GrowLemmas.{row_below}
 use Rattle.board_points.proofs.RowLemmas.{written_more}
 use Rattle.board_points.proofs.LinkedLemmas.{HaveLibertyInRow, HaveLibertyInRow-row}

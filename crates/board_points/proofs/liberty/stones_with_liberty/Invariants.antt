@@ -1,4 +1,4 @@
-use Rattle.std.proofs.Common.{ℕ, ◌<◌, slice_index}
+use Rattle.board_points.proofs.Common.{ℕ, ◌<◌, slice_index}
 use Rattle.board_points.proofs.LinkedLemmas.{HaveLibertyInRow}
 use Rattle.board_points.proofs.liberty.stones_with_liberty.Given as goal
 

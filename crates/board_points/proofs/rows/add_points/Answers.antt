@@ -1,4 +1,4 @@
-use Rattle.std.proofs.Common.{arith}
+use Rattle.board_points.proofs.Common.{arith}
 use Rattle.board_points.proofs.RowLemmas.{added_all}
 use Rattle.board_points.proofs.rows.add_points.Goals as goal
 

@@ -1,4 +1,4 @@
-use Rattle.std.proofs.Common.{◌<◌, ◌^◌, length, get_or, refl, arith, rules}
+use Rattle.board_points.proofs.Common.{◌<◌, ◌^◌, length, get_or, refl, arith, rules}
 use Rattle.board_points.proofs.CountLemmas.{counted_more, counted_all}
 use Rattle.board_points.proofs.rows.count_apart.Goals as goal
 

@@ -1,4 +1,4 @@
-use Rattle.std.proofs.Common.{length}
+use Rattle.board_points.proofs.Common.{length}
 use Rattle.board_points.proofs.CountLemmas.{IsCounted}
 use Rattle.board_points.proofs.rows.count_apart.Given as goal
 

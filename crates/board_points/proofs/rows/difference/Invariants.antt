@@ -1,5 +1,4 @@
-use Rattle.std.proofs.Common.{◌≡◌, ℕ, ◌<◌, slice_index, bit_and, w64}
-use Rattle.std.specs.Int.{bit_not}
+use Rattle.board_points.proofs.Common.{◌≡◌, ℕ, ◌<◌, slice_index, bit_and, w64, bit_not}
 use Rattle.board_points.proofs.rows.difference.Given as goal
 
 abbrev pub invariant-loop-row : goal.invariant-loop-row

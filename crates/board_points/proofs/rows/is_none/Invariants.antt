@@ -1,4 +1,4 @@
-use Rattle.std.proofs.Common.{◌≡◌, ℕ, ◌<◌, slice_index}
+use Rattle.board_points.proofs.Common.{◌≡◌, ℕ, ◌<◌, slice_index}
 use Rattle.board_points.proofs.rows.is_none.Given as goal
 
 abbrev pub invariant-loop-row : goal.invariant-loop-row

@@ -1,4 +1,4 @@
-use Rattle.std.proofs.Common.{◌∙◌, length, slice_index, arith, rules}
+use Rattle.board_points.proofs.Common.{◌∙◌, length, slice_index, arith, rules}
 use Rattle.board_points.proofs.ColumnLemmas.{AreOthers, others_of_all}
 use Rattle.board_points.proofs.RowLemmas.{written_more, AreRowsOf-others}
 use Rattle.board_points.proofs.rows.other_points.Goals as goal

@@ -1,4 +1,4 @@
-use Rattle.std.proofs.Common.{ℕ, ◌<◌, slice_index}
+use Rattle.board_points.proofs.Common.{ℕ, ◌<◌, slice_index}
 use Rattle.board_points.proofs.ColumnLemmas.{AreOthers}
 use Rattle.board_points.proofs.rows.other_points.Given as goal
 

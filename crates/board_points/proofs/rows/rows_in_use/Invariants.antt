@@ -1,5 +1,5 @@
 -- The rows from `count` on have no point.
-use Rattle.std.proofs.Common.{◌≡◌, ℕ, ◌≤◌, length, slice_index}
+use Rattle.board_points.proofs.Common.{◌≡◌, ℕ, ◌≤◌, length, slice_index}
 use Rattle.board_points.proofs.rows.rows_in_use.Given as goal
 
 abbrev pub invariant-rows : goal.invariant-rows

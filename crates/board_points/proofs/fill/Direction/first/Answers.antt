@@ -1,4 +1,4 @@
-use Rattle.std.proofs.Common.{arith}
+use Rattle.board_points.proofs.Common.{arith}
 use Rattle.board_points.proofs.ColumnLemmas.{lowest_left, highest}
 use Rattle.board_points.proofs.fill.Direction.first.Goals as goal
 

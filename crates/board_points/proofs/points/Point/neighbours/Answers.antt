@@ -1,5 +1,4 @@
-use Rattle.std.proofs.Common.{inl, inr, zero, suc, ◌+◌, ◌%◌, Contains, List, [], ◌∷◌, ap, arith}
-use Rattle.board_points.proofs.Common.{Point, IsOn, AreAdjacent}
+use Rattle.board_points.proofs.Common.{inl, inr, zero, suc, ◌+◌, ◌%◌, Contains, List, [], ◌∷◌, ap, arith, Point, IsOn, AreAdjacent}
 use Rattle.board_points.proofs.PointLemmas.{one_point}
 use Rattle.board_points.proofs.points.Point.neighbours.Goals as goal
 

@@ -1,5 +1,4 @@
-use Rattle.std.proofs.Common.{◌≡◌, ◌≢◌, ◌-◌, ◌<◌, ◌^◌, false, true, ℕ, inl, inr, bit_and, sym, ap, ◌∙◌, arith, rules, subst}
-use Rattle.board_points.proofs.Common.{or-true, false≢true, RowStones, Lives, LeavesAlong, LeavesAcross, DifferByOne, has_bit, IsLookedAt}
+use Rattle.board_points.proofs.Common.{◌≡◌, ◌≢◌, ◌-◌, ◌<◌, ◌^◌, false, true, ℕ, inl, inr, bit_and, sym, ap, ◌∙◌, arith, rules, subst, or-true, false≢true, RowStones, Lives, LeavesAlong, LeavesAcross, DifferByOne, has_bit, IsLookedAt}
 use Rattle.board_points.proofs.GlanceLemmas.{row_here, free_here, none_free, free_elsewhere, keeps_liberty, friend_there, left_there}
 use Rattle.board_points.proofs.quick.glance.five_rows_show_alive.Goals as goal
 use Rattle.board_points.proofs.quick.glance.five_rows_show_alive.Goals.{After-columns_beside-in_doubt}

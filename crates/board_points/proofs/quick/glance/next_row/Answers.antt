@@ -1,5 +1,4 @@
-use Rattle.std.proofs.Common.{sym, ◌∙◌}
-use Rattle.board_points.proofs.Common.{false≢true}
+use Rattle.board_points.proofs.Common.{sym, ◌∙◌, false≢true}
 use Rattle.board_points.proofs.GlanceLemmas.{next_row, no_next_row}
 use Rattle.board_points.proofs.quick.glance.next_row.Goals as goal
 

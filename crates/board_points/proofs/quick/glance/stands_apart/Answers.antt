@@ -1,5 +1,4 @@
-use Rattle.std.proofs.Common.{◌≡◌, ◌<◌, ◌+◌, length, false, inl, inr, bit_and, bit_or, sym, ap, ◌∙◌, arith, get_or}
-use Rattle.board_points.proofs.Common.{and_cases, or_parts, not-true, false≢true, false_from_ne_true, AreAdjacent, has_bit, IsInOrBeside, IsNextRow, Decides-ltb}
+use Rattle.board_points.proofs.Common.{◌≡◌, ◌<◌, ◌+◌, length, false, inl, inr, bit_and, bit_or, sym, ap, ◌∙◌, arith, get_or, and_cases, or_parts, not-true, false≢true, false_from_ne_true, AreAdjacent, has_bit, IsInOrBeside, IsNextRow, Decides-ltb}
 use Rattle.board_points.proofs.WordLemmas.{has_bit-and, has_bit-or}
 use Rattle.board_points.proofs.GrowLemmas.{row_below}
 use Rattle.board_points.proofs.GlanceLemmas.{apart}

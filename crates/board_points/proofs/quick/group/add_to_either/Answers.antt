@@ -1,5 +1,4 @@
-use Rattle.std.proofs.Common.{inl, inr, sym, ◌∙◌, length, rules}
-use Rattle.std.proofs.lemmas.Bool.{or_cases}
+use Rattle.board_points.proofs.Common.{inl, inr, sym, ◌∙◌, length, rules, or_cases}
 use Rattle.board_points.proofs.LinkedLemmas.{none_in_front, IsLiberty-linked}
 use Rattle.board_points.proofs.quick.group.add_to_either.Goals as goal
 

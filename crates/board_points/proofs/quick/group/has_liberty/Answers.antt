@@ -1,5 +1,4 @@
-use Rattle.std.proofs.Common.{◌≡◌, ◌+◌, ◌<◌, ◌^◌, ℕ, not, nat_eq, true, false, List, length, set, slice_index, inl, inr, sym, ap, ◌∙◌, subst, arith, rules, length-set}
-use Rattle.board_points.proofs.Common.{false≢true, Point, HasLiberty, IsLiberty, IsLinked, has_bit, is_set, IsClosed, IsWithin, Grows, IsPart, HasNoneAcross, HasOneAlive}
+use Rattle.board_points.proofs.Common.{◌≡◌, ◌+◌, ◌<◌, ◌^◌, ℕ, not, nat_eq, true, false, List, length, set, slice_index, inl, inr, sym, ap, ◌∙◌, subst, arith, rules, length-set, false≢true, Point, HasLiberty, IsLiberty, IsLinked, has_bit, is_set, IsClosed, IsWithin, Grows, IsPart, HasNoneAcross, HasOneAlive}
 use Rattle.board_points.proofs.GrowLemmas.{Grows-twice, zero_of}
 use Rattle.board_points.proofs.LinkedLemmas.{in_first, of_first, first_within, alive_linked, common_column, none_lives, part_linked}
 use Rattle.board_points.proofs.quick.group.has_liberty.Goals as goal

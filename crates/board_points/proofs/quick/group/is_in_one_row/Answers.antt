@@ -1,5 +1,4 @@
-use Rattle.std.proofs.Common.{◌≡◌, slice_index, inl, inr, ap, sym, ◌∙◌, arith, eqb-true}
-use Rattle.board_points.proofs.Common.{cases_Bool, has_bit, is_set}
+use Rattle.board_points.proofs.Common.{◌≡◌, slice_index, inl, inr, ap, sym, ◌∙◌, arith, eqb-true, cases_Bool, has_bit, is_set}
 use Rattle.board_points.proofs.GrowLemmas.{row_below}
 use Rattle.board_points.proofs.LinkedLemmas.{none_in_both}
 use Rattle.board_points.proofs.quick.group.is_in_one_row.Goals as goal

@@ -1,5 +1,4 @@
-use Rattle.std.proofs.Common.{◌≡◌, ◌≢◌, ℕ, true, inl, inr, refl, sym, ap, ◌∙◌, subst, slice_index}
-use Rattle.board_points.proofs.Common.{or-true, cases_eq, false≢true, has_bit, HasBeside, IsPart}
+use Rattle.board_points.proofs.Common.{◌≡◌, ◌≢◌, ℕ, true, inl, inr, refl, sym, ap, ◌∙◌, subst, slice_index, or-true, cases_eq, false≢true, has_bit, HasBeside, IsPart}
 use Rattle.board_points.proofs.WordLemmas.{has_bit-zero}
 use Rattle.board_points.proofs.quick.group.joined_in_row.Goals as goal
 

@@ -1,5 +1,4 @@
-use Rattle.std.proofs.Common.{◌≡◌, ◌<◌, length, set, slice_index, bit_or, sym, ◌∙◌, arith, rules, length-set}
-use Rattle.std.proofs.lemmas.Bool.{and_parts}
+use Rattle.board_points.proofs.Common.{◌≡◌, ◌<◌, length, set, slice_index, bit_or, sym, ◌∙◌, arith, rules, length-set, and_parts}
 use Rattle.board_points.proofs.WordLemmas.{has_bit-and}
 use Rattle.board_points.proofs.GrowLemmas.{Grows-twice}
 use Rattle.board_points.proofs.GiveLemmas.{Grows-take, take-there}

@@ -1,6 +1,5 @@
 -- The group grew. The row has yet to give `given` to the next one.
-use Rattle.std.proofs.Common.{◌<◌, length, slice_index}
-use Rattle.board_points.proofs.Common.{has_bit, is_set, Grows, IsWithin, IsPart}
+use Rattle.board_points.proofs.Common.{◌<◌, length, slice_index, has_bit, is_set, Grows, IsWithin, IsPart}
 use Rattle.board_points.proofs.GiveLemmas.{rows_ahead}
 use Rattle.board_points.proofs.quick.group.lives_ahead.Given as goal
 

@@ -1,5 +1,4 @@
-use Rattle.std.proofs.Common.{◌^◌, ◌<◌, sym, subst, rules}
-use Rattle.board_points.proofs.Common.{HasLiberty}
+use Rattle.board_points.proofs.Common.{◌^◌, ◌<◌, sym, subst, rules, HasLiberty}
 use Rattle.board_points.proofs.LinkedLemmas.{common_column, none_lives}
 use Rattle.board_points.proofs.quick.group.row_in_doubt.Goals as goal
 

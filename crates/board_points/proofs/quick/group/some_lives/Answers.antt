@@ -1,5 +1,4 @@
-use Rattle.std.proofs.Common.{◌<◌, ◌^◌, slice_index, inl, inr, sym, ap, ◌∙◌, arith, rules}
-use Rattle.board_points.proofs.Common.{cases_eq, false≢true, has_bit}
+use Rattle.board_points.proofs.Common.{◌<◌, ◌^◌, slice_index, inl, inr, sym, ap, ◌∙◌, arith, rules, cases_eq, false≢true, has_bit}
 use Rattle.board_points.proofs.WordLemmas.{has_bit-zero}
 use Rattle.board_points.proofs.LinkedLemmas.{common_column, none_lives}
 use Rattle.board_points.proofs.quick.group.some_lives.Goals as goal

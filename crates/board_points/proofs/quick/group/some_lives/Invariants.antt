@@ -1,5 +1,4 @@
-use Rattle.std.proofs.Common.{◌<◌, IsTrue}
-use Rattle.board_points.proofs.Common.{Point, HasLiberty, is_set}
+use Rattle.board_points.proofs.Common.{◌<◌, IsTrue, Point, HasLiberty, is_set}
 use Rattle.board_points.proofs.quick.group.some_lives.Given as goal
 
 abbrev pub invariant-rows : goal.invariant-rows

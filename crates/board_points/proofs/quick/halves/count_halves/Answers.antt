@@ -1,5 +1,4 @@
-use Rattle.std.proofs.Common.{◌≡◌, ◌+◌, ◌-◌, ◌/◌, ◌%◌, ◌<◌, ◌≤◌, ◌^◌, ◌∙◌, ap, sym, subst, bit_and, w64, count_ones, length, get_or, arith, rules}
-use Rattle.board_points.proofs.Common.{bit_not, low_halves, high_halves}
+use Rattle.board_points.proofs.Common.{◌≡◌, ◌+◌, ◌-◌, ◌/◌, ◌%◌, ◌<◌, ◌≤◌, ◌^◌, ◌∙◌, ap, sym, subst, bit_and, w64, count_ones, length, get_or, arith, rules, bit_not, low_halves, high_halves}
 use Rattle.std.proofs.Math.ListN.{get_or-map}
 use Rattle.board_points.proofs.CountLemmas.{IsCounted, counted_more, counted_all}
 use Rattle.board_points.proofs.HalvesLemmas.{left_low, left_high, ones_by_halves}

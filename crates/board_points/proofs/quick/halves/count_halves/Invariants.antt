@@ -1,5 +1,4 @@
-use Rattle.std.proofs.Common.{◌-◌, ◌≤◌, length}
-use Rattle.board_points.specs.Halves.{low_halves, high_halves}
+use Rattle.board_points.proofs.Common.{◌-◌, ◌≤◌, length, low_halves, high_halves}
 use Rattle.board_points.proofs.CountLemmas.{IsCounted}
 use Rattle.board_points.proofs.quick.halves.count_halves.Given as goal
 

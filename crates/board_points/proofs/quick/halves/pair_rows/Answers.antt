@@ -1,4 +1,4 @@
-use Rattle.std.proofs.Common.{◌≡◌, ◌∙◌, ◌<◌, ◌/◌, ◌%◌, ◌^◌, sym, length, slice_index, arith, rules}
+use Rattle.board_points.proofs.Common.{◌≡◌, ◌∙◌, ◌<◌, ◌/◌, ◌%◌, ◌^◌, sym, length, slice_index, arith, rules}
 use Rattle.board_points.proofs.ColumnLemmas.{others_of_all}
 use Rattle.board_points.proofs.RowLemmas.{written_more}
 use Rattle.board_points.proofs.HalvesLemmas.{fits_half, left_low, left_high, IsPair, IsPairOfOthers, others_paired_all}

@@ -1,4 +1,4 @@
-use Rattle.std.proofs.Common.{ℕ, ◌<◌, length, slice_index}
+use Rattle.board_points.proofs.Common.{ℕ, ◌<◌, length, slice_index}
 use Rattle.board_points.proofs.HalvesLemmas.{IsPair, IsPairOfOthers}
 use Rattle.board_points.proofs.quick.halves.pair_rows.Given as goal
 

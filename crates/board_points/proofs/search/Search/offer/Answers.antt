@@ -1,5 +1,4 @@
-use Rattle.std.proofs.Common.{◌*◌, sym, ap, ◌∙◌, arith, length-set}
-use Rattle.board_points.specs.Marking.{Marking}
+use Rattle.board_points.proofs.Common.{◌*◌, sym, ap, ◌∙◌, arith, length-set, Marking}
 use Rattle.board_points.proofs.SearchLemmas.{IsOffered, offered}
 use Rattle.board_points.proofs.search.Search.offer.Goals as goal
 use Rattle.board_points.proofs.search.Search.offer.Goals.{After-mark}
