@@ -4,11 +4,11 @@ pub use Rattle.std.specs.List.{list_any, range_with_len}
 pub use Rattle.std.proofs.Common.{[], ap, arith, bit_and, bit_or, Bool, Contains, count_ones, eqb-true, false, get_or, get_or-set_other, get_or-set_same, inl, inr, IsTrue, length, length-set, List, map, max, mod-eq_of_lt, nat_eq, nat_lt, not, pow_pos, refl, replicate, rules, set, slice_index, Some, subst, suc, sym, take, true, w64, zero, ℕ, ◌%◌, ◌&&◌, ◌*◌, ◌+◌, ◌-◌, ◌/◌, ◌<◌, ◌==◌, ◌^◌, ◌||◌, ◌∙◌, ◌∷◌, ◌≡◌, ◌≢◌, ◌≤◌, ◌⊎◌}
 pub use Rattle.std.proofs.Math.Bool.{and-false, and-true, or-false, or-true}
 pub use Rattle.std.proofs.Math.Nat.{two-pow-succ}
-pub use Rattle.std.proofs.lemmas.Bool.{and_cases, and_from, and_parts, cases_Bool, cases_eq, cases_lt, eqb-false, false_from_ne_true, false≢true, not-true, or_cases, or_from, or_left, or_parts, or_right}
+pub use Rattle.std.proofs.lemmas.Bool.{and_cases, and_from, and_parts, cases_Bool, cases_eq, cases_lt, eqb-false, false_from_ne_true, false≢true, not-false, not-true, or_cases, or_from, or_left, or_parts, or_right}
 pub use Rattle.std.proofs.lemmas.Bool.Decides.{Decides-and, Decides-by_or, Decides-eqb, Decides-ltb, Decides-or}
 pub use Rattle.std.proofs.lemmas.Grind.{common_steps}
 pub use Rattle.std.proofs.lemmas.List.{get_or_past, length-map, length-replicate, length_push, take_more, take_more_set}
-pub use Rattle.std.proofs.lemmas.List.Elements.{All-from_get_or, All-get_or, Contains-append_left, Contains-push, Contains-push_cases}
+pub use Rattle.std.proofs.lemmas.List.Elements.{Contains-append_left, Contains-push, Contains-push_cases}
 pub use Rattle.std.proofs.lemmas.List.FromFn.{get_or-map-range_with_len, get_or-range_with_len, length-map-range_with_len, sum_by-map-range_with_len_more}
 pub use Rattle.std.proofs.lemmas.List.Sums.{count_by-le-length, sum-map, sum_by-set}
 pub use Rattle.std.proofs.lemmas.Nat.{and_le_l, and_mask, div-mul-add, le_or_l, leading_top, mod-mul-add, mod-pow-add, mod_below, mul-add-lt, ones-le, ones_cat, pow_below, rows}
@@ -18,15 +18,14 @@ pub use Rattle.board_points.specs.declared.liberty.RowStones.{RowStones}
 pub use Rattle.board_points.specs.declared.points.Point.{Point}
 pub use Rattle.board_points.specs.declared.vertices.Vertex.{Vertex}
 pub use Rattle.board_points.specs.Glance.{KeepsLiberty, LeavesAcross, LeavesAlong, Lives}
-pub use Rattle.board_points.specs.Halves.{AreOthersPaired, ArePaired, high_halves, low_halves}
-pub use Rattle.board_points.specs.Linked.{HasLiberty, HaveLiberty, IsLiberty, IsLinked}
+pub use Rattle.board_points.specs.Halves.{AreOthersPaired, high_halves, low_halves}
+pub use Rattle.board_points.specs.Linked.{HasLiberty, IsLiberty, IsLinked}
 pub use Rattle.board_points.specs.Marking.{is_marked, marked_count, Marking, marking_of, no_marks, with_mark}
-pub use Rattle.board_points.specs.Point.{are_adjacent, AreAdjacent, DifferByOne, index_of, IsOn, IsRectOn, point_at}
+pub use Rattle.board_points.specs.Point.{are_adjacent, AreAdjacent, DifferByOne, index_of, IsOn, point_at}
 unfoldable pub use Rattle.board_points.specs.Point.{points}
 pub use Rattle.board_points.specs.Rows.{AreAllColumns, AreRowsOf, Grows, has_bit, is_set, IsAmong, IsClosed, IsDifference, IsWithin}
 unfoldable pub use Rattle.board_points.specs.Rows.{count_apart}
 pub use Rattle.board_points.specs.Search.{Finds, IsSound, Searched}
-pub use Rattle.board_points.specs.Values.{colon, point_of, rect_of}
 unfoldable pub use Rattle.board_points.specs.Values.{point_value, rect_value}
 pub use Rattle.board_points.specs.Vertex.{column_letters}
 unfoldable pub use Rattle.board_points.specs.Vertex.{vertex_of}
