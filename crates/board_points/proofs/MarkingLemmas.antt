@@ -70,5 +70,3 @@ rows-with_bit side rows p fits low on =
 -- reading a bit
 pub rows-has : (side : ℕ) (rows : List ℕ) (p : Point) (row : ℕ) → row ≡ p.row → IsOn side p → (bit_and (get_or rows row 0 / 2 ^ p.col) 1 == 1) ≡ is_marked (marking_of side (is_set rows)) p
 rows-has side rows p row is on = grind (arith, common_steps, is_marked-marking_of, shr_and_one)
-
-pub ruleset bits_of_points = (rows-has, rows-with_bit)

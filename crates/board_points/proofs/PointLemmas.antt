@@ -111,5 +111,3 @@ DifferByOne-sym a b differ = grind (arith, common_steps)
 
 pub AreAdjacent-sym : (p q : Point) → AreAdjacent p q → AreAdjacent q p
 AreAdjacent-sym p q adjacent = grind (arith, common_steps, DifferByOne-sym)
-
-pub ruleset index_and_back = (index_of-point_at)

@@ -142,5 +142,3 @@ test_same = by_bits (λ x y. (x == 1) ≡ (y == 1) → x ≡ y) (λ _. refl) (λ
 
 pub same_word : (a b : ℕ) → ((c : ℕ) → has_bit a c ≡ has_bit b c) → a ≡ b
 same_word a b each = same_from_bits a b (λ i. test_same (bit_at a i) (bit_at b i) (bit_at-lt a i) (bit_at-lt b i) (each i))
-
-pub ruleset bits_of_words = (has_bit-and, has_bit-without, has_bit-zero)

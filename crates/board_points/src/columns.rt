@@ -7,7 +7,6 @@ ghost use Rattle.board_points.specs.inner.Columns.{IsPart};
 ghost use Rattle.board_points.specs.inner.Look.{AreColumnsOff};
 
 /// Whether a word has the bit of a column.
-#[tactic(auto, using(std::proofs::lemmas::Nat::Bits::shr_and_one))]
 pub fn has_column(word: u64, col: usize) -> bool
     requires { col < 64 }
     ensures { result ≡ has_bit word col }
@@ -26,7 +25,6 @@ pub fn with_column(word: u64, col: usize, set: bool) -> u64
 }
 
 /// The word without the bit of a column.
-#[tactic(auto, using(crate::proofs::ColumnLemmas::without_there, crate::proofs::ColumnLemmas::without_elsewhere))]
 pub fn without_column(word: u64, col: usize) -> u64
     requires { col < 64 }
     ensures there { has_bit result col ≡ false }
@@ -53,7 +51,6 @@ pub(crate) fn columns_off(side: usize) -> u64
 }
 
 /// The columns of `all` that aren't in `word`.
-#[tactic(auto, using(std::proofs::lemmas::Bool::and_parts, crate::proofs::WordLemmas::bits_of_words))]
 pub fn columns_left(all: u64, word: u64) -> u64
     ensures within { (col : ℕ) → col < 64 → has_bit result col ≡ (has_bit all col && not (has_bit word col)) }
     ensures off { (col : ℕ) → IsTrue (has_bit result col) → IsTrue (has_bit all col) }
@@ -72,7 +69,7 @@ pub(crate) fn columns_apart(all: u64, part: u64) -> u64
 }
 
 /// The columns from one to another, both included. The first must not be after the last, and the last must be less than 63.
-#[tactic(auto, using(std::proofs::lemmas::Nat::pow_below, crate::proofs::ColumnLemmas::column_word, crate::proofs::ColumnLemmas::columns_between))]
+#[tactic(auto, using(std::proofs::lemmas::Nat::pow_below, crate::proofs::ColumnLemmas::column_word))]
 pub fn columns_between(first: u8, last: u8) -> u64
     requires ordered { first ≤ last }
     requires few { last < 63 }

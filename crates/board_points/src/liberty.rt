@@ -45,7 +45,7 @@ pub(crate) fn columns_beside(above: u64, here: u64, below: u64) -> u64
 
 /// What stands on a row near the row `middle`. `i` is 0 for the second row above it, and 2 for `middle` itself.
 /// `off` has the columns that the board doesn't have.
-#[tactic(auto, using(crate::proofs::GrowLemmas::row_below, crate::proofs::GlanceLemmas::row_outside))]
+#[tactic(auto, using(crate::proofs::GrowLemmas::row_below))]
 pub(crate) fn row_at(own: &[u64], others: &[u64], off: u64, middle: usize, i: usize) -> RowStones
     requires rows { AreOfOneBoard own.now others.now }
     requires off { AreColumnsOff (length own.now) off }

@@ -39,7 +39,6 @@ impl Marks {
     }
 
     /// Marks a point, which must be on the board.
-    #[tactic(auto, using(crate::proofs::MarkingLemmas::bits_of_points))]
     pub fn mark(&mut self, point: Point)
         requires { IsOn self.old.side point }
         ensures { self.new ≡ with_mark self.old point }
@@ -49,7 +48,6 @@ impl Marks {
     }
 
     /// Whether a point is marked. The point must be on the board.
-    #[tactic(auto, using(crate::proofs::MarkingLemmas::bits_of_points))]
     pub fn has(&self, point: Point) -> bool
         requires { IsOn self.now.side point }
         ensures { result ≡ is_marked self.now point }

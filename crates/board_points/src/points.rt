@@ -29,7 +29,6 @@ impl Point {
     }
 
     /// The point with this index, counted as by `index`. The index must be less than the number of points of the board.
-    #[tactic(auto, using(crate::proofs::PointLemmas::index_and_back))]
     pub fn of_index(index: usize, size: Size) -> Point
         requires { index < size * size }
         ensures on_board { IsOn size result }

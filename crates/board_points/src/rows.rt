@@ -65,7 +65,7 @@ pub fn other_points(rows: &[u64], others: &mut [u64])
 }
 
 /// Writes to `left` the points of `rows` that aren't in `others`. The three must have equally many words.
-#[tactic(auto, using(crate::proofs::RowLemmas::written_more, crate::proofs::RowLemmas::difference_by_rows))]
+#[tactic(auto, using(crate::proofs::RowLemmas::difference_by_rows))]
 pub fn difference(rows: &[u64], others: &[u64], left: &mut [u64])
     requires others { length others.now ≡ length rows.now }
     requires left { length left.old ≡ length rows.now }

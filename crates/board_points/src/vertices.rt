@@ -24,7 +24,6 @@ pub(crate) mod naming {
 
     /// The vertex of a point (GTP, version 2). It is the letter of its column, A to Z without I from the left, and the number of
     /// its row, counted from 1 at the bottom. The point must be on the board, and the side at most `MAX_VERTEX_SIDE`.
-    #[tactic(auto, unfolding(crate::specs::Vertex::vertex_of))]
     pub fn vertex(point: Point, size: Size) -> Vertex
         requires on_board { IsOn size point }
         requires letters { size ≤ MAX_VERTEX_SIDE }

@@ -182,7 +182,6 @@ impl Board {
     }
 
     /// Whether a row is the same as on another board of the same size.
-    #[tactic(auto, using(crate::proofs::GridLemmas::same_stones))]
     pub fn has_same_row(&self, other: &Board, row: u8) -> bool
         requires side { other.now.side ≡ self.now.side }
         requires row { row < self.now.side }
