@@ -1,5 +1,5 @@
 -- The rows of the stones of a board: the grid that they make, and points of a row coloured anew.
-use Rattle.board_stones.proofs.Common.{◌≡◌, ◌≢◌, ◌↔◌, inl, inr, ℕ, ◌*◌, ◌<◌, ◌≤◌, ◌==◌, ◌&&◌, Bool, true, false, not, cond, List, length, get_or, set, take, bit_or, refl, sym, ap, ◌∙◌, arith, subst, rules, length-set, cases_Bool, cases_eq, false≢true, not-true, and_parts, Decides-eqb, common_steps, length-replicate, set-get_or, Point, IsOn, index_of, has_bit, has_bit-zero, is_set, AreRowsOf, Cell, same_cell, Grid, cell_at, with_cell, empty_grid, with_row, AreStones, grid_with, stone_in, with_columns, Empty, same_bools, row_below, get_or-replicate_default, same_or_not}
+use Rattle.board_stones.proofs.Common.{◌≡◌, ◌≢◌, ◌↔◌, inl, inr, ℕ, ◌*◌, ◌<◌, ◌≤◌, ◌==◌, ◌&&◌, Bool, true, false, not, cond, List, length, get_or, set, take, bit_or, refl, sym, ap, ◌∙◌, arith, subst, rules, length-set, cases_Bool, cases_eq, false≢true, Decides-eqb, common_steps, length-replicate, set-get_or, Point, IsOn, index_of, has_bit, has_bit-zero, is_set, AreRowsOf, Cell, same_cell, Grid, cell_at, with_cell, empty_grid, with_row, AreStones, grid_with, stone_in, with_columns, Empty, same_bools, row_below, get_or-replicate_default, same_or_not}
 use Rattle.std.proofs.Common.{◌^◌, replicate, bit_and, w64, ext_get_or, get_or-take, length-take-le}
 use Rattle.std.specs.Int.{bit_at, bit_not}
 use Rattle.std.proofs.lemmas.Nat.Bits.{same_from_bits}
@@ -135,28 +135,7 @@ module _ (side : ℕ) (black white : List ℕ) (row all b w : ℕ) (are : AreSto
   in_white_rows = omega (arith, below, are.few, are.white_rows)
 
   AreStones-row : AreStones side (set black row b) (set white row w)
-  AreStones-row = record {
-    few = are.few;
-    black_rows = length-set black row b ∙ are.black_rows;
-    white_rows = length-set white row w ∙ are.white_rows;
-    black_on = λ p there.
-        elim (cases_eq p.row row) [
-          | inl same ↦ (black_in p.col (off p.col (sym (set_there black row b in_black_rows p same) ∙ there)), omega (arith, same, below))
-          | inr other ↦ are.black_on p (sym (set_elsewhere black row b p other) ∙ there)
-        ];
-    white_on = λ p there.
-        elim (cases_eq p.row row) [
-          | inl same ↦ (white_in p.col (sym (set_there white row w in_white_rows p same) ∙ there), omega (arith, same, below))
-          | inr other ↦ are.white_on p (sym (set_elsewhere white row w p other) ∙ there)
-        ];
-    apart = λ p there.
-        elim (cases_eq p.row row) [
-          | inl same ↦
-              let bit = sym (set_there black row b in_black_rows p same) ∙ there in
-              set_there white row w in_white_rows p same ∙ not-true _ (and_parts _ _ (sym (rest p.col (omega (arith, black_in p.col (off p.col bit), are.few))) ∙ bit)).1
-          | inr other ↦ set_elsewhere white row w p other ∙ are.apart p (sym (set_elsewhere black row b p other) ∙ there)
-        ];
-  }
+  AreStones-row = grind (arith, common_steps, is_set-row black row b in_black_rows, is_set-row white row w in_white_rows)
 
   grid-row : grid_with side (set black row b) (set white row w) ≡ with_row (grid_with side black white) row all w
   unfolding with_row
