@@ -1,5 +1,5 @@
-//! What a stone clears, as rows of bits: nothing, the groups beside it that it captures, or its own group by suicide. `Board::place` is the
-//! plain way.
+//! What a stone clears, as rows of bits: nothing, the groups beside it that it captures, or its own group by suicide. `Board::place` is
+//! the plain way.
 
 ghost use Rattle.std.specs.Prelude.{◌≡◌, ◌↔◌, ◌⊎◌, [], false, IsTrue, IsFalse, length};
 ghost use Rattle.board_stones.specs.declared.stones.Cell.TheVariants.{Empty};
