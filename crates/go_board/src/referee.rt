@@ -41,14 +41,6 @@ struct Earlier {
     call: Call,
 }
 
-impl Earlier {
-    fn new(mover: Mover, call: Call) -> Earlier
-        ensures { result ≡ record { mover = mover; call = call } }
-    {
-        Earlier { mover, call }
-    }
-}
-
 /// An accepted call, by what it changes besides the player and the passes.
 #[derive(Clone, Copy)]
 enum Call {
@@ -205,7 +197,11 @@ impl<P: Past> Referee<P> {
         ensures ok { OnOk result (self.new ≡ followed_by self.old self.old.present) }
         ensures err { OnErr result (self.new ≡ self.old) }
     {
-        self.earlier.push(Earlier::new(self.mover, Call::Stay))?;
+        let present = Earlier {
+            mover: self.mover,
+            call: Call::Stay,
+        };
+        self.earlier.push(present)?;
         Ok(())
     }
 

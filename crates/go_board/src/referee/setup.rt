@@ -38,7 +38,11 @@ impl<P: Past> Referee<P> {
             ≡ followed_by self.old (record self.old.present { player = Some player })) }
         ensures err { OnErr result (self.new ≡ self.old) }
     {
-        self.earlier.push(Earlier::new(self.mover, Call::Stay))?;
+        let present = Earlier {
+            mover: self.mover,
+            call: Call::Stay,
+        };
+        self.earlier.push(present)?;
         self.mover = Mover::after(self.mover.passes(), player);
         Ok(())
     }
@@ -50,7 +54,10 @@ impl<P: Past> Referee<P> {
             (with_setup self.old.present (fold with_rectangle self.old.present.colouring ops.now) player)) }
         ensures err { OnErr result (self.new ≡ self.old) }
     {
-        let present = Earlier::new(self.mover, Call::Setup);
+        let present = Earlier {
+            mover: self.mover,
+            call: Call::Setup,
+        };
         self.earlier.reserve(1)?;
         self.past.set_up(ops)?;
         self.earlier.push(present).unwrap();

@@ -100,8 +100,10 @@ impl<P: Past> Referee<P> {
         if !self.past.play_at_once(colour, point) {
             return false;
         }
-        self.earlier
-            .push_reserved(Earlier::new(self.mover, Call::Stone));
+        self.earlier.push_reserved(Earlier {
+            mover: self.mover,
+            call: Call::Stone,
+        });
         self.mover = Mover::after(0, colour.opponent());
         self.turns += 1;
         true
@@ -113,7 +115,10 @@ impl<P: Past> Referee<P> {
         ensures ok { OnOk result (self.new ≡ followed_by self.old (turned self.old.present colour Pass)) }
         ensures err { OnErr result (self.new ≡ self.old) }
     {
-        self.earlier.push(Earlier::new(self.mover, Call::Pass))?;
+        self.earlier.push(Earlier {
+            mover: self.mover,
+            call: Call::Pass,
+        })?;
         self.mover = Mover::after(self.mover.passes() + 1, colour.opponent());
         self.turns += 1;
         Ok(())
@@ -134,7 +139,10 @@ impl<P: Past> Referee<P> {
         if !self.past.play(colour, point)? {
             return Ok(false);
         }
-        let present = Earlier::new(self.mover, Call::Stone);
+        let present = Earlier {
+            mover: self.mover,
+            call: Call::Stone,
+        };
         if self.earlier.push(present).is_err() {
             self.past.pop();
             return Err(MemoryFault);
