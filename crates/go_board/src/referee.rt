@@ -7,7 +7,7 @@ ghost use Rattle.go_board.specs.State.{States, HadSameBoard, HadSameBoardSince, 
 ghost use Rattle.go_board.specs.Reason.{must_move};
 ghost use Rattle.board_stones.specs.Colour.{opponent};
 ghost use Rattle.board_stones.specs.Score.{score_of};
-ghost use Rattle.go_board.specs.inner.Earlier.{grew, turned, player_of, passes_of, states_of, IsRefereeKept};
+ghost use Rattle.go_board.specs.inner.Earlier.{grew, player_of, passes_of, states_of, IsRefereeKept};
 
 mod plays;
 mod setup;
@@ -60,16 +60,6 @@ impl Call {
         match self {
             Call::Stay | Call::Pass => false,
             Call::Stone | Call::Setup => true,
-        }
-    }
-
-    /// Whether the call was a turn.
-    fn turned(self) -> bool
-        ensures { result ≡ turned self }
-    {
-        match self {
-            Call::Stay | Call::Setup => false,
-            Call::Pass | Call::Stone => true,
         }
     }
 }
@@ -214,7 +204,7 @@ impl<P: Past> Referee<P> {
     {
         let earlier = self.earlier.pop().unwrap();
         self.mover = earlier.mover;
-        self.turns -= u64::from(earlier.call.turned());
+        self.turns -= u64::from(matches!(earlier.call, Call::Pass | Call::Stone));
         if earlier.call.grew() {
             self.past.pop();
         }
