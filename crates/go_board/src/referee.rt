@@ -95,17 +95,6 @@ impl Mover {
         }
     }
 
-    /// That player, or either for None, after no pass.
-    fn of(player: Option<Colour>) -> Mover
-        ensures player { player_of result ≡ player }
-        ensures passes { passes_of result ≡ 0 }
-    {
-        match player {
-            None => Mover::Either,
-            Some(player) => Mover::after(0, player),
-        }
-    }
-
     /// How many passes in a row were made last.
     fn passes(self) -> u8
         ensures value { result ≡ passes_of self }

@@ -61,7 +61,10 @@ impl<P: Past> Referee<P> {
         self.earlier.reserve(1)?;
         self.past.set_up(ops)?;
         self.earlier.push(present).unwrap();
-        self.mover = Mover::of(player);
+        self.mover = match player {
+            None => Mover::Either,
+            Some(player) => Mover::after(0, player),
+        };
         Ok(())
     }
 }

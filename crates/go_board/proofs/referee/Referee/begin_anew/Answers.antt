@@ -13,4 +13,4 @@ invariant_of-self-2 g c =
     let made = fold with_rectangle (newest_grid past) c.args.ops.now in
     let items : c.push.new.self.items ≡ was.earlier.items ++ record { mover = was.mover; call = Setup } ∷ [] = search rules in
     IsRefereeKept-grown past was.mover was.turns was.earlier.items Setup refl
-    was.turns (omega arith) c.self.invariant (g.P.Past.held c.set_up.new.self) made true c.of-self-inside.result c.push.new.self.items c.in_ok-set_up.ensures.ok (side-with_rectangles (newest_grid past) c.args.ops.now) items
+    was.turns (omega arith) c.self.invariant (g.P.Past.held c.set_up.new.self) made true _ c.push.new.self.items c.in_ok-set_up.ensures.ok (side-with_rectangles (newest_grid past) c.args.ops.now) items
