@@ -25,19 +25,10 @@ impl<P: Past> Referee<P> {
             ≡ followed_by self.old (set_up self.old.present ops.now player)) }
         ensures err { OnErr result (self.new ≡ self.old) }
     {
-        if ops.is_empty() {
-            self.set_player(player.unwrap())
-        } else {
-            self.begin_anew(ops, player)
+        if !ops.is_empty() {
+            return self.begin_anew(ops, player);
         }
-    }
-
-    /// Changes only the player who must move: PL without stones.
-    fn set_player(&mut self, player: Colour) -> Result<(), MemoryFault>
-        ensures ok { OnOk result (self.new
-            ≡ followed_by self.old (record self.old.present { player = Some player })) }
-        ensures err { OnErr result (self.new ≡ self.old) }
-    {
+        let player = player.unwrap();
         let present = Earlier {
             mover: self.mover,
             call: Call::Stay,

@@ -1,7 +1,16 @@
 use Rattle.std.proofs.Common.{arith}
 use Rattle.std.proofs.lemmas.Grind.{common_steps}
+use Rattle.go_board.proofs.TurnLemmas.{on_err}
 use Rattle.go_board.proofs.referee.Referee.setup.Goals as goal
 
+pub invariant_of-self : goal.invariant_of-self
+invariant_of-self g c =
+    rw c.in_err-push.ensures.items c.self.invariant
+
+pub returns-in_err-push-clause-err : goal.returns-in_err-push-clause-err
+returns-in_err-push-clause-err g c =
+    on_err c.from_residual.result _ (rw c.in_err-push.ensures.items c.self.view_is)
+
 -- by a search, since a term would name a step that a wrong body doesn't have
-pub returns-else-is_empty-clause-ok : goal.returns-else-is_empty-clause-ok
-returns-else-is_empty-clause-ok g c = grind (arith, common_steps)
+pub returns-then-not-is_empty-clause-ok : goal.returns-then-not-is_empty-clause-ok
+returns-then-not-is_empty-clause-ok g c = grind (arith, common_steps)
