@@ -26,7 +26,7 @@ mod powers;
 mod print;
 mod table;
 
-ghost use Rattle.std.specs.Prelude.{◌≡◌, ◌≢◌, ℕ, ◌<◌, ◌↔◌, ◌∷◌, false, IsTrue, IfSome, IfNone, OnOk, OnErr, Contains, length, IsFalse};
+ghost use Rattle.std.specs.Prelude.{◌≡◌, ◌≢◌, ℕ, ◌<◌, ◌↔◌, ◌∷◌, List, false, IsTrue, IfSome, IfNone, OnOk, OnErr, Contains, length, IsFalse};
 ghost use Rattle.board_stones.specs.declared.stones.Cell.TheVariants.{Empty};
 ghost use Rattle.board_points.specs.declared.points.Point.{Point};
 ghost use Rattle.board_stones.specs.declared.stones.Colour.{Colour};
@@ -121,7 +121,7 @@ impl Past for PrintPast {
             return self.play_on_copy(colour, point);
         }
         let unseen = self.colourings.step_count() >= self.at_once_below
-            || self.may_repeat(point, &[]);
+            || self.may_repeat(point);
         if unseen && newest.clears_nothing_at_a_glance(colour, point) {
             return self.play_clearing(colour, point, &[]);
         }
@@ -131,7 +131,7 @@ impl Past for PrintPast {
     /// Plays most stones. A table that is awake needs prints, so it answers false then.
     #[inline(always)]
     fn play_at_once(&mut self, colour: Colour, point: Point) -> bool {
-        if self.colourings.step_count() >= self.at_once_below || self.may_repeat(point, &[]) {
+        if self.colourings.step_count() >= self.at_once_below || self.may_repeat(point) {
             return false;
         }
         let newest = self.colourings.newest();
@@ -245,26 +245,27 @@ impl PrintPast {
         requires stone { IsMove (newest_grid self.old) colour point cleared.now }
         ensures { IsPlayed colour point self.old self.new result }
     {
-        if self.may_repeat(point, cleared) {
+        self.newest().has_all_cells();
+        if self.may_repeat(point) | has_point(cleared, point) {
             return self.play_asked(colour, point, cleared);
         }
         let known = Known::new(self.newest().is_settled(), true);
         self.play_new(colour, point, cleared, known)
     }
 
-    /// Whether a stone may bring a colouring of the present stretch back: it is put on a point that was emptied, or is suicide.
+    /// Whether a stone that stays may bring a colouring of the present stretch back: it is put on a point that was emptied.
     #[inline(always)]
-    fn may_repeat(&self, point: Point, cleared: &[u64]) -> bool
+    fn may_repeat(&self, point: Point) -> bool
         requires one_side { HaveSide (newest_grid self.now).side self.now }
         requires on_board { IsOn (newest_grid self.now).side point }
         requires empty { cell_at (newest_grid self.now) point ≡ Empty }
-        ensures never { (colour : Colour) → Clears (newest_grid self.now) colour point cleared.now
+        ensures never { (colour : Colour) (cleared : List ℕ) → Clears (newest_grid self.now) colour point cleared → IsFalse (is_set cleared point)
             → IsFalse result → ¬ Contains (present_stretch self.now) (play (newest_grid self.now) colour point) }
-        ensures fresh { (colour : Colour) → Clears (newest_grid self.now) colour point cleared.now
+        ensures fresh { (colour : Colour) (cleared : List ℕ) → Clears (newest_grid self.now) colour point cleared → IsFalse (is_set cleared point)
             → IsFalse result → IsFreshStone (with_next self.now (play (newest_grid self.now) colour point) false) point }
     {
         self.colourings.newest().has_all_cells();
-        board_points::rows::has_point(&self.emptied.rows, point) | has_point(cleared, point)
+        board_points::rows::has_point(&self.emptied.rows, point)
     }
 
     /// The same as `play_clearing`, for a stone that may bring a colouring back. Decides by positional superko whether the stone may be

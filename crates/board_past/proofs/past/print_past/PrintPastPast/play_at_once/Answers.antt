@@ -1,6 +1,7 @@
 use Rattle.std.proofs.Common.{◌<◌, [], length, refl, arith}
 use Rattle.board_past.proofs.Common.{IsMove, newest_grid}
 use Rattle.board_past.proofs.AtOnceLemmas.{at_once_more, tabled_more_at_once, emptied_more_at_once}
+use Rattle.board_points.proofs.WordLemmas.{has_bit-zero}
 use Rattle.board_past.proofs.past.print_past.PrintPastPast.play_at_once.Goals as goal
 
 pub invariant_of-self : goal.invariant_of-self
@@ -18,7 +19,7 @@ invariant_of-self c =
     })
 
 pub add_lone_stone-requires-clause-fresh : goal.add_lone_stone-requires-clause-fresh
-add_lone_stone-requires-clause-fresh c = λ _. rw c.self.view_is (c.may_repeat.ensures.fresh c.args.colour (rw (← c.self.view_is, ← c.newest-newest.ensures) (c.if-not-clears_nothing_at_a_glance.ensures refl)) (cc))
+add_lone_stone-requires-clause-fresh c = λ _. rw c.self.view_is (c.may_repeat.ensures.fresh c.args.colour [] (rw (← c.self.view_is, ← c.newest-newest.ensures) (c.if-not-clears_nothing_at_a_glance.ensures refl)) (has_bit-zero c.args.point.col) (cc))
 
 pub returns-clause-new : goal.returns-clause-new
-returns-clause-new c = λ _. c.may_repeat.ensures.never c.args.colour (rw (← c.self.view_is, ← c.newest-newest.ensures) (c.if-not-clears_nothing_at_a_glance.ensures refl)) (cc)
+returns-clause-new c = λ _. c.may_repeat.ensures.never c.args.colour [] (rw (← c.self.view_is, ← c.newest-newest.ensures) (c.if-not-clears_nothing_at_a_glance.ensures refl)) (has_bit-zero c.args.point.col) (cc)
