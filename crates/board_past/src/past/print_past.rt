@@ -68,7 +68,7 @@ pub struct PrintPast {
     table: Table,
     /// The points that were emptied. A stone that stays can bring a colouring back only on one of these.
     emptied: Emptied,
-    /// A stone is played at once only if there were fewer steps than this. Then the newest colouring is settled, the table sleeps and has
+    /// A stone is played at once only if there were fewer steps than this, and so no more colourings. Then the newest colouring is settled, the table sleeps and has
     /// room, and the next step isn't a full one: one comparison tells it all. It is 0 if the newest isn't settled, or the table is awake.
     at_once_below: usize,
 }
@@ -120,8 +120,7 @@ impl Past for PrintPast {
         if !newest.is_settled() {
             return self.play_on_copy(colour, point);
         }
-        let unseen = self.colourings.step_count() >= self.at_once_below
-            || self.may_repeat(point);
+        let unseen = self.colourings.len() > self.at_once_below || self.may_repeat(point);
         if unseen && newest.clears_nothing_at_a_glance(colour, point) {
             return self.play_clearing(colour, point, &[]);
         }
@@ -131,7 +130,7 @@ impl Past for PrintPast {
     /// Plays most stones. A table that is awake needs prints, so it answers false then.
     #[inline(always)]
     fn play_at_once(&mut self, colour: Colour, point: Point) -> bool {
-        if self.colourings.step_count() >= self.at_once_below || self.may_repeat(point) {
+        if self.colourings.len() > self.at_once_below || self.may_repeat(point) {
             return false;
         }
         let newest = self.colourings.newest();
@@ -336,7 +335,7 @@ impl PrintPast {
             print,
             None,
         )?;
-        if print.is_none() && self.colourings.step_count() >= self.at_once_below {
+        if print.is_none() && self.colourings.len() > self.at_once_below {
             self.at_once_below = at_once_below(&self.colourings, &self.table);
         }
         Ok(true)

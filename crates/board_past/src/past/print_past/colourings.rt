@@ -75,7 +75,7 @@ impl Colourings {
         &self.newest
     }
 
-    /// The number of colourings. The next colouring gets this number.
+    /// The number of colourings, one more than that of the steps, each from a colouring to the next. The next colouring gets this number.
     pub(crate) fn len(&self) -> usize
         ensures { result ≡ length (all_of self.now) }
     {
@@ -282,13 +282,6 @@ impl Colourings {
         self.newest = board.copy();
         self.stretch_start = stretch_start;
         Ok(())
-    }
-
-    /// The number of steps, each from a colouring to the next.
-    pub(crate) fn step_count(&self) -> usize
-        ensures { result ≡ length self.now.older }
-    {
-        self.older.len()
     }
 
     /// The number of steps before the next full one, counted from the first. Until then there is room, and a lone stone keeps its point alone.

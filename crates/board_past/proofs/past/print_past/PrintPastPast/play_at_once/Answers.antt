@@ -9,7 +9,7 @@ invariant_of-self c =
     let was = c.self.inside in
     let k = c.args.colour in
     let p = c.args.point in
-    let low : length was.colourings.older < was.at_once_below = omega (arith, c.step_count.ensures, c.if-step_count-self.false) in
+    let low : length was.colourings.older < was.at_once_below = omega (arith, c.len.ensures, c.if-len-self.false) in
     let is = c.self.invariant.at_once in
     let move : IsMove (newest_grid was.colourings) k p [] = rw c.self.view_is (record { on_board = c.requires.on_board; empty = c.requires.empty; cleared = rw (← c.self.view_is, ← c.newest-newest.ensures) (c.if-not-clears_nothing_at_a_glance.ensures refl) }) in
     rw c.add_lone_stone.ensures (record {
