@@ -43,7 +43,7 @@ ghost use Rattle.board_past.specs.inner.Table.{IsAwakeTable, IsGap, IsPrintOfNex
 
 use crate::fault::MemoryFault;
 use crate::past::Past;
-use crate::past::print_past::changes::Known;
+use crate::past::print_past::changes::{FULL, Known};
 use crate::past::print_past::colourings::Colourings;
 use crate::past::print_past::emptied::Emptied;
 use crate::past::print_past::print::{has_point, print_after_clearing, print_of};
@@ -411,8 +411,10 @@ fn at_once_below(colourings: &Colourings, table: &Table) -> usize
     if !colourings.newest().is_settled() {
         return 0;
     }
-    let room = table.room_asleep().saturating_sub(1);
-    room.min(colourings.next_full_step())
+    let room = table.room_asleep.saturating_sub(1);
+    // before the next full step there is room for a step, and a lone stone keeps its point alone
+    let step = colourings.len() - 1;
+    room.min(step - step % FULL + (FULL - 1))
 }
 
 /// The print of the colouring that a stone makes; None if the table sleeps. `cleared` is what the stone clears.

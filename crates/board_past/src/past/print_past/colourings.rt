@@ -284,15 +284,6 @@ impl Colourings {
         Ok(())
     }
 
-    /// The number of steps before the next full one, counted from the first. Until then there is room, and a lone stone keeps its point alone.
-    pub(crate) fn next_full_step(&self) -> usize
-        ensures none_before { (count : ℕ) → length self.now.older ≤ count → count < result → IsFalse (is_full count) }
-        ensures full { IsTrue (is_full result) }
-    {
-        let count = self.older.len();
-        count - count % FULL + (FULL - 1)
-    }
-
     /// What a stone on an empty point clears, by capture or else by suicide (`Board::find_cleared`); None if that is nothing. The rows
     /// are written to `words`, which must be 0. Those below the last stone that is cleared are left out.
     pub(crate) fn find_cleared<'a>(

@@ -67,7 +67,7 @@ pub(crate) struct Table {
     /// The hashes that were worked out.
     hashes: Hashes,
     /// While the table sleeps, how many colourings it has room for; 0 once it is awake.
-    room_asleep: usize,
+    pub room_asleep: usize,
 }
 
 /// Where a colouring comes into the trie.
@@ -129,13 +129,6 @@ impl Table {
         }
         colourings.write_prints(&mut self.prints);
         self.room_asleep = 0;
-    }
-
-    /// How many colourings a table that sleeps has room for; 0 if it is awake.
-    pub(crate) fn room_asleep(&self) -> usize
-        ensures { result ≡ self.now.room_asleep }
-    {
-        self.room_asleep
     }
 
     /// Makes room for one more colouring than these; `count` is how many there are.
