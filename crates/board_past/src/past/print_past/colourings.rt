@@ -413,7 +413,7 @@ impl Colourings {
 }
 
 /// Makes room for the older colourings up to the next full step, if this step is one, and for all rows of a colouring. There are at most
-/// `MOST` rows.
+/// `MOST` changes.
 fn make_room(older: &mut Vec<Older>, changes: &mut Vec<Change>) -> Result<(), MemoryFault>
     requires { HasRoom (length older.old.items) (vec_capacity older.old) }
     ensures items { older.new.items ≡ older.old.items }
@@ -427,15 +427,6 @@ fn make_room(older: &mut Vec<Older>, changes: &mut Vec<Change>) -> Result<(), Me
     if is_full(older.len()) {
         older.reserve(FULL)?;
     }
-    make_room_for_rows(changes)
-}
-
-/// Makes room for all rows of a colouring. There are at most `MOST` changes.
-fn make_room_for_rows(changes: &mut Vec<Change>) -> Result<(), MemoryFault>
-    ensures changes { changes.new.items ≡ changes.old.items }
-    ensures rows { OnOk result (length changes.new.items + MAX_ROWS ≤ vec_capacity changes.new) }
-    ensures few { OnOk result (length changes.new.items + MAX_ROWS ≤ MOST) }
-{
     if are_most(changes.len() + MAX_ROWS) {
         return Err(MemoryFault);
     }
