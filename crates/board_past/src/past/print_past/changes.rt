@@ -184,7 +184,7 @@ pub(crate) fn keep_played(
 {
     board.has_all_cells();
     for row in 0..rows_to_keep(board.size().side(), point, cleared, all) {
-        let apart = all | may_change(row, point, cleared);
+        let apart = all | (row == point.row) | (columns_in(cleared, row) != 0);
         if apart {
             keep_row(board, row, changes);
         }
@@ -202,13 +202,6 @@ fn rows_to_keep(side: u8, point: Point, cleared: &[u64], all: bool) -> u8
         return side;
     }
     (cleared.len() as u8).max(point.row + 1)
-}
-
-/// Whether a stone may change a row; `cleared` is what the stone clears.
-fn may_change(row: u8, point: Point, cleared: &[u64]) -> bool
-    ensures { IsFalse result → (row ≢ point.row) × (slice_index cleared.now row ≡ 0) }
-{
-    row == point.row || columns_in(cleared, row) != 0
 }
 
 /// Whether the step after `count` others keeps all rows of the colouring before it.

@@ -1,4 +1,4 @@
-use Rattle.std.proofs.Common.{◌≡◌, ◌<◌, ◌∷◌, [], length, length-append, ap, arith}
+use Rattle.std.proofs.Common.{◌≡◌, ◌≢◌, ◌<◌, ◌||◌, ◌==◌, not, false, ◌∷◌, [], length, length-append, ap, sym, ◌∙◌, arith, rules}
 use Rattle.board_past.proofs.Common.{or_parts, play}
 use Rattle.board_past.proofs.ChangesLemmas.{kept_none, kept_more, kept_same, kept_rest, row_kept}
 use Rattle.board_past.proofs.past.print_past.changes.keep_played.Goals as goal
@@ -22,10 +22,12 @@ loop-row-preserved c =
             room = omega (arith, was.room, w.keep_row.ensures.room, ap length adds.added, length-append c.loop-row.changes.items (adds.change ∷ []));
           })
       | else-apart w ↦
-          let parts = or_parts _ _ w.if-apart.false in
-          let still = c.may_change.ensures parts.1 in
+          let parts : ((c.args.all || (c.loop-row.row == c.args.point.row)) ≡ false) × (not (c.columns_in.result == 0) ≡ false) = or_parts _ _ w.if-apart.false in
+          let still : (c.args.all ≡ false) × ((c.loop-row.row == c.args.point.row) ≡ false) = or_parts _ _ parts.0 in
+          let other : c.loop-row.row ≢ c.args.point.row = search (rules, still.1) in
+          let none : c.columns_in.result ≡ 0 = search (rules, parts.1) in
           rw w.changes-is (record {
-            kept = λ k move. kept_same (was.kept k move) parts.0 (row_kept c.args.board.now k c.args.point c.args.cleared.now c.loop-row.row move low still.0 still.1);
+            kept = λ k move. kept_same (was.kept k move) still.0 (row_kept c.args.board.now k c.args.point c.args.cleared.now c.loop-row.row move low other (sym c.columns_in.ensures ∙ none));
             room = omega (arith, was.room);
           })
     ]
