@@ -165,38 +165,29 @@ impl Colourings {
         self.is_at(number, board)
     }
 
-    /// The board of the colouring with this number. It is worked out in at most `FULL` steps.
+    /// The board of the colouring with this number. It is worked out from the newest one, or begun at the next full step after that
+    /// colouring, in at most `FULL` steps.
     pub(crate) fn board_at(&self, number: usize) -> Board
         requires { number < length (all_of self.now) }
         ensures { IsNumber (all_of self.now) number result }
     {
-        let mut earlier = self.newest.copy();
-        self.go_back(number, &mut earlier);
-        earlier
-    }
-
-    /// Changes the board from the newest colouring back to the one with this number. Begins at the next full step after that one,
-    /// if there is one.
-    fn go_back(&self, number: usize, board: &mut Board)
-        requires number { number < length (all_of self.now) }
-        requires newest { board.old ≡ newest_grid self.now }
-        ensures { IsNumber (all_of self.now) number board.new }
-    {
+        let mut board = self.newest.copy();
         board.has_all_cells();
         let (mut at, mut end) = next_full(&self.older, self.changes.len(), number);
         if at < self.older.len() {
             // the changes of a full step lead back from any board
             at -= 1;
             let start = self.older[at].start as usize;
-            take_back(board, &self.changes[start..end]);
+            take_back(&mut board, &self.changes[start..end]);
             end = start;
         }
         'each: while number < at {
             at -= 1;
             let kept = self.older[at];
-            step_back(board, kept, &self.changes[kept.start as usize..end]);
+            step_back(&mut board, kept, &self.changes[kept.start as usize..end]);
             end = kept.start as usize;
         }
+        board
     }
 
     /// Compares a board with the newest colourings of the present stretch, the newest first. Returns whether the stretch has it; None if these

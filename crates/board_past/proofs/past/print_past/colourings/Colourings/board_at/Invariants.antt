@@ -2,7 +2,7 @@
 use Rattle.std.proofs.Common.{ℕ, ◌-◌, ◌≤◌, length}
 use Rattle.board_past.specs.Past.{all_of}
 use Rattle.board_past.proofs.ColouringsLemmas.{IsThere}
-use Rattle.board_past.proofs.past.print_past.colourings.Colourings.go_back.Given as goal
+use Rattle.board_past.proofs.past.print_past.colourings.Colourings.board_at.Given as goal
 
 abbrev pub invariant-each : goal.invariant-each
 invariant-each l = record {

@@ -1,23 +1,23 @@
-use Rattle.std.proofs.Common.{◌≡◌, ◌-◌, ◌<◌, length, get_or, ap, sym, subst, ◌∙◌, arith, rules}
-use Rattle.board_past.proofs.Common.{Older, all_of, newest_grid, IsNumber}
+use Rattle.std.proofs.Common.{◌≡◌, ◌-◌, ◌<◌, length, get_or, ap, subst, ◌∙◌, arith, rules}
+use Rattle.board_past.proofs.Common.{Older, all_of, IsNumber}
 use Rattle.board_past.proofs.ColouringsLemmas.{IsStep, IsFullStep, count-all, step-from, there-full, there-newest, there-number}
-use Rattle.board_past.proofs.past.print_past.colourings.Colourings.go_back.Goals as goal
-use Rattle.board_past.proofs.past.print_past.colourings.Colourings.go_back.Goals.{After-next_full-at, After-deref-in-each, then-at-len, else-at-len}
+use Rattle.board_past.proofs.past.print_past.colourings.Colourings.board_at.Goals as goal
+use Rattle.board_past.proofs.past.print_past.colourings.Colourings.board_at.Goals.{After-next_full-at, After-deref-in-each, then-at-len, else-at-len}
 
 pub next_full-at-requires : goal.next_full-at-requires
 next_full-at-requires c =
     let p = c.self.inside in
-    rw c.deref.ensures.value (omega (arith, count-all p.newest p.stretch_start p.older.items p.changes.items c.args.self.now c.self.view_is, c.requires.number))
+    rw c.deref.ensures.value (omega (arith, count-all p.newest p.stretch_start p.older.items p.changes.items c.args.self.now c.self.view_is, c.requires))
 
 -- a full step, from the newest board
 full : (c : After-next_full-at) (one : Older) → c.next_full-at.result.0 < length c.self.inside.older.items → one ≡ get_or c.self.inside.older.items (c.next_full-at.result.0 - 1) one
-    → IsFullStep (all_of c.args.self.now) c.self.inside.older.items c.self.inside.changes.items c.next_full-at.result.0 c.next_full-at.result.1 c.args.board.now one
+    → IsFullStep (all_of c.args.self.now) c.self.inside.older.items c.self.inside.changes.items c.next_full-at.result.0 c.next_full-at.result.1 c.copy-board.result one
 full c one lt is_one =
     let p = c.self.inside in
     let to = c.next_full-at in
     let found = rw c.deref.ensures.value at to.ensures in
-    let same : c.args.board.now ≡ p.newest = c.requires.newest ∙ ap newest_grid (sym c.self.view_is) in
-    there-full p.newest c.args.board.now p.stretch_start p.older.items p.changes.items (all_of c.args.self.now) (ap all_of c.self.view_is) c.self.invariant.0 same c.has_all_cells.ensures.all
+    let same : c.copy-board.result ≡ p.newest = c.copy-board.ensures in
+    there-full p.newest c.copy-board.result p.stretch_start p.older.items p.changes.items (all_of c.args.self.now) (ap all_of c.self.view_is) c.self.invariant.0 same c.has_all_cells.ensures.all
     to.result.0 to.result.1 c.len.result one (omega (arith, (found.full lt).0)) lt (found.full lt).1 (c.len.ensures ∙ p.changes.ok.0) found.end is_one
 
 pub slice_bounds-take_back-count : goal.slice_bounds-take_back-count
@@ -60,7 +60,7 @@ each-init c =
           record {
             there = (
               p.stretch_start,
-              rw (w.board-is, w.at-is, w.end-is, c.requires.newest ∙ ap newest_grid (sym c.self.view_is))
+              rw (w.board-is, w.at-is, w.end-is, c.copy-board.ensures)
                   (there-newest p.newest p.stretch_start p.older.items p.changes.items held to.result.0 to.result.1 (ap all_of c.self.view_is) at (found.end.0 at ∙ c.len.ensures ∙ p.changes.ok.0) c.self.invariant.0),
             );
             low = rw w.at-is found.low;
