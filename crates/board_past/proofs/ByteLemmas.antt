@@ -3,7 +3,7 @@ use Rattle.std.proofs.Common.{◌≡◌, ℕ, ◌%◌, ◌<◌, List, map, get_o
 use Rattle.board_past.proofs.Common.{bit_at, word_number}
 use Rattle.std.specs.List.{range_with_len}
 use Rattle.std.proofs.lemmas.List.FromFn.{get_or-map-range_with_len}
-use Rattle.board_past.specs.declared.past.print_past.bytes.TheConstants.{NUMBERS}
+use Rattle.board_past.specs.declared.past.print_past.print.TheConstants.{NUMBERS}
 use Rattle.board_past.proofs.PrintLemmas.{in_base-same}
 use Rattle.board_points.proofs.WordLemmas.{bit_at-mod}
 

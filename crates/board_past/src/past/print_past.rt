@@ -11,11 +11,10 @@
 //! |---|---|
 //! | `colourings`, `changes` | past colourings as what leads back to them, a point or rows; the look back over the newest ones |
 //! | `emptied` | the points that were emptied, where a colouring can come back |
-//! | `print`, `powers`, `bytes` | the print of a colouring, a number in base 31; the numbers that it is made from |
+//! | `print`, `powers` | the print of a colouring, a number in base 31; the powers that it is made from |
 //! | `table` | how a past colouring is looked up if the newest ones don't tell, and what that costs |
 //! | `key`, `hash`, `hashes` | a colouring as a key, which is a string of bits; a hash that is part of it; those that are kept. The crate `key_trie` has the trie of keys |
 
-mod bytes;
 mod changes;
 mod colourings;
 mod emptied;

@@ -17,11 +17,22 @@ ghost use Rattle.board_stones.specs.Move.{IsMove};
 ghost use Rattle.board_past.specs.inner.Print.{number_within, print_of, word_number};
 ghost use Rattle.board_points.specs.Rows.{has_bit, is_set};
 
-use crate::past::print_past::bytes::byte_number;
 use crate::past::print_past::powers::{power, small_power};
 use board_points::columns::{has_column, without_column};
 use board_points::{MAX_SIDE, Point};
 use board_stones::{Board, Cell, Colour};
+
+/// The sums of some of these numbers: the number of a byte whose bits say which. Each further number is that of the next bit.
+macro_rules! sums {
+    ([$($sum:expr),*]) => { [$($sum),*] };
+    ([$($sum:expr),*] $next:literal $($later:literal)*) => {
+        sums!([$($sum,)* $($sum + $next),*] $($later)*)
+    };
+}
+
+/// For each byte the number whose digits are its bits, the lowest bit first. So that bit counts 31^7, and the highest one counts 1.
+const NUMBERS: [u64; 256] =
+    sums!([0] 27_512_614_111 887_503_681 28_629_151 923_521 29_791 961 31 1);
 
 /// The print of a board.
 pub(crate) fn print_of(board: &Board) -> u64
@@ -183,7 +194,7 @@ fn number_by_bytes(side: u8, columns: u64) -> u64
     for byte in 0..bytes {
         number = number
             .wrapping_mul(small_power(8))
-            .wrapping_add(byte_number(left));
+            .wrapping_add(NUMBERS[(left % 256) as usize]);
         left >>= 8;
     }
     number

@@ -1,5 +1,8 @@
-use Rattle.std.proofs.Common.{◌≡◌, ◌+◌, ◌-◌, ◌*◌, ◌<◌, ◌≤◌, ◌%◌, ◌^◌, ap, sym, ◌∙◌, arith, rules, mod-eq_of_lt}
+use Rattle.std.proofs.Common.{◌≡◌, ◌+◌, ◌-◌, ◌*◌, ◌≤◌, ◌%◌, ◌^◌, get_or, ap, sym, ◌∙◌, arith}
+use Rattle.std.proofs.Math.Nat.{add-mod-mod}
+use Rattle.board_past.specs.declared.past.print_past.print.TheConstants.{NUMBERS}
 use Rattle.board_past.specs.inner.Print.{word_number}
+use Rattle.board_past.proofs.ByteLemmas.{low_byte}
 use Rattle.board_past.proofs.PrintLemmas.{byte_less, byte_more, digit_more, shifted_number}
 use Rattle.board_past.proofs.past.print_past.print.number_by_bytes.Goals as goal
 
@@ -9,14 +12,14 @@ loop-byte-preserved c =
     let left = c.loop-byte.left in
     let shifted = c.args.columns * 2 ^ (8 * c.div_ceil-bytes.result - c.args.side) % m in
     let number = word_number (8 * c.loop-byte.byte) shifted in
-    let next = c.byte_number in
-    let fits : next.result < m = search rules in
+    let digit = word_number 8 left in
+    let before = number % m * (31 ^ 8 % m) % m in
     record {
       rest = byte_less shifted left c.loop-byte.byte c.loop-byte.invariant.rest;
-      same = ap (λ n. (n * c.small_power.result % m + next.result) % m) c.loop-byte.invariant.same
-          ∙ ap (λ n. (number % m * n % m + next.result) % m) c.small_power.ensures
-          ∙ ap (λ n. (number % m * (31 ^ 8 % m) % m + n) % m) (sym (mod-eq_of_lt fits) ∙ ap (λ n. n % m) next.ensures)
-          ∙ digit_more m (31 ^ 8) number (word_number 8 left)
+      same = ap (λ n. (n * c.small_power.result % m + get_or NUMBERS (left % 256) 0) % m) c.loop-byte.invariant.same
+          ∙ ap (λ n. (number % m * n % m + get_or NUMBERS (left % 256) 0) % m) c.small_power.ensures
+          ∙ ap (λ n. (before + n) % m) (low_byte left) ∙ sym (add-mod-mod before digit m)
+          ∙ digit_more m (31 ^ 8) number digit
           ∙ ap (λ n. n % m) (sym (byte_more shifted left c.loop-byte.byte c.loop-byte.invariant.rest));
     }
 
