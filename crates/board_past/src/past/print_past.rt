@@ -13,12 +13,11 @@
 //! | `emptied` | the points that were emptied, where a colouring can come back |
 //! | `print`, `powers` | the print of a colouring, a number in base 31; the powers that it is made from |
 //! | `table` | how a past colouring is looked up if the newest ones don't tell, and what that costs |
-//! | `key`, `hash`, `hashes` | a colouring as a key, which is a string of bits; a hash that is part of it; those that are kept. The crate `key_trie` has the trie of keys |
+//! | `key`, `hashes` | a colouring as a key, which is a string of bits; hashes that are part of keys. The crate `key_trie` has the trie of keys |
 
 mod changes;
 mod colourings;
 mod emptied;
-mod hash;
 mod hashes;
 mod key;
 mod powers;

@@ -38,8 +38,7 @@ ghost use Rattle.std.specs.Vec.{vec_capacity};
 
 use crate::fault::MemoryFault;
 use crate::past::print_past::colourings::Colourings;
-use crate::past::print_past::hash::hash_of;
-use crate::past::print_past::hashes::Hashes;
+use crate::past::print_past::hashes::{Hashes, hash_of};
 use crate::past::print_past::key::{ColouringKey, FRONT, HEAD, WIDTH, WORD};
 use board_points::columns::has_column;
 use board_stones::Board;

@@ -3,7 +3,7 @@ use Rattle.board_past.proofs.Common.{from_be_bytes, Black, White, same_cell, cel
 use Rattle.sha2.specs.Hashers.{Holds512}
 use Rattle.sha2.specs.Sha512.{sha512}
 use Rattle.board_past.proofs.HashLemmas.{number_is}
-use Rattle.board_past.proofs.past.print_past.hash.hash_of.Goals as goal
+use Rattle.board_past.proofs.past.print_past.hashes.hash_of.Goals as goal
 
 pub loop-row-preserved : goal.loop-row-preserved
 loop-row-preserved c =
