@@ -321,7 +321,13 @@ impl PrintPast {
         requires fresh { IsTrue (is_fresh known) → IsFreshStone (with_next self.old (play (newest_grid self.old) colour point) false) point }
         ensures { IsPlayed colour point self.old self.new result }
     {
-        let print = print_if_awake(&self.table, &self.colourings, colour, point, cleared);
+        let print = if self.table.is_awake() {
+            let newest = self.colourings.newest();
+            newest.has_all_cells();
+            Some(print_after_clearing(self.table.newest(), newest, colour, point, cleared))
+        } else {
+            None
+        };
         add_stone(
             &mut self.colourings,
             &mut self.table,
@@ -413,28 +419,6 @@ fn at_once_below(colourings: &Colourings, table: &Table) -> usize
     // before the next full step there is room for a step, and a lone stone keeps its point alone
     let step = colourings.len() - 1;
     room.min(step - step % FULL + (FULL - 1))
-}
-
-/// The print of the colouring that a stone makes; None if the table sleeps. `cleared` is what the stone clears.
-#[inline(always)]
-fn print_if_awake(
-    table: &Table,
-    colourings: &Colourings,
-    colour: Colour,
-    point: Point,
-    cleared: &[u64],
-) -> Option<u64>
-    requires table { IsTable (all_of colourings.now) table.now }
-    requires stone { IsMove (newest_grid colourings.now) colour point cleared.now }
-    ensures { IsPrintOfNext (all_of colourings.now) table.now
-        (with_next colourings.now (play (newest_grid colourings.now) colour point) false).newest result }
-{
-    if !table.is_awake() {
-        return None;
-    }
-    let newest = colourings.newest();
-    newest.has_all_cells();
-    Some(print_after_clearing(table.newest(), newest, colour, point, cleared))
 }
 
 /// Adds the colouring that a stone makes; `cleared` is what the stone clears. `known` is what is known of the newest colouring, and whether
