@@ -1,6 +1,5 @@
 -- The table of the numbers of bytes is right.
-use Rattle.std.proofs.Common.{◌≡◌, ℕ, ◌%◌, ◌<◌, List, map, get_or, refl, ap, ◌∙◌, arith}
-use Rattle.board_past.proofs.Common.{bit_at, word_number}
+use Rattle.board_past.proofs.Common.{◌≡◌, ℕ, ◌%◌, ◌<◌, List, map, get_or, refl, ap, ◌∙◌, arith, bit_at, word_number}
 use Rattle.std.specs.List.{range_with_len}
 use Rattle.std.proofs.lemmas.List.FromFn.{get_or-map-range_with_len}
 use Rattle.board_past.specs.declared.past.print_past.print.TheConstants.{NUMBERS}

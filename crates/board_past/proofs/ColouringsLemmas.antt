@@ -1,10 +1,7 @@
 -- Past colourings, as what is kept of them tells them.
-use Rattle.std.proofs.Common.{◌≡◌, ◌≢◌, ◌↔◌, ◌==◌, ℕ, zero, suc, ◌+◌, ◌-◌, ◌*◌, ◌%◌, ◌<◌, ◌≤◌, inl, inr, List, [], ◌∷◌, ◌++◌, Bool, true, false, cond, length, get_or, take, drop, reverse, slice_range, slice_set, append_assoc, refl, sym, ap, subst, ◌∙◌, arith, length-take, length-append, IsTrue, IsFalse, Contains, length-set, take_all, take_at, drop_at, drop-drop, take-take, append-nil, eq-eqb, ne_eqb}
-use Rattle.board_past.proofs.Common.{cases_eq, false≢true, take_more, drop-set, drop_all, reverse-append, length-reverse, get_or-reverse, get_or_default, All-take, All-drop, All-append, Point, IsOn, index_of, Empty, has_unreaching, Grid, cell_at, with_cell, Change, Older, Held, PastColourings, all_of, with_next, stretch_of, first_grid, after_changes, step_back, is_full, is_settled, is_fresh, HasRoom, IsEndOf, IsNumber, IsFreshStone, KeepRows, IsChangeOn, MakeOne, before, changes_before, held_before, all_held, AreFresh, AreKept, AreStarted, AreOn, IsPast, start_of, since, print_of, prints_of}
+use Rattle.board_past.proofs.Common.{◌≡◌, ◌≢◌, ◌↔◌, ◌==◌, ℕ, zero, suc, ◌+◌, ◌-◌, ◌*◌, ◌%◌, ◌<◌, ◌≤◌, inl, inr, List, [], ◌∷◌, ◌++◌, Bool, true, false, cond, length, get_or, take, drop, reverse, slice_range, slice_set, append_assoc, refl, sym, ap, subst, ◌∙◌, arith, length-take, length-append, IsTrue, IsFalse, Contains, length-set, take_all, take_at, drop_at, drop-drop, take-take, append-nil, eq-eqb, ne_eqb, cases_eq, false≢true, take_more, drop-set, drop_all, reverse-append, length-reverse, get_or-reverse, get_or_default, All-take, All-drop, All-append, Point, IsOn, index_of, Empty, has_unreaching, Grid, cell_at, with_cell, Change, Older, Held, PastColourings, all_of, with_next, stretch_of, first_grid, after_changes, step_back, is_full, is_settled, is_fresh, HasRoom, IsEndOf, IsNumber, IsFreshStone, KeepRows, IsChangeOn, MakeOne, before, changes_before, held_before, all_held, AreFresh, AreKept, AreStarted, AreOn, IsPast, start_of, since, print_of, prints_of, same_or_not, cell_at-with_cell, cell_at-with_cell_elsewhere}
 use Rattle.std.proofs.lemmas.Slice.{between_is}
 use Rattle.board_past.specs.declared.past.print_past.changes.TheConstants.{MOST}
-use Rattle.board_points.proofs.PointLemmas.{same_or_not}
-use Rattle.board_stones.proofs.GridLemmas.{cell_at-with_cell, cell_at-with_cell_elsewhere}
 use Rattle.board_past.proofs.ChangesLemmas.{step-side, leads_back, makes_one, kept_on}
 
 -- a stretch starts no later than at the newest colouring

@@ -1,6 +1,5 @@
 -- The print, computed on worked examples.
-use Rattle.std.proofs.Common.{◌≡◌, ◌%◌, ◌^◌, refl}
-use Rattle.board_past.proofs.Common.{Black as B, White as W, empty_grid, with_cell, print_of}
+use Rattle.board_past.proofs.Common.{◌≡◌, ◌%◌, ◌^◌, refl, Black as B, White as W, empty_grid, with_cell, print_of}
 
 -- the low 14 bits of prints: black on `me` alone and on `yy` alone, white on `ca` alone
 black_on_me : print_of (with_cell (empty_grid 25) (record { col = 12; row = 4 }) B) % 2 ^ 14 ≡ 1

@@ -1,6 +1,5 @@
 -- The newest stretch of past colourings that stand oldest first, looked at from the newest on.
-use Rattle.std.proofs.Common.{◌≡◌, ◌≢◌, ℕ, ◌+◌, ◌<◌, ◌⊎◌, true, false, List, [], ◌∷◌, length, get_or, take, reverse, Bool, Contains, ap, ◌∙◌, arith, cond}
-use Rattle.board_past.proofs.Common.{reverse-append, take_more, Contains-append_right, Grid, Held, stretch_of}
+use Rattle.board_past.proofs.Common.{◌≡◌, ◌≢◌, ℕ, ◌+◌, ◌<◌, ◌⊎◌, true, false, List, [], ◌∷◌, length, get_or, take, reverse, Bool, Contains, ap, ◌∙◌, arith, cond, reverse-append, take_more, Contains-append_right, Grid, Held, stretch_of}
 
 -- a list has its first element, what the rest has, and nothing else
 Contains-cases : (x y : Grid) (xs : List Grid) → Contains (x ∷ xs) y → (x ≡ y) ⊎ Contains xs y

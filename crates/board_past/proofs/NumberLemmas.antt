@@ -1,6 +1,5 @@
 -- Numbers of past colourings, and starts of stretches.
-use Rattle.std.proofs.Common.{◌≡◌, ◌⊎◌, ℕ, zero, suc, ◌-◌, ◌<◌, ◌≤◌, Bool, true, false, if◌then◌else◌, List, [], ◌∷◌, Some, length, get_or, drop, Contains, inl, inr, sym, ap, subst, ◌∙◌, arith}
-use Rattle.board_past.proofs.Common.{cases_lt, cases_Bool, same_Some, Grid, Held, stretch_of, AllHaveSide, first_grid, IsNumber, HasNumber, start_of, since}
+use Rattle.board_past.proofs.Common.{◌≡◌, ◌⊎◌, ℕ, zero, suc, ◌-◌, ◌<◌, ◌≤◌, Bool, true, false, if◌then◌else◌, List, [], ◌∷◌, Some, length, get_or, drop, Contains, inl, inr, sym, ap, subst, ◌∙◌, arith, cases_lt, cases_Bool, same_Some, Grid, Held, stretch_of, AllHaveSide, first_grid, IsNumber, HasNumber, start_of, since}
 
 -- The newest colouring is at its number, and so are the others.
 

@@ -1,12 +1,10 @@
 -- The print of a colouring as a number in base 31: the numbers of its rows, and of the words of its stones.
-use Rattle.std.proofs.Common.{◌≡◌, ◌≢◌, inl, inr, ℕ, zero, suc, ◌+◌, ◌-◌, ◌*◌, ◌/◌, ◌%◌, ◌^◌, ◌<◌, ◌≤◌, ◌&&◌, Bool, true, false, cond, bit_and, List, slice_index, length, get_or, set, take, refl, sym, subst, ap, ◌∙◌, arith, fold, add-mul, mul-add, suc-mul, pow_pos, take_all, get_or-set_same, get_or-set_other, length-set, set-set}
-use Rattle.board_past.proofs.Common.{bit_at, cases_Bool, cases_eq, set-get_or, bit_at-zero, bit_at_cat_high, bit_at_cat_low, Point, IsOn, index_of, has_bit, is_set, Cell, Black, White, Empty, same_cell, Grid, cell_at, with_cell, code, print_of, in_base, row_number, word_number, row_within, number_within}
+use Rattle.board_past.proofs.Common.{◌≡◌, ◌≢◌, inl, inr, ℕ, zero, suc, ◌+◌, ◌-◌, ◌*◌, ◌/◌, ◌%◌, ◌^◌, ◌<◌, ◌≤◌, ◌&&◌, Bool, true, false, cond, bit_and, List, slice_index, length, get_or, set, take, refl, sym, subst, ap, ◌∙◌, arith, fold, add-mul, mul-add, suc-mul, pow_pos, take_all, get_or-set_same, get_or-set_other, length-set, set-set, bit_at, cases_Bool, cases_eq, set-get_or, bit_at-zero, bit_at_cat_high, bit_at_cat_low, Point, IsOn, index_of, has_bit, is_set, Cell, Black, White, Empty, same_cell, Grid, cell_at, with_cell, code, print_of, in_base, row_number, word_number, row_within, number_within, cell_at-with_cell}
 use Rattle.std.proofs.Math.Nat.{mod-add-mod, add-mod-mod, add-mul-mod_self_left, mod-add-div, pow-succ', zero-mod}
 use Rattle.std.proofs.Math.Bool.{and-true, and-false}
 use Rattle.std.proofs.lemmas.Nat.{mod_below, mul-mod, mul-mod_second, shr_split}
 use Rattle.std.proofs.lemmas.List.Sums.{fold_more}
 use Rattle.board_points.proofs.PointLemmas.{index_below}
-use Rattle.board_stones.proofs.GridLemmas.{cell_at-with_cell}
 use Rattle.board_stones.proofs.StoneRowsLemmas.{bit_same}
 use Rattle.board_points.proofs.WordLemmas.{bit_at-there, bit_at-gone, bit_at-mod, has_bit-and, has_bit-zero}
 
@@ -116,6 +114,13 @@ print_by_rows g all =
     whole_number (2 ^ 64) g.cells
     ∙ ap (λ n. in_base 31 n (digits g.cells) % 2 ^ 64) all
     ∙ ap (λ n. n % 2 ^ 64) (in_base-rows g.side g.side (digits g.cells))
+
+-- what a black stone and a white stone count, modulo 2^64
+pub counted_once : (n : ℕ) → n % 2 ^ 64 % 2 ^ 64 ≡ (1 * n) % 2 ^ 64
+counted_once n = omega arith
+
+pub counted_twice : (n : ℕ) → n % 2 ^ 64 * 2 % 2 ^ 64 % 2 ^ 64 ≡ (2 * n) % 2 ^ 64
+counted_twice n = omega arith
 
 -- a stone on an empty point adds its code times a power of 31
 pub stone_added : (g : Grid) (p : Point) (stone : Cell) → IsOn g.side p → cell_at g p ≡ Empty → length g.cells ≡ g.side * g.side → (print added : ℕ) → print ≡ print_of g → added % 2 ^ 64 ≡ (code stone * 31 ^ (g.side * g.side - 1 - index_of g.side p)) % 2 ^ 64 → (print + added) % 2 ^ 64 ≡ print_of (with_cell g p stone)

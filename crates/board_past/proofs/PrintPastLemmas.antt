@@ -1,6 +1,5 @@
 -- The prints of past colourings.
-use Rattle.std.proofs.Common.{◌≡◌, ℕ, zero, suc, ◌-◌, ◌<◌, List, [], ◌∷◌, Some, length, get_or, drop, reverse, sym, ap, ◌∙◌, arith}
-use Rattle.board_past.proofs.Common.{get_or-reverse, length-reverse, length-map, same_Some, Grid, Held, first_grid, IsNumber, print_of, prints_of}
+use Rattle.board_past.proofs.Common.{◌≡◌, ℕ, zero, suc, ◌-◌, ◌<◌, List, [], ◌∷◌, Some, length, get_or, drop, reverse, sym, ap, ◌∙◌, arith, get_or-reverse, length-reverse, length-map, same_Some, Grid, Held, first_grid, IsNumber, print_of, prints_of}
 
 -- the colouring at an index of the list, newest first
 abbrev pub IsAt : List Held → ℕ → Grid → Type 0

@@ -1,6 +1,5 @@
 -- The table by which colourings are looked up.
-use Rattle.std.proofs.Common.{◌≡◌, ℕ, ◌+◌, ◌*◌, ◌<◌, ◌≤◌, ◌^◌, bit_xor, Bool, true, false, if◌then◌else◌, List, [], ◌∷◌, ◌++◌, Option, None, Some, IfSome, length, length-append, get_or, reverse, Contains, inl, inr, refl, sym, ap, subst, ◌∙◌, arith, eq-eqb, ne_eqb}
-use Rattle.board_past.proofs.Common.{bit_at, cases_Bool, reverse-append, same_Some, Point, has_bit, Trie, Agree, nodes_of, item_count, capacity_of, IsTrie, IsNearest, IsOpening, IsParting, Colour, play, Grid, WIDTH, Table, Held, PastColourings, all_of, newest_grid, present_stretch, stretch_of, with_next, IsNumber, hash_of, HasHashes, hash_in_key, key_bits, start_of, since, keys_of, print_of, prints_of, HasRoomForNext, IsAsleepTable, IsAwakeTable, IsGap, IsPrintOfNext, IsTable, LinksNext, SameButHashes, most_to_link}
+use Rattle.board_past.proofs.Common.{◌≡◌, ℕ, ◌+◌, ◌*◌, ◌<◌, ◌≤◌, ◌^◌, bit_xor, Bool, true, false, if◌then◌else◌, List, [], ◌∷◌, ◌++◌, Option, None, Some, IfSome, length, length-append, get_or, reverse, Contains, inl, inr, refl, sym, ap, subst, ◌∙◌, arith, eq-eqb, ne_eqb, bit_at, cases_Bool, reverse-append, same_Some, Point, has_bit, Trie, Agree, nodes_of, item_count, capacity_of, IsTrie, IsNearest, IsOpening, IsParting, Colour, play, Grid, WIDTH, Table, Held, PastColourings, all_of, newest_grid, present_stretch, stretch_of, with_next, IsNumber, hash_of, HasHashes, hash_in_key, key_bits, start_of, since, keys_of, print_of, prints_of, HasRoomForNext, IsAsleepTable, IsAwakeTable, IsGap, IsPrintOfNext, IsTable, LinksNext, SameButHashes, most_to_link}
 use Rattle.board_past.specs.declared.past.print_past.table.Gap.{Gap}
 use Rattle.board_past.specs.declared.past.print_past.hashes.Hashes.{Hashes}
 use Rattle.board_past.proofs.NumberLemmas.{since-newest, since-older, at-newest, at-older, cases-number, start-since, start-before}

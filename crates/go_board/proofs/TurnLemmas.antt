@@ -1,11 +1,10 @@
 -- What the tests on turns say.
-use Rattle.std.proofs.Common.{◌≡◌, ℕ, Bool, false, inl, inr, ◌↔◌, List, [], ◌∷◌, Option, Some, None, Contains, IsTrue, refl, sym, ap, cond, arith, unwrap_or, ◌<◌, ◌+◌, slice_index_or, subst, Decides, Result, OnErr, IsErrOf, Ok, Err}
+use Rattle.go_board.proofs.Common.{◌≡◌, ℕ, Bool, false, inl, inr, ◌↔◌, List, [], ◌∷◌, Option, Some, None, Contains, IsTrue, refl, sym, ap, cond, arith, unwrap_or, ◌<◌, ◌+◌, slice_index_or, subst, Decides, Result, OnErr, IsErrOf, Ok, Err, Colour, play, Grid, Illegal, Reason, Mixed, TwoMoves, BadSetup, BadPoint, Over, Turn, Occupied, Repeat, Stone, must_move, is_occupied, is_repeat, same_grid, reason_of, Forbids, IsFirstReason, rank_of, State, is_over, set_up, MayOnlyRepeat, side_play}
 use Rattle.std.specs.List.{list_any}
 use Rattle.std.proofs.lemmas.Bool.{false≢true, cases_lt, cases_Bool}
 use Rattle.std.proofs.lemmas.Bool.Decides.{Decides-by_or, Decides-and, Decides-not, Decides-like, Decides-eqb, same_from_decides, not_from_Decides}
 use Rattle.std.proofs.lemmas.List.Elements.{Decides-contains}
 use Rattle.std.proofs.lemmas.Slice.Eq.{slice_eq-Decides}
-use Rattle.go_board.proofs.Common.{Colour, play, Grid, Illegal, Reason, Mixed, TwoMoves, BadSetup, BadPoint, Over, Turn, Occupied, Repeat, Stone, must_move, is_occupied, is_repeat, same_grid, reason_of, Forbids, IsFirstReason, rank_of, State, is_over, set_up, MayOnlyRepeat}
 use Rattle.board_points.specs.declared.points.Point.{Point}
 use Rattle.go_board.specs.declared.referee.plays.Play.{Play}
 use Rattle.board_stones.specs.declared.setup_op.SetupOp.{SetupOp}
@@ -13,7 +12,6 @@ use Rattle.board_stones.specs.Colour.{opponent}
 use Rattle.go_board.specs.State.{turned}
 use Rattle.board_stones.proofs.GridLemmas.{one_grid, Decides-same_cell}
 use Rattle.board_stones.proofs.RuleLemmas.{false_from_Decides}
-use Rattle.board_stones.proofs.SettledLemmas.{side_play}
 use Rattle.board_stones.proofs.RectangleLemmas.{side-with_rectangles}
 
 pub Decides-grids : (g h : Grid) → Decides (same_grid g h) (g ≡ h)

@@ -1,6 +1,5 @@
 -- One item more comes into a trie.
-use Rattle.std.proofs.Common.{◌≡◌, ◌≢◌, ℕ, suc, ◌+◌, ◌-◌, ◌<◌, ◌≤◌, ◌==◌, Bool, false, not, if◌then◌else◌, List, [], ◌∷◌, ◌++◌, length, take, length-append, inl, inr, refl, sym, ap, subst, ◌∙◌, arith, below_more, eq-eqb, ne_eqb, get_or-set_same, get_or-set_other, set-set, length-set}
-use Rattle.key_trie.proofs.Common.{cases_lt, cases_eq, get_or_append_left, set-get_or, Node, Slot, Trie, Agree, IsUnder, IsSlot, IsChild, IsTree, IsParting, IsOpening, IsTrieOf, IsTrie, nodes_of, item_count, no_node, node_at, depth_of, child_of, named, with_child, with_named, displaced, without_newest}
+use Rattle.key_trie.proofs.Common.{◌≡◌, ◌≢◌, ℕ, suc, ◌+◌, ◌-◌, ◌<◌, ◌≤◌, ◌==◌, Bool, false, not, if◌then◌else◌, List, [], ◌∷◌, ◌++◌, length, take, length-append, inl, inr, refl, sym, ap, subst, ◌∙◌, arith, below_more, eq-eqb, ne_eqb, get_or-set_same, get_or-set_other, set-set, length-set, cases_lt, cases_eq, get_or_append_left, set-get_or, Node, Slot, Trie, Agree, IsUnder, IsSlot, IsChild, IsTree, IsParting, IsOpening, IsTrieOf, IsTrie, nodes_of, item_count, no_node, node_at, depth_of, child_of, named, with_child, with_named, displaced, without_newest}
 use Rattle.std.proofs.Math.Seq.{get_or-append_seam, take-append_seam}
 use Rattle.key_trie.proofs.TrieLemmas.{agree_back, agree_less, agree_more, agree_on, agree_self, cases_same, inner_reach, not_itself, other_bit, same_tree, stop_reach, trie_tree, two_slots, under_as, under_both, under_same}
 

@@ -1,7 +1,6 @@
 -- Words and their bits: where two keys differ.
-use Rattle.std.proofs.Common.{◌≡◌, ◌≢◌, ℕ, ◌+◌, ◌-◌, ◌*◌, ◌<◌, ◌≤◌, ◌==◌, Bool, bit_xor, inl, inr, sym, subst, ◌∙◌, arith}
+use Rattle.key_trie.proofs.Common.{◌≡◌, ◌≢◌, ℕ, ◌+◌, ◌-◌, ◌*◌, ◌<◌, ◌≤◌, ◌==◌, Bool, bit_xor, inl, inr, sym, subst, ◌∙◌, arith, cases_lt, false≢true, Agree}
 use Rattle.std.specs.Int.{bit_at}
-use Rattle.key_trie.proofs.Common.{cases_lt, false≢true, Agree}
 use Rattle.std.proofs.lemmas.Nat.Bits.{bit_at_xor, bit_at-lt}
 
 -- Words that differ.

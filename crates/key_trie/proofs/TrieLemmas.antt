@@ -1,6 +1,5 @@
 -- The trie: descents, and the nodes as they are kept.
-use Rattle.std.proofs.Common.{◌≡◌, ◌≢◌, ◌⊎◌, ℕ, zero, suc, ◌+◌, ◌-◌, ◌<◌, ◌≤◌, Bool, true, false, not, List, length, inl, inr, refl, sym, subst, ◌∙◌, arith, true≢false}
-use Rattle.key_trie.proofs.Common.{cases_lt, cases_order, false≢true, Node, Slot, Trie, Agree, IsUnder, IsSlot, IsReach, IsChild, IsTree, IsOnWay, IsWayTo, IsNearest, IsParting, IsOpening, IsTrieOf, IsTrie, nodes_of, item_count, child_at, depth_of, child_of, without_newest}
+use Rattle.key_trie.proofs.Common.{◌≡◌, ◌≢◌, ◌⊎◌, ℕ, zero, suc, ◌+◌, ◌-◌, ◌<◌, ◌≤◌, Bool, true, false, not, List, length, inl, inr, refl, sym, subst, ◌∙◌, arith, true≢false, cases_lt, cases_order, false≢true, Node, Slot, Trie, Agree, IsUnder, IsSlot, IsReach, IsChild, IsTree, IsOnWay, IsWayTo, IsNearest, IsParting, IsOpening, IsTrieOf, IsTrie, nodes_of, item_count, child_at, depth_of, child_of, without_newest}
 
 -- Keys.
 

@@ -1,5 +1,4 @@
-use Rattle.std.proofs.Common.{subst, sym, List, Contains}
-use Rattle.go_board.proofs.Common.{play, Grid, WasEmptied}
+use Rattle.go_board.proofs.Common.{subst, sym, List, Contains, play, Grid, WasEmptied}
 use Rattle.board_past.proofs.RepeatLemmas.{emptied-if_back}
 use Rattle.go_board.proofs.laws.repeating.Goals as goal
 

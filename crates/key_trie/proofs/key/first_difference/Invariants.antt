@@ -1,5 +1,4 @@
-use Rattle.std.proofs.Common.{◌*◌}
-use Rattle.key_trie.specs.Key.{Agree}
+use Rattle.key_trie.proofs.Common.{◌*◌, Agree}
 use Rattle.key_trie.proofs.key.first_difference.Given as goal
 
 abbrev pub invariant-words : goal.invariant-words

@@ -1,5 +1,4 @@
-use Rattle.std.proofs.Common.{Contains, refl, ap, subst, ◌∙◌}
-use Rattle.board_past.proofs.Common.{play, Grid, present_stretch}
+use Rattle.board_past.proofs.Common.{Contains, refl, ap, subst, ◌∙◌, play, Grid, present_stretch}
 use Rattle.board_past.proofs.past.Past.play.Goals as goal
 
 pub returns-then-holds : goal.returns-then-holds

@@ -1,5 +1,4 @@
-use Rattle.std.proofs.Common.{◌≡◌, ◌+◌, ◌-◌, ◌<◌, length, arith, refl, ap, sym, ◌∙◌}
-use Rattle.board_past.proofs.Common.{false≢true, Held}
+use Rattle.board_past.proofs.Common.{◌≡◌, ◌+◌, ◌-◌, ◌<◌, length, arith, refl, ap, sym, ◌∙◌, false≢true, Held}
 use Rattle.board_past.proofs.ListPastLemmas.{Has-none, Has-found, Has-more, Has-cases}
 use Rattle.board_past.proofs.past.list_past.stretch_has.Goals as goal
 

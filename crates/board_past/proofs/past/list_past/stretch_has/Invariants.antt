@@ -1,6 +1,5 @@
 -- The whole stretch has the colouring exactly if the part that is left to look at has it.
-use Rattle.std.proofs.Common.{◌↔◌, reverse, Contains}
-use Rattle.board_past.specs.Past.{stretch_of}
+use Rattle.board_past.proofs.Common.{◌↔◌, reverse, Contains, stretch_of}
 use Rattle.board_past.proofs.ListPastLemmas.{Has}
 use Rattle.board_past.proofs.past.list_past.stretch_has.Given as goal
 

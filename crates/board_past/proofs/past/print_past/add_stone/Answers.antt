@@ -1,5 +1,4 @@
-use Rattle.std.proofs.Common.{false, arith}
-use Rattle.board_past.proofs.Common.{Point, Colour, play, Held, PastColourings, all_of, newest_grid, with_next, Fits-of_lt}
+use Rattle.board_past.proofs.Common.{false, arith, Point, Colour, play, Held, PastColourings, all_of, newest_grid, with_next, Fits-of_lt}
 use Rattle.board_past.proofs.RepeatLemmas.{emptied_by_play}
 use Rattle.board_past.proofs.AtOnceLemmas.{at_once_more, at_once_same}
 use Rattle.board_past.proofs.TableLemmas.{few_all, gap_same, print_same, table_same}

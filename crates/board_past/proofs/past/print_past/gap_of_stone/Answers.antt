@@ -1,5 +1,4 @@
-use Rattle.std.proofs.Common.{◌≡◌, Contains, IfNone, IfSome, false, ap, sym, subst, ◌∙◌}
-use Rattle.board_past.proofs.Common.{play, Grid, all_of, newest_grid, present_stretch, with_next, IsGap}
+use Rattle.board_past.proofs.Common.{◌≡◌, Contains, IfNone, IfSome, false, ap, sym, subst, ◌∙◌, play, Grid, all_of, newest_grid, present_stretch, with_next, IsGap}
 use Rattle.board_past.proofs.past.print_past.gap_of_stone.Goals as goal
 use Rattle.board_past.proofs.past.print_past.gap_of_stone.Goals.{After-gap_by_board}
 

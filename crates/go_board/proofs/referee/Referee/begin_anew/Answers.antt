@@ -1,5 +1,4 @@
-use Rattle.std.proofs.Common.{◌≡◌, ◌++◌, [], ◌∷◌, true, fold, refl, arith, rules}
-use Rattle.go_board.proofs.Common.{newest_grid}
+use Rattle.go_board.proofs.Common.{◌≡◌, ◌++◌, [], ◌∷◌, true, fold, refl, arith, rules, newest_grid}
 use Rattle.go_board.specs.declared.referee.Call.TheVariants.{Setup}
 use Rattle.board_stones.specs.Rectangle.{with_rectangle}
 use Rattle.board_stones.proofs.RectangleLemmas.{side-with_rectangles}

@@ -1,5 +1,4 @@
-use Rattle.std.proofs.Common.{subst, arith}
-use Rattle.go_board.proofs.Common.{States, HadSameBoardSince}
+use Rattle.go_board.proofs.Common.{subst, arith, States, HadSameBoardSince}
 use Rattle.go_board.proofs.EarlierLemmas.{same_board_since}
 use Rattle.go_board.proofs.referee.Referee.left_board_since.Goals as goal
 

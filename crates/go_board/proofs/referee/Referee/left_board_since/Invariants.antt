@@ -1,6 +1,5 @@
 -- None of the calls that were looked at changed the board.
-use Rattle.std.proofs.Common.{◌≡◌, ◌≤◌, ◌<◌, ℕ, false, length, get_or}
-use Rattle.go_board.proofs.Common.{Earlier, grew}
+use Rattle.go_board.proofs.Common.{◌≡◌, ◌≤◌, ◌<◌, ℕ, false, length, get_or, Earlier, grew}
 use Rattle.go_board.proofs.referee.Referee.left_board_since.Given as goal
 
 abbrev pub invariant-calls : goal.invariant-calls

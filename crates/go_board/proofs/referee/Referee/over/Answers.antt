@@ -1,5 +1,4 @@
-use Rattle.std.proofs.Common.{ap}
-use Rattle.go_board.specs.State.{States, is_over}
+use Rattle.go_board.proofs.Common.{ap, States, is_over}
 use Rattle.go_board.proofs.referee.Referee.over.Goals as goal
 
 pub returns-clause-value : goal.returns-clause-value

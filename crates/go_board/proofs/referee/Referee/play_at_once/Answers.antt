@@ -1,8 +1,5 @@
-use Rattle.std.proofs.Common.{◌≡◌, ◌+◌, ◌++◌, [], ◌∷◌, false, refl, ap, ◌∙◌, arith, rules}
-use Rattle.go_board.proofs.Common.{play, newest_grid, with_next, reason_of, States}
-use Rattle.go_board.specs.declared.referee.Call.{Call}
+use Rattle.go_board.proofs.Common.{◌≡◌, ◌+◌, ◌++◌, [], ◌∷◌, false, refl, ap, ◌∙◌, arith, rules, play, newest_grid, with_next, reason_of, States, Call, side_play}
 use Rattle.go_board.proofs.EarlierLemmas.{IsRefereeKept-grown}
-use Rattle.board_stones.proofs.SettledLemmas.{side_play}
 use Rattle.go_board.proofs.TurnLemmas.{reason_of-new}
 use Rattle.go_board.proofs.referee.Referee.play_at_once.Goals as goal
 

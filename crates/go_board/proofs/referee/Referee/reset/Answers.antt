@@ -1,5 +1,4 @@
-use Rattle.std.proofs.Common.{ap, ◌∙◌}
-use Rattle.board_past.specs.Past.{only}
+use Rattle.go_board.proofs.Common.{ap, ◌∙◌, only}
 use Rattle.go_board.proofs.EarlierLemmas.{IsRefereeKept-begun, states_of-begun}
 use Rattle.go_board.proofs.referee.Referee.reset.Goals as goal
 

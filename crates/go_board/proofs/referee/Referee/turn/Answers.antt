@@ -1,5 +1,4 @@
-use Rattle.std.proofs.Common.{◌≡◌, ◌↔◌, Some, IsErrOf, refl, subst}
-use Rattle.go_board.proofs.Common.{Illegal, Reason, reason_of, States}
+use Rattle.go_board.proofs.Common.{◌≡◌, ◌↔◌, Some, IsErrOf, refl, subst, Illegal, Reason, reason_of, States}
 use Rattle.go_board.proofs.referee.Referee.turn.Goals as goal
 
 -- the call that took no turn changed nothing

@@ -1,5 +1,4 @@
-use Rattle.std.proofs.Common.{Some, cond, None, ap, ◌∙◌}
-use Rattle.go_board.proofs.Common.{Repeat, reason_of}
+use Rattle.go_board.proofs.Common.{Some, cond, None, ap, ◌∙◌, Repeat, reason_of}
 use Rattle.go_board.proofs.TurnLemmas.{refused_for}
 use Rattle.go_board.proofs.referee.Referee.turn_in_full.Goals as goal
 

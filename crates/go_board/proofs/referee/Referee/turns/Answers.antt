@@ -1,5 +1,4 @@
-use Rattle.std.proofs.Common.{◌≤◌, length, reverse}
-use Rattle.std.proofs.lemmas.List.{length-reverse}
+use Rattle.go_board.proofs.Common.{◌≤◌, length, reverse, length-reverse}
 use Rattle.go_board.proofs.EarlierLemmas.{length-earlier}
 use Rattle.go_board.proofs.referee.Referee.turns.Goals as goal
 

@@ -1,5 +1,4 @@
-use Rattle.std.proofs.Common.{◌-◌, ◌<◌, ◌∙◌, ℕ, Bool, List, length, arith, rules, sym, ap, subst}
-use Rattle.key_trie.proofs.Common.{Node, IsTrieOf, IsOnWay, depth_of}
+use Rattle.key_trie.proofs.Common.{◌-◌, ◌<◌, ◌∙◌, ℕ, Bool, List, length, arith, rules, sym, ap, subst, Node, IsTrieOf, IsOnWay, depth_of}
 use Rattle.key_trie.proofs.TrieLemmas.{trie_tree, way_begins, way_goes_on, way_names}
 use Rattle.key_trie.proofs.trie.Trie.descend.Given.{Over}
 use Rattle.key_trie.proofs.trie.Trie.descend.Goals as goal

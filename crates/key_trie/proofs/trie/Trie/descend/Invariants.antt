@@ -1,5 +1,4 @@
-use Rattle.std.proofs.Common.{◌≡◌, ◌-◌, ◌<◌, ℕ, Bool, length}
-use Rattle.key_trie.specs.Trie.{IsTrieOf, IsOnWay, depth_of, child_of}
+use Rattle.key_trie.proofs.Common.{◌≡◌, ◌-◌, ◌<◌, ℕ, Bool, length, IsTrieOf, IsOnWay, depth_of, child_of}
 use Rattle.key_trie.proofs.trie.Trie.descend.Given as goal
 
 abbrev pub invariant-down : goal.invariant-down

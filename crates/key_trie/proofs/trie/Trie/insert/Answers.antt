@@ -1,5 +1,4 @@
-use Rattle.std.proofs.Common.{◌≡◌, ◌+◌, ◌++◌, ◌∷◌, [], List, Bool, not, length, length-append, ap, sym, subst, ◌∙◌, arith, rules, length-set}
-use Rattle.key_trie.proofs.Common.{Node, IsTrieOf, named, node_at, child_of, with_child, with_named}
+use Rattle.key_trie.proofs.Common.{◌≡◌, ◌+◌, ◌++◌, ◌∷◌, [], List, Bool, not, length, length-append, ap, sym, subst, ◌∙◌, arith, rules, length-set, Node, IsTrieOf, named, node_at, child_of, with_child, with_named}
 use Rattle.key_trie.proofs.InsertLemmas.{trie_parted}
 use Rattle.key_trie.proofs.trie.Trie.insert.Goals as goal
 

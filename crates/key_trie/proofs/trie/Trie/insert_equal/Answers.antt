@@ -1,5 +1,4 @@
-use Rattle.std.proofs.Common.{◌≡◌, ◌+◌, ◌∷◌, [], List, length, length-append, ap, sym, subst, ◌∙◌, rules}
-use Rattle.key_trie.proofs.Common.{Node, IsTrieOf}
+use Rattle.key_trie.proofs.Common.{◌≡◌, ◌+◌, ◌∷◌, [], List, length, length-append, ap, sym, subst, ◌∙◌, rules, Node, IsTrieOf}
 use Rattle.key_trie.proofs.InsertLemmas.{trie_repeated}
 use Rattle.key_trie.proofs.trie.Trie.insert_equal.Goals as goal
 

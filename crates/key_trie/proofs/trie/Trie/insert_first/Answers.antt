@@ -1,5 +1,4 @@
-use Rattle.std.proofs.Common.{◌≡◌, ◌++◌, ◌∷◌, [], List, length, ap, sym, subst, ◌∙◌}
-use Rattle.key_trie.proofs.Common.{nil_from_length, Node, IsTrieOf}
+use Rattle.key_trie.proofs.Common.{◌≡◌, ◌++◌, ◌∷◌, [], List, length, ap, sym, subst, ◌∙◌, nil_from_length, Node, IsTrieOf}
 use Rattle.key_trie.proofs.InsertLemmas.{trie_first}
 use Rattle.key_trie.proofs.trie.Trie.insert_first.Goals as goal
 

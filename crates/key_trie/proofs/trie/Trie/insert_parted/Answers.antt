@@ -1,5 +1,4 @@
-use Rattle.std.proofs.Common.{sym, ◌∙◌, arith}
-use Rattle.key_trie.specs.Trie.{item_count}
+use Rattle.key_trie.proofs.Common.{sym, ◌∙◌, arith, item_count}
 use Rattle.key_trie.proofs.trie.Trie.insert_parted.Goals as goal
 
 pub returns-clause-trie : goal.returns-clause-trie

@@ -1,5 +1,4 @@
-use Rattle.std.proofs.Common.{◌≡◌, ◌∙◌, ap, arith}
-use Rattle.key_trie.proofs.Common.{get_or_default, Node, child_at, no_node, node_at}
+use Rattle.key_trie.proofs.Common.{◌≡◌, ◌∙◌, ap, arith, get_or_default, Node, child_at, no_node, node_at}
 use Rattle.key_trie.proofs.TrieLemmas.{agree_back, agree_less, agree_on, end_opens}
 use Rattle.key_trie.proofs.trie.Trie.opening.Goals as goal
 

@@ -1,5 +1,4 @@
-use Rattle.std.proofs.Common.{◌≡◌, suc, ◌+◌, ◌-◌, ◌<◌, ◌≤◌, ◌∙◌, ℕ, Bool, false, List, length, arith, rules, sym, ap, subst, inl, inr}
-use Rattle.key_trie.proofs.Common.{cases_eq, Node, IsTrieOf, IsOnWay, GoesOn, after_steps, depth_of, child_of}
+use Rattle.key_trie.proofs.Common.{◌≡◌, suc, ◌+◌, ◌-◌, ◌<◌, ◌≤◌, ◌∙◌, ℕ, Bool, false, List, length, arith, rules, sym, ap, subst, inl, inr, cases_eq, Node, IsTrieOf, IsOnWay, GoesOn, after_steps, depth_of, child_of}
 use Rattle.key_trie.proofs.TrieLemmas.{trie_tree, way_begins, way_goes_on, way_names}
 use Rattle.key_trie.proofs.trie.Trie.passes.Goals as goal
 

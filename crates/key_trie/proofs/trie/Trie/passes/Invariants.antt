@@ -1,5 +1,4 @@
-use Rattle.std.proofs.Common.{◌≡◌, ◌<◌, ℕ, Bool, length}
-use Rattle.key_trie.specs.Trie.{IsTrieOf, IsOnWay, GoesOn, after_steps, depth_of, child_of}
+use Rattle.key_trie.proofs.Common.{◌≡◌, ◌<◌, ℕ, Bool, length, IsTrieOf, IsOnWay, GoesOn, after_steps, depth_of, child_of}
 use Rattle.key_trie.proofs.trie.Trie.passes.Given as goal
 
 abbrev pub invariant-down : goal.invariant-down

@@ -1,5 +1,4 @@
-use Rattle.std.proofs.Common.{List, length, sym, subst, rules}
-use Rattle.key_trie.proofs.Common.{Node, IsTrieOf}
+use Rattle.key_trie.proofs.Common.{List, length, sym, subst, rules, Node, IsTrieOf}
 use Rattle.key_trie.proofs.TrieLemmas.{trie_back}
 use Rattle.key_trie.proofs.trie.Trie.take_back.Goals as goal
 

@@ -1,5 +1,4 @@
-use Rattle.std.proofs.Common.{◌≡◌, ◌≢◌, ◌↔◌, false, Contains, IsTrue, reverse, sym, subst, ◌∙◌}
-use Rattle.board_past.proofs.Common.{false≢true, PastColourings, present_stretch, stretch_of}
+use Rattle.board_past.proofs.Common.{◌≡◌, ◌≢◌, ◌↔◌, false, Contains, IsTrue, reverse, sym, subst, ◌∙◌, false≢true, PastColourings, present_stretch, stretch_of}
 use Rattle.board_past.proofs.ListPastLemmas.{going_on, only_later}
 use Rattle.board_past.proofs.past.list_past.ListPastPast.holds.Goals as goal
 

@@ -1,5 +1,4 @@
-use Rattle.std.proofs.Common.{◌≡◌, ◌≢◌, true, subst, arith}
-use Rattle.board_past.proofs.Common.{Fits-of_lt, Point, IsOn, is_set, Empty, Grid, cell_at, Held, all_of, IsPrintOfNext}
+use Rattle.board_past.proofs.Common.{◌≡◌, ◌≢◌, true, subst, arith, Fits-of_lt, Point, IsOn, is_set, Empty, Grid, cell_at, Held, all_of, IsPrintOfNext}
 use Rattle.board_past.proofs.AtOnceLemmas.{at_once_same}
 use Rattle.board_past.proofs.TableLemmas.{few_all, print_same, table_same}
 use Rattle.board_past.proofs.past.print_past.PrintPast.add.Goals as goal

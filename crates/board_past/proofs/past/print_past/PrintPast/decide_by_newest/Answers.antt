@@ -1,5 +1,4 @@
-use Rattle.std.proofs.Common.{◌≡◌, ◌↔◌, ◌∙◌, Bool, IfSome, IsTrue, Contains, ap, sym, subst}
-use Rattle.board_past.proofs.Common.{false≢true, play, Grid, IsMove, PastColourings, newest_grid, present_stretch}
+use Rattle.board_past.proofs.Common.{◌≡◌, ◌↔◌, ◌∙◌, Bool, IfSome, IsTrue, Contains, ap, sym, subst, false≢true, play, Grid, IsMove, PastColourings, newest_grid, present_stretch}
 use Rattle.board_past.proofs.past.print_past.PrintPast.decide_by_newest.Goals as goal
 
 pub newest_steps_show_new-requires : goal.newest_steps_show_new-requires

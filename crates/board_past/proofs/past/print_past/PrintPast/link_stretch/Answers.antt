@@ -1,5 +1,4 @@
-use Rattle.std.proofs.Common.{arith}
-use Rattle.board_past.proofs.Common.{Fits-of_lt, all_of}
+use Rattle.board_past.proofs.Common.{arith, Fits-of_lt, all_of}
 use Rattle.board_past.proofs.TableLemmas.{few_all}
 use Rattle.board_past.proofs.past.print_past.PrintPast.link_stretch.Goals as goal
 

@@ -1,5 +1,4 @@
-use Rattle.std.proofs.Common.{◌≡◌, ◌*◌, ◌∙◌, length, ap, sym, subst}
-use Rattle.board_past.proofs.Common.{is_set, Grid, PastColourings, all_of, newest_grid, HasAllEmptied}
+use Rattle.board_past.proofs.Common.{◌≡◌, ◌*◌, ◌∙◌, length, ap, sym, subst, is_set, Grid, PastColourings, all_of, newest_grid, HasAllEmptied}
 use Rattle.board_past.proofs.EmptiedLemmas.{history_all}
 use Rattle.board_past.proofs.RepeatLemmas.{never_back, fresh_stone_put}
 use Rattle.board_past.proofs.past.print_past.PrintPast.may_repeat.Goals as goal

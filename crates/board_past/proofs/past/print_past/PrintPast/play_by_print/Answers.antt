@@ -1,5 +1,4 @@
-use Rattle.std.proofs.Common.{◌∙◌, false, ap, arith}
-use Rattle.board_past.proofs.Common.{play, PastColourings, newest_grid, with_next, all_of}
+use Rattle.board_past.proofs.Common.{◌∙◌, false, ap, arith, play, PastColourings, newest_grid, with_next, all_of}
 use Rattle.board_past.proofs.RepeatLemmas.{played_new, played_refused}
 use Rattle.board_past.proofs.TableLemmas.{gap_never, tabled}
 use Rattle.board_past.proofs.past.print_past.PrintPast.play_by_print.Goals as goal

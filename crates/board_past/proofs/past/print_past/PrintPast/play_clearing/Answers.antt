@@ -1,5 +1,4 @@
-use Rattle.std.proofs.Common.{sym, ◌∙◌}
-use Rattle.board_past.proofs.Common.{or_parts}
+use Rattle.board_past.proofs.Common.{sym, ◌∙◌, or_parts}
 use Rattle.board_past.proofs.past.print_past.PrintPast.play_clearing.Goals as goal
 
 pub play_new-requires-clause-never : goal.play_new-requires-clause-never

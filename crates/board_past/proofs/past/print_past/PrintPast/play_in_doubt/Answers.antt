@@ -1,5 +1,4 @@
-use Rattle.std.proofs.Common.{◌∙◌, subst}
-use Rattle.board_past.specs.Past.{PastColourings, IsPlayed}
+use Rattle.board_past.proofs.Common.{◌∙◌, subst, PastColourings, IsPlayed}
 use Rattle.board_past.proofs.past.print_past.PrintPast.play_in_doubt.Goals as goal
 
 pub returns-in-Some : goal.returns-in-Some

@@ -1,5 +1,4 @@
-use Rattle.std.proofs.Common.{false, ap, ◌∙◌, arith}
-use Rattle.board_past.proofs.Common.{play, Grid, all_of, newest_grid, with_next, print_of, IsAwakeTable}
+use Rattle.board_past.proofs.Common.{false, ap, ◌∙◌, arith, play, Grid, all_of, newest_grid, with_next, print_of, IsAwakeTable}
 use Rattle.board_past.proofs.TableLemmas.{tabled}
 use Rattle.board_past.proofs.past.print_past.PrintPast.play_new.Goals as goal
 use Rattle.board_past.proofs.past.print_past.PrintPast.play_new.Goals.{Then-is_awake, then-is_awake, else-is_awake}

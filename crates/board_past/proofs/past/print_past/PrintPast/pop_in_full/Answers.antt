@@ -1,5 +1,4 @@
-use Rattle.std.proofs.Common.{◌∷◌, List, subst}
-use Rattle.board_past.proofs.Common.{Held, all_of, IsEmptied, IsTable}
+use Rattle.board_past.proofs.Common.{◌∷◌, List, subst, Held, all_of, IsEmptied, IsTable}
 use Rattle.board_past.proofs.past.print_past.PrintPast.pop_in_full.Goals as goal
 
 pub invariant_of-self : goal.invariant_of-self

@@ -1,5 +1,4 @@
-use Rattle.std.proofs.Common.{sym, subst}
-use Rattle.board_past.proofs.Common.{PastColourings, all_of, IsEmptied, IsTable}
+use Rattle.board_past.proofs.Common.{sym, subst, PastColourings, all_of, IsEmptied, IsTable}
 use Rattle.board_past.proofs.past.print_past.PrintPastPast.new.Goals as goal
 
 pub invariant_of-result : goal.invariant_of-result

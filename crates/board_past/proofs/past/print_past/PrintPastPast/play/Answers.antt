@@ -1,5 +1,4 @@
-use Rattle.std.proofs.Common.{refl, ap, sym, ◌∙◌}
-use Rattle.board_past.proofs.Common.{has_unreaching, PastColourings, newest_grid}
+use Rattle.board_past.proofs.Common.{refl, ap, sym, ◌∙◌, has_unreaching, PastColourings, newest_grid}
 use Rattle.board_past.proofs.past.print_past.PrintPastPast.play.Goals as goal
 
 pub play_in_doubt-requires-clause-stone : goal.play_in_doubt-requires-clause-stone

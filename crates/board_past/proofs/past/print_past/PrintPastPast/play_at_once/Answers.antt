@@ -1,7 +1,5 @@
-use Rattle.std.proofs.Common.{◌<◌, [], length, refl, arith}
-use Rattle.board_past.proofs.Common.{IsMove, newest_grid}
+use Rattle.board_past.proofs.Common.{◌<◌, [], length, refl, arith, IsMove, newest_grid, has_bit-zero}
 use Rattle.board_past.proofs.AtOnceLemmas.{at_once_more, tabled_more_at_once, emptied_more_at_once}
-use Rattle.board_points.proofs.WordLemmas.{has_bit-zero}
 use Rattle.board_past.proofs.past.print_past.PrintPastPast.play_at_once.Goals as goal
 
 pub invariant_of-self : goal.invariant_of-self

@@ -1,5 +1,4 @@
-use Rattle.std.proofs.Common.{◌∷◌, List, length, inl, refl, ap, subst, arith}
-use Rattle.board_past.proofs.Common.{Fits-of_lt, Held, all_of, IsEmptied, IsTable}
+use Rattle.board_past.proofs.Common.{◌∷◌, List, length, inl, refl, ap, subst, arith, Fits-of_lt, Held, all_of, IsEmptied, IsTable}
 use Rattle.board_past.proofs.AtOnceLemmas.{asleep_if_room, at_once_less}
 use Rattle.board_past.proofs.TableLemmas.{asleep_less, few_all}
 use Rattle.board_past.proofs.past.print_past.PrintPastPast.pop.Goals as goal

@@ -1,5 +1,4 @@
-use Rattle.std.proofs.Common.{fold, ap, ◌∙◌}
-use Rattle.board_past.proofs.Common.{Grid, with_rectangle}
+use Rattle.board_past.proofs.Common.{fold, ap, ◌∙◌, Grid, with_rectangle}
 use Rattle.board_past.proofs.past.print_past.PrintPastPast.set_up.Goals as goal
 
 pub returns-clause-ok : goal.returns-clause-ok

@@ -1,5 +1,4 @@
-use Rattle.std.proofs.Common.{◌≡◌, ◌≢◌, ◌<◌, ◌||◌, ◌==◌, not, false, ◌∷◌, [], length, length-append, ap, sym, ◌∙◌, arith, rules}
-use Rattle.board_past.proofs.Common.{or_parts, play}
+use Rattle.board_past.proofs.Common.{◌≡◌, ◌≢◌, ◌<◌, ◌||◌, ◌==◌, not, false, ◌∷◌, [], length, length-append, ap, sym, ◌∙◌, arith, rules, or_parts, play}
 use Rattle.board_past.proofs.ChangesLemmas.{kept_none, kept_more, kept_same, kept_rest, row_kept}
 use Rattle.board_past.proofs.past.print_past.changes.keep_played.Goals as goal
 use Rattle.board_past.proofs.past.print_past.changes.keep_played.Goals.{then-apart, else-apart}

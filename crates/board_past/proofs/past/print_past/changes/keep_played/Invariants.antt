@@ -1,6 +1,5 @@
 -- Of the rows looked at so far, those that the stone changes are kept.
-use Rattle.std.proofs.Common.{◌+◌, ◌≤◌, length, vec_capacity}
-use Rattle.board_past.proofs.Common.{Colour, play, IsMove, KeepRows}
+use Rattle.board_past.proofs.Common.{◌+◌, ◌≤◌, length, vec_capacity, Colour, play, IsMove, KeepRows}
 use Rattle.board_past.proofs.past.print_past.changes.keep_played.Given as goal
 
 abbrev pub invariant-loop-row : goal.invariant-loop-row

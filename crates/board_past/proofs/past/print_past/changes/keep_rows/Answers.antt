@@ -1,5 +1,4 @@
-use Rattle.std.proofs.Common.{◌≡◌, ◌∷◌, [], Bool, not, true, false, length, length-append, refl, sym, ap, arith}
-use Rattle.std.proofs.lemmas.Bool.{or_parts}
+use Rattle.board_past.proofs.Common.{◌≡◌, ◌∷◌, [], Bool, not, true, false, length, length-append, refl, sym, ap, arith, or_parts}
 use Rattle.board_past.proofs.ChangesLemmas.{kept_none, kept_more, kept_same}
 use Rattle.board_past.proofs.past.print_past.changes.keep_rows.Goals as goal
 use Rattle.board_past.proofs.past.print_past.changes.keep_rows.Goals.{then-apart, else-apart}

@@ -1,6 +1,5 @@
 -- Of the rows looked at so far, those that differ are kept.
-use Rattle.std.proofs.Common.{◌+◌, ◌≤◌, length, vec_capacity}
-use Rattle.board_past.specs.inner.Changes.{KeepRows}
+use Rattle.board_past.proofs.Common.{◌+◌, ◌≤◌, length, vec_capacity, KeepRows}
 use Rattle.board_past.proofs.past.print_past.changes.keep_rows.Given as goal
 
 abbrev pub invariant-loop-row : goal.invariant-loop-row

@@ -1,5 +1,4 @@
-use Rattle.std.proofs.Common.{refl, sym, ap, subst, ◌∙◌, take, get_or, arith}
-use Rattle.board_past.proofs.Common.{false≢true, take_more, All-get_or, has_bit, Grid, Change, IsChangeOn}
+use Rattle.board_past.proofs.Common.{refl, sym, ap, subst, ◌∙◌, take, get_or, arith, false≢true, take_more, All-get_or, has_bit, Grid, Change, IsChangeOn}
 use Rattle.board_past.proofs.ChangesLemmas.{IsMade, after-side, made-whole, made-more, made-passed}
 use Rattle.board_past.proofs.past.print_past.changes.take_back.Goals as goal
 use Rattle.board_past.proofs.past.print_past.changes.take_back.Goals.{then-has_column, else-has_column}

@@ -1,7 +1,6 @@
-use Rattle.std.proofs.Common.{◌≡◌, ◌+◌, ◌-◌, ◌*◌, ◌≤◌, ◌%◌, ◌^◌, get_or, ap, sym, ◌∙◌, arith}
+use Rattle.board_past.proofs.Common.{◌≡◌, ◌+◌, ◌-◌, ◌*◌, ◌≤◌, ◌%◌, ◌^◌, get_or, ap, sym, ◌∙◌, arith, word_number}
 use Rattle.std.proofs.Math.Nat.{add-mod-mod}
 use Rattle.board_past.specs.declared.past.print_past.print.TheConstants.{NUMBERS}
-use Rattle.board_past.specs.inner.Print.{word_number}
 use Rattle.board_past.proofs.ByteLemmas.{low_byte}
 use Rattle.board_past.proofs.PrintLemmas.{byte_less, byte_more, digit_more, shifted_number}
 use Rattle.board_past.proofs.past.print_past.print.number_by_bytes.Goals as goal

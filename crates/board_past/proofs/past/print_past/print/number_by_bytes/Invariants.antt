@@ -1,6 +1,5 @@
 -- The number is that of the bytes so far; `left` has the others.
-use Rattle.std.proofs.Common.{◌≡◌, ℕ, ◌+◌, ◌*◌, ◌%◌, ◌^◌}
-use Rattle.board_past.proofs.Common.{bit_at, word_number}
+use Rattle.board_past.proofs.Common.{◌≡◌, ℕ, ◌+◌, ◌*◌, ◌%◌, ◌^◌, bit_at, word_number}
 use Rattle.board_past.proofs.past.print_past.print.number_by_bytes.Given as goal
 
 abbrev pub invariant-loop-byte : goal.invariant-loop-byte

@@ -1,5 +1,4 @@
-use Rattle.std.proofs.Common.{◌-◌, ◌%◌, ◌^◌, ap, sym, ◌∙◌, arith, rules, w64}
-use Rattle.board_past.proofs.Common.{trailing_zeros, word_number}
+use Rattle.board_past.proofs.Common.{◌-◌, ◌%◌, ◌^◌, ap, sym, ◌∙◌, arith, rules, w64, trailing_zeros, word_number}
 use Rattle.board_past.proofs.PrintLemmas.{no_column, one_column}
 use Rattle.board_points.proofs.ColumnLemmas.{lowest_left}
 use Rattle.board_past.proofs.past.print_past.print.number_of.Goals as goal

@@ -1,9 +1,6 @@
-use Rattle.std.proofs.Common.{◌≡◌, ◌≢◌, ◌*◌, length, refl, ap, ◌∙◌, sym, rules, length-set}
-use Rattle.board_past.proofs.Common.{false≢true, index_of, is_set, play, stone_of, with_cell, print_of}
-use Rattle.board_stones.proofs.GridLemmas.{cell_at-with_cell_elsewhere}
+use Rattle.board_past.proofs.Common.{◌≡◌, ◌≢◌, ◌*◌, length, refl, ap, ◌∙◌, sym, rules, length-set, false≢true, index_of, is_set, play, stone_of, with_cell, print_of, cell_at-with_cell_elsewhere, side_play}
 use Rattle.board_past.proofs.PrintLemmas.{print_left}
 use Rattle.board_stones.proofs.ClearedLemmas.{clears_nothing-alone}
-use Rattle.board_stones.proofs.SettledLemmas.{side_play}
 use Rattle.board_past.proofs.past.print_past.print.print_after_clearing.Goals as goal
 use Rattle.board_past.proofs.past.print_past.print.print_after_clearing.Goals.{then-is_cleared, else-is_cleared}
 

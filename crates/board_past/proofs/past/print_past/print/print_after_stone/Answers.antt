@@ -1,14 +1,7 @@
-use Rattle.std.proofs.Common.{◌≡◌, ℕ, ◌*◌, ◌-◌, ◌%◌, ◌^◌, ap, ◌∙◌, sym, arith}
-use Rattle.board_past.proofs.Common.{index_of, stone_of, code}
-use Rattle.board_past.proofs.PrintLemmas.{stone_added}
+use Rattle.board_past.proofs.Common.{◌≡◌, ◌*◌, ◌-◌, ◌%◌, ◌^◌, ap, ◌∙◌, sym, index_of, stone_of, code}
+use Rattle.board_past.proofs.PrintLemmas.{counted_once, counted_twice, stone_added}
 use Rattle.board_past.proofs.past.print_past.print.print_after_stone.Goals as goal
 use Rattle.board_past.proofs.past.print_past.print.print_after_stone.Goals.{in-Black, in-White}
-
-alone : (n : ℕ) → n % 2 ^ 64 % 2 ^ 64 ≡ (1 * n) % 2 ^ 64
-alone n = omega arith
-
-twice : (n : ℕ) → n % 2 ^ 64 * 2 % 2 ^ 64 % 2 ^ 64 ≡ (2 * n) % 2 ^ 64
-twice n = omega arith
 
 pub returns : goal.returns
 returns c =
@@ -23,7 +16,7 @@ returns c =
     stone_added g p (stone_of k) c.requires.on_board c.requires.empty c.has_all_cells.ensures.all c.args.print c.match-colour.result c.requires.print
     (elim c.match-colour.branch [
       | in-Black w ↦
-          ap (λ n. n % m) (w.result-is ∙ weight) ∙ alone power ∙ ap (λ x. (code (stone_of x) * power) % m) (sym w.in-Black.is)
+          ap (λ n. n % m) (w.result-is ∙ weight) ∙ counted_once power ∙ ap (λ x. (code (stone_of x) * power) % m) (sym w.in-Black.is)
       | in-White w ↦
-          ap (λ n. n % m) (w.result-is ∙ ap (λ n. (n * 2) % m) weight) ∙ twice power ∙ ap (λ x. (code (stone_of x) * power) % m) (sym w.in-White.is)
+          ap (λ n. n % m) (w.result-is ∙ ap (λ n. (n * 2) % m) weight) ∙ counted_twice power ∙ ap (λ x. (code (stone_of x) * power) % m) (sym w.in-White.is)
     ])

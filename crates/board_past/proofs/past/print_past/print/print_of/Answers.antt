@@ -1,5 +1,4 @@
-use Rattle.std.proofs.Common.{◌≡◌, ◌+◌, ◌*◌, ◌%◌, ◌^◌, ap, ◌∙◌, sym, arith}
-use Rattle.board_past.specs.inner.Print.{in_base, row_number, word_number}
+use Rattle.board_past.proofs.Common.{◌≡◌, ◌+◌, ◌*◌, ◌%◌, ◌^◌, ap, ◌∙◌, sym, arith, in_base, row_number, word_number}
 use Rattle.board_past.proofs.PrintLemmas.{digit_more, in_base-more, print_by_rows, row_by_words, sum_of_both}
 use Rattle.board_past.proofs.past.print_past.print.print_of.Goals as goal
 

@@ -1,5 +1,4 @@
-use Rattle.std.proofs.Common.{◌≡◌, ◌%◌, ◌^◌}
-use Rattle.board_past.specs.inner.Print.{in_base, row_number}
+use Rattle.board_past.proofs.Common.{◌≡◌, ◌%◌, ◌^◌, in_base, row_number}
 use Rattle.board_past.proofs.past.print_past.print.print_of.Given as goal
 
 abbrev pub invariant-loop-row : goal.invariant-loop-row

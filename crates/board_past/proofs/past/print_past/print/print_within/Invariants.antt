@@ -1,5 +1,4 @@
-use Rattle.std.proofs.Common.{◌≡◌, ◌%◌, ◌^◌, slice_index}
-use Rattle.board_past.specs.inner.Print.{in_base, row_within}
+use Rattle.board_past.proofs.Common.{◌≡◌, ◌%◌, ◌^◌, slice_index, in_base, row_within}
 use Rattle.board_past.proofs.past.print_past.print.print_within.Given as goal
 
 abbrev pub invariant-loop-row : goal.invariant-loop-row

@@ -1,17 +1,10 @@
-use Rattle.std.proofs.Common.{◌≡◌, ℕ, ◌*◌, ◌-◌, ◌%◌, ◌^◌, ◌<◌, ap, ◌∙◌, sym, arith}
-use Rattle.board_past.proofs.Common.{index_of, cell_at, code}
-use Rattle.board_past.proofs.PrintLemmas.{cell_removed}
+use Rattle.board_past.proofs.Common.{◌≡◌, ℕ, ◌*◌, ◌-◌, ◌%◌, ◌^◌, ◌<◌, ap, ◌∙◌, sym, arith, index_of, cell_at, code}
+use Rattle.board_past.proofs.PrintLemmas.{cell_removed, counted_once, counted_twice}
 use Rattle.board_past.proofs.past.print_past.print.print_without.Goals as goal
 use Rattle.board_past.proofs.past.print_past.print.print_without.Goals.{in-Empty, in-Black, in-White}
 
 none : (n : ℕ) → 0 % 2 ^ 64 ≡ (0 * n) % 2 ^ 64
 none n = omega arith
-
-alone : (n : ℕ) → n % 2 ^ 64 % 2 ^ 64 ≡ (1 * n) % 2 ^ 64
-alone n = omega arith
-
-twice : (n : ℕ) → n % 2 ^ 64 * 2 % 2 ^ 64 % 2 ^ 64 ≡ (2 * n) % 2 ^ 64
-twice n = omega arith
 
 pub returns : goal.returns
 returns c =
@@ -28,8 +21,8 @@ returns c =
       | in-Empty w ↦
           (omega (arith, w.result-is), ap (λ n. n % m) w.result-is ∙ none power ∙ ap (λ x. (code x * power) % m) (sym w.in-Empty.is ∙ cell))
       | in-Black w ↦
-          (omega (arith, w.result-is, weight), ap (λ n. n % m) (w.result-is ∙ weight) ∙ alone power ∙ ap (λ x. (code x * power) % m) (sym w.in-Black.is ∙ cell))
+          (omega (arith, w.result-is, weight), ap (λ n. n % m) (w.result-is ∙ weight) ∙ counted_once power ∙ ap (λ x. (code x * power) % m) (sym w.in-Black.is ∙ cell))
       | in-White w ↦
-          (omega (arith, w.result-is), ap (λ n. n % m) (w.result-is ∙ ap (λ n. (n * 2) % m) weight) ∙ twice power ∙ ap (λ x. (code x * power) % m) (sym w.in-White.is ∙ cell))
+          (omega (arith, w.result-is), ap (λ n. n % m) (w.result-is ∙ ap (λ n. (n * 2) % m) weight) ∙ counted_twice power ∙ ap (λ x. (code x * power) % m) (sym w.in-White.is ∙ cell))
     ] in
     cell_removed g p c.requires.on_board c.has_all_cells.ensures.all c.args.print c.match-at.result c.requires.print removed.0 removed.1

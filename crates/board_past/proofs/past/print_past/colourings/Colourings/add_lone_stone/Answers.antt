@@ -1,8 +1,6 @@
-use Rattle.std.proofs.Common.{◌≡◌, ◌+◌, [], false, true, length, reverse, refl, ap, sym, subst, ◌∙◌, ◌<◌, IsTrue, arith, rules}
-use Rattle.board_past.proofs.Common.{Fits-of_lt, has_unreaching, play, IsMove, Older, PastColourings, newest_grid, with_next, is_full, is_fresh, IsFreshStone, IsPast}
+use Rattle.board_past.proofs.Common.{◌≡◌, ◌+◌, [], false, true, length, reverse, refl, ap, sym, subst, ◌∙◌, ◌<◌, IsTrue, arith, rules, Fits-of_lt, has_unreaching, play, IsMove, Older, PastColourings, newest_grid, with_next, is_full, is_fresh, IsFreshStone, IsPast, side_play}
 use Rattle.board_past.proofs.ChangesLemmas.{alone_back}
 use Rattle.board_past.proofs.ColouringsLemmas.{count-all, started-below, past_held, room_before_full, grown_alone}
-use Rattle.board_stones.proofs.SettledLemmas.{side_play}
 use Rattle.board_past.proofs.past.print_past.colourings.Colourings.add_lone_stone.Goals as goal
 use Rattle.board_past.proofs.past.print_past.colourings.Colourings.add_lone_stone.Goals.{After-push_reserved, After-has_all_cells}
 

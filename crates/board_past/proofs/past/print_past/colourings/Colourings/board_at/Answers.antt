@@ -1,5 +1,4 @@
-use Rattle.std.proofs.Common.{◌≡◌, ◌-◌, ◌<◌, length, get_or, ap, subst, ◌∙◌, arith, rules}
-use Rattle.board_past.proofs.Common.{Older, all_of, IsNumber}
+use Rattle.board_past.proofs.Common.{◌≡◌, ◌-◌, ◌<◌, length, get_or, ap, subst, ◌∙◌, arith, rules, Older, all_of, IsNumber}
 use Rattle.board_past.proofs.ColouringsLemmas.{IsStep, IsFullStep, count-all, step-from, there-full, there-newest, there-number}
 use Rattle.board_past.proofs.past.print_past.colourings.Colourings.board_at.Goals as goal
 use Rattle.board_past.proofs.past.print_past.colourings.Colourings.board_at.Goals.{After-next_full-at, After-deref-in-each, then-at-len, else-at-len}

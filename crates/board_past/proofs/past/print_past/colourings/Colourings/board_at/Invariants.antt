@@ -1,6 +1,5 @@
 -- The board is that of the number at which the loop is, and that number isn't below the wanted one.
-use Rattle.std.proofs.Common.{ℕ, ◌-◌, ◌≤◌, length}
-use Rattle.board_past.specs.Past.{all_of}
+use Rattle.board_past.proofs.Common.{ℕ, ◌-◌, ◌≤◌, length, all_of}
 use Rattle.board_past.proofs.ColouringsLemmas.{IsThere}
 use Rattle.board_past.proofs.past.print_past.colourings.Colourings.board_at.Given as goal
 

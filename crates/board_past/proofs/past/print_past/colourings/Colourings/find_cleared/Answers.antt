@@ -1,5 +1,4 @@
-use Rattle.std.proofs.lemmas.Grind.{common_steps}
-use Rattle.std.proofs.Common.{rules, arith}
+use Rattle.board_past.proofs.Common.{common_steps, rules, arith}
 use Rattle.board_points.proofs.LinkedLemmas.{none_in_front}
 use Rattle.board_past.proofs.past.print_past.colourings.Colourings.find_cleared.Goals as goal
 

@@ -1,5 +1,4 @@
-use Rattle.std.proofs.Common.{arith}
-use Rattle.board_past.specs.Past.{all_of}
+use Rattle.board_past.proofs.Common.{arith, all_of}
 use Rattle.board_past.proofs.NumberLemmas.{has_colouring}
 use Rattle.board_past.proofs.past.print_past.colourings.Colourings.has_near.Goals as goal
 

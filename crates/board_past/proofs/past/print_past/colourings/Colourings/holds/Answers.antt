@@ -1,5 +1,4 @@
-use Rattle.std.proofs.Common.{◌-◌, ◌<◌, inl, inr, length, refl, sym, subst, ◌∙◌, arith}
-use Rattle.board_past.proofs.Common.{cases_eq, false≢true, all_of, IsNumber}
+use Rattle.board_past.proofs.Common.{◌-◌, ◌<◌, inl, inr, length, refl, sym, subst, ◌∙◌, arith, cases_eq, false≢true, all_of, IsNumber}
 use Rattle.board_past.proofs.NumberLemmas.{has_number, has_colouring}
 use Rattle.board_past.proofs.past.print_past.colourings.Colourings.holds.Goals as goal
 

@@ -1,6 +1,5 @@
 -- None of the numbers from that index on is the colouring.
-use Rattle.std.proofs.Common.{ℕ, ◌<◌, ◌≤◌, length}
-use Rattle.board_past.proofs.Common.{all_of, IsNumber}
+use Rattle.board_past.proofs.Common.{ℕ, ◌<◌, ◌≤◌, length, all_of, IsNumber}
 use Rattle.board_past.proofs.past.print_past.colourings.Colourings.holds.Given as goal
 
 abbrev pub invariant-each : goal.invariant-each

@@ -1,5 +1,4 @@
-use Rattle.std.proofs.Common.{◌≡◌, length, reverse, sym, ap, ◌∙◌, arith, rules}
-use Rattle.board_past.proofs.Common.{length-reverse, PastColourings}
+use Rattle.board_past.proofs.Common.{◌≡◌, length, reverse, sym, ap, ◌∙◌, arith, rules, length-reverse, PastColourings}
 use Rattle.board_past.proofs.ColouringsLemmas.{length-held}
 use Rattle.board_past.proofs.past.print_past.colourings.Colourings.len.Goals as goal
 

@@ -1,6 +1,5 @@
 -- The colouring of the number at which the loop is. The stretch has the looked for colouring exactly if the stretch of that number has it.
-use Rattle.std.proofs.Common.{◌≡◌, ◌↔◌, ◌-◌, ◌≤◌, Contains, length, drop}
-use Rattle.board_past.specs.Past.{all_of, present_stretch, stretch_of}
+use Rattle.board_past.proofs.Common.{◌≡◌, ◌↔◌, ◌-◌, ◌≤◌, Contains, length, drop, all_of, present_stretch, stretch_of}
 use Rattle.board_past.proofs.ColouringsLemmas.{IsThere}
 use Rattle.board_past.proofs.past.print_past.colourings.Colourings.look_back.Given as goal
 

@@ -1,6 +1,4 @@
-use Rattle.std.proofs.lemmas.Grind.{common_steps}
-use Rattle.std.proofs.Common.{◌≡◌, ◌≢◌, ◌<◌, length, take, reverse, ap, sym, subst, ◌∙◌, arith, rules, Contains, length-take}
-use Rattle.board_past.proofs.Common.{not-false, length-reverse, play, Grid, IsMove, PastColourings, all_of, newest_grid, present_stretch}
+use Rattle.board_past.proofs.Common.{common_steps, ◌≡◌, ◌≢◌, ◌<◌, length, take, reverse, ap, sym, subst, ◌∙◌, arith, rules, Contains, length-take, not-false, length-reverse, play, Grid, IsMove, PastColourings, all_of, newest_grid, present_stretch}
 use Rattle.board_past.proofs.ColouringsLemmas.{started-le, passed_none, passed_one, passed_fresh, fresh_on, fresh_there}
 use Rattle.board_past.proofs.RepeatLemmas.{stone_put, stone_left}
 use Rattle.board_past.proofs.past.print_past.colourings.Colourings.newest_steps_show_new.Goals as goal

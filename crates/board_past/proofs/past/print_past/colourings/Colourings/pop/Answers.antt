@@ -1,5 +1,4 @@
-use Rattle.std.proofs.Common.{◌≡◌, ◌+◌, ◌≤◌, ◌++◌, [], ◌∷◌, List, length, reverse, refl, ap, sym, subst, ◌∙◌, arith, rules}
-use Rattle.board_past.proofs.Common.{reverse-append, take_rest, Grid, Change, Older, AreKept}
+use Rattle.board_past.proofs.Common.{◌≡◌, ◌+◌, ◌≤◌, ◌++◌, [], ◌∷◌, List, length, reverse, refl, ap, sym, subst, ◌∙◌, arith, rules, reverse-append, take_rest, Grid, Change, Older, AreKept}
 use Rattle.board_past.proofs.ColouringsLemmas.{past-pop}
 use Rattle.board_past.proofs.past.print_past.colourings.Colourings.pop.Goals as goal
 

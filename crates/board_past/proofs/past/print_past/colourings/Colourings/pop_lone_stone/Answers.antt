@@ -1,5 +1,4 @@
-use Rattle.std.proofs.Common.{◌≡◌, ◌+◌, ◌++◌, [], ◌∷◌, false, true, List, length, drop, cond, reverse, refl, ap, sym, subst, ◌∙◌, arith, rules}
-use Rattle.board_past.proofs.Common.{length-reverse, reverse-append, Empty, has_unreaching, Grid, with_cell, Change, after_changes, before, changes_before, is_full, IsPast}
+use Rattle.board_past.proofs.Common.{◌≡◌, ◌+◌, ◌++◌, [], ◌∷◌, false, true, List, length, drop, cond, reverse, refl, ap, sym, subst, ◌∙◌, arith, rules, length-reverse, reverse-append, Empty, has_unreaching, Grid, with_cell, Change, after_changes, before, changes_before, is_full, IsPast}
 use Rattle.board_past.proofs.ColouringsLemmas.{length-held, lone_step, none_kept, past-pop}
 use Rattle.board_past.proofs.past.print_past.colourings.Colourings.pop_lone_stone.Goals as goal
 use Rattle.board_past.proofs.past.print_past.colourings.Colourings.pop_lone_stone.Goals.{After-pop}

@@ -1,5 +1,4 @@
-use Rattle.std.proofs.Common.{◌≡◌, ◌+◌, ◌<◌, length, reverse, ap, sym, ◌∙◌, arith, rules}
-use Rattle.board_past.proofs.Common.{length-reverse, Older, PastColourings, all_of}
+use Rattle.board_past.proofs.Common.{◌≡◌, ◌+◌, ◌<◌, length, reverse, ap, sym, ◌∙◌, arith, rules, length-reverse, Older, PastColourings, all_of}
 use Rattle.board_past.proofs.ColouringsLemmas.{length-held, start-of_newest, start-of_older}
 use Rattle.board_past.proofs.past.print_past.colourings.Colourings.start_at.Goals as goal
 

@@ -1,5 +1,4 @@
-use Rattle.std.proofs.Common.{◌≡◌, ℕ, List, [], ◌-◌, ◌+◌, ◌<◌, ◌++◌, length, length-set, reverse, drop, ap, sym, ◌∙◌, arith, rules}
-use Rattle.board_past.proofs.Common.{drop_all, all_of, prints_of}
+use Rattle.board_past.proofs.Common.{◌≡◌, ℕ, List, [], ◌-◌, ◌+◌, ◌<◌, ◌++◌, length, length-set, reverse, drop, ap, sym, ◌∙◌, arith, rules, drop_all, all_of, prints_of}
 use Rattle.board_past.proofs.ColouringsLemmas.{IsThere, IsStep, count-all, step-from, there-newest, written-next, written-all}
 use Rattle.board_past.proofs.past.print_past.colourings.Colourings.write_prints.Goals as goal
 use Rattle.board_past.proofs.past.print_past.colourings.Colourings.write_prints.Goals.{After-len-end, After-deref}

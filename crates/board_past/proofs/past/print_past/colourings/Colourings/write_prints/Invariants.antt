@@ -1,6 +1,5 @@
 -- The colouring of the number at which the loop is, and its print. The prints from that number on are written.
-use Rattle.std.proofs.Common.{◌≡◌, ℕ, ◌+◌, ◌-◌, ◌≤◌, ◌++◌, length, drop, reverse}
-use Rattle.board_past.proofs.Common.{all_of, print_of, prints_of}
+use Rattle.board_past.proofs.Common.{◌≡◌, ℕ, ◌+◌, ◌-◌, ◌≤◌, ◌++◌, length, drop, reverse, all_of, print_of, prints_of}
 use Rattle.board_past.proofs.ColouringsLemmas.{IsThere}
 use Rattle.board_past.proofs.past.print_past.colourings.Colourings.write_prints.Given as goal
 

@@ -1,5 +1,4 @@
-use Rattle.std.proofs.Common.{◌≡◌, ◌≤◌, ◌++◌, ◌∷◌, [], ap, ◌∙◌, slice_set, arith, rules, length-set}
-use Rattle.std.proofs.lemmas.Grind.{common_steps}
+use Rattle.board_past.proofs.Common.{◌≡◌, ◌≤◌, ◌++◌, ◌∷◌, [], ap, ◌∙◌, slice_set, arith, rules, length-set, common_steps}
 use Rattle.board_past.proofs.EmptiedLemmas.{all_but_one, logged_back, logged_tail}
 use Rattle.board_past.proofs.past.print_past.emptied.Emptied.go_back.Goals as goal
 

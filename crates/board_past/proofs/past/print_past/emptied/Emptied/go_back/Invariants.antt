@@ -1,5 +1,4 @@
-use Rattle.std.proofs.Common.{◌≡◌, ◌+◌, ◌∷◌, List, length}
-use Rattle.board_past.proofs.Common.{Held, HasRowsBelow, IsEmptied, IsLogged}
+use Rattle.board_past.proofs.Common.{◌≡◌, ◌+◌, ◌∷◌, List, length, Held, HasRowsBelow, IsEmptied, IsLogged}
 use Rattle.board_past.proofs.past.print_past.emptied.Emptied.go_back.Given as goal
 
 abbrev pub invariant-each : goal.invariant-each

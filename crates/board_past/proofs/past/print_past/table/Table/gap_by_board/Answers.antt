@@ -1,7 +1,5 @@
-use Rattle.std.proofs.Common.{◌≡◌, ◌≢◌, ℕ, Bool, true, false, ◌<◌, ◌∷◌, length, ap, subst, sym, ◌∙◌, arith}
-use Rattle.board_past.proofs.Common.{Trie, Agree, item_count, child_at, IsNearest, IsOpening, IsTrie, IsWayTo, Grid, WIDTH, Held, all_of, hash_of, bits_of, hash_in_key, key_bits, keys_of, start_of, print_of}
+use Rattle.board_past.proofs.Common.{◌≡◌, ◌≢◌, ℕ, Bool, true, false, ◌<◌, ◌∷◌, length, ap, subst, sym, ◌∙◌, arith, Trie, Agree, item_count, child_at, IsNearest, IsOpening, IsTrie, IsWayTo, Grid, WIDTH, Held, all_of, hash_of, bits_of, hash_in_key, key_bits, keys_of, start_of, print_of, agree_self, parts_as, way_nearest}
 use Rattle.board_past.proofs.TableLemmas.{keys-next, keys-older, linked_before, repeats, side-number, tabled}
-use Rattle.key_trie.proofs.TrieLemmas.{agree_self, parts_as, way_nearest}
 use Rattle.board_past.proofs.past.print_past.table.Table.gap_by_board.Goals as goal
 use Rattle.board_past.proofs.past.print_past.table.Table.gap_by_board.Goals.{After-first_apart}
 

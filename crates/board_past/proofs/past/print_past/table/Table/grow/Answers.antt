@@ -1,5 +1,4 @@
-use Rattle.std.proofs.Common.{◌<◌, ap, arith}
-use Rattle.board_past.proofs.Common.{capacity_of, Table}
+use Rattle.board_past.proofs.Common.{◌<◌, ap, arith, capacity_of, Table}
 use Rattle.board_past.proofs.past.print_past.table.Table.grow.Goals as goal
 use Rattle.board_past.proofs.past.print_past.table.Table.grow.Goals.{After-capacity-2, then-count-capacity+in_ok-make_room, else-count-capacity}
 

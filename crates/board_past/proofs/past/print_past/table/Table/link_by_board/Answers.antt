@@ -1,5 +1,4 @@
-use Rattle.std.proofs.Common.{◌≡◌, ℕ, Bool, ap, sym, subst, ◌∙◌, arith}
-use Rattle.board_past.proofs.Common.{Trie, Agree, item_count, child_at, IsNearest, IsParting, IsTrie, IsWayTo, WIDTH, all_of, bits_of, hash_in_key, keys_of, SameButHashes}
+use Rattle.board_past.proofs.Common.{◌≡◌, ℕ, Bool, ap, sym, subst, ◌∙◌, arith, Trie, Agree, item_count, child_at, IsNearest, IsParting, IsTrie, IsWayTo, WIDTH, all_of, bits_of, hash_in_key, keys_of, SameButHashes}
 use Rattle.board_past.proofs.TableLemmas.{all_anew, links_with, same_both, tabled}
 use Rattle.key_trie.proofs.TrieLemmas.{agree_back, agree_on, agree_self, parts_as, way_nearest}
 use Rattle.board_past.proofs.past.print_past.table.Table.link_by_board.Goals as goal

@@ -1,7 +1,5 @@
-use Rattle.std.proofs.Common.{ℕ, List, refl, subst, arith}
-use Rattle.board_past.proofs.Common.{Agree, item_count, FRONT, WIDTH, all_of, bits_of, keys_of}
+use Rattle.board_past.proofs.Common.{ℕ, List, refl, subst, arith, Agree, item_count, FRONT, WIDTH, all_of, bits_of, keys_of, parts_as, way_nearest}
 use Rattle.board_past.proofs.TableLemmas.{one_linked, tabled, tabled_with}
-use Rattle.key_trie.proofs.TrieLemmas.{parts_as, way_nearest}
 use Rattle.board_past.proofs.past.print_past.table.Table.link_next.Goals as goal
 
 pub returns-in-Some : goal.returns-in-Some

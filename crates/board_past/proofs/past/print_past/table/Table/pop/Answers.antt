@@ -1,5 +1,4 @@
-use Rattle.std.proofs.Common.{◌≡◌, ◌<◌, ◌≤◌, inl, inr, ◌+◌, ◌-◌, ◌++◌, ◌∷◌, [], List, ℕ, Option, Some, length, length-append, reverse, get_or, ap, sym, subst, ◌∙◌, arith, rules, option_to_list}
-use Rattle.board_past.proofs.Common.{Trie, item_count, capacity_of, IsTrie, WIDTH, Table, keys_of, prints_of, IsAwakeTable}
+use Rattle.board_past.proofs.Common.{◌≡◌, ◌<◌, ◌≤◌, inl, inr, ◌+◌, ◌-◌, ◌++◌, ◌∷◌, [], List, ℕ, Option, Some, length, length-append, reverse, get_or, ap, sym, subst, ◌∙◌, arith, rules, option_to_list, Trie, item_count, capacity_of, IsTrie, WIDTH, Table, keys_of, prints_of, IsAwakeTable}
 use Rattle.board_past.proofs.TableLemmas.{asleep_less, sleeps, with_prints, tabled, printed_back, linked_after}
 use Rattle.board_past.proofs.past.print_past.table.Table.pop.Goals as goal
 use Rattle.board_past.proofs.past.print_past.table.Table.pop.Goals.{then-len, else-len}

@@ -1,5 +1,4 @@
-use Rattle.std.proofs.Common.{◌≡◌, ℕ, ◌-◌, ◌∷◌, [], List, length, length-append, inl, inr, refl, ap, subst, sym, ◌∙◌, arith}
-use Rattle.board_past.proofs.Common.{IsOpening, WIDTH, Table, IsNumber, keys_of}
+use Rattle.board_past.proofs.Common.{◌≡◌, ℕ, ◌-◌, ◌∷◌, [], List, length, length-append, inl, inr, refl, ap, subst, sym, ◌∙◌, arith, IsOpening, WIDTH, Table, IsNumber, keys_of}
 use Rattle.board_past.proofs.TableLemmas.{at_number, hashes_more, linked_before, tabled, tabled_more, asleep_more}
 use Rattle.board_past.proofs.NumberLemmas.{at-newest}
 use Rattle.board_past.proofs.past.print_past.table.Table.push.Goals as goal

@@ -1,5 +1,4 @@
-use Rattle.std.proofs.Common.{◌<◌, ◌≤◌, ◌^◌, inl, inr, length, rules, arith, vec_capacity}
-use Rattle.board_past.proofs.Common.{nil_from_length, capacity_of}
+use Rattle.board_past.proofs.Common.{◌<◌, ◌≤◌, ◌^◌, inl, inr, length, rules, arith, vec_capacity, nil_from_length, capacity_of}
 use Rattle.board_past.proofs.TableLemmas.{tabled}
 use Rattle.board_past.proofs.past.print_past.table.Table.reset.Goals as goal
 

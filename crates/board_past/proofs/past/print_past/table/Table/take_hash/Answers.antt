@@ -1,5 +1,4 @@
-use Rattle.std.proofs.Common.{◌∙◌}
-use Rattle.board_past.specs.Past.{all_of}
+use Rattle.board_past.proofs.Common.{◌∙◌, all_of}
 use Rattle.board_past.proofs.TableLemmas.{at_number, in_key, with_hashes}
 use Rattle.board_past.proofs.past.print_past.table.Table.take_hash.Goals as goal
 

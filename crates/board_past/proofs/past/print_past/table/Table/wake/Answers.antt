@@ -1,7 +1,6 @@
-use Rattle.std.proofs.Common.{◌≡◌, ℕ, List, length, drop, reverse, ap, ◌∙◌, refl, rules, arith, take_at}
+use Rattle.board_past.proofs.Common.{◌≡◌, ℕ, List, length, drop, reverse, ap, ◌∙◌, refl, rules, arith, take_at, all_of}
 use Rattle.std.specs.Vec.{with_items}
 use Rattle.board_past.proofs.PrintPastLemmas.{same_length}
-use Rattle.board_past.specs.Past.{all_of}
 use Rattle.board_past.proofs.TableLemmas.{sleeps, awoken}
 use Rattle.board_past.proofs.past.print_past.table.Table.wake.Goals as goal
 
