@@ -185,7 +185,7 @@ tabled_more held table after next print is printed pushed awake room most few tr
       kept = kept;
     }
 
--- the same while the table sleeps: it has none of the colourings, but room for them
+-- a table that sleeps has none of its colourings, so it sleeps with any others that it has room for
 asleep_with : (held other : List Held) (table : Table) → length other ≤ table.room_asleep → IsAsleepTable held table → IsAsleepTable other table
 asleep_with held other table fits is = record {
   asleep = is.asleep;
