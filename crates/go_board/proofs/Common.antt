@@ -1,6 +1,8 @@
 -- What the proofs of this crate import together: words of specs, types, and lemmas of the standard library.
 pub use Rattle.std.proofs.lemmas.List.{get_or-reverse, length-reverse, reverse-append}
 pub use Rattle.std.proofs.Common.{[], ap, arith, Bool, cond, Contains, Decides, Err, false, fold, get_or, inl, inr, IsErrOf, IsTrue, length, length-append, List, None, Ok, OnErr, Option, refl, Result, reverse, rules, slice_index_or, Some, subst, suc, sym, true, unwrap_or, ℕ, ◌++◌, ◌+◌, ◌-◌, ◌<◌, ◌↔◌, ◌∙◌, ◌∷◌, ◌≡◌, ◌≤◌}
+pub use Rattle.std.proofs.lemmas.Grind.{common_steps}
+pub use Rattle.std.proofs.lemmas.Bool.{false≢true}
 pub use Rattle.board_stones.proofs.SettledLemmas.{side_play}
 pub use Rattle.go_board.specs.declared.referee.Call.{Call}
 pub use Rattle.board_stones.specs.declared.stones.Colour.{Colour}

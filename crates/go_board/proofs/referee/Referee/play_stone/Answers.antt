@@ -1,5 +1,4 @@
-use Rattle.go_board.proofs.Common.{◌≡◌, ◌+◌, ◌-◌, ◌++◌, reverse, [], ◌∷◌, false, true, Contains, None, refl, ap, sym, ◌∙◌, arith, rules, length-reverse, reverse-append, play, newest_grid, with_next, present_stretch, Stone, Earlier, reason_of, States, Call, side_play}
-use Rattle.std.proofs.lemmas.Bool.{false≢true}
+use Rattle.go_board.proofs.Common.{◌≡◌, ◌+◌, ◌-◌, ◌++◌, reverse, [], ◌∷◌, false, true, Contains, None, refl, ap, sym, ◌∙◌, arith, rules, length-reverse, reverse-append, play, newest_grid, with_next, present_stretch, Stone, Earlier, reason_of, States, Call, side_play, false≢true}
 use Rattle.go_board.proofs.EarlierLemmas.{IsRefereeKept-grown}
 use Rattle.go_board.proofs.TurnLemmas.{reason_by_past, reason_of-new, on_err}
 use Rattle.go_board.proofs.referee.Referee.play_stone.Given.{Over}

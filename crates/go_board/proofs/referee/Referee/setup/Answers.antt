@@ -1,5 +1,4 @@
-use Rattle.std.proofs.Common.{arith}
-use Rattle.std.proofs.lemmas.Grind.{common_steps}
+use Rattle.go_board.proofs.Common.{arith, common_steps}
 use Rattle.go_board.proofs.TurnLemmas.{on_err}
 use Rattle.go_board.proofs.referee.Referee.setup.Goals as goal
 
@@ -12,5 +11,5 @@ returns-in_err-push-clause-err g c =
     on_err c.from_residual.result _ (rw c.in_err-push.ensures.items c.self.view_is)
 
 -- by a search, since a term would name a step that a wrong body doesn't have
-pub returns-then-not-is_empty-clause-ok : goal.returns-then-not-is_empty-clause-ok
-returns-then-not-is_empty-clause-ok g c = grind (arith, common_steps)
+pub returns-clause-ok : goal.returns-clause-ok
+returns-clause-ok g c = grind (arith, common_steps)

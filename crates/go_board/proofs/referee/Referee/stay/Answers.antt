@@ -1,5 +1,4 @@
-use Rattle.std.proofs.Common.{arith}
-use Rattle.std.proofs.lemmas.Grind.{common_steps}
+use Rattle.go_board.proofs.Common.{arith, common_steps}
 use Rattle.go_board.proofs.referee.Referee.stay.Goals as goal
 
 -- for speed, and by a search, since a term would name a step that a wrong body doesn't have
