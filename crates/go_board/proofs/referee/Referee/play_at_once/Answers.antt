@@ -1,4 +1,4 @@
-use Rattle.go_board.proofs.Common.{◌≡◌, ◌+◌, ◌++◌, [], ◌∷◌, false, refl, ap, ◌∙◌, arith, rules, play, newest_grid, with_next, reason_of, States, Call, side_play}
+use Rattle.go_board.proofs.Common.{◌-◌, reverse, sym, reverse-append, Earlier, ◌≡◌, ◌+◌, ◌++◌, [], ◌∷◌, false, refl, ap, ◌∙◌, arith, rules, play, newest_grid, with_next, reason_of, States, Call, side_play}
 use Rattle.go_board.proofs.EarlierLemmas.{IsRefereeKept-grown}
 use Rattle.go_board.proofs.TurnLemmas.{reason_of-new}
 use Rattle.go_board.proofs.referee.Referee.play_at_once.Goals as goal
@@ -18,3 +18,15 @@ returns-clause-legal g c = λ _.
     ap (reason_of c.args.self.now.present c.args.colour) c.in-Stone.is
     ∙ reason_of-new c.args.self.now.present c.args.colour c.in-Stone.point _ _ (ap (λ (states : States). states.present.seen) c.self.view_is)
     (ap (λ (states : States). play states.present.colouring c.args.colour c.in-Stone.point) c.self.view_is) c.in_default-reason_before_repeat.ensures.only_repeat (c.if-not-play_at_once.ensures.new refl)
+
+-- only there for speed
+pub returns-clause-taken : goal.returns-clause-taken
+returns-clause-taken g c = λ _.
+    let was = c.self.inside in
+    let kept : Earlier = record { mover = was.mover; call = Call.Stone } in
+    let past = g.P.Past.held was.past in
+    let now : g.P.Past.held c.play_at_once.new.self ≡ with_next past (play (newest_grid past) c.args.colour c.in-Stone.point) false = c.if-not-play_at_once.ensures.played refl in
+    let items : c.push_reserved.new.self.items ≡ was.earlier.items ++ kept ∷ [] = search rules in
+    let newest : reverse c.push_reserved.new.self.items ≡ kept ∷ reverse was.earlier.items = ap reverse items ∙ reverse-append was.earlier.items (kept ∷ []) in
+    let turns : was.turns + 1 - 1 ≡ was.turns = omega arith in
+    rw (sym c.self.view_is, c.in-Stone.is) (simp (now, newest, c.after-self-inside.ensures.player, c.after-self-inside.ensures.passes, c.opponent.ensures, turns) (search rules))

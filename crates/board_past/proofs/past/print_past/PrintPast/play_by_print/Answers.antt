@@ -1,4 +1,4 @@
-use Rattle.board_past.proofs.Common.{◌∙◌, false, ap, arith, play, PastColourings, newest_grid, with_next, all_of}
+use Rattle.board_past.proofs.Common.{Grid, print_of, ◌∙◌, false, ap, arith, play, PastColourings, newest_grid, with_next, all_of}
 use Rattle.board_past.proofs.RepeatLemmas.{played_new, played_refused}
 use Rattle.board_past.proofs.TableLemmas.{gap_never, tabled}
 use Rattle.board_past.proofs.past.print_past.PrintPast.play_by_print.Goals as goal
@@ -20,3 +20,7 @@ returns c =
 
 pub newest-requires : goal.newest-requires
 newest-requires c = omega (arith, tabled (all_of c.self.inside.colourings) c.wake.new.self c.wake.ensures)
+
+pub add_stone-requires-clause-print : goal.add_stone-requires-clause-print
+add_stone-requires-clause-print c =
+    record { awake = (c.gap_of_stone.ensures.table, c.print_after_clearing-print.ensures ∙ ap (λ (g : Grid). print_of (play g c.args.colour c.args.point)) c.newest-newest.ensures); asleep = tt }

@@ -21,3 +21,7 @@ add_lone_stone-requires-clause-fresh c = λ _. rw c.self.view_is (c.may_repeat.e
 
 pub returns-clause-new : goal.returns-clause-new
 returns-clause-new c = λ _. c.may_repeat.ensures.never c.args.colour [] (rw (← c.self.view_is, ← c.newest-newest.ensures) (c.if-not-clears_nothing_at_a_glance.ensures refl)) (has_bit-zero c.args.point.col) (cc)
+
+pub add_lone_stone-requires-clause-stone : goal.add_lone_stone-requires-clause-stone
+add_lone_stone-requires-clause-stone c =
+    rw c.self.view_is (record { on_board = c.requires.on_board; empty = c.requires.empty; cleared = rw (← c.self.view_is, ← c.newest-newest.ensures) (c.if-not-clears_nothing_at_a_glance.ensures refl) })

@@ -1,4 +1,4 @@
-use Rattle.board_past.proofs.Common.{common_steps, ◌≡◌, ◌≢◌, ◌<◌, length, take, reverse, ap, sym, subst, ◌∙◌, arith, rules, Contains, length-take, not-false, length-reverse, play, Grid, IsMove, PastColourings, all_of, newest_grid, present_stretch}
+use Rattle.board_past.proofs.Common.{common_steps, ◌≡◌, ◌≢◌, ◌<◌, length, take, reverse, ap, sym, subst, ◌∙◌, arith, rules, Contains, length-take, false≢true, not-false, length-reverse, play, Grid, IsMove, PastColourings, all_of, newest_grid, present_stretch}
 use Rattle.board_past.proofs.ColouringsLemmas.{started-le, passed_none, passed_one, passed_fresh, fresh_on, fresh_there}
 use Rattle.board_past.proofs.RepeatLemmas.{stone_put, stone_left}
 use Rattle.board_past.proofs.past.print_past.colourings.Colourings.newest_steps_show_new.Goals as goal
@@ -49,3 +49,6 @@ each-preserved c =
 
 pub returns-then-number-self : goal.returns-then-number-self
 returns-then-number-self c = grind (arith, common_steps)
+
+pub returns-then-not-step : goal.returns-then-not-step
+returns-then-not-step c = λ k move is. absurd (false≢true is)

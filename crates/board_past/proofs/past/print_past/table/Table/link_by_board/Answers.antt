@@ -80,3 +80,7 @@ first_apart-requires-clause-number c =
     let is = c.take_hash-hash.ensures.table in
     let near = way_nearest WIDTH keys t.trie is.linked c.descend-from.result (c.descend-from.ensures.way WIDTH keys is.linked) (omega arith) in
     omega (arith, c.child-near.ensures, near.there, is.few, tabled held t is)
+
+pub take_hash-hash-requires-clause-number : goal.take_hash-hash-requires-clause-number
+take_hash-hash-requires-clause-number c =
+    omega (arith, c.len-next.ensures, c.requires.unlinked.more, tabled (all_of c.args.colourings.now) c.args.self.now c.requires.unlinked.table)
