@@ -1,0 +1,6 @@
+use Rattle.std.proofs.Common.{rules}
+use Rattle.key_trie.proofs.trie.Trie.child.Goals as goal
+
+-- only there for speed
+pub returns : goal.returns
+returns c = search rules
