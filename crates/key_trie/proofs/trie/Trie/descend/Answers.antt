@@ -41,3 +41,7 @@ bounds-nodes-below-in-down g c =
 
 pub down-init : goal.down-init
 down-init g c = grind (arith, trie_tree, way_begins, way_names)
+
+-- only there for speed
+pub returns-else-deeper-end-clause-way : goal.returns-else-deeper-end-clause-way
+returns-else-deeper-end-clause-way g c = search rules

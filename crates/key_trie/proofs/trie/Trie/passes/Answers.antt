@@ -1,4 +1,5 @@
 use Rattle.key_trie.proofs.Common.{◌≡◌, suc, ◌+◌, ◌-◌, ◌<◌, ◌≤◌, ◌∙◌, ℕ, Bool, false, List, length, arith, rules, sym, ap, subst, inl, inr, cases_eq, Node, IsTrieOf, IsOnWay, GoesOn, after_steps, depth_of, child_of}
+use Rattle.std.proofs.lemmas.Grind.{common_steps}
 use Rattle.key_trie.proofs.TrieLemmas.{trie_tree, way_begins, way_goes_on, way_names}
 use Rattle.key_trie.proofs.trie.Trie.passes.Goals as goal
 
@@ -57,3 +58,7 @@ down-preserved g c =
         )
       ];
     }
+
+-- only there for speed
+pub returns-then-deeper-depth : goal.returns-then-deeper-depth
+returns-then-deeper-depth g c = grind (arith, common_steps)
