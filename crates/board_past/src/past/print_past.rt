@@ -66,8 +66,9 @@ pub struct PrintPast {
     table: Table,
     /// The points that were emptied. A stone that stays can bring a colouring back only on one of these.
     emptied: Emptied,
-    /// A stone is played at once only if there were fewer steps than this, and so no more colourings. Then the newest colouring is settled, the table sleeps and has
-    /// room, and the next step isn't a full one: one comparison tells it all. It is 0 if the newest isn't settled, or the table is awake.
+    /// A stone is played at once only if there were fewer steps than this, and so no more colourings. Then the newest colouring is
+    /// settled, the table sleeps and has room, and the next step isn't a full one: one comparison tells it all. It is 0 if the newest isn't
+    /// settled, or the table is awake.
     at_once_below: usize,
 }
 
@@ -256,10 +257,11 @@ impl PrintPast {
         requires one_side { HaveSide (newest_grid self.now).side self.now }
         requires on_board { IsOn (newest_grid self.now).side point }
         requires empty { cell_at (newest_grid self.now) point ≡ Empty }
-        ensures never { (colour : Colour) (cleared : List ℕ) → Clears (newest_grid self.now) colour point cleared → IsFalse (is_set cleared point)
-            → IsFalse result → ¬ Contains (present_stretch self.now) (play (newest_grid self.now) colour point) }
-        ensures fresh { (colour : Colour) (cleared : List ℕ) → Clears (newest_grid self.now) colour point cleared → IsFalse (is_set cleared point)
-            → IsFalse result → IsFreshStone (with_next self.now (play (newest_grid self.now) colour point) false) point }
+        ensures never { (colour : Colour) (cleared : List ℕ) → Clears (newest_grid self.now) colour point cleared
+            → IsFalse (is_set cleared point) → IsFalse result → ¬ Contains (present_stretch self.now) (play (newest_grid self.now) colour point) }
+        ensures fresh { (colour : Colour) (cleared : List ℕ) → Clears (newest_grid self.now) colour point cleared
+            → IsFalse (is_set cleared point) → IsFalse result
+            → IsFreshStone (with_next self.now (play (newest_grid self.now) colour point) false) point }
     {
         self.colourings.newest().has_all_cells();
         board_points::rows::has_point(&self.emptied.rows, point)

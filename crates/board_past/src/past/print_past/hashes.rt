@@ -4,8 +4,8 @@
 //! the board. Nobody can do that with this hash. It takes far longer to work out than a print. So it stands behind the print in a key,
 //! and keys have it only once a descent by a key without it got long (`table`).
 //!
-//! Hashes of past colourings are kept, so that none is worked out twice. This takes memory only once keys have hashes. If memory is refused,
-//! a hash isn't kept, and is worked out again.
+//! Hashes of past colourings are kept, so that none is worked out twice. This takes memory only once keys have hashes. If memory is
+//! refused, a hash isn't kept, and is worked out again.
 
 ghost use Rattle.std.specs.Prelude.{◌≡◌, ◌≢◌, ℕ, ◌<◌, ◌≤◌, ◌^◌, ◌∷◌, ◌++◌, [], List, IfSome, OnOk, length};
 ghost use Rattle.std.specs.Int.{w64, from_be_bytes};
