@@ -49,7 +49,7 @@ pub use layout::{OwnNodes, Segment};
 pub use limit::MAX_LENGTH;
 pub use node::NodeRef;
 pub use outline::Outline;
-pub use quick::moves::{TWO_MOVES, moves_in_place};
+pub use quick::lead::{TWO_MOVES, moves_in_place};
 pub use quick::properties::near_property_close;
 pub use sequences::Sequences;
 pub use traversal::{NextNode, SequenceNodes};

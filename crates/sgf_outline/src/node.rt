@@ -9,7 +9,7 @@ ghost use Rattle.sgf_properties.specs.Front.{properties_in};
 ghost use Rattle.sgf_outline.specs.inner.NodeText.{IsNodeIn};
 ghost use Rattle.sgf_properties.specs.KeptLengths.{AreKeptLengths};
 
-use crate::quick::front::is_lone_front;
+use crate::quick::lead::is_lone_front;
 use crate::written::push_node;
 use sgf_properties::{LongValue, MemoryFault, PropRef, Properties, part};
 use std::marker::Model;

@@ -11,8 +11,7 @@ ghost use Rattle.sgf_properties.specs.Front.{properties_in};
 ghost use Rattle.sgf_properties.specs.KeptLengths.{AreKeptLengths};
 ghost use Rattle.sgf_outline.specs.inner.Traversing.{nodes_between, IsTraversal};
 
-use crate::quick::front::is_lone_front;
-use crate::quick::lead::{is_empty_node, led_end};
+use crate::quick::lead::{is_empty_node, is_lone_front, led_end};
 use sgf_properties::{
     LongValue, PropRef, capital_at, part, property_at, rest_from, skip_white_space,
 };

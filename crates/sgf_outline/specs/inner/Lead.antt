@@ -1,4 +1,4 @@
--- A move and other properties after it, as they stand in a text: words of the contracts in `quick::lead` and `quick::front`.
+-- A move and other properties after it, as they stand in a text: words of the contracts in `quick::lead`.
 use Rattle.std.specs.Prelude.{◌≡◌, ℕ, ◌<◌, ◌≤◌, List, drop, All, length, slice_index}
 use Rattle.sgf_properties.specs.Bytes.{semicolon, capital_a}
 use Rattle.sgf_outline.specs.Tree.{Property}
