@@ -185,24 +185,14 @@ fn values_end(text: &[u8], at: usize, long: &Vec<LongValue>) -> usize
     }
 }
 
-/// The end of the values at `at`. A shortcut passes over points.
+/// The end of the values at `at`, however many there are. This is the plain way, but for the shortcut that passes over points.
 #[inline(never)]
 fn more_values_end(text: &[u8], at: usize, long: &Vec<LongValue>) -> usize
     requires within { at ≤ length text.now }
     requires kept { AreKeptLengths text.now long.now.items }
     ensures { IsValuesEnd text.now at result }
 {
-    far_values_end(text, past_points(text, at), long)
-}
-
-/// The end of the values at `at`, however many there are. This is the plain way.
-#[inline(always)]
-fn far_values_end(text: &[u8], at: usize, long: &Vec<LongValue>) -> usize
-    requires within { at ≤ length text.now }
-    requires kept { AreKeptLengths text.now long.now.items }
-    ensures { IsValuesEnd text.now at result }
-{
-    let mut end = at;
+    let mut end = past_points(text, at);
     'values: while let Some((_start, close)) = value_at(text, end, Some(long)) {
         end = close + 1;
     }

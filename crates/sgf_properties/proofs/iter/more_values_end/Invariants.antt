@@ -1,6 +1,6 @@
 use Rattle.std.proofs.Common.{ℕ, ◌-◌, ◌≤◌, List, length, drop}
 use Rattle.sgf_properties.specs.Spelling.{ArePropValues}
-use Rattle.sgf_properties.proofs.iter.far_values_end.Given as goal
+use Rattle.sgf_properties.proofs.iter.more_values_end.Given as goal
 
 abbrev pub invariant-values : goal.invariant-values
 invariant-values l = record {
