@@ -13,10 +13,11 @@ ghost use Rattle.sgf_properties.specs.inner.PropertyCode.{properties_code, value
 
 use crate::property::PropRef;
 use crate::quick::points::past_points;
+use crate::quick::value::short_value_end;
 use crate::scan::{
     begins_value, capital_at, identifier_end, part, rest_from, skip_white_space, stands_at,
 };
-use crate::value::{LongValue, value_end};
+use crate::value::{LongValue, far_end};
 use std::marker::Model;
 
 /// The properties of a node that `next` hasn't taken off yet, in file order. Its calls take no memory.
@@ -156,6 +157,8 @@ pub fn property_at<'a>(text: &'a [u8], start: usize, long: &Vec<LongValue>) -> (
 }
 
 /// Where the raw value at `at` begins, after white space and a `[`, and where its `]` is. None if no value is there.
+///
+/// The kept lengths are passed as a reference to a vector, because that is one word. Many calls pass it on, and few read it.
 #[inline(always)]
 fn value_at(text: &[u8], at: usize, long: Option<&Vec<LongValue>>) -> Option<(usize, usize)>
     requires within { at ≤ length text.now }
@@ -166,10 +169,12 @@ fn value_at(text: &[u8], at: usize, long: Option<&Vec<LongValue>>) -> Option<(us
     if !stands_at(text, bracket, b'[') {
         return None;
     }
-    let Some(close) = value_end(text, bracket + 1, long) else {
-        return None;
-    };
-    Some((bracket + 1, close))
+    let start = bracket + 1;
+    if let Some(close) = short_value_end(text, start) {
+        return Some((start, close));
+    }
+    let close = far_end(text, start, long)?;
+    Some((start, close))
 }
 
 /// The end of the values at `at`. After the first value of a property there are usually no more.

@@ -7,7 +7,6 @@ ghost use Rattle.sgf_properties.specs.KeptLengths.{AreKeptLengths};
 ghost use Rattle.sgf_properties.specs.inner.Searches.{SpellsNoValue, HasNoBracket, IsNextBracket, AreBackslashesBefore, AreEscapes};
 
 use crate::quick::kept::kept_end;
-use crate::quick::value::short_value_end;
 use memchr::memchr;
 
 /// A long raw value, in 8 bytes. Its length is kept, so that the value's end isn't searched for again.
@@ -20,25 +19,10 @@ pub struct LongValue {
     pub bytes: u32,
 }
 
-/// The offset of the `]` that ends the raw value at `at`. None if the text ends before it.
-///
-/// The kept lengths are passed as a reference to a vector, because that is one word.
-/// Many calls pass it on, and few read it.
-pub(crate) fn value_end(text: &[u8], at: usize, long: Option<&Vec<LongValue>>) -> Option<usize>
-    requires within { at ≤ length text.now }
-    requires kept { IfSome long (λ kept. AreKeptLengths text.now kept.now.items) }
-    ensures { MatchOption result (SpellsNoValue text.now at) (IsValueEnd text.now at) }
-{
-    match short_value_end(text, at) {
-        Some(end) => Some(end),
-        None => far_end(text, at, long),
-    }
-}
-
 /// The offset of the `]` that ends the raw value at `at`, from a kept length or by searches. None if the text ends before it.
 #[inline(never)]
 #[tactic(auto, using(crate::proofs::ValueUnits::unended_none))]
-fn far_end(text: &[u8], at: usize, long: Option<&Vec<LongValue>>) -> Option<usize>
+pub(crate) fn far_end(text: &[u8], at: usize, long: Option<&Vec<LongValue>>) -> Option<usize>
     requires within { at ≤ length text.now }
     requires kept { IfSome long (λ kept. AreKeptLengths text.now kept.now.items) }
     ensures { MatchOption result (SpellsNoValue text.now at) (IsValueEnd text.now at) }
