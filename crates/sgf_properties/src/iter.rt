@@ -12,8 +12,7 @@ ghost use Rattle.sgf_properties.specs.KeptLengths.{AreKeptLengths};
 ghost use Rattle.sgf_properties.specs.inner.PropertyCode.{properties_code, values_code};
 
 use crate::property::PropRef;
-use crate::quick::points::past_points;
-use crate::quick::value::short_value_end;
+use crate::quick::value::{past_points, short_value_end};
 use crate::scan::{
     begins_value, capital_at, identifier_end, part, rest_from, skip_white_space, stands_at,
 };

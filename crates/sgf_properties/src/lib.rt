@@ -33,7 +33,7 @@
 //! |---|---|
 //! | PropIdent: its letters | `letters_end` (`scan`) |
 //! | the name of a property: its capitals | `PropRef::is`, `PropRef::push_name` (`property`); in the sgf form of a run: `copy_capitals` of `sgf_tree` (`reader/properties`) |
-//! | the end of a raw value, which is the first `]` that no `\` escapes | `far_value_end` (`value`); shortcuts: `near_value_end`, `is_two_ordinary` (`quick/value`), `past_points` (`quick/points`) |
+//! | the end of a raw value, which is the first `]` that no `\` escapes | `far_value_end` (`value`); shortcuts: `near_value_end`, `is_two_ordinary`, `past_points` (`quick/value`) |
 //! | white space: its bytes | `is_white_space`, `skip_white_space` (`scan`) |
 //! | decoded text; numbers | `decode_front`, which `push_text` calls (`text`); `number` (`numbers`) |
 //! | a property in sgf form | `push_property`, `push_value` (`written`) |
@@ -67,8 +67,7 @@ pub use iter::{Properties, Values, property_at};
 pub use numbers::number;
 pub use property::PropRef;
 pub use quick::name::short_name_end;
-pub use quick::points::past_points;
-pub use quick::value::{NEAR, is_two_ordinary, near_value_end, short_value_end};
+pub use quick::value::{NEAR, is_two_ordinary, near_value_end, past_points, short_value_end};
 pub use scan::{
     begins_value, capital_at, letters_end, part, rest_from, skip_white_space, stands_at,
 };

@@ -6,7 +6,7 @@ ghost use Rattle.sgf_properties.specs.Offsets.{IsValueEnd, IsUnended};
 ghost use Rattle.sgf_properties.specs.KeptLengths.{AreKeptLengths};
 ghost use Rattle.sgf_properties.specs.inner.Searches.{SpellsNoValue, HasNoBracket, IsNextBracket, AreBackslashesBefore, AreEscapes};
 
-use crate::quick::kept::kept_end;
+use crate::quick::value::kept_end;
 use memchr::memchr;
 
 /// A long raw value, in 8 bytes. Its length is kept, so that the value's end isn't searched for again.

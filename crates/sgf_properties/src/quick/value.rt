@@ -1,9 +1,12 @@
-//! Short values without an escape near their end, in place of the searches of `value`.
+//! Where values end, in place of the searches of `value`: short values without an escape near their end, long ones whose lengths were kept
+//! when they were read, and values such as `[pd]`, by tens of which stones are set up.
 
 ghost use Rattle.std.specs.Prelude.{◌<◌, ◌≤◌, ◌+◌, length, IsTrue, IfSome, MatchOption};
-ghost use Rattle.sgf_properties.specs.Offsets.{IsValueEnd, IsTwoOrdinary};
+ghost use Rattle.sgf_properties.specs.Offsets.{IsValueEnd, IsTwoOrdinary, ArePoints, IsBracket};
+ghost use Rattle.sgf_properties.specs.KeptLengths.{AreKeptLengths};
 ghost use Rattle.sgf_properties.specs.inner.Searches.{HasNoBracket, IsNextBracket};
 
+use crate::value::LongValue;
 use std::simd::prelude::*;
 
 /// The number of bytes that are compared before a search is begun, because a search costs more to begin. Sizes, names and clock
@@ -64,4 +67,69 @@ fn near_bracket(text: &[u8], at: usize) -> Option<usize>
     } else {
         Some(at + found.trailing_zeros() as usize)
     }
+}
+
+/// The offset of the `]` that ends the raw value at `at`, if the value's length was kept.
+pub(crate) fn kept_end(text: &[u8], at: usize, long: &[LongValue]) -> Option<usize>
+    requires within { at ≤ length text.now }
+    requires kept { AreKeptLengths text.now long.now }
+    ensures { IfSome result (IsValueEnd text.now at) }
+{
+    let left = text.len() - at;
+    let mut low = 0;
+    let mut high = long.len();
+    'halves: while low < high {
+        let middle = low + (high - low) / 2;
+        if long[middle].left as usize > left {
+            low = middle + 1;
+        } else {
+            high = middle;
+        }
+    }
+    if low < long.len() && long[low].left as usize == left {
+        Some(at + long[low].bytes as usize)
+    } else {
+        None
+    }
+}
+
+/// The offset after values such as `[pd]` which stand from the offset `at` on, as far as they are found. If a `[` is at `at`, another value
+/// begins there.
+#[tactic(auto, using(crate::proofs::Points::points_more, crate::proofs::Points::fourth_stands))]
+pub fn past_points(text: &[u8], at: usize) -> usize
+    requires { at ≤ length text.now }
+    ensures points { ArePoints text.now at result }
+    ensures within { result ≤ length text.now }
+    ensures stands { IsBracket text.now at → IsBracket text.now result }
+{
+    let mut end = at;
+    'points: while are_four_points(text, end) {
+        // The fourth one is left, so that a `[` is there.
+        end += 12;
+    }
+    end
+}
+
+/// Whether four values such as `[pd]` stand at `at`, one after the other.
+#[inline(always)]
+fn are_four_points(text: &[u8], at: usize) -> bool
+    requires { at ≤ length text.now }
+    ensures four { IsTrue result → ArePoints text.now at (at + 16) }
+    ensures within { IsTrue result → at + NEAR ≤ length text.now }
+{
+    // This test is cheap, and fails for most values.
+    if text.len() - at < NEAR || text[at + 3] != b']' {
+        return false;
+    }
+    // A byte is in place if it is at most so much above the least one. This wraps, so only `\` and `]` aren't ordinary.
+    let least = u8x16::from_array([
+        b'[', 94, 94, b']', b'[', 94, 94, b']', b'[', 94, 94, b']', b'[', 94, 94, b']',
+    ]);
+    let above = u8x16::from_array([
+        0, 253, 253, 0, 0, 253, 253, 0, 0, 253, 253, 0, 0, 253, 253, 0,
+    ]);
+    let in_place = (u8x16::from_slice(&text[at..]) - least)
+        .simd_le(above)
+        .to_bitmask();
+    in_place == 65535
 }

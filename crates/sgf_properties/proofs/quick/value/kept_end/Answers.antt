@@ -1,5 +1,5 @@
 use Rattle.std.proofs.Common.{arith}
-use Rattle.sgf_properties.proofs.quick.kept.kept_end.Goals as goal
+use Rattle.sgf_properties.proofs.quick.value.kept_end.Goals as goal
 
 pub returns-then-long-low : goal.returns-then-long-low
 returns-then-long-low c =

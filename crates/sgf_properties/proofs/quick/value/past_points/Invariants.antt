@@ -1,6 +1,6 @@
 use Rattle.std.proofs.Common.{◌-◌, ◌≤◌, length}
 use Rattle.sgf_properties.specs.Offsets.{ArePoints, IsBracket}
-use Rattle.sgf_properties.proofs.quick.points.past_points.Given as goal
+use Rattle.sgf_properties.proofs.quick.value.past_points.Given as goal
 
 abbrev pub invariant-points : goal.invariant-points
 invariant-points l = record {
