@@ -11,7 +11,7 @@ ghost use Rattle.sgf_properties.specs.KeptLengths.{AreKeptLengths};
 
 use crate::quick::lead::is_lone_front;
 use crate::written::push_node;
-use sgf_properties::{LongValue, MemoryFault, PropRef, Properties, part};
+use sgf_properties::{LongValue, MemoryFault, PropRef, Properties};
 use std::marker::Model;
 
 /// A node, seen as its place and its properties. Only `push_to` takes memory.
@@ -63,7 +63,7 @@ impl<'c, 'a> NodeRef<'c, 'a> {
         let text = self.text;
         if is_lone_front(text) {
             let left = Properties::new(text, 6, self.long);
-            (Some((text[1], part(text, 3, 5))), left)
+            (Some((text[1], &text[3..5])), left)
         } else {
             (None, self.iter())
         }

@@ -19,7 +19,7 @@ ghost use Rattle.sgf_outline.specs.Outlining.{IsOutlined};
 use crate::node::NodeRef;
 use crate::sequences::Sequences;
 use crate::traversal::SequenceNodes;
-use sgf_properties::{LongValue, MemoryFault, part, rest_from};
+use sgf_properties::{LongValue, MemoryFault, rest_from};
 use std::marker::Model;
 
 /// The sequences of the collection that a text spells (SGF FF[4], EBNF). A sequence has the nodes between a `(` and the next
@@ -237,14 +237,14 @@ impl<'a> Outline<'a> {
     {
         let sequence = &self.sequences.table[i];
         if sequence.is_written() {
-            let written = part(self.text, sequence.first as usize, sequence.end as usize);
+            let written = &self.text[sequence.first as usize..sequence.end as usize];
             out.extend_from_slice(written)?;
             return Ok(());
         }
         let mut at = sequence.end as usize;
         'segments: loop {
             let segment = &self.sequences.segments[at];
-            let copied = part(self.text, segment.start() as usize, segment.end as usize);
+            let copied = &self.text[segment.start() as usize..segment.end as usize];
             out.extend_from_slice(copied)?;
             if segment.is_last() {
                 return Ok(());

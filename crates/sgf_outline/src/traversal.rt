@@ -12,9 +12,7 @@ ghost use Rattle.sgf_properties.specs.KeptLengths.{AreKeptLengths};
 ghost use Rattle.sgf_outline.specs.inner.Traversing.{nodes_between, IsTraversal};
 
 use crate::quick::lead::{is_empty_node, is_lone_front, led_end};
-use sgf_properties::{
-    LongValue, PropRef, capital_at, part, property_at, rest_from, skip_white_space,
-};
+use sgf_properties::{LongValue, PropRef, capital_at, property_at, rest_from, skip_white_space};
 use std::marker::Model;
 
 /// A node that `SequenceNodes::next` took off.
@@ -98,7 +96,7 @@ impl<'c, 'a> SequenceNodes<'c, 'a> {
         if let Some(end) = led_end(text, names) {
             self.number += 1;
             self.at = place + end;
-            let value = part(text, 3, 5);
+            let value = &text[3..5];
             return Some(NextNode::Led {
                 place,
                 letter: text[1],
@@ -127,7 +125,7 @@ impl<'c, 'a> SequenceNodes<'c, 'a> {
         let node = rest_from(text, place);
         if is_lone_front(node) {
             self.at = skip_white_space(text, place + 6);
-            let front = Some((node[1], part(node, 3, 5)));
+            let front = Some((node[1], &node[3..5]));
             return NextNode::Unread { place, front };
         }
         self.at = skip_white_space(text, place + 1);

@@ -14,7 +14,7 @@ ghost use Rattle.sgf_properties.specs.inner.PropertyCode.{properties_code, value
 use crate::property::PropRef;
 use crate::quick::value::{past_points, short_value_end};
 use crate::scan::{
-    begins_value, capital_at, identifier_end, part, rest_from, skip_white_space, stands_at,
+    begins_value, capital_at, identifier_end, rest_from, skip_white_space, stands_at,
 };
 use crate::value::{LongValue, far_end};
 use std::marker::Model;
@@ -124,7 +124,7 @@ impl<'a> Iterator for Values<'a> {
             return None;
         };
         self.rest = rest_from(text, close + 1);
-        Some(part(text, start, close))
+        Some(&text[start..close])
     }
 }
 
@@ -148,8 +148,8 @@ pub fn property_at<'a>(text: &'a [u8], start: usize, long: &Vec<LongValue>) -> (
     let more = close + 1;
     let next = values_end(text, more, long);
     let property = PropRef {
-        identifier: part(text, start, end),
-        first: part(text, from, close),
+        identifier: &text[start..end],
+        first: &text[from..close],
         more: rest_from(text, more),
     };
     (property, next)

@@ -1,6 +1,6 @@
 //! Where spans of a text end, and what stands at an offset. Offsets are in bytes, from 0.
 
-ghost use Rattle.std.specs.Prelude.{◌≡◌, ◌≢◌, false, ◌≤◌, ◌<◌, ◌+◌, length, drop, slice_index, slice_range, IsTrue};
+ghost use Rattle.std.specs.Prelude.{◌≡◌, ◌≢◌, false, ◌≤◌, ◌<◌, ◌+◌, length, drop, slice_index, IsTrue};
 ghost use Rattle.sgf_properties.specs.Spelling.{is_white_space, is_upper};
 ghost use Rattle.sgf_properties.specs.Front.{is_letter};
 ghost use Rattle.sgf_properties.specs.Offsets.{IsSpan, IsPropertyEnd};
@@ -13,15 +13,6 @@ pub fn rest_from(text: &[u8], at: usize) -> &[u8]
     ensures { result.now ≡ drop at text.now }
 {
     &text[at..]
-}
-
-/// The part of a text from the offset `start` up to the offset `end`.
-pub fn part(text: &[u8], start: usize, end: usize) -> &[u8]
-    requires rises { start ≤ end }
-    requires within { end ≤ length text.now }
-    ensures { result.now ≡ slice_range text.now start end }
-{
-    &text[start..end]
 }
 
 /// The offset after the white space that begins at `at`; `at` if none is there, which is usual. White space is the bytes space, tab, line feed,

@@ -1,4 +1,4 @@
-use Rattle.std.proofs.Common.{◌+◌, ◌∙◌, get_or, ℕ, List, Option, Some, None, IsSome, MatchOption, drop, slice_range, refl, rules}
+use Rattle.std.proofs.Common.{◌+◌, get_or, ℕ, List, Option, Some, None, IsSome, MatchOption, drop, slice_range, refl, rules}
 use Rattle.sgf_properties.specs.inner.Iterating.{IsNoPropValue}
 use Rattle.sgf_properties.proofs.NameEnds.{name-begins}
 use Rattle.sgf_properties.proofs.Iterating.{IsNextProperty, value-there, next-property}
@@ -28,7 +28,7 @@ invariant_of-property c =
       (
         get_or s c.args.start 0,
         slice_range s (c.args.start + 1) c.identifier_end-end.result,
-        c.part.ensures ∙ name-begins s c.args.start c.identifier_end-end.result c.requires.within capital c.identifier_end-end.ensures,
+        name-begins s c.args.start c.identifier_end-end.result c.requires.within capital c.identifier_end-end.ensures,
         capital,
       ),
     )
@@ -38,7 +38,7 @@ returns-clause-left c = (found (goal.at.returns-clause-left c).After-values_end-
 
 pub returns-clause-first : goal.returns-clause-first
 returns-clause-first c =
-    rw (c.part.ensures, c.part-2.ensures, c.rest_from.ensures) (found (goal.at.returns-clause-first c).After-values_end-next).is
+    rw c.rest_from.ensures (found (goal.at.returns-clause-first c).After-values_end-next).is
 
 pub returns-clause-spelled : goal.returns-clause-spelled
 returns-clause-spelled c =

@@ -9,7 +9,7 @@ new-left-requires-clause-held c = (front-left c.self.inside.text.now (c.is_lone_
 pub returns-then-is_lone_front : goal.returns-then-is_lone_front
 returns-then-is_lone_front c =
     let is = c.is_lone_front.ensures c.if-is_lone_front.true in
-    rw (c.part.ensures, c.new-left.ensures) (ap (λ (n : Node). n.properties) (sym c.self.view_is) ∙ (front-left c.self.inside.text.now is c.self.invariant.0.properties).0)
+    rw c.new-left.ensures (ap (λ (n : Node). n.properties) (sym c.self.view_is) ∙ (front-left c.self.inside.text.now is c.self.invariant.0.properties).0)
 
 pub returns-else-is_lone_front : goal.returns-else-is_lone_front
 returns-else-is_lone_front c = cc

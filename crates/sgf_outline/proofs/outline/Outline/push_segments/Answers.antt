@@ -8,11 +8,14 @@ use Rattle.sgf_outline.proofs.outline.Outline.push_segments.Goals.{After-index-s
 entry : (c : After-index-sequence) → IsEntryOf c.self.inside.text.now c.self.inside.sequences.segments.items c.args.self.now c.args.i c.index-sequence.result.now
 entry c = entry-in c.self.inside.text.now c.self.inside.sequences c.self.invariant.0 _ c.self.view_is c.args.i c.index-sequence.result.now c.requires c.index-sequence.ensures
 
-pub part-written-requires-clause-rises : goal.part-written-requires-clause-rises
-part-written-requires-clause-rises c = omega (arith, (entry (goal.at.part-written-requires-clause-rises c).After-index-sequence).rises (sym c.is_written.ensures ∙ c.if-is_written.true))
+pub slice_bounds-written-count : goal.slice_bounds-written-count
+slice_bounds-written-count c = omega (arith, (entry (goal.at.slice_bounds-written-count c).After-index-sequence).rises (sym c.is_written.ensures ∙ c.if-is_written.true))
 
-pub part-written-requires-clause-within : goal.part-written-requires-clause-within
-part-written-requires-clause-within c = (entry (goal.at.part-written-requires-clause-within c).After-index-sequence).in_text (sym c.is_written.ensures ∙ c.if-is_written.true)
+pub slice_bounds-written-start : goal.slice_bounds-written-start
+slice_bounds-written-start c = omega (arith, (entry (goal.at.slice_bounds-written-start c).After-index-sequence).rises (sym c.is_written.ensures ∙ c.if-is_written.true))
+
+pub slice_bounds-written-end : goal.slice_bounds-written-end
+slice_bounds-written-end c = (entry (goal.at.slice_bounds-written-end c).After-index-sequence).in_text (sym c.is_written.ensures ∙ c.if-is_written.true)
 
 pub returns-then-is_written-clause-appended : goal.returns-then-is_written-clause-appended
 returns-then-is_written-clause-appended c =
@@ -36,5 +39,4 @@ segments-preserved c =
     let (rest, is, last, next) = first (goal.at.segments-preserved c).After-index-segment in
     let segment = c.index-segment.result.now in
     let out = c.segments.out.items in
-    let copied = c.part-copied.result.now in
     search (rules, first, slice_range, append_assoc)

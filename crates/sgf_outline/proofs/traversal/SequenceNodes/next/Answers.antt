@@ -24,7 +24,7 @@ returns-in-Some c =
       ap (λ (n : NodesLeft). n.nodes) (sym c.self.view_is) ∙ next.0,
       (
         refl,
-        rw (c.part-value.ensures, c.rest_from-text.ensures) (search (led-properties c.args.names.now (drop w.at w.text.now) c.in-Some.end is)),
+        rw c.rest_from-text.ensures (search (led-properties c.args.names.now (drop w.at w.text.now) c.in-Some.end is)),
         next.2,
       ),
     )

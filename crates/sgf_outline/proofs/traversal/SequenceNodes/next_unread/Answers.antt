@@ -29,7 +29,7 @@ returns-then-is_lone_front c =
     let at = next (goal.at.returns-then-is_lone_front c).After-rest_from-node in
     let front = past-front s.text.now s.at s.number s.end c.self.invariant.0 at.0 at.2 c.rest_from-node.result.now c.rest_from-node.ensures (c.is_lone_front.ensures c.if-is_lone_front.true) c.skip_white_space-self-inside.result
     c.skip_white_space-self-inside.ensures in
-    (node_in s.text.now s.at, sym at.1 ∙ at.2.nodes, λ _. (refl, rw c.part.ensures front.1))
+    (node_in s.text.now s.at, sym at.1 ∙ at.2.nodes, λ _. (refl, front.1))
 
 pub invariant_of-self-2 : goal.invariant_of-self-2
 invariant_of-self-2 c =

@@ -1,7 +1,7 @@
-use Rattle.sgf_properties.proofs.Common.{◌≡◌, ◌∙◌, [], ◌∷◌, length, sym, ap, arith, option_copied, values_in, values_left}
+use Rattle.sgf_properties.proofs.Common.{◌≡◌, ℕ, List, ◌∙◌, [], ◌∷◌, length, sym, ap, arith, option_copied, IsPropValue, values_in, values_left}
 use Rattle.sgf_properties.proofs.Iterating.{no-value, next-value}
 use Rattle.sgf_properties.proofs.iter.ValuesIterator.next.Goals as goal
-use Rattle.sgf_properties.proofs.iter.ValuesIterator.next.Goals.{In_default, After-part}
+use Rattle.sgf_properties.proofs.iter.ValuesIterator.next.Goals.{In_default}
 
 -- with no first one known, the values are those of the text that is left
 shown : (c : In_default) → c.args.self.now ≡ values_in c.self.inside.rest.now
@@ -15,12 +15,14 @@ pub invariant_of-self-2 : goal.invariant_of-self-2
 invariant_of-self-2 c = rw c.rest_from-self-inside.ensures (next-value c.self.invariant c.in-Some-value_at.ensures.spelled).1
 
 -- the first value of the text that is left is taken off
-stepped : (c : After-part) → c.args.self.now ≡ c.part.result.now ∷ values_in c.rest_from-self-inside.result.now
-stepped c =
-    rw (c.part.ensures, c.rest_from-self-inside.ensures) (shown (goal.at.returns-clause-steps c).In_default ∙ (next-value c.self.invariant c.in-Some-value_at.ensures.spelled).0)
+stepped : {value rest : List ℕ} (c : In_default) → IsPropValue value c.self.inside.rest.now rest → c.args.self.now ≡ value ∷ values_in rest
+stepped c one = shown c ∙ (next-value c.self.invariant one).0
 
 pub returns-clause-steps : goal.returns-clause-steps
-returns-clause-steps c = rw c.in_default.is (stepped c)
+returns-clause-steps c =
+    rw (c.in_default.is, c.rest_from-self-inside.ensures) (stepped (goal.at.returns-clause-steps c).In_default c.in-Some-value_at.ensures.spelled)
 
 pub returns-clause-goes : goal.returns-clause-goes
-returns-clause-goes c = let steps = ap length (stepped c) in rw c.in_default.is record { on = λ _. (tt, tt, omega (arith, steps)); keeps = tt; rests = λ _. tt }
+returns-clause-goes c =
+    let steps = ap length (stepped (goal.at.returns-clause-goes c).In_default c.in-Some-value_at.ensures.spelled) in
+    rw (c.in_default.is, c.rest_from-self-inside.ensures) record { on = λ _. (tt, tt, omega (arith, steps)); keeps = tt; rests = λ _. tt }
