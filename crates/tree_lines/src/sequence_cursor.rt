@@ -143,11 +143,17 @@ impl<'c, 'a> SequenceCursor<'c, 'a> {
         };
         let outer = self.outline.sequence_outer(self.next);
         let front = front_up_to(self.outline, &self.path, self.nodes, outer);
-        go_down(&mut self.path, front.sequences, self.next, leaf)?;
-        let first = self.outline.sequence_start(self.next);
-        let end = self.outline.sequence_end(leaf);
-        self.nodes = front.nodes + (end - first);
-        self.next = leaf + 1;
+        let (first, end) = (self.next, leaf + 1);
+        let path = &mut self.path;
+        let room = (front.sequences + (end - first)).saturating_sub(path.len());
+        path.reserve(room)?;
+        path.truncate(front.sequences);
+        for sequence in first..end {
+            path.push(sequence as u32).unwrap();
+        }
+        let count = self.outline.sequence_end(leaf) - self.outline.sequence_start(first);
+        self.nodes = front.nodes + count;
+        self.next = end;
         Ok(Some(front))
     }
 
@@ -311,25 +317,6 @@ fn front_up_to(outline: &Outline<'_>, path: &[u32], nodes: usize, outer: Option<
         sequences: kept,
         nodes,
     }
-}
-
-/// Cuts a path back to its first `kept` sequences, and appends the sequences from `first` to `leaf`. After a refusal of memory the path is
-/// unchanged.
-fn go_down(path: &mut Vec<u32>, kept: usize, first: usize, leaf: usize) -> Result<(), MemoryFault>
-    requires kept { kept ≤ vec_len path.old }
-    requires down { first ≤ leaf }
-    requires few { leaf < MAX_LENGTH }
-    ensures ok { OnOk result (path.new.items ≡ take kept path.old.items ++ range_with_len first (leaf + 1 - first)) }
-    ensures unchanged { OnErr result (path.new.items ≡ path.old.items) }
-{
-    let end = leaf + 1;
-    let room = (kept + (end - first)).saturating_sub(path.len());
-    path.reserve(room)?;
-    path.truncate(kept);
-    for sequence in first..end {
-        path.push(sequence as u32).unwrap();
-    }
-    Ok(())
 }
 
 /// The sequence that ends in the leaf with this place. None if no line ends there, which `NoSuchLine` says.
