@@ -34,7 +34,7 @@
 //! | PropIdent: its letters | `letters_end` (`scan`) |
 //! | the name of a property: its capitals | `PropRef::is`, `PropRef::push_name` (`property`); in the sgf form of a run: `copy_capitals` of `sgf_tree` (`reader/properties`) |
 //! | the end of a raw value, which is the first `]` that no `\` escapes | `far_value_end` (`value`); shortcuts: `near_value_end`, `is_two_ordinary`, `past_points` (`quick/value`) |
-//! | white space: its bytes | `is_white_space`, `skip_white_space` (`scan`) |
+//! | white space: its bytes | `white_space_end`, `skip_white_space` (`scan`) |
 //! | decoded text; numbers | `decode_front`, which `push_text` calls (`text`); `number` (`numbers`) |
 //! | a property in sgf form | `push_property`, `push_value` (`written`) |
 //!

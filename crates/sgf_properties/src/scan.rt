@@ -35,17 +35,10 @@ fn white_space_end(text: &[u8], at: usize) -> usize
     ensures { IsSpan is_white_space text.now at result }
 {
     let mut end = at;
-    'white_space: while end < text.len() && is_white_space(text[end]) {
+    'white_space: while end < text.len() && matches!(text[end], b' ' | b'\t'..=b'\r') {
         end += 1;
     }
     end
-}
-
-/// Whether a byte is white space: a space, tab, line feed, carriage return, vertical tab or form feed.
-fn is_white_space(byte: u8) -> bool
-    ensures { result ≡ is_white_space byte }
-{
-    matches!(byte, b' ' | b'\t'..=b'\r')
 }
 
 /// Whether this byte stands at the offset `at`. Past the end of the text none does.
