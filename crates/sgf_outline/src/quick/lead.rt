@@ -4,7 +4,7 @@
 
 ghost use Rattle.std.specs.Prelude.{◌≡◌, ◌≢◌, ◌≤◌, ◌<◌, ◌+◌, ◌%◌, length, All, IsTrue, IfSome};
 ghost use Rattle.sgf_outline.specs.Move.{IsMoveNode, EndsNode};
-ghost use Rattle.sgf_outline.specs.inner.Lead.{IsLedNode, IsEmptyNode, IsLoneFront, AreOthers, IsOtherProperty, IsNodeEnd};
+ghost use Rattle.sgf_outline.specs.inner.Lead.{IsLedNode, IsEmptyNode, IsLoneFront, AreOthers, IsOtherProperty};
 
 use crate::quick::properties::near_property_close;
 use sgf_properties::{NEAR, begins_value, is_two_ordinary, skip_white_space};
@@ -88,17 +88,9 @@ fn others_end(text: &[u8], at: usize, names: &[[u8; 2]]) -> Option<usize>
             return Some(end);
         }
     }
-    node_end(text, end)
-}
-
-/// Where a node ends, at `at` or after white space there.
-fn node_end(text: &[u8], at: usize) -> Option<usize>
-    requires { at ≤ length text.now }
-    ensures { IfSome result (IsNodeEnd text.now at) }
-{
-    let end = skip_white_space(text, at);
-    if end < text.len() && text[end] < b'A' {
-        Some(end)
+    let next = skip_white_space(text, end);
+    if next < text.len() && text[next] < b'A' {
+        Some(next)
     } else {
         None
     }
