@@ -1,5 +1,5 @@
 -- What the sgf form copies of a text, as a reader tells it.
-use Rattle.sgf_outline.proofs.Common.{◌≡◌, ℕ, ◌<◌, ◌≤◌, List, [], ◌++◌, length, slice_range, append_assoc, append-nil, rules, Segment, Stack, Coming, IsCopied, Copies}
+use Rattle.sgf_outline.proofs.Common.{◌≡◌, ℕ, ◌≤◌, List, [], ◌++◌, length, slice_range, append_assoc, append-nil, rules, Segment, Stack, Coming, IsCopied, Copies}
 use Rattle.sgf_properties.proofs.ValueEnds.{span-join}
 
 -- a visitor that keeps the same in other words
@@ -17,11 +17,6 @@ module _ (t : List ℕ) (first : ℕ) (before : Segment) (written : List ℕ) (f
   pub goes-on : (keeps : List ℕ → Type 0) → IsCopied keeps t first before written → before.end ≡ from
       → IsCopied keeps t first (record { start = before.start; end = to }) (written ++ slice_range t from to)
   goes-on keeps is same = search (rules, span-join, append_assoc, slice_range)
-
-  -- a part that begins another one
-  pub begins : (kept keeps : List ℕ → Type 0) → IsCopied kept t first before written → ((told : List ℕ) → kept told → keeps (told ++ slice_range t before.start before.end))
-      → before.end < from → IsCopied keeps t first (record { start = from; end = to }) (written ++ slice_range t from to)
-  begins kept keeps is told lt = search (rules, slice_range)
 
 -- two parts, one after another
 pub copies-then : (kept keeps told : Stack → Coming → Type 0) (t : List ℕ) (before between after : Segment) (part next : List ℕ)

@@ -1,5 +1,5 @@
 -- The bytes of two moves, all compared at once with the least one that may stand there.
-use Rattle.sgf_outline.proofs.Common.{◌≡◌, ◌∙◌, ℕ, ◌+◌, ◌/◌, ◌%◌, ◌^◌, ◌<◌, ◌≤◌, List, [], ◌∷◌, length, get_or, refl, ap, arith, le-leb, and_from, cases_lt, common_steps, IsMove, IsMoveNode, EndsNode}
+use Rattle.sgf_outline.proofs.Common.{◌≡◌, ◌∙◌, ℕ, ◌+◌, ◌/◌, ◌%◌, ◌^◌, ◌<◌, ◌≤◌, List, [], ◌∷◌, length, get_or, refl, ap, arith, le-leb, and_from, cases_lt, common_steps, IsMove, IsMoveNode}
 use Rattle.sgf_properties.proofs.PlacedBytes
 use Rattle.sgf_properties.proofs.PlacedBytes.{above}
 use Rattle.sgf_properties.proofs.PointBytes.{other-than, in-place}
@@ -44,7 +44,3 @@ module _ (t : List ℕ) (at : ℕ) (room : at + 16 ≤ length t) (fits : (i : �
           move = move-from t (at + 6 + 1) fits (omega arith) (all-there 7 (at + 6 + 1) (omega arith) (omega arith) refl) (all-there 8 (at + 6 + 1 + 1) (omega arith) (omega arith) refl)
               (all-there 9 (at + 6 + 1 + 2) (omega arith) (omega arith) refl) (all-there 10 (at + 6 + 1 + 3) (omega arith) (omega arith) refl) (all-there 11 (at + 6 + 1 + 4) (omega arith) (omega arith) refl);
         }
-
-    -- the byte after them
-    pub node-ended : EndsNode t (at + 12)
-    node-ended = grind (arith, common_steps, above, all-there)

@@ -65,10 +65,6 @@ module _ (s : List ℕ) (k : ℕ) (run : IsSpan is_white_space s 0 k) where
       none [] r are ends = properties-in are ends
       none (p ∷ ps) r (properties (property {b} {t = t} w h l v vs) are) ends = grind (arith, common_steps, cases_lt, white-same, white-to, upper-not_white_space, false≢true, white-none, white-all)
 
-  -- the properties in front stand after the white space
-  pub past-white : ArePropertiesIn s → (properties_in s ≡ properties_in (drop k s)) × ArePropertiesIn (drop k s)
-  past-white held = let past = held-past held white-run in (past.0, past.1)
-
   -- a property there, whose identifier ends at `end`, and whose values r is left after
   record IsPropertyAt (end : ℕ) (r : List ℕ) : Type 0 where
     pub held : AreValuesIn (drop end s)

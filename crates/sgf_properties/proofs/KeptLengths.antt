@@ -1,6 +1,5 @@
 -- What is kept of long values, of a text and of what is left of it from an offset on.
-use Rattle.sgf_properties.proofs.Common.{◌≡◌, ℕ, ◌+◌, ◌-◌, ◌≤◌, List, [], ◌∷◌, ◌++◌, length, drop, subst, length-drop, get_or-drop, arith, drop-drop, common_steps, IsValueEnd}
-use Rattle.std.proofs.lemmas.List.Elements.{All-push}
+use Rattle.sgf_properties.proofs.Common.{All-push, ◌≡◌, ℕ, ◌+◌, ◌-◌, ◌≤◌, List, [], ◌∷◌, ◌++◌, length, drop, subst, length-drop, get_or-drop, arith, drop-drop, common_steps, IsValueEnd}
 use Rattle.sgf_properties.specs.KeptLengths.{IsKeptLength, AreKeptLengths}
 use Rattle.sgf_properties.specs.declared.value.LongValue.{LongValue}
 

@@ -1,7 +1,5 @@
 -- The letters of an identifier that are its name, one letter after another.
-use Rattle.std.proofs.Common.{◌≡◌, ◌≢◌, ℕ, ◌+◌, ◌<◌, ◌≤◌, Bool, true, cond, List, ◌∷◌, ◌++◌, length, get_or, take, drop, filter, sym, ap, ◌∙◌, length-append, take-append-drop, rules}
-use Rattle.std.proofs.lemmas.List.{drop_more, get_or_at}
-use Rattle.std.proofs.lemmas.List.Elements.{filter-append}
+use Rattle.sgf_properties.proofs.Common.{◌≡◌, ◌≢◌, ℕ, ◌+◌, ◌<◌, ◌≤◌, Bool, true, cond, List, ◌∷◌, ◌++◌, length, get_or, take, drop, filter, sym, ap, ◌∙◌, length-append, take-append-drop, rules, drop_more, get_or_at, filter-append}
 
 module _ (p : ℕ → Bool) (xs : List ℕ) (i : ℕ) (within : i < length xs) where
   -- where the name so far is the front of ys, and the next letter doesn't go on as ys does, the name is not ys

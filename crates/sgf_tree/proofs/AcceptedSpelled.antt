@@ -1,6 +1,5 @@
 -- What the machine accepts, the text spells.
-use Rattle.std.proofs.Common.{◌≡◌, ℕ, ◌+◌, List, [], ◌∷◌, ◌++◌, length, Some, sym, subst, append-nil, arith, rules}
-use Rattle.sgf_tree.proofs.Common.{none-some, same_Some, option_and_then_some, UnclosedGame, MachineState, start, whole_games, next_state, run, accepted, collection_of, no_white_space, no_game, Spells, spells, Games, no_games, game}
+use Rattle.sgf_tree.proofs.Common.{◌≡◌, ℕ, ◌+◌, List, [], ◌∷◌, ◌++◌, length, Some, sym, subst, append-nil, arith, rules, none-some, same_Some, option_and_then_some, UnclosedGame, MachineState, start, whole_games, next_state, run, accepted, collection_of, no_white_space, no_game, Spells, spells, Games, no_games, game}
 use Rattle.sgf_tree.proofs.Transitions.{transition}
 use Rattle.sgf_tree.proofs.Completion.{followed-none, Rest, ends, Completes}
 use Rattle.sgf_tree.proofs.Prepending.{prepend}

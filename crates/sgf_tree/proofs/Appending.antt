@@ -1,6 +1,5 @@
 -- What a text spells, it spells before and after another text too, with the places counted anew.
-use Rattle.std.proofs.Common.{ℕ, ◌+◌, List, ◌++◌, length, map, refl, sym, subst, arith, length-append}
-use Rattle.sgf_tree.proofs.Common.{IsValue, no_unit, ordinary, escaped, joined, WhiteSpace, no_white_space, white_space, Letters, no_letter, upper, lower, IsPropValue, prop_value, ArePropValues, no_value, value, IsProperty, property, AreProperties, no_property, properties, IsNode, node, AreNodes, no_node, nodes, AreGames, no_game, games, ByteOrderMark, no_byte_order_mark, byte_order_mark, Spells, spells, Property, Node, Games, game}
+use Rattle.sgf_tree.proofs.Common.{ℕ, ◌+◌, List, ◌++◌, length, map, refl, sym, subst, arith, length-append, IsValue, no_unit, ordinary, escaped, joined, WhiteSpace, no_white_space, white_space, Letters, no_letter, upper, lower, IsPropValue, prop_value, ArePropValues, no_value, value, IsProperty, property, AreProperties, no_property, properties, IsNode, node, AreNodes, no_node, nodes, AreGames, no_game, games, ByteOrderMark, no_byte_order_mark, byte_order_mark, Spells, spells, Property, Node, Games, game}
 use Rattle.sgf_tree.specs.Appending.{raised_node, raised, BeginsWithByteOrderMark}
 use Rattle.sgf_properties.proofs.FrontSpelled.{white-join}
 

@@ -1,6 +1,5 @@
 -- The byte order mark, by the machine, and the white space after it.
-use Rattle.std.proofs.Common.{rules, ◌≡◌, ◌≢◌, ℕ, ◌+◌, ◌<◌, inl, inr, List, [], length, get_or, refl, ◌∙◌, arith, ne_eqb}
-use Rattle.sgf_tree.proofs.Common.{cases_lt, IsSpan, Stack, start, first_of_mark, second_of_mark, after_game, next_state, accepted, is_white_space, no_games, IsFaultyAt, StandsBetween, IsByteOrderMarkRead, ComesTo}
+use Rattle.sgf_tree.proofs.Common.{rules, ◌≡◌, ◌≢◌, ℕ, ◌+◌, ◌<◌, inl, inr, List, [], length, get_or, refl, ◌∙◌, arith, ne_eqb, cases_lt, IsSpan, Stack, start, first_of_mark, second_of_mark, after_game, next_state, accepted, is_white_space, no_games, IsFaultyAt, StandsBetween, IsByteOrderMarkRead, ComesTo}
 use Rattle.sgf_tree.proofs.GamesLoop.{stands-after}
 use Rattle.sgf_tree.proofs.Run.{run-take-none, run-take-step}
 use Rattle.sgf_tree.proofs.ValueEnds.{stops-faulty}

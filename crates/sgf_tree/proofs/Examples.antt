@@ -1,6 +1,5 @@
 -- Worked examples: the machine computes the collections of a few texts.
-use Rattle.std.proofs.Common.{◌≡◌, ℕ, [], ◌∷◌, Some, None, refl}
-use Rattle.sgf_tree.proofs.Common.{next_state, run, accepted, collection_of, Node, no_games, game, leaf_count}
+use Rattle.sgf_tree.proofs.Common.{◌≡◌, ℕ, [], ◌∷◌, Some, None, refl, next_state, run, accepted, collection_of, Node, no_games, game, leaf_count}
 
 abbrev bare : ℕ → Node
 bare at = record { place = at; properties = [] }

@@ -1,6 +1,5 @@
 -- The machine refuses a byte exactly where a text stops being the front of a text of the grammar.
-use Rattle.sgf_tree.proofs.Common.{cases_lt, common_steps, none-some, option_and_then_some, MachineState, start, next_state, run, accepted, collection_of, Spells, Games}
-use Rattle.std.proofs.Common.{◌≡◌, ℕ, ◌+◌, ◌<◌, ◌≤◌, List, ◌++◌, length, get_or, take, Some, None, option_and_then, ap, sym, ◌∙◌, ⊎_elim, arith, take-take, take_all}
+use Rattle.sgf_tree.proofs.Common.{◌≡◌, ℕ, ◌+◌, ◌<◌, ◌≤◌, List, ◌++◌, length, get_or, take, Some, None, option_and_then, ap, sym, ◌∙◌, ⊎_elim, arith, take-take, take_all, cases_lt, common_steps, none-some, option_and_then_some, MachineState, start, next_state, run, accepted, collection_of, Spells, Games}
 use Rattle.sgf_tree.specs.FirstFault.{BeginsCollection, IsFirstFault}
 use Rattle.sgf_tree.proofs.Run.{run-append, run-through, run-front, run-take-more, refused-front, collection-run}
 use Rattle.sgf_tree.proofs.AcceptedSpelled.{accepted-spelled}

@@ -1,6 +1,5 @@
 -- The last node below each node, in file order.
-use Rattle.std.proofs.Common.{◌≡◌, ℕ, zero, suc, ◌+◌, ◌-◌, ◌<◌, ◌≤◌, ◌⊎◌, inl, inr, true, false, All, List, [], ◌∷◌, ◌++◌, length, get_or, slice_get, Option, Some, None, refl, sym, ap, subst, ◌∙◌, arith, length-append}
-use Rattle.sgf_tree.proofs.Common.{cases_lt, get_or_append_left, get_or-append_right, All-nil, All-cons, All-append, slice_get-get_or, OrderedNode, further_nodes, nodes_from, ordered_nodes, IsAtOrBelow, itself, below, IsLastBelow, Node, Games, no_games, game, node_count, lasts}
+use Rattle.sgf_tree.proofs.Common.{◌≡◌, ℕ, zero, suc, ◌+◌, ◌-◌, ◌<◌, ◌≤◌, ◌⊎◌, inl, inr, true, false, All, List, [], ◌∷◌, ◌++◌, length, get_or, slice_get, Option, Some, None, refl, sym, ap, subst, ◌∙◌, arith, length-append, cases_lt, get_or_append_left, get_or-append_right, All-nil, All-cons, All-append, slice_get-get_or, OrderedNode, further_nodes, nodes_from, ordered_nodes, IsAtOrBelow, itself, below, IsLastBelow, Node, Games, no_games, game, node_count, lasts}
 use Rattle.sgf_outline.proofs.Lists.{slice_get-left, slice_get-right, get_or-joined}
 use Rattle.sgf_outline.proofs.OrderedNodes.{parent_in, parent_in-within, parent_in-left, parent_in-right, parent_in-further, length-further_nodes, length-nodes_from, parent-within, parent_at-lt}
 use Rattle.sgf_outline.proofs.Starts.{starts_from, first-start}

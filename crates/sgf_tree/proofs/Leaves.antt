@@ -1,6 +1,5 @@
 -- A leaf is the last node below itself.
-use Rattle.std.proofs.Common.{◌≡◌, ℕ, refl, arith, rules}
-use Rattle.sgf_tree.proofs.Common.{IsLeaf, IsAtOrBelow, itself, below, IsLastBelow, Games}
+use Rattle.sgf_tree.proofs.Common.{◌≡◌, ℕ, refl, arith, rules, IsLeaf, IsAtOrBelow, itself, below, IsLastBelow, Games}
 use Rattle.sgf_outline.proofs.OrderedNodes.{parent_at-lt}
 
 -- nothing is below a leaf

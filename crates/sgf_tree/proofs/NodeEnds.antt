@@ -1,6 +1,5 @@
 -- How the properties of a node are read, one after another.
-use Rattle.sgf_tree.proofs.Common.{Started, MachineState, in_name, after_node, ended, next_state, accepted, is_white_space, is_upper, ComesTo, StandsAfterNode}
-use Rattle.std.proofs.Common.{◌≡◌, ℕ, ◌+◌, ◌<◌, false, IsTrue, List, [], ◌∷◌, length, get_or, Some, None}
+use Rattle.sgf_tree.proofs.Common.{◌≡◌, ℕ, ◌+◌, ◌<◌, false, IsTrue, List, [], ◌∷◌, length, get_or, Some, None, Started, MachineState, in_name, after_node, ended, next_state, accepted, is_white_space, is_upper, ComesTo, StandsAfterNode}
 use Rattle.sgf_tree.proofs.Run.{run-take-step}
 
 module _ (t : List ℕ) where

@@ -1,6 +1,5 @@
 -- How the own nodes of a game are read one by one, and what a visitor keeps of them.
-use Rattle.sgf_tree.proofs.Common.{flat_map-append, map-append, IsSpan, OwnNodes, UnclosedGame, Stack, Started, opened, in_node, IsMoveNode, EndsNode, Coming, nothing, coming_of, places_of, own_of, with_game, IsCopied, Copies, CopiesNode, AreOwnNodes, is_white_space, Property, Node, no_games, unclosed_count, property_text, node_text, NodesRead, IsFaultyAt, IsGameRead, NodesSoFar, AreReadTo, AreOwnRead, AreNodesRead, ComesTo, StandsIn, ArePropertiesRead, common_steps}
-use Rattle.std.proofs.Common.{◌≡◌, ◌≢◌, ℕ, ◌+◌, ◌-◌, ◌<◌, ◌≤◌, true, List, [], ◌∷◌, ◌++◌, length, get_or, slice_range, refl, sym, ap, subst, ◌∙◌, arith, length-append, append_assoc, append-nil, rules, flat_map}
+use Rattle.sgf_tree.proofs.Common.{◌≡◌, ◌≢◌, ℕ, ◌+◌, ◌-◌, ◌<◌, ◌≤◌, true, List, [], ◌∷◌, ◌++◌, length, get_or, slice_range, refl, sym, ap, subst, ◌∙◌, arith, length-append, append_assoc, append-nil, rules, flat_map, flat_map-append, map-append, IsSpan, OwnNodes, UnclosedGame, Stack, Started, opened, in_node, IsMoveNode, EndsNode, Coming, nothing, coming_of, places_of, own_of, with_game, IsCopied, Copies, CopiesNode, AreOwnNodes, is_white_space, Property, Node, no_games, unclosed_count, property_text, node_text, NodesRead, IsFaultyAt, IsGameRead, NodesSoFar, AreReadTo, AreOwnRead, AreNodesRead, ComesTo, StandsIn, ArePropertiesRead, common_steps}
 use Rattle.std.proofs.Math.Seq.{get_or-append_seam}
 use Rattle.sgf_outline.specs.declared.layout.Segment.{Segment}
 use Rattle.sgf_properties.proofs.NameEnds.{span-one}

@@ -1,6 +1,5 @@
 -- How the machine goes over one text and then another, and over one byte more.
-use Rattle.sgf_tree.proofs.Common.{common_steps, take_more, option_and_then_some, MachineState, start, next_state, run, accepted, collection_of}
-use Rattle.std.proofs.Common.{◌≡◌, ℕ, ◌+◌, ◌-◌, ◌<◌, ◌≤◌, List, [], ◌∷◌, ◌++◌, length, get_or, take, drop, slice_range, Some, None, option_and_then, refl, sym, ap, ◌∙◌, add-zero, arith, rules, take-add, length-take-le, take-append-drop}
+use Rattle.sgf_tree.proofs.Common.{◌≡◌, ℕ, ◌+◌, ◌-◌, ◌<◌, ◌≤◌, List, [], ◌∷◌, ◌++◌, length, get_or, take, drop, slice_range, Some, None, option_and_then, refl, sym, ap, ◌∙◌, add-zero, arith, rules, take-add, length-take-le, take-append-drop, common_steps, take_more, option_and_then_some, MachineState, start, next_state, run, accepted, collection_of}
 
 -- the machine goes over a, and then over b from where it stands
 pub run-append : (at : ℕ) (z : MachineState) (a b : List ℕ)

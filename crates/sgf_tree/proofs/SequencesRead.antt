@@ -1,6 +1,5 @@
 -- How the machine goes over the own nodes of a game.
-use Rattle.sgf_tree.proofs.Common.{common_steps, IsSpan, UnclosedGame, Stack, Started, opened, in_node, after_game, after_node, between_games, ended, new_game, new_node, next_state, accepted, is_white_space, Property, Node, Games, no_games, game, property_text, IsFaultyAt, StandsBetween, NodesSoFar, ComesTo, StandsAfterNode, ArePropertiesRead}
-use Rattle.std.proofs.Common.{◌≡◌, ◌≢◌, ℕ, ◌+◌, ◌<◌, true, false, List, [], ◌∷◌, ◌++◌, length, get_or, None, refl, arith, ne_eqb, rules, flat_map}
+use Rattle.sgf_tree.proofs.Common.{◌≡◌, ◌≢◌, ℕ, ◌+◌, ◌<◌, true, false, List, [], ◌∷◌, ◌++◌, length, get_or, None, refl, arith, ne_eqb, rules, flat_map, common_steps, IsSpan, UnclosedGame, Stack, Started, opened, in_node, after_game, after_node, between_games, ended, new_game, new_node, next_state, accepted, is_white_space, Property, Node, Games, no_games, game, property_text, IsFaultyAt, StandsBetween, NodesSoFar, ComesTo, StandsAfterNode, ArePropertiesRead}
 use Rattle.sgf_tree.proofs.Run.{run-take-step}
 use Rattle.sgf_tree.proofs.Spans.{run-white}
 use Rattle.sgf_tree.proofs.ValueEnds.{stops-faulty}

@@ -1,6 +1,5 @@
 -- A property with one value, as the code tells it.
-use Rattle.sgf_tree.proofs.Common.{or_left, common_steps, flat_map-append, is_letter, IsSpan, IsBracket, IsValueEnd, Started, in_node, IsMove, EndsNode, IsShortProperty, is_white_space, is_upper, is_lower, Property, property_text, ComesTo, AreValuesEnded, StandsIn, IsNameRead, IsPropertyRead, ArePropertiesRead, with_properties, next_state, accepted, after_value}
-use Rattle.std.proofs.Common.{◌≡◌, ◌≢◌, ℕ, ◌+◌, ◌<◌, ◌≤◌, Bool, false, IsTrue, List, [], ◌∷◌, ◌++◌, length, get_or, slice_range, refl, sym, ap, subst, ◌∙◌, arith, append-nil, rules, flat_map, ne_eqb}
+use Rattle.sgf_tree.proofs.Common.{◌≡◌, ◌≢◌, ℕ, ◌+◌, ◌<◌, ◌≤◌, Bool, false, IsTrue, List, [], ◌∷◌, ◌++◌, length, get_or, slice_range, refl, sym, ap, subst, ◌∙◌, arith, append-nil, rules, flat_map, ne_eqb, or_left, common_steps, flat_map-append, is_letter, IsSpan, IsBracket, IsValueEnd, Started, in_node, IsMove, EndsNode, IsShortProperty, is_white_space, is_upper, is_lower, Property, property_text, ComesTo, AreValuesEnded, StandsIn, IsNameRead, IsPropertyRead, ArePropertiesRead, with_properties, next_state, accepted, after_value}
 use Rattle.sgf_properties.proofs.Classes.{upper-range, between-not_upper, upper-not_white_space, upper-not_bracket}
 use Rattle.sgf_tree.proofs.NameEnds.{name-read, capitals-are}
 use Rattle.sgf_properties.proofs.NameEnds.{bracket-here}

@@ -1,6 +1,5 @@
 -- The machine's steps as a relation: one constructor for each way that a byte takes a state to the next one.
-use Rattle.std.proofs.Common.{arith, rules, ◌≡◌, ◌≢◌, ℕ, Bool, true, false, ◌==◌, if◌then◌else◌, IsTrue, List, [], ◌∷◌, ◌++◌, Option, Some, None, subst, eqb-true}
-use Rattle.sgf_tree.proofs.Common.{eqb-false, common_steps, none-some, same_Some, Stack, Started, MachineState, start, first_of_mark, second_of_mark, opened, in_node, in_name, after_name, in_value, after_escape, after_value, after_game, property_of, with_property, ended, close, new_node, after_node, between_games, next_state, is_white_space, is_upper, is_lower, no_games, Property, values}
+use Rattle.sgf_tree.proofs.Common.{arith, rules, ◌≡◌, ◌≢◌, ℕ, Bool, true, false, ◌==◌, if◌then◌else◌, IsTrue, List, [], ◌∷◌, ◌++◌, Option, Some, None, subst, eqb-true, eqb-false, common_steps, none-some, same_Some, Stack, Started, MachineState, start, first_of_mark, second_of_mark, opened, in_node, in_name, after_name, in_value, after_escape, after_value, after_game, property_of, with_property, ended, close, new_node, after_node, between_games, next_state, is_white_space, is_upper, is_lower, no_games, Property, values}
 
 -- no game, and none unclosed
 abbrev pub no_stack : Stack

@@ -1,6 +1,5 @@
 -- The units of a raw value, by the machine, and a text that ends too early or has a byte that is refused.
-use Rattle.sgf_tree.proofs.Common.{cases_lt, common_steps, SpellsValue, IsUnended, in_units, in_escape, IsValue, no_unit, ordinary, escaped, Started, MachineState, start, in_value, after_escape, next_state, run, accepted, IsFaultyAt, ComesTo}
-use Rattle.std.proofs.Common.{rules, inl, inr, ◌≡◌, ℕ, ◌+◌, ◌<◌, ◌≤◌, List, [], ◌∷◌, ◌++◌, length, get_or, slice_range, Some, None, refl, sym, ap, subst, ◌∙◌, arith, ne_eqb, append_assoc, append-nil, take_all}
+use Rattle.sgf_tree.proofs.Common.{rules, inl, inr, ◌≡◌, ℕ, ◌+◌, ◌<◌, ◌≤◌, List, [], ◌∷◌, ◌++◌, length, get_or, slice_range, Some, None, refl, sym, ap, subst, ◌∙◌, arith, ne_eqb, append_assoc, append-nil, take_all, cases_lt, common_steps, SpellsValue, IsUnended, in_units, in_escape, IsValue, no_unit, ordinary, escaped, Started, MachineState, start, in_value, after_escape, next_state, run, accepted, IsFaultyAt, ComesTo}
 use Rattle.sgf_tree.proofs.Faults.{ended-fault, refused-fault}
 use Rattle.sgf_tree.proofs.Run.{run-take-step, run-take-span}
 

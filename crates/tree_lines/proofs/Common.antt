@@ -1,4 +1,5 @@
 -- What the proofs of this crate import together: words of specs, types, and lemmas of the standard library.
+pub use Rattle.std.proofs.Common.{All, List, None, Option, Some, [], add-one, add-zero, ap, append-nil, append_assoc, arith, codes, drop, drop-drop, false, flat_map, get_or, inl, inr, le-ltb, length, length-append, length-drop, length-set, length-take-le, lt-ltb, map, nat_lt, option_map, option_to_list, refl, rules, set, slice_get, slice_index, slice_index_or, subst, suc, sym, take, take-append-drop, take-take, true, vec_capacity, vec_len, zero, ℕ, ◌++◌, ◌+◌, ◌-◌, ◌/◌, ◌<◌, ◌∙◌, ◌∷◌, ◌≡◌, ◌≢◌, ◌≤◌}
 pub use Rattle.std.specs.List.{AllByRecursion, AllZip, concat, drop-map, range_with_len}
 pub use Rattle.std.proofs.Math.Seq.{drop-append_seam, drop-length, take-append_seam, take-length}
 pub use Rattle.std.proofs.lemmas.Bool.{both_ways, cases_eq, cases_lt}
@@ -16,5 +17,5 @@ pub use Rattle.tree_lines.specs.Lines.{HasNoLineAt, last_number, Line, lines, li
 pub use Rattle.tree_lines.specs.Paths.{EndsInLeaf, IsPathOf, leaf_of, numbered, numbered_nodes, Path, path_of, paths}
 pub use Rattle.tree_lines.specs.Sequences.{nodes_in, parts_from, RiseTo, sequences_of, SequencesState, SharesFront}
 pub use Rattle.tree_lines.specs.inner.Parts.{AreParts, ArePartsTo, first_of, GoesDown, IsAbove, IsAfterSequences, IsCursorKept, IsFirstFrom, IsFrontUpTo, IsNextEnd, IsUpTo, IsWayTo, MeasuresTo, Part, part_ends, part_numbers, parts_of, sequence_length}
-pub use Rattle.tree_lines.specs.inner.PathTo.{HasNoLeaf, IsCutBack, IsNextLeaf, IsPathTo}
+pub use Rattle.tree_lines.specs.inner.PathTo.{HasNoLeaf, IsCutBack, IsNextLeaf, IsPathTo, step}
 pub use Rattle.tree_lines.specs.inner.Standing.{IsAfterLeaf}

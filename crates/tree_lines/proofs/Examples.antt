@@ -1,6 +1,5 @@
 -- The definitions on small collections.
-use Rattle.std.proofs.Common.{◌≡◌, ℕ, List, [], ◌∷◌, map, refl, codes}
-use Rattle.tree_lines.proofs.Common.{Property, Node, Games, no_games, game, lines, place_of, paths}
+use Rattle.tree_lines.proofs.Common.{◌≡◌, ℕ, List, [], ◌∷◌, map, refl, codes, Property, Node, Games, no_games, game, lines, place_of, paths}
 
 abbrev pub one : List ℕ → List ℕ → Property
 one name value = record { name = name; first = value; more = [] }

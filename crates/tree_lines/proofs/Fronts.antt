@@ -1,6 +1,5 @@
 -- Nodes in sequences, by the indices where these end.
-use Rattle.tree_lines.proofs.Common.{concat, take-append_seam, common_steps, slice_get_within, flat_map-append, drop-take, drop_all, Continues, RiseTo, nodes_in, parts_from}
-use Rattle.std.proofs.Common.{◌≡◌, ℕ, zero, suc, ◌+◌, ◌-◌, ◌≤◌, List, [], ◌∷◌, ◌++◌, length, get_or, take, drop, map, slice_get, Some, refl, sym, ap, ◌∙◌, arith, add-one, flat_map, take-append-drop, take-take, length-drop, length-take-le, drop-drop}
+use Rattle.tree_lines.proofs.Common.{◌≡◌, ℕ, zero, suc, ◌+◌, ◌-◌, ◌≤◌, List, [], ◌∷◌, ◌++◌, length, get_or, take, drop, map, slice_get, Some, refl, sym, ap, ◌∙◌, arith, add-one, flat_map, take-append-drop, take-take, length-drop, length-take-le, drop-drop, concat, take-append_seam, common_steps, slice_get_within, flat_map-append, drop-take, drop_all, Continues, RiseTo, nodes_in, parts_from}
 
 -- where the first `k` parts end
 abbrev pub end_of : ℕ → List ℕ → ℕ → ℕ

@@ -1,6 +1,5 @@
 -- The nodes of the line before a cursor, by its path.
-use Rattle.tree_lines.proofs.Common.{drop-map, cases_lt, common_steps, length-map, slice_get_past, node_at, nodes_at, Node, Games, CursorState, nodes_of, line_in, line_before, nodes_before, path_before, numbers_before, lines_before, lines, paths, IsAfterLeaf, slice_get-map, slice_get-get_or}
-use Rattle.std.proofs.Common.{◌≡◌, ℕ, zero, suc, ◌-◌, ◌<◌, List, [], ◌∷◌, length, map, drop, get_or, slice_get, Option, Some, refl, sym, ap, ◌∙◌, inl, inr, arith, option_to_list, flat_map}
+use Rattle.tree_lines.proofs.Common.{◌≡◌, ℕ, zero, suc, ◌-◌, ◌<◌, List, [], ◌∷◌, length, map, drop, get_or, slice_get, Option, Some, refl, sym, ap, ◌∙◌, inl, inr, arith, option_to_list, flat_map, drop-map, cases_lt, common_steps, length-map, slice_get_past, node_at, nodes_at, Node, Games, CursorState, nodes_of, line_in, line_before, nodes_before, path_before, numbers_before, lines_before, lines, paths, IsAfterLeaf, slice_get-map, slice_get-get_or}
 use Rattle.tree_lines.proofs.Lists.{element}
 use Rattle.tree_lines.proofs.Named.{line_at, length-paths}
 use Rattle.tree_lines.proofs.CursorStates.{before}

@@ -1,7 +1,6 @@
 -- The places of the lines rise, if those of the nodes do.
-use Rattle.std.proofs.Common.{◌≡◌, ℕ, suc, length, map, slice_get, Some, option_map, sym, ap, ◌∙◌, slice_index, add-one, arith}
+use Rattle.tree_lines.proofs.Common.{◌≡◌, ℕ, suc, length, map, slice_get, Some, option_map, sym, ap, ◌∙◌, slice_index, add-one, arith, common_steps, length-map, slice_get-map, get_or_from_slice_get, PlacesRise, Games, Line, lines, place_of, paths}
 use Rattle.std.specs.List.Sorted.{IsStrictlyIncreasing}
-use Rattle.tree_lines.proofs.Common.{common_steps, length-map, slice_get-map, get_or_from_slice_get, PlacesRise, Games, Line, lines, place_of, paths}
 use Rattle.tree_lines.proofs.Lists.{element}
 use Rattle.tree_lines.proofs.Named.{line_at, length-paths}
 use Rattle.tree_lines.proofs.CursorStates.{leaf_rises}

@@ -1,6 +1,5 @@
 -- The paths of a collection name the nodes of its lines, and begin in their games.
-use Rattle.tree_lines.proofs.Common.{AllZip, common_steps, map-append, OrderedNode, further_nodes, ordered_nodes, node_at, place_at, game_of, Node, Games, no_games, game, node_count, Line, through, node_lines, lines_of_game, lines_from, lines, last_number, place_of, Path, numbered_nodes, numbered, path_of, paths, leaf_of, IsPathOf, slice_get_within}
-use Rattle.std.proofs.Common.{◌≡◌, ℕ, ◌+◌, ◌<◌, List, [], ◌∷◌, ◌++◌, length, map, slice_get, Option, Some, None, refl, sym, ap, ◌∙◌, arith, false, add-zero, ◌-◌, ◌≤◌, get_or, rules, lt-ltb, le-ltb}
+use Rattle.tree_lines.proofs.Common.{◌≡◌, ℕ, ◌+◌, ◌<◌, List, [], ◌∷◌, ◌++◌, length, map, slice_get, Option, Some, None, refl, sym, ap, ◌∙◌, arith, false, add-zero, ◌-◌, ◌≤◌, get_or, rules, lt-ltb, le-ltb, AllZip, common_steps, map-append, OrderedNode, further_nodes, ordered_nodes, node_at, place_at, game_of, Node, Games, no_games, game, node_count, Line, through, node_lines, lines_of_game, lines_from, lines, last_number, place_of, Path, numbered_nodes, numbered, path_of, paths, leaf_of, IsPathOf, slice_get_within}
 use mathlib.Core.List.{map-map}
 use Rattle.std.proofs.lemmas.Slice.Zip.{AllZip-long, AllZip-right}
 use Rattle.tree_lines.proofs.Visits.{StandsAt, Stands, stands_whole, stands_get, stands_right, stands_own, stands_below, stands_after, first_ordered, some_node, leads}

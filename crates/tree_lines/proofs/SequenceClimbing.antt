@@ -1,6 +1,5 @@
 -- The loops that climb from a sequence to the root of its game.
-use Rattle.tree_lines.proofs.Common.{drop-length, common_steps, drop-set_at, sequence_starts, sequence_numbers, Games, node_count, Front, Part, first_of, sequence_length, parts_of, part_numbers, IsAbove, ArePartsTo, IsWayTo, MeasuresTo}
-use Rattle.std.proofs.Common.{◌≡◌, ℕ, ◌+◌, ◌-◌, ◌<◌, ◌≤◌, List, [], ◌∷◌, ◌++◌, length, set, drop, Option, Some, None, refl, ap, ◌∙◌, arith, append-nil, append_assoc, length-append, length-set, rules}
+use Rattle.tree_lines.proofs.Common.{◌≡◌, ℕ, ◌+◌, ◌-◌, ◌<◌, ◌≤◌, List, [], ◌∷◌, ◌++◌, length, set, drop, Option, Some, None, refl, ap, ◌∙◌, arith, append-nil, append_assoc, length-append, length-set, rules, drop-length, common_steps, drop-set_at, sequence_starts, sequence_numbers, Games, node_count, Front, Part, first_of, sequence_length, parts_of, part_numbers, IsAbove, ArePartsTo, IsWayTo, MeasuresTo}
 use Rattle.tree_lines.specs.inner.Parts.{top, step}
 use Rattle.tree_lines.proofs.SequenceStarts.{first_no_less, length_is, first_within}
 use Rattle.tree_lines.proofs.SequenceParts.{numbers_more, sequence_long}

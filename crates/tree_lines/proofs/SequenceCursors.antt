@@ -1,6 +1,5 @@
 -- What a cursor by sequences shows of the line before it, and where it stands after the next leaf.
-use Rattle.tree_lines.proofs.Common.{range_with_len, take-append_seam, cases_lt, common_steps, length-map, take-map, get_or-range_with_len, length-range_with_len, slice_get-get_or, parent_at, place_at, node_at, nodes_at, game_of, IsLeaf, sequence_starts, sequence_start, sequence_end, sequence_numbers, Node, Games, node_count, Front, CursorState, advanced, IsAfterPlace, lines_before, Continues, path_before, nodes_before, line_before, line_in, nodes_of, lines, place_of, Line, HasNoLineAt, SequencesState, SharesFront, RiseTo, sequences_of, parts_from, Part, first_of, parts_of, part_numbers, part_ends, AreParts, IsAfterSequences, IsCursorKept, IsWayTo, IsNextEnd, IsFrontUpTo, GoesDown, IsAbove, ArePartsTo, HasNoLeaf, IsNextLeaf, IsCutBack, IsAfterLeaf}
-use Rattle.std.proofs.Common.{◌≡◌, ◌≢◌, ℕ, suc, ◌+◌, ◌-◌, ◌<◌, ◌≤◌, inl, inr, List, [], ◌∷◌, ◌++◌, length, get_or, take, slice_get, Option, Some, None, option_map, refl, sym, ap, ◌∙◌, arith, add-one, length-append, rules, length-take-le}
+use Rattle.tree_lines.proofs.Common.{◌≡◌, ◌≢◌, ℕ, suc, ◌+◌, ◌-◌, ◌<◌, ◌≤◌, inl, inr, List, [], ◌∷◌, ◌++◌, length, get_or, take, slice_get, Option, Some, None, option_map, refl, sym, ap, ◌∙◌, arith, add-one, length-append, rules, length-take-le, range_with_len, take-append_seam, cases_lt, common_steps, length-map, take-map, get_or-range_with_len, length-range_with_len, slice_get-get_or, parent_at, place_at, node_at, nodes_at, game_of, IsLeaf, sequence_starts, sequence_start, sequence_end, sequence_numbers, Node, Games, node_count, Front, CursorState, advanced, IsAfterPlace, lines_before, Continues, path_before, nodes_before, line_before, line_in, nodes_of, lines, place_of, Line, HasNoLineAt, SequencesState, SharesFront, RiseTo, sequences_of, parts_from, Part, first_of, parts_of, part_numbers, part_ends, AreParts, IsAfterSequences, IsCursorKept, IsWayTo, IsNextEnd, IsFrontUpTo, GoesDown, IsAbove, ArePartsTo, HasNoLeaf, IsNextLeaf, IsCutBack, IsAfterLeaf}
 use Rattle.std.proofs.Math.ListN.{get_or-append}
 use Rattle.tree_lines.proofs.Fronts.{rises_over}
 use Rattle.tree_lines.proofs.Named.{line_at}

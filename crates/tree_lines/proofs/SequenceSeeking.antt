@@ -1,6 +1,5 @@
 -- The search for the leaf with a place.
-use Rattle.std.proofs.Common.{◌≡◌, ◌≢◌, ℕ, ◌+◌, ◌-◌, ◌<◌, Some, length, option_map, ap, inl, inr, arith}
-use Rattle.tree_lines.proofs.Common.{cases_lt, cases_eq, OrderedNode, place_at, IsLeaf, PlacesRise, sequence_starts, sequence_end, Games, node_count, IsFirstFrom}
+use Rattle.tree_lines.proofs.Common.{◌≡◌, ◌≢◌, ℕ, ◌+◌, ◌-◌, ◌<◌, Some, length, option_map, ap, inl, inr, arith, cases_lt, cases_eq, OrderedNode, place_at, IsLeaf, PlacesRise, sequence_starts, sequence_end, Games, node_count, IsFirstFrom}
 use Rattle.tree_lines.proofs.SequenceStarts.{ordered_there, never_empty, first_rises, first_within, in_sequence, leaf_last}
 use Rattle.tree_lines.proofs.Seeking.{place_within}
 

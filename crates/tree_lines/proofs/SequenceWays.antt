@@ -1,6 +1,5 @@
 -- The way to a sequence by the sequences above it.
-use Rattle.tree_lines.proofs.Common.{common_steps, sequence_starts, sequence_end, Games, Front, Part, sequence_length, part_numbers, AreParts, IsAbove, ArePartsTo, MeasuresTo, IsPathTo}
-use Rattle.std.proofs.Common.{◌≡◌, ℕ, ◌+◌, ◌-◌, ◌<◌, List, [], ◌∷◌, ◌++◌, length, Option, Some, None, refl, sym, ap, subst, ◌∙◌, arith}
+use Rattle.tree_lines.proofs.Common.{◌≡◌, ℕ, ◌+◌, ◌-◌, ◌<◌, List, [], ◌∷◌, ◌++◌, length, Option, Some, None, refl, sym, ap, subst, ◌∙◌, arith, common_steps, sequence_starts, sequence_end, Games, Front, Part, sequence_length, part_numbers, AreParts, IsAbove, ArePartsTo, MeasuresTo, IsPathTo}
 use Rattle.tree_lines.specs.inner.Parts.{top, step}
 use Rattle.tree_lines.proofs.SequenceStarts.{same_sequence, last_in}
 use Rattle.tree_lines.proofs.SequenceParts.{end_of, parent_of, way_down, numbers_more, parts_more}

@@ -1,5 +1,4 @@
-use Rattle.std.proofs.Common.{[], ◌∷◌, ◌++◌, slice_range, arith}
-use Rattle.sgf_properties.specs.Spelling.{no_value, value}
+use Rattle.sgf_properties.proofs.Common.{[], ◌∷◌, ◌++◌, slice_range, arith, no_value, value}
 use Rattle.sgf_properties.proofs.Iterating.{values-joined}
 use Rattle.sgf_properties.proofs.Points.{points-spelled}
 use Rattle.sgf_properties.proofs.iter.more_values_end.Goals as goal

@@ -1,5 +1,4 @@
-use Rattle.std.proofs.Common.{ℕ, ◌-◌, ◌≤◌, List, length, drop}
-use Rattle.sgf_properties.specs.Spelling.{ArePropValues}
+use Rattle.sgf_properties.proofs.Common.{ℕ, ◌-◌, ◌≤◌, List, length, drop, ArePropValues}
 use Rattle.sgf_properties.proofs.iter.more_values_end.Given as goal
 
 abbrev pub invariant-values : goal.invariant-values

@@ -1,5 +1,4 @@
-use Rattle.std.proofs.Common.{◌+◌, get_or, ℕ, List, Option, Some, None, IsSome, MatchOption, drop, slice_range, refl, rules}
-use Rattle.sgf_properties.specs.inner.Iterating.{IsNoPropValue}
+use Rattle.sgf_properties.proofs.Common.{◌+◌, get_or, ℕ, List, Option, Some, None, IsSome, MatchOption, drop, slice_range, refl, rules, IsNoPropValue}
 use Rattle.sgf_properties.proofs.NameEnds.{name-begins}
 use Rattle.sgf_properties.proofs.Iterating.{IsNextProperty, value-there, next-property}
 use Rattle.sgf_properties.proofs.iter.property_at.Goals as goal

@@ -1,5 +1,4 @@
-use Rattle.std.proofs.Common.{[]}
-use Rattle.sgf_properties.specs.Spelling.{no_value}
+use Rattle.sgf_properties.proofs.Common.{[], no_value}
 use Rattle.sgf_properties.proofs.Iterating.{no-bracket}
 use Rattle.sgf_properties.proofs.iter.values_end.Goals as goal
 

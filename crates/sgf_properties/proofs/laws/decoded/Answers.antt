@@ -1,5 +1,4 @@
-use Rattle.std.proofs.Common.{sym, subst}
-use Rattle.sgf_properties.specs.Text.{IsDecoded}
+use Rattle.sgf_properties.proofs.Common.{sym, subst, IsDecoded}
 use Rattle.sgf_properties.proofs.Decoding.{is-decoded, decoded-is}
 use Rattle.sgf_properties.proofs.laws.decoded.Goals as goal
 

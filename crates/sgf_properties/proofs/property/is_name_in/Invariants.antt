@@ -1,5 +1,4 @@
-use Rattle.std.proofs.Common.{◌≡◌, ◌≤◌, length, take, filter}
-use Rattle.sgf_properties.specs.Spelling.{is_upper}
+use Rattle.sgf_properties.proofs.Common.{◌≡◌, ◌≤◌, length, take, filter, is_upper}
 use Rattle.sgf_properties.proofs.property.is_name_in.Given as goal
 
 abbrev pub invariant-loop-letter : goal.invariant-loop-letter

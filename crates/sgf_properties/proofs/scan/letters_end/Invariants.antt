@@ -1,5 +1,4 @@
-use Rattle.std.proofs.Common.{◌≡◌, ℕ, ◌-◌, ◌<◌, ◌≤◌, true, length, get_or}
-use Rattle.sgf_properties.specs.Front.{is_letter}
+use Rattle.sgf_properties.proofs.Common.{◌≡◌, ℕ, ◌-◌, ◌<◌, ◌≤◌, true, length, get_or, is_letter}
 use Rattle.sgf_properties.proofs.scan.letters_end.Given as goal
 
 abbrev pub invariant-letters : goal.invariant-letters

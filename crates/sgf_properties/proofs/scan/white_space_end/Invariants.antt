@@ -1,5 +1,4 @@
-use Rattle.std.proofs.Common.{◌≡◌, ℕ, ◌-◌, ◌<◌, ◌≤◌, true, length, get_or}
-use Rattle.sgf_properties.specs.Spelling.{is_white_space}
+use Rattle.sgf_properties.proofs.Common.{◌≡◌, ℕ, ◌-◌, ◌<◌, ◌≤◌, true, length, get_or, is_white_space}
 use Rattle.sgf_properties.proofs.scan.white_space_end.Given as goal
 
 abbrev pub invariant-white_space : goal.invariant-white_space

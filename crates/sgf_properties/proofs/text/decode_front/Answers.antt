@@ -2,15 +2,15 @@ use Rattle.sgf_properties.proofs.Common.{◌≡◌, ◌<◌, ◌-◌, ℕ, true,
 use Rattle.sgf_properties.proofs.text.decode_front.Goals as goal
 
 -- a line break of two bytes, and an escaped byte, in front
-pair : (s : List ℕ) → is_pair (get_or s 0 0) (get_or s 1 0) ≡ true → text_of s ≡ 10 ∷ text_of (take (length s - 2) (drop 2 s))
-pair s h = rw take_rest (grind (arith, common_steps))
+pair_in_front : (s : List ℕ) → is_pair (get_or s 0 0) (get_or s 1 0) ≡ true → text_of s ≡ 10 ∷ text_of (take (length s - 2) (drop 2 s))
+pair_in_front s h = rw take_rest (grind (arith, common_steps))
 
-escaped : (xs s : List ℕ) → (1 < length s) × (get_or s 0 0 ≡ 92) × (2 < length s → is_pair (get_or s 1 0) (get_or s 2 0) ≡ false) × (after_backslash (get_or s 1 0) ≡ xs) →
+escaped_in_front : (xs s : List ℕ) → (1 < length s) × (get_or s 0 0 ≡ 92) × (2 < length s → is_pair (get_or s 1 0) (get_or s 2 0) ≡ false) × (after_backslash (get_or s 1 0) ≡ xs) →
     text_of s ≡ xs ++ text_of (take (length s - 2) (drop 2 s))
-escaped xs s h = rw take_rest (grind (arith, common_steps))
+escaped_in_front xs s h = rw take_rest (grind (arith, common_steps))
 
 pub returns-in-92-3-clause-decoded : goal.returns-in-92-3-clause-decoded
-returns-in-92-3-clause-decoded c = escaped (_ ∷ []) c.args.raw.now (grind arith)
+returns-in-92-3-clause-decoded c = escaped_in_front (_ ∷ []) c.args.raw.now (grind arith)
 
 pub returns-in-13-clause-decoded : goal.returns-in-13-clause-decoded
-returns-in-13-clause-decoded c = pair c.args.raw.now (grind arith)
+returns-in-13-clause-decoded c = pair_in_front c.args.raw.now (grind arith)

@@ -1,5 +1,4 @@
-use Rattle.std.proofs.Common.{◌-◌, ◌≤◌, length}
-use Rattle.sgf_properties.specs.inner.Literals.{AreLiterals}
+use Rattle.sgf_properties.proofs.Common.{◌-◌, ◌≤◌, length, AreLiterals}
 use Rattle.sgf_properties.proofs.text.literal_length.Given as goal
 
 -- the bytes so far are literal

@@ -1,5 +1,4 @@
-use Rattle.std.proofs.Common.{◌≡◌, ◌+◌, ◌≤◌, ◌++◌, length, vec_len, vec_capacity}
-use Rattle.sgf_properties.specs.Text.{text_of}
+use Rattle.sgf_properties.proofs.Common.{◌≡◌, ◌+◌, ◌≤◌, ◌++◌, length, vec_len, vec_capacity, text_of}
 use Rattle.sgf_properties.proofs.text.push_text.Given as goal
 
 -- what is appended so far and the text of the rest are the whole text, and there is room for the rest

@@ -1,5 +1,4 @@
-use Rattle.std.proofs.Common.{◌+◌, ◌<◌, length, arith, rules}
-use Rattle.std.proofs.lemmas.Bool.{cases_lt}
+use Rattle.sgf_properties.proofs.Common.{◌+◌, ◌<◌, length, arith, rules, cases_lt}
 use Rattle.sgf_properties.proofs.value.escapes_end.Goals as goal
 
 pub escapes-preserved : goal.escapes-preserved

@@ -1,5 +1,4 @@
-use Rattle.std.proofs.Common.{◌-◌, length}
-use Rattle.sgf_properties.specs.inner.Searches.{AreEscapes}
+use Rattle.sgf_properties.proofs.Common.{◌-◌, length, AreEscapes}
 use Rattle.sgf_properties.proofs.value.escapes_end.Given as goal
 
 abbrev pub invariant-escapes : goal.invariant-escapes

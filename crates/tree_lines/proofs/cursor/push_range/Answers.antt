@@ -1,6 +1,5 @@
 -- There is room for each number, and it stands after those so far.
-use Rattle.tree_lines.proofs.Common.{range_with_len, common_steps, length-range_with_len}
-use Rattle.std.proofs.Common.{◌≡◌, ◌+◌, ◌-◌, ◌++◌, ◌∷◌, [], length-append, append_assoc, arith}
+use Rattle.tree_lines.proofs.Common.{◌≡◌, ◌+◌, ◌-◌, ◌++◌, ◌∷◌, [], length-append, append_assoc, arith, range_with_len, common_steps, length-range_with_len}
 use Rattle.tree_lines.proofs.Lists.{range_append}
 use Rattle.tree_lines.proofs.cursor.push_range.Goals as goal
 

@@ -1,6 +1,5 @@
 -- The numbers so far are appended, and there is room for the others.
-use Rattle.std.proofs.Common.{◌≡◌, ◌+◌, ◌-◌, ◌≤◌, ◌++◌, vec_len, vec_capacity}
-use Rattle.std.specs.List.{range_with_len}
+use Rattle.tree_lines.proofs.Common.{◌≡◌, ◌+◌, ◌-◌, ◌≤◌, ◌++◌, vec_len, vec_capacity, range_with_len}
 use Rattle.tree_lines.proofs.cursor.push_range.Given as goal
 
 abbrev pub invariant-loop-number : goal.invariant-loop-number

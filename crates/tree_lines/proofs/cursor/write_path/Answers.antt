@@ -1,6 +1,5 @@
 -- Each sequence follows those before it, until all nodes are there.
-use Rattle.std.proofs.Common.{◌≡◌, ℕ, ◌+◌, ◌-◌, ◌++◌, List, length, drop, sym, ap, ◌∙◌, append_assoc, append-nil, length-append, arith, rules, take-append-drop}
-use Rattle.tree_lines.proofs.Common.{range_with_len, length-range_with_len, nodes_before, path_before, nodes_in}
+use Rattle.tree_lines.proofs.Common.{◌≡◌, ℕ, ◌+◌, ◌-◌, ◌++◌, List, length, drop, sym, ap, ◌∙◌, append_assoc, append-nil, length-append, arith, rules, take-append-drop, range_with_len, length-range_with_len, nodes_before, path_before, nodes_in}
 use Rattle.tree_lines.proofs.Fronts.{next_part, none_after}
 use Rattle.tree_lines.proofs.LineNodes.{as_long}
 use Rattle.tree_lines.proofs.cursor.write_path.Goals as goal

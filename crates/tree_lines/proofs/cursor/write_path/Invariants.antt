@@ -1,6 +1,5 @@
 -- The path goes up to the next sequence, and there is room for the nodes after it.
-use Rattle.std.proofs.Common.{◌≡◌, ◌≤◌, ◌++◌, length, drop, vec_capacity}
-use Rattle.tree_lines.proofs.Common.{nodes_before, path_before, nodes_in}
+use Rattle.tree_lines.proofs.Common.{◌≡◌, ◌≤◌, ◌++◌, length, drop, vec_capacity, nodes_before, path_before, nodes_in}
 use Rattle.tree_lines.proofs.cursor.write_path.Given as goal
 
 abbrev pub invariant-loop-index : goal.invariant-loop-index

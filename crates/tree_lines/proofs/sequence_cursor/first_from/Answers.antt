@@ -1,6 +1,5 @@
 -- Places rise in file order, and so do those of the last nodes of sequences.
-use Rattle.tree_lines.proofs.Common.{cases_eq, common_steps}
-use Rattle.std.proofs.Common.{◌≡◌, ◌+◌, ◌-◌, ◌/◌, inl, inr, arith}
+use Rattle.tree_lines.proofs.Common.{◌≡◌, ◌+◌, ◌-◌, ◌/◌, inl, inr, arith, cases_eq, common_steps}
 use Rattle.tree_lines.proofs.SequenceSeeking.{lasts_rise}
 use Rattle.tree_lines.proofs.sequence_cursor.first_from.Goals as goal
 

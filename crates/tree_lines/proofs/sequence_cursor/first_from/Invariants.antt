@@ -1,6 +1,5 @@
 -- The last nodes of all sequences before `low` are before the place, and that of the sequence `high` isn't.
-use Rattle.std.proofs.Common.{◌≡◌, ◌-◌, ◌<◌, ◌≤◌, ℕ, Some, length}
-use Rattle.sgf_outline.specs.FileOrder.{place_at, sequence_starts, sequence_end}
+use Rattle.tree_lines.proofs.Common.{◌≡◌, ◌-◌, ◌<◌, ◌≤◌, ℕ, Some, length, place_at, sequence_starts, sequence_end}
 use Rattle.tree_lines.proofs.sequence_cursor.first_from.Given as goal
 
 abbrev pub invariant-loop-low : goal.invariant-loop-low

@@ -1,6 +1,5 @@
 -- One step back leaves one sequence out.
-use Rattle.std.proofs.Common.{◌≡◌, ◌≤◌, ◌<◌, ◌-◌, ◌+◌, ℕ, inl, inr, length, get_or, take, slice_get, Some, sym, ap, ◌∙◌, arith, rules}
-use Rattle.tree_lines.proofs.Common.{take-length, cases_eq, slice_get-get_or, slice_get_within, sequence_starts, Part, parts_of, part_numbers, sequence_length}
+use Rattle.tree_lines.proofs.Common.{◌≡◌, ◌≤◌, ◌<◌, ◌-◌, ◌+◌, ℕ, inl, inr, length, get_or, take, slice_get, Some, sym, ap, ◌∙◌, arith, rules, take-length, cases_eq, slice_get-get_or, slice_get_within, sequence_starts, Part, parts_of, part_numbers, sequence_length}
 use Rattle.tree_lines.proofs.SequenceParts.{length-parts_of, part_at, one_back}
 use Rattle.tree_lines.proofs.SequenceCuts.{nodes_are}
 use Rattle.tree_lines.proofs.sequence_cursor.front_up_to.Goals as goal

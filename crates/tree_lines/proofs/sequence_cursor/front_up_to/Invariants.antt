@@ -1,6 +1,5 @@
 -- The sequences from the end of the path that were passed are others, and their nodes aren't counted.
-use Rattle.std.proofs.Common.{◌≡◌, ◌≢◌, ◌≤◌, ℕ, length, slice_get, take, Some}
-use Rattle.tree_lines.specs.inner.Parts.{Part, parts_of, part_numbers}
+use Rattle.tree_lines.proofs.Common.{◌≡◌, ◌≢◌, ◌≤◌, ℕ, length, slice_get, take, Some, Part, parts_of, part_numbers}
 use Rattle.tree_lines.proofs.sequence_cursor.front_up_to.Given as goal
 
 abbrev pub invariant-loop-kept : goal.invariant-loop-kept

@@ -1,6 +1,5 @@
 -- One step up the way counts one sequence more, and its nodes.
-use Rattle.std.proofs.lemmas.Grind.{common_steps}
-use Rattle.std.proofs.Common.{arith}
+use Rattle.tree_lines.proofs.Common.{common_steps, arith}
 use Rattle.tree_lines.proofs.SequenceClimbing.{measures, measured}
 use Rattle.tree_lines.proofs.sequence_cursor.measure.Goals as goal
 

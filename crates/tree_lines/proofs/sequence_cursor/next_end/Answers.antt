@@ -1,6 +1,5 @@
 -- A sequence that ends in no leaf has none.
-use Rattle.tree_lines.proofs.Common.{both_ways, common_steps}
-use Rattle.std.proofs.Common.{arith, rules}
+use Rattle.tree_lines.proofs.Common.{arith, rules, both_ways, common_steps}
 use Rattle.tree_lines.proofs.SequenceStarts.{no_leaf_inside, no_leaf_more, past_all}
 use Rattle.tree_lines.proofs.sequence_cursor.next_end.Goals as goal
 

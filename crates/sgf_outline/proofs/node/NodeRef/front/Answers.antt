@@ -1,5 +1,4 @@
-use Rattle.std.proofs.Common.{◌∙◌, sym, ap}
-use Rattle.sgf_outline.specs.Tree.{Node}
+use Rattle.sgf_outline.proofs.Common.{◌∙◌, sym, ap, Node}
 use Rattle.sgf_outline.proofs.LoneNodes.{front-left}
 use Rattle.sgf_outline.proofs.node.NodeRef.front.Goals as goal
 

@@ -1,5 +1,4 @@
-use Rattle.std.proofs.Common.{ap, slice_get, ◌∙◌, sym}
-use Rattle.sgf_outline.specs.Tree.{Property}
+use Rattle.sgf_outline.proofs.Common.{ap, slice_get, ◌∙◌, sym, Property}
 use Rattle.sgf_properties.proofs.Taking.{taken-at}
 use Rattle.sgf_outline.proofs.node.NodeRef.prop.Goals as goal
 

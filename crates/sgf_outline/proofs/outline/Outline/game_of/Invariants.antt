@@ -1,6 +1,5 @@
 -- The climb stays in the game.
-use Rattle.std.proofs.Common.{◌≡◌, ◌<◌, length}
-use Rattle.sgf_outline.specs.FileOrder.{game_of, sequence_starts, sequence_start}
+use Rattle.sgf_outline.proofs.Common.{◌≡◌, ◌<◌, length, game_of, sequence_starts, sequence_start}
 use Rattle.sgf_outline.proofs.outline.Outline.game_of.Given as goal
 
 abbrev pub invariant-climb : goal.invariant-climb

@@ -1,5 +1,4 @@
-use Rattle.std.proofs.Common.{subst, arith}
-use Rattle.sgf_outline.specs.FileOrder.{PlacesRise}
+use Rattle.sgf_outline.proofs.Common.{subst, arith, PlacesRise}
 use Rattle.sgf_outline.proofs.PlacesRise.{places-rise}
 use Rattle.sgf_outline.proofs.Outlined.{node-in}
 use Rattle.sgf_outline.proofs.outline.Outline.nodes.Goals as goal

@@ -1,5 +1,4 @@
-use Rattle.std.proofs.Common.{◌≢◌, List, ℕ, [], ◌∙◌, get_or, sym}
-use Rattle.std.proofs.lemmas.List.Elements.{All-more}
+use Rattle.sgf_outline.proofs.Common.{◌≢◌, List, ℕ, [], ◌∙◌, get_or, sym, All-more}
 use Rattle.std.specs.Cmp.Lexicographic.{other_text}
 use Rattle.sgf_outline.proofs.quick.lead.is_other.Goals as goal
 

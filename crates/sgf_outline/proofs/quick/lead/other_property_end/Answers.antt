@@ -1,5 +1,4 @@
-use Rattle.std.proofs.lemmas.Grind.{common_steps}
-use Rattle.std.proofs.Common.{arith}
+use Rattle.sgf_outline.proofs.Common.{common_steps, arith}
 use Rattle.sgf_outline.proofs.Leading.{other-property}
 use Rattle.sgf_outline.proofs.ShortBytes.{two-value}
 use Rattle.sgf_outline.proofs.quick.lead.other_property_end.Goals as goal

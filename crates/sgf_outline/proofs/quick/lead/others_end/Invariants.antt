@@ -1,5 +1,4 @@
-use Rattle.std.proofs.Common.{◌-◌, length}
-use Rattle.sgf_outline.specs.inner.Lead.{AreOtherProperties}
+use Rattle.sgf_outline.proofs.Common.{◌-◌, length, AreOtherProperties}
 use Rattle.sgf_outline.proofs.quick.lead.others_end.Given as goal
 
 abbrev pub invariant-properties : goal.invariant-properties

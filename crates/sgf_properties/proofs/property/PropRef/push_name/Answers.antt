@@ -1,5 +1,4 @@
-use Rattle.std.proofs.lemmas.List.Elements.{filter_more}
-use Rattle.sgf_properties.proofs.Common.{append-nil, append_assoc, arith, is_upper}
+use Rattle.sgf_properties.proofs.Common.{filter_more, append-nil, append_assoc, arith, is_upper}
 use Rattle.sgf_properties.proofs.property.PropRef.push_name.Goals as goal
 
 pub loop-letter-preserved : goal.loop-letter-preserved

@@ -1,5 +1,4 @@
-use Rattle.std.proofs.Common.{◌≡◌, ◌≤◌, ◌+◌, ◌-◌, ◌++◌, length, take, filter, vec_len, vec_capacity}
-use Rattle.sgf_properties.specs.Spelling.{is_upper}
+use Rattle.sgf_properties.proofs.Common.{◌≡◌, ◌≤◌, ◌+◌, ◌-◌, ◌++◌, length, take, filter, vec_len, vec_capacity, is_upper}
 use Rattle.sgf_properties.proofs.property.PropRef.push_name.Given as goal
 
 abbrev pub invariant-loop-letter : goal.invariant-loop-letter

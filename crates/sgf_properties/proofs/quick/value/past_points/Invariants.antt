@@ -1,5 +1,4 @@
-use Rattle.std.proofs.Common.{◌-◌, ◌≤◌, length}
-use Rattle.sgf_properties.specs.Offsets.{ArePoints, IsBracket}
+use Rattle.sgf_properties.proofs.Common.{◌-◌, ◌≤◌, length, ArePoints, IsBracket}
 use Rattle.sgf_properties.proofs.quick.value.past_points.Given as goal
 
 abbrev pub invariant-points : goal.invariant-points

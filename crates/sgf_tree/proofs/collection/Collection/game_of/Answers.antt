@@ -1,5 +1,4 @@
-use Rattle.std.proofs.Common.{◌≡◌, ◌∙◌, ◌+◌, ◌-◌, ℕ, ap, sym, arith}
-use Rattle.sgf_outline.specs.FileOrder.{game_of, sequence_start}
+use Rattle.sgf_tree.proofs.Common.{◌≡◌, ◌∙◌, ◌+◌, ◌-◌, ℕ, ap, sym, arith, game_of, sequence_start}
 use Rattle.sgf_outline.proofs.Outlined.{same-game}
 use Rattle.sgf_tree.proofs.collection.Collection.game_of.Goals as goal
 

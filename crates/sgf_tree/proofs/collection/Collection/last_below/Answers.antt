@@ -1,5 +1,4 @@
-use Rattle.sgf_tree.proofs.Common.{common_steps, slice_get_read, IsLastBelow, node_count, lasts}
-use Rattle.std.proofs.Common.{◌≡◌, ◌≤◌, ◌<◌, ◌+◌, get_or, length, refl, ap, subst, arith, slice_get, Some}
+use Rattle.sgf_tree.proofs.Common.{◌≡◌, ◌≤◌, ◌<◌, ◌+◌, get_or, length, refl, ap, subst, arith, slice_get, Some, common_steps, slice_get_read, IsLastBelow, node_count, lasts}
 use Rattle.sgf_tree.proofs.LastBelow.{lasts-below}
 use Rattle.sgf_outline.proofs.Starts.{starts-are}
 use Rattle.sgf_tree.proofs.Stacks.{length-lasts}

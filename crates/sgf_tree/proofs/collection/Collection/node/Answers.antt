@@ -1,5 +1,4 @@
-use Rattle.sgf_tree.proofs.Common.{common_steps, place_at}
-use Rattle.std.proofs.Common.{◌≡◌, Some, arith, rules}
+use Rattle.sgf_tree.proofs.Common.{◌≡◌, Some, arith, rules, common_steps, place_at}
 use Rattle.sgf_tree.proofs.PlacesKept.{places_count, place_kept}
 use Rattle.sgf_tree.proofs.collection.Collection.node.Goals as goal
 use Rattle.sgf_tree.proofs.collection.Collection.node.Goals.{After-index}

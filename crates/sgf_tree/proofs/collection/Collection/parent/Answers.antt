@@ -1,5 +1,4 @@
-use Rattle.std.proofs.lemmas.Grind.{common_steps}
-use Rattle.std.proofs.Common.{arith}
+use Rattle.sgf_tree.proofs.Common.{common_steps, arith}
 use Rattle.sgf_outline.proofs.Outlined.{sequence-further}
 use Rattle.sgf_tree.proofs.collection.Collection.parent.Goals as goal
 

@@ -1,5 +1,4 @@
-use Rattle.std.proofs.lemmas.Grind.{common_steps}
-use Rattle.std.proofs.Common.{arith}
+use Rattle.sgf_tree.proofs.Common.{common_steps, arith}
 use Rattle.sgf_tree.proofs.PlacesKept.{places_count, place_kept}
 use Rattle.sgf_tree.proofs.collection.Collection.place.Goals as goal
 

@@ -1,5 +1,4 @@
-use Rattle.std.proofs.Common.{◌≡◌, ℕ, ◌-◌, length, set, Some, sym, ap, subst, arith}
-use Rattle.sgf_tree.proofs.Common.{HoldsSequences, nothing, Numbered}
+use Rattle.sgf_tree.proofs.Common.{◌≡◌, ℕ, ◌-◌, length, set, Some, sym, ap, subst, arith, HoldsSequences, nothing, Numbered}
 use Rattle.sgf_outline.proofs.GameEnds.{fewer-games}
 use Rattle.sgf_tree.proofs.KeptNodes.{length-places, length-lasts, nodes-ended}
 use Rattle.sgf_outline.proofs.KeptSequences.{innermost-within}

@@ -1,6 +1,5 @@
 -- The answer is only there for speed.
-use Rattle.std.proofs.Common.{[], ◌∷◌, ◌++◌, ap, ◌∙◌, append_assoc, rules}
-use Rattle.sgf_tree.proofs.Common.{unclosed_nodes, ordered_places}
+use Rattle.sgf_tree.proofs.Common.{[], ◌∷◌, ◌++◌, ap, ◌∙◌, append_assoc, rules, unclosed_nodes, ordered_places}
 use Rattle.sgf_tree.proofs.numbered.NumberedVisitor.node.Goals as goal
 
 pub returns : goal.returns

@@ -1,5 +1,4 @@
-use Rattle.std.proofs.Common.{refl, ◌+◌, sym, subst, arith}
-use Rattle.sgf_outline.specs.Move.{IsMoveNode}
+use Rattle.sgf_tree.proofs.Common.{refl, ◌+◌, sym, subst, arith, IsMoveNode}
 use Rattle.sgf_tree.proofs.OwnRead.{move-ends, move-read}
 use Rattle.sgf_tree.proofs.quick.nodes.near_nodes.Goals as goal
 

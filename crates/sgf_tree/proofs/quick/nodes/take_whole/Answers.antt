@@ -1,5 +1,4 @@
-use Rattle.std.proofs.Common.{◌+◌, arith}
-use Rattle.sgf_tree.proofs.Common.{NodesRead, StandsIn}
+use Rattle.sgf_tree.proofs.Common.{◌+◌, arith, NodesRead, StandsIn}
 use Rattle.sgf_tree.proofs.OwnRead.{piece-copied, own-more}
 use Rattle.sgf_tree.proofs.quick.nodes.take_whole.Goals as goal
 

@@ -1,5 +1,4 @@
-use Rattle.std.proofs.Common.{◌≡◌, ◌+◌, subst, arith}
-use Rattle.sgf_tree.specs.inner.PropertiesRead.{StandsIn}
+use Rattle.sgf_tree.proofs.Common.{◌≡◌, ◌+◌, subst, arith, StandsIn}
 use Rattle.sgf_tree.proofs.ShortProperties.{after-move, read-to-more, read-to-end, stands-join, so-far-more, so-far-done}
 use Rattle.sgf_tree.proofs.quick.properties.after_move.Goals as goal
 

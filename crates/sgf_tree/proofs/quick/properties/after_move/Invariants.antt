@@ -1,5 +1,4 @@
-use Rattle.std.proofs.Common.{◌-◌, ◌≤◌, length}
-use Rattle.sgf_tree.specs.inner.PropertiesRead.{StandsIn}
+use Rattle.sgf_tree.proofs.Common.{◌-◌, ◌≤◌, length, StandsIn}
 use Rattle.sgf_tree.proofs.ShortProperties.{AreReadTo, ReadSoFar}
 use Rattle.sgf_tree.proofs.quick.properties.after_move.Given as goal
 

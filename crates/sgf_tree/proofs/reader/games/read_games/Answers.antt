@@ -1,5 +1,4 @@
-use Rattle.sgf_tree.proofs.Common.{common_steps, err_from_is_err_and}
-use Rattle.std.proofs.Common.{◌≡◌, ◌<◌, ◌⊎◌, inl, inr, arith}
+use Rattle.sgf_tree.proofs.Common.{◌≡◌, ◌<◌, ◌⊎◌, inl, inr, arith, common_steps, err_from_is_err_and}
 use Rattle.sgf_tree.proofs.GamesLoop.{games-unclosed, games-faulty, depth-within}
 use Rattle.sgf_tree.proofs.WholeRead.{games-opened, unopened-faulty, games-closed, games-faulty-end, games-read}
 use Rattle.sgf_tree.proofs.reader.games.read_games.Goals as goal

@@ -1,5 +1,4 @@
-use Rattle.std.proofs.Common.{◌-◌, length}
-use Rattle.sgf_properties.specs.KeptLengths.{AreKeptLengths}
+use Rattle.sgf_tree.proofs.Common.{◌-◌, length, AreKeptLengths}
 use Rattle.sgf_tree.proofs.WholeRead.{GamesSoFar}
 use Rattle.sgf_tree.proofs.reader.games.read_games.Given as goal
 

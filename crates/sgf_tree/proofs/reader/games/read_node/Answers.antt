@@ -1,5 +1,4 @@
-use Rattle.std.proofs.Common.{◌≡◌, ◌+◌, refl, ap, subst, arith, rules}
-use Rattle.sgf_tree.proofs.Common.{err_from_is_err_and, OwnNodes, Copies, NodesRead, AreNodesRead, ArePropertiesRead}
+use Rattle.sgf_tree.proofs.Common.{◌≡◌, ◌+◌, refl, ap, subst, arith, rules, err_from_is_err_and, OwnNodes, Copies, NodesRead, AreNodesRead, ArePropertiesRead}
 use Rattle.sgf_tree.proofs.OwnRead.{parts-copied, read-node, own-more}
 use Rattle.sgf_tree.proofs.reader.games.read_node.Goals as goal
 

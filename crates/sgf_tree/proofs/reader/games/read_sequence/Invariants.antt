@@ -1,5 +1,4 @@
-use Rattle.std.proofs.Common.{◌-◌, length}
-use Rattle.sgf_tree.proofs.Common.{AreKeptLengths, Stack, opened, nothing, AreOwnRead, ComesTo}
+use Rattle.sgf_tree.proofs.Common.{◌-◌, length, AreKeptLengths, Stack, opened, nothing, AreOwnRead, ComesTo}
 use Rattle.sgf_tree.proofs.reader.games.read_sequence.Given as goal
 
 abbrev pub invariant-nodes : goal.invariant-nodes

@@ -1,5 +1,4 @@
-use Rattle.std.proofs.Common.{◌≡◌, ◌+◌, slice_range, subst, arith, rules}
-use Rattle.sgf_tree.proofs.Common.{name_in, Copies}
+use Rattle.sgf_tree.proofs.Common.{◌≡◌, ◌+◌, slice_range, subst, arith, rules, name_in, Copies}
 use Rattle.sgf_outline.proofs.Copying.{copies-then}
 use Rattle.sgf_tree.proofs.NameEnds.{name-join}
 use Rattle.sgf_properties.proofs.Spans.{span-none}

@@ -1,5 +1,4 @@
-use Rattle.std.proofs.Common.{◌-◌, ◌≤◌, slice_range}
-use Rattle.sgf_tree.proofs.Common.{name_in, Copies}
+use Rattle.sgf_tree.proofs.Common.{◌-◌, ◌≤◌, slice_range, name_in, Copies}
 use Rattle.sgf_tree.proofs.reader.properties.copy_capitals.Given as goal
 
 abbrev pub invariant-letters : goal.invariant-letters

@@ -1,5 +1,4 @@
-use Rattle.std.proofs.Common.{subst, arith}
-use Rattle.sgf_outline.specs.OwnNodes.{Copies}
+use Rattle.sgf_tree.proofs.Common.{subst, arith, Copies}
 use Rattle.sgf_tree.proofs.NameEnds.{name-read, capitals-are}
 use Rattle.sgf_properties.proofs.NameEnds.{bracket-here}
 use Rattle.sgf_tree.proofs.reader.properties.read_name.Goals as goal

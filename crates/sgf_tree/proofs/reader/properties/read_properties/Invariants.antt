@@ -1,5 +1,4 @@
-use Rattle.std.proofs.Common.{◌-◌, ◌≤◌, length}
-use Rattle.sgf_tree.proofs.Common.{AreKeptLengths, Copies}
+use Rattle.sgf_tree.proofs.Common.{◌-◌, ◌≤◌, length, AreKeptLengths, Copies}
 use Rattle.sgf_tree.proofs.ShortProperties.{ReadSoFar}
 use Rattle.sgf_tree.proofs.reader.properties.read_properties.Given as goal
 

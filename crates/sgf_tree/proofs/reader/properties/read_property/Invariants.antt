@@ -1,5 +1,4 @@
-use Rattle.std.proofs.Common.{◌-◌, ◌≤◌, length}
-use Rattle.sgf_tree.proofs.Common.{AreKeptLengths, IsBracket, Copies}
+use Rattle.sgf_tree.proofs.Common.{◌-◌, ◌≤◌, length, AreKeptLengths, IsBracket, Copies}
 use Rattle.sgf_tree.proofs.ValuesRead.{ValuesSoFar}
 use Rattle.sgf_tree.proofs.reader.properties.read_property.Given as goal
 

@@ -1,5 +1,4 @@
-use Rattle.std.proofs.Common.{◌≡◌, ◌∙◌, ap, arith, refl}
-use Rattle.tree_lines.proofs.Common.{advanced, common_steps}
+use Rattle.tree_lines.proofs.Common.{◌≡◌, ◌∙◌, ap, arith, refl, advanced, common_steps}
 use Rattle.tree_lines.proofs.cursor.Cursor.next.Goals as goal
 
 pub invariant_of-self : goal.invariant_of-self

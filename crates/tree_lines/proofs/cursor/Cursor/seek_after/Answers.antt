@@ -1,6 +1,5 @@
 -- The cursor by sequences was made of the same collection.
-use Rattle.std.proofs.Common.{◌≡◌, ◌∙◌, ap}
-use Rattle.tree_lines.proofs.Common.{CursorState, SequencesState, err_from_is_err_and}
+use Rattle.tree_lines.proofs.Common.{◌≡◌, ◌∙◌, ap, CursorState, SequencesState, err_from_is_err_and}
 use Rattle.tree_lines.proofs.cursor.Cursor.seek_after.Goals as goal
 use Rattle.tree_lines.proofs.cursor.Cursor.seek_after.Goals.{After-new-sequences}
 

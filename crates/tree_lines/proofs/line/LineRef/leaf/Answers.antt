@@ -1,6 +1,5 @@
 -- The last number of a list stands at its length less 1.
-use Rattle.std.proofs.Common.{◌≡◌, ℕ, ◌-◌, ◌<◌, List, [], ◌∷◌, length, slice_index_or, suc, refl, arith}
-use Rattle.tree_lines.specs.Lines.{last_number}
+use Rattle.tree_lines.proofs.Common.{◌≡◌, ℕ, ◌-◌, ◌<◌, List, [], ◌∷◌, length, slice_index_or, suc, refl, arith, last_number}
 use Rattle.tree_lines.proofs.line.LineRef.leaf.Goals as goal
 
 last_at : (ns : List ℕ) → 0 < length ns → slice_index_or ns (length ns - 1) 0 ≡ last_number ns

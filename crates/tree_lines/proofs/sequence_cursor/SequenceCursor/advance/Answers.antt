@@ -1,6 +1,5 @@
 -- The cursor stands after the next leaf.
-use Rattle.tree_lines.proofs.Common.{range_with_len, common_steps, length-range_with_len, parts_of, err_from_is_err_and}
-use Rattle.std.proofs.Common.{◌≡◌, ◌+◌, ◌-◌, ◌++◌, ◌∷◌, [], take, refl, length-append, append-nil, append_assoc, arith, rules}
+use Rattle.tree_lines.proofs.Common.{◌≡◌, ◌+◌, ◌-◌, ◌++◌, ◌∷◌, [], take, refl, length-append, append-nil, append_assoc, arith, rules, range_with_len, common_steps, length-range_with_len, parts_of, err_from_is_err_and}
 use Rattle.tree_lines.proofs.Lists.{range_append}
 use Rattle.tree_lines.proofs.SequenceStarts.{fewer}
 use Rattle.tree_lines.proofs.SequenceCursors.{front_kept, next_rises, next_few, goes_on, kept_further, moved, shares_front}

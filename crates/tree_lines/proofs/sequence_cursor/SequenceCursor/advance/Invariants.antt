@@ -1,6 +1,5 @@
 -- The sequences so far are appended, and there is room for the others.
-use Rattle.std.proofs.Common.{◌≡◌, ◌+◌, ◌-◌, ◌≤◌, ◌++◌, vec_capacity}
-use Rattle.std.specs.List.{range_with_len}
+use Rattle.tree_lines.proofs.Common.{◌≡◌, ◌+◌, ◌-◌, ◌≤◌, ◌++◌, vec_capacity, range_with_len}
 use Rattle.tree_lines.proofs.sequence_cursor.SequenceCursor.advance.Given as goal
 
 abbrev pub invariant-loop-sequence : goal.invariant-loop-sequence

@@ -1,6 +1,5 @@
 -- The line has as many nodes as are kept.
-use Rattle.std.proofs.Common.{◌≡◌, length, ap, arith, rules}
-use Rattle.tree_lines.proofs.Common.{node_count, nodes_before}
+use Rattle.tree_lines.proofs.Common.{◌≡◌, length, ap, arith, rules, node_count, nodes_before}
 use Rattle.tree_lines.proofs.SequenceCursors.{nodes_long, few_nodes, games_are}
 use Rattle.tree_lines.proofs.sequence_cursor.SequenceCursor.len.Goals as goal
 

@@ -1,6 +1,5 @@
 -- No line ends before the first node.
-use Rattle.std.proofs.Common.{ap, ◌∙◌}
-use Rattle.tree_lines.specs.inner.Parts.{parts_of}
+use Rattle.tree_lines.proofs.Common.{ap, ◌∙◌, parts_of}
 use Rattle.tree_lines.proofs.SequenceCursors.{seen, kept_first, seen_first}
 use Rattle.tree_lines.proofs.sequence_cursor.SequenceCursor.new.Goals as goal
 

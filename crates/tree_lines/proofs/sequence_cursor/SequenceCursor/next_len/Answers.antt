@@ -1,6 +1,5 @@
 -- The next line has the front that is kept, and the nodes down to its leaf.
-use Rattle.std.proofs.lemmas.Grind.{common_steps}
-use Rattle.std.proofs.Common.{arith}
+use Rattle.tree_lines.proofs.Common.{common_steps, arith}
 use Rattle.tree_lines.proofs.SequenceStarts.{start_is}
 use Rattle.tree_lines.proofs.SequenceCursors.{no_nodes, front_before, next_long, next_rises}
 use Rattle.tree_lines.proofs.sequence_cursor.SequenceCursor.next_len.Goals as goal

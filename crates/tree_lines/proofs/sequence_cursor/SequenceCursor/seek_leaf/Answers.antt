@@ -1,6 +1,5 @@
 -- The leaf is the last node of its sequence.
-use Rattle.tree_lines.proofs.Common.{common_steps, sequence_end}
-use Rattle.std.proofs.Common.{◌≡◌, ◌+◌, arith}
+use Rattle.tree_lines.proofs.Common.{◌≡◌, ◌+◌, arith, common_steps, sequence_end}
 use Rattle.tree_lines.proofs.SequenceCursors.{leaf_ends}
 use Rattle.tree_lines.proofs.sequence_cursor.SequenceCursor.seek_leaf.Goals as goal
 use Rattle.tree_lines.proofs.sequence_cursor.SequenceCursor.seek_leaf.Goals.{After-sequence_of-sequence}

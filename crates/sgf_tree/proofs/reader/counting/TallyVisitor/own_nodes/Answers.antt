@@ -1,5 +1,4 @@
-use Rattle.std.proofs.lemmas.Grind.{common_steps}
-use Rattle.std.proofs.Common.{arith}
+use Rattle.sgf_tree.proofs.Common.{common_steps, arith}
 use Rattle.sgf_tree.proofs.reader.counting.TallyVisitor.own_nodes.Goals as goal
 
 pub returns : goal.returns

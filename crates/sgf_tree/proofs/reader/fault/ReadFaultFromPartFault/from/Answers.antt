@@ -1,5 +1,4 @@
-use Rattle.std.proofs.Common.{ap, sym}
-use Rattle.sgf_tree.specs.inner.Progress.{text_fault}
+use Rattle.sgf_tree.proofs.Common.{ap, sym, text_fault}
 use Rattle.sgf_tree.proofs.reader.fault.ReadFaultFromPartFault.from.Goals as goal
 
 pub returns-in-NotSgf : goal.returns-in-NotSgf
