@@ -1,5 +1,5 @@
 -- Taking the elements of a list off its front, one after another.
-use Rattle.sgf_properties.proofs.Common.{◌≡◌, ℕ, ◌<◌, List, [], ◌∷◌, ◌++◌, map, length, slice_get, Option, Some, ap, ◌∙◌, arith, length-append, rules, length-map}
+use Rattle.sgf_properties.proofs.Common.{◌≡◌, ℕ, ◌<◌, List, [], ◌∷◌, ◌++◌, map, length, slice_get, Option, Some, ap, ◌∙◌, append-nil, arith, length-append, rules, length-map}
 use Rattle.std.proofs.Math.Seq.{get_or-append_seam}
 use Rattle.std.proofs.lemmas.Option.{slice_get-get_or}
 use Rattle.std.specs.Iterator.{YieldsFirstBy, Yields, SkipsThenYields}
@@ -15,6 +15,10 @@ module _ {A B : Type 0} (f : B → A) where
   came : (s : List A) (xs : List B) (t : List A) → Yields (YieldsFirstBy f (λ (l : List A). l)) s xs t → s ≡ map f xs ++ t
   came s [] t e = e
   came s (x ∷ xs) t (j, step, rest) = step ∙ ap (λ u. f x ∷ u) (came j xs t rest)
+
+  -- where none is left, so many were taken
+  pub taken-all : (s : List A) (xs : List B) (t : List A) → Yields (YieldsFirstBy f (λ (l : List A). l)) s xs t → t ≡ [] → length xs ≡ length s
+  taken-all s xs t h none = search (rules, came, length-map, append-nil)
 
   -- the element after so many is the one of that number
   pub taken-at : (s : List A) (n : ℕ) (r : Option B) (u : List A) (x : B) → SkipsThenYields (YieldsFirstBy f (λ (l : List A). l)) s n r u → r ≡ Some x → slice_get s n ≡ Some (f x)

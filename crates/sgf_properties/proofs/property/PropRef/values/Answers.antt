@@ -1,0 +1,10 @@
+use Rattle.sgf_properties.proofs.Common.{ℕ, List, length, ap, ◌∙◌}
+use Rattle.std.proofs.Common.{Bor}
+use Rattle.sgf_properties.specs.Property.{values, Property}
+use Rattle.sgf_properties.proofs.Taking.{taken-all}
+use Rattle.sgf_properties.proofs.property.PropRef.values.Goals as goal
+
+pub returns : goal.returns
+returns c =
+    let (taken, (gone, (end, all, (none, done))), count) = c.count.ensures.ran in
+    count ∙ taken-all (λ (v : Bor (List ℕ)). v.now) c.new-left.result taken end all none ∙ ap length c.new-left.ensures ∙ ap (λ (p : Property). length (values p)) c.self.view_is
