@@ -12,10 +12,9 @@ ghost use Rattle.sgf_properties.specs.KeptLengths.{AreKeptLengths};
 ghost use Rattle.sgf_properties.specs.inner.PropertyCode.{properties_code, values_code};
 
 use crate::property::PropRef;
+use crate::quick::name::short_name_end;
 use crate::quick::value::{past_points, short_value_end};
-use crate::scan::{
-    begins_value, capital_at, identifier_end, rest_from, skip_white_space, stands_at,
-};
+use crate::scan::{begins_value, capital_at, letters_end, rest_from, skip_white_space, stands_at};
 use crate::value::{LongValue, far_end};
 use std::marker::Model;
 
@@ -143,7 +142,10 @@ pub fn property_at<'a>(text: &'a [u8], start: usize, long: &Vec<LongValue>) -> (
     ensures first { properties_in text.now ≡ result.0 ∷ properties_in (drop result.1 text.now) }
     ensures spelled { (property : Property) × IsProperty property text.now (drop result.1 text.now) }
 {
-    let end = identifier_end(text, start);
+    let end = match short_name_end(text, start) {
+        Some(end) => end,
+        None => letters_end(text, start),
+    };
     let (from, close) = value_at(text, end, Some(long)).unwrap();
     let more = close + 1;
     let next = values_end(text, more, long);

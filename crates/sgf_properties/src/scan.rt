@@ -5,8 +5,6 @@ ghost use Rattle.sgf_properties.specs.Spelling.{is_white_space, is_upper};
 ghost use Rattle.sgf_properties.specs.Front.{is_letter};
 ghost use Rattle.sgf_properties.specs.Offsets.{IsSpan, IsPropertyEnd};
 
-use crate::quick::name::short_name_end;
-
 /// The text from the offset `at` on. `at` is at most the text's length.
 pub fn rest_from(text: &[u8], at: usize) -> &[u8]
     requires { at ≤ length text.now }
@@ -67,18 +65,6 @@ pub fn begins_value(text: &[u8], at: usize) -> bool
     ensures { result ≡ false → IsPropertyEnd text.now at }
 {
     stands_at(text, skip_white_space(text, at), b'[')
-}
-
-/// The end of the letters of an identifier that begins with the capital at `at`.
-pub(crate) fn identifier_end(text: &[u8], at: usize) -> usize
-    requires within { at < length text.now }
-    requires capital { IsTrue (is_upper (slice_index text.now at)) }
-    ensures { IsSpan is_letter text.now at result }
-{
-    match short_name_end(text, at) {
-        Some(end) => end,
-        None => letters_end(text, at),
-    }
 }
 
 /// The offset after the letters, capitals and small ones, that begin at `at`; `at` if none is there. They are found byte by byte. This is the
