@@ -1,5 +1,4 @@
-use Rattle.sgf_properties.proofs.Common.{◌+◌, get_or, ℕ, List, Option, Some, None, MatchOption, drop, slice_range, refl, rules, is_letter, IsSpan, IsNoPropValue}
-use Rattle.std.proofs.Common.{IsSome}
+use Rattle.sgf_properties.proofs.Common.{IsSome, ◌+◌, get_or, ℕ, List, Option, Some, None, MatchOption, drop, slice_range, refl, rules, is_letter, IsSpan, IsNoPropValue}
 use Rattle.sgf_properties.proofs.NameEnds.{name-begins}
 use Rattle.sgf_properties.proofs.Iterating.{IsNextProperty, value-there, next-property}
 use Rattle.sgf_properties.proofs.iter.property_at.Goals as goal

@@ -1,5 +1,4 @@
-use Rattle.sgf_outline.proofs.Common.{length, ap, ◌∙◌, rules, Property, Node}
-use Rattle.std.proofs.Common.{length-drop}
+use Rattle.sgf_outline.proofs.Common.{length-drop, length, ap, ◌∙◌, rules, Property, Node}
 use Rattle.sgf_properties.proofs.Iterating.{count-properties-held}
 use Rattle.sgf_properties.proofs.Taking.{taken-all}
 use Rattle.sgf_outline.proofs.node.NodeRef.props.Goals as goal

@@ -1,6 +1,4 @@
-use Rattle.sgf_properties.proofs.Common.{ℕ, List, length, ap, ◌∙◌}
-use Rattle.std.proofs.Common.{Bor}
-use Rattle.sgf_properties.specs.Property.{values, Property}
+use Rattle.sgf_properties.proofs.Common.{Bor, values, Property, ℕ, List, length, ap, ◌∙◌}
 use Rattle.sgf_properties.proofs.Taking.{taken-all}
 use Rattle.sgf_properties.proofs.property.PropRef.values.Goals as goal
 
