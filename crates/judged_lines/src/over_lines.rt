@@ -77,8 +77,21 @@ impl<'c, 'a, K: LineKeeper> OverLines<'c, 'a, K> {
         ensures stands { StandsBy self.new.before (nodes_before self.new.cursor.at) (K.holds self.new.keeper self.new.cursor) }
         ensures plays { PlaysLine K.counts self.old.before self.old.cursor.at (K.played self.old.keeper) (K.played self.new.keeper) result }
     {
-        let Some(held) = self.go_on()? else {
-            return Ok(false);
+        // What is held already of the next line. After a refusal the cursor stands after that line.
+        let held = if let Before::Refused = self.before {
+            NO_FRONT
+        } else {
+            let Ok(shared) = self.cursor.advance() else {
+                self.before = Before::Unheld;
+                return Err(MemoryFault);
+            };
+            let Some(shared) = shared else {
+                return Ok(false);
+            };
+            match self.before {
+                Before::Held => shared,
+                _ => NO_FRONT,
+            }
         };
         // The ends of the sequences rise to the number of nodes.
         let _sequences = self.cursor.sequences();
@@ -87,31 +100,5 @@ impl<'c, 'a, K: LineKeeper> OverLines<'c, 'a, K> {
         self.keeper.follow(&self.cursor, held)?;
         self.before = Before::Held;
         Ok(true)
-    }
-
-    /// Moves the cursor to the next line, and returns the front of it that is held already; None if no line is left. After
-    /// `Before::Refused` the cursor stays where it is.
-    fn go_on(&mut self) -> Result<Option<Front>, MemoryFault>
-        ensures found { IfOk result (λ held. IfSome held (GoesOnBy self.old.before self.old.cursor self.new.cursor)) }
-        ensures none_left { IfOk result (λ held. IfNone held
-            ((self.new ≡ self.old) × (slice_get (lines self.old.cursor.at.games) (next_by self.old.before self.old.cursor.at).index ≡ None))) }
-        ensures refused { OnErr result ((self.new.before ≡ Unheld)
-            × (next_by self.new.before self.new.cursor.at ≡ next_by self.old.before self.old.cursor.at)) }
-        ensures keeper { self.new.keeper ≡ self.old.keeper }
-    {
-        if let Before::Refused = self.before {
-            return Ok(Some(NO_FRONT));
-        }
-        let Ok(shared) = self.cursor.advance() else {
-            self.before = Before::Unheld;
-            return Err(MemoryFault);
-        };
-        let Some(shared) = shared else {
-            return Ok(None);
-        };
-        match self.before {
-            Before::Held => Ok(Some(shared)),
-            _ => Ok(Some(NO_FRONT)),
-        }
     }
 }
