@@ -227,6 +227,10 @@ module _ (ended : Option Verdict) (referee : Option States) (r : States) (plays 
   pub back_past : (count : ℕ) → length r.earlier < count → judged r ended ≡ back count now.judgement
   back_past count past = rw (stood, lt-leb count (length r.earlier) past) refl
 
+  -- back to nodes that it has
+  pub gone_back : (count : ℕ) (new : States) → count ≤ length r.earlier → new ≡ back_to r count → judged new None ≡ back count now.judgement
+  gone_back count new le is_new = ap (λ s. judged s None) is_new ∙ sym (ap (back count) stood ∙ back_within count r ended le)
+
   -- the same as before
   pub untaken : (new : States) → new ≡ r → record { judgement = judgement_of ended (Some new); plays = plays } ≡ now
   untaken new same = grind (arith, common_steps)

@@ -1,6 +1,6 @@
 -- While no node changes the board, its score stays.
-use Rattle.std.proofs.Common.{◌≡◌, ◌⊎◌, ℕ, ◌<◌, ◌≤◌, min, inl, inr, List, [], ◌∷◌, ◌++◌, length, refl, ap, ◌∙◌, subst, Option, Some, None, arith, rules, Result, IfSome}
-use Rattle.judged_lines.proofs.Common.{cases_lt, Node, Grid, score_of, TurnFault, Reason, State, States, HadSameBoardSince, step, IsScoreAt, IsScoreOf, IsStepped, back_from, back_to, common_steps}
+use Rattle.std.proofs.Common.{◌≡◌, ◌⊎◌, ℕ, ◌≤◌, min, inl, inr, List, [], ◌∷◌, ◌++◌, length, refl, ap, ◌∙◌, Option, Some, None, arith, rules, Result, IfSome}
+use Rattle.judged_lines.proofs.Common.{cases_lt, Grid, score_of, TurnFault, Reason, State, States, HadSameBoardSince, IsScoreAt, IsScoreOf, IsStepped, back_from, back_to, common_steps}
 use Rattle.board_stones.specs.declared.stones.Colour.TheVariants.{Black, White}
 use Rattle.judged_lines.proofs.Judgements.{back_none, back_one, back_undone}
 
@@ -41,11 +41,7 @@ scored_stepped r old new result scored score stepped known = grind (arith, commo
 pub scored_now : (states : States) (scored : ℕ) (score : Option (ℕ × ℕ)) (k : ℕ × ℕ) → score ≡ Some k → IsScoreAt states scored score → HadSameBoardSince states scored → IsScoreOf states.present (Some k)
 scored_now states scored score k is known since = search (rules, on_same, same_back)
 
-pub scored_back : (states : States) (count scored : ℕ) (score kept : Option (ℕ × ℕ)) → count < length states.earlier → IfSome kept (λ k. (score ≡ Some k) × ((scored ≤ count) ⊎ HadSameBoardSince states count)) → IsScoreAt states scored score → IsScoreAt (back_to states count) (min scored count) kept
+pub scored_back : (states : States) (count scored : ℕ) (score kept : Option (ℕ × ℕ)) → count ≤ length states.earlier → IfSome kept (λ k. (score ≡ Some k) × ((scored ≤ count) ⊎ HadSameBoardSince states count)) → IsScoreAt states scored score → IsScoreAt (back_to states count) (min scored count) kept
 scored_back states count scored score None fewer is known = tt
 scored_back states count scored score (Some k) fewer is known =
     search (rules, cases_lt, same_back, on_same, length_back, back_back)
-
--- the step of a game is that of its referee
-pub stepped_as : {A : Type 0} (node : Node) (inside now new : States) (result : Result A TurnFault) → inside ≡ now → IsStepped (step inside.present node) inside new result → IsStepped (step now.present node) now new result
-stepped_as node inside now new result is stepped = subst (λ (s : States). IsStepped (step s.present node) s new result) is stepped

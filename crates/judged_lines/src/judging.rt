@@ -5,7 +5,6 @@
 //! instructions.
 
 pub(crate) mod contents;
-pub(crate) mod game;
 pub(crate) mod judge;
 pub(crate) mod judged;
 pub(crate) mod one_line;

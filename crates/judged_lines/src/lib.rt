@@ -20,18 +20,16 @@
 //! [`StepKeeper`] the step of each legal node. The forms of `sgf_lines` do so.
 //!
 //! What only saves work: `Contents::of_lone` and `Contents::of_front` (`judging/contents`) return what `SequenceNodes::next` of
-//! `sgf_outline` recognized at a glance, and a game keeps the score of its present board (`judging/game`).
+//! `sgf_outline` recognized at a glance, and a judge keeps the score of its present board (`judging/judge`).
 //!
 //! | Module | What it has |
 //! |---|---|
 //! | `verdict`, `judging` | the verdict of a line; judging lines, in the modules below |
-//! | `judging/one_line`, `judging/judge` | `judge` and `judge_at`: one line, by its leaf or its place; `Judge`, which goes along a line's nodes, and back |
-//! | `judging/game` | a game that is judged: its referee, and the score of its present board |
+//! | `judging/one_line`, `judging/judge` | `judge` and `judge_at`: one line, by its leaf or its place; `Judge`, which goes along a line's nodes, and back, and keeps the score of its present board |
 //! | `judging/judged` | judging line after line, each from the first node that it does not share with the line before it; whom each step is told |
-//! | `judging/root`, `judging/contents`, `judging/step` | the board of a root's game; what a node holds; playing a node |
+//! | `judging/root`, `judging/contents`, `judging/step` | the board of a root's game; what a node holds, and what its values say; playing a node |
 //! | `over_lines` | going over the lines that follow a cursor, and what is kept from line to line |
 //! | `follower` | judging each of these lines |
-//! | `node_values` | what the values of a node say |
 //! | `plays` | the count of nodes played |
 //! | `laws` | what follows from the definitions |
 //!
@@ -39,12 +37,12 @@
 //! |---|---|
 //! | which values are moves, stones and players; that KM, HA and others have no effect | `kind_of`; `Contents::of_lone` for a node that is recognized at a glance; `NEEDED_NAMES` says which names no such node has (`judging/contents`) |
 //! | which games are judged: GM; SZ | `is_go`; `size`; of several the first counts: `game_and_side`; all asked by `board_size` (`judging/root`) |
-//! | the first reason of a node: `mixed`, `two-moves` or `bad-setup`; then `bad-point` | `effect_of`; `take_move` (`judging/step`); a faulty value of a setup: `push_rectangles`, `last_player` (`judging/contents`) |
-//! | which values are passes; the last value of PL, which counts | `is_pass` (`node_values`); `last_player`, `with_player` (`judging/contents`); what PL does then: `Referee::setup` of `go_board` (`referee/setup`) |
+//! | the first reason of a node: `mixed`, `two-moves` or `bad-setup`; then `bad-point` | `take_contents`; `take_move` (`judging/step`); a faulty value of a setup: `push_rectangles`, `last_player` (`judging/contents`) |
+//! | which values are passes; the last value of PL, which counts | `move_value`, `last_player`, `with_player` (`judging/contents`); what PL does then: `Referee::setup` of `go_board` (`referee/setup`) |
 //! | the other reasons | `Referee::reason_before_repeat` of `go_board` (`referee/turn`); for `repeat` the table of `board_past` |
 //! | that nothing of a line is told from its first illegal node on | `judge_sequence` (`judging/judged`) |
 //! | TURN, PLACE and REASON of the first illegal node | `Judge::take` (`judging/judge`) |
-//! | the verdict of a line; `over` or `open` | `Judge::verdict` (`judging/judge`); `Game::verdict` (`judging/game`), which keeps the score of a board while no node changes it |
+//! | the verdict of a line; `over` or `open` | `Judge::verdict` (`judging/judge`), which keeps the score of a board while no node changes it |
 //!
 //! The crate `sgf_lines_tests` has the tests, and the tests of the program (`tests/`) cover the verdicts.
 #![tactic(auto)]
@@ -52,7 +50,6 @@
 mod follower;
 mod judging;
 pub mod laws;
-mod node_values;
 mod over_lines;
 mod plays;
 mod verdict;

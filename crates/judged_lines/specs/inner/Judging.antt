@@ -39,6 +39,11 @@ abbrev pub IsScoreAt : States → ℕ → Option (ℕ × ℕ) → Type 0
 IsScoreAt states depth None = Unit {0}
 IsScoreAt states depth (Some score) = (depth ≤ length states.earlier) × IsScoreOf (back_to states depth).present (Some score)
 
+-- the same of a game's states, if the game is judged
+abbrev pub IsScoreOn : Option States → ℕ → Option (ℕ × ℕ) → Type 0
+IsScoreOn None depth score = Unit {0}
+IsScoreOn (Some states) depth score = IsScoreAt states depth score
+
 -- the judgement on a line, and how many nodes were played
 pub record Judging : Type 0 where
   pub judgement : Judgement

@@ -1,19 +1,22 @@
 //! What a node holds for the referee and for a script: moves, stones and players (SGF FF[4], move and setup properties), and a
-//! comment. It is gathered in one pass over the node's properties.
+//! comment. It is gathered in one pass over the node's properties. And what raw values say on a board (SGF FF[4], "Move" and "Color").
 
-ghost use Rattle.std.specs.Prelude.{◌≡◌, ◌∷◌, ◌++◌, [], ℕ, List, Option, IfOk, OnOk, option_map, Some};
+ghost use Rattle.std.specs.Prelude.{◌≡◌, ◌∷◌, ◌++◌, [], ℕ, List, Option, IfOk, IfSome, OnOk, option_map, Some};
 ghost use Rattle.sgf_outline.specs.Tree.{Property, lone_property, told_property, values};
 ghost use Rattle.board_stones.specs.declared.stones.Colour.{Colour};
+ghost use Rattle.go_board.specs.State.{IsPlayOn};
 ghost use Rattle.judged_lines.specs.NodeContents.{Move, moves_by, stones_of};
-ghost use Rattle.judged_lines.specs.NodeValues.{last_player as last_player_rule};
+ghost use Rattle.judged_lines.specs.NodeValues.{last_player as last_player_rule, move_value as move_value_rule, player_value as player_value_rule};
 ghost use Rattle.judged_lines.specs.inner.Gathered.{AreMoves, AddsRectangles, IsGathered, kind_of as kind_of_rule, setup_with_stones, setup_with_player};
 
-use crate::node_values::player_value;
-use go_board::{Cell, Colour, SetupOp, Size, rect};
+use go_board::{Cell, Colour, Play, SetupOp, Size, point, rect};
 use sgf_tree::{MemoryFault, PropRef, SequenceNodes};
 
 /// The names of two letters that `kind_of` knows. A node that is recognized at a glance has none of them (`SequenceNodes::next`).
 pub(crate) const NEEDED_NAMES: [[u8; 2]; 4] = [*b"AB", *b"AW", *b"AE", *b"PL"];
+
+/// The greatest side of a board on which `tt` is a pass.
+const MAX_LETTER_PASS_SIDE: u8 = 19;
 
 /// The moves of a node, as far as a step needs them.
 #[derive(Clone, Copy)]
@@ -229,6 +232,32 @@ fn kind_of(property: &PropRef<'_>) -> Option<Kind>
         b'A' if property.is(b"AB") => Some(Kind::Stones(Cell::Black)),
         b'A' if property.is(b"AW") => Some(Kind::Stones(Cell::White)),
         b'A' if property.is(b"AE") => Some(Kind::Stones(Cell::Empty)),
+        _ => None,
+    }
+}
+
+/// The play of a move: a pass, or a stone on a point of the board. None for any other raw value. A raw value is a pass if it is empty, or if
+/// it is `tt` on a side of 19 or less.
+pub(crate) fn move_value(raw: &[u8], size: Size) -> Option<Play>
+    ensures value { result ≡ move_value_rule raw.now size }
+    ensures on_board { IfSome result (IsPlayOn size) }
+{
+    if raw.is_empty() || (raw == b"tt".as_slice() && size.side() <= MAX_LETTER_PASS_SIDE) {
+        return Some(Play::Pass);
+    }
+    match point(raw, size) {
+        Some(point) => Some(Play::Stone(point)),
+        None => None,
+    }
+}
+
+/// The player that a value of PL names, `B` or `W`; None for any other value.
+fn player_value(raw: &[u8]) -> Option<Colour>
+    ensures { result ≡ player_value_rule raw.now }
+{
+    match raw {
+        b"B" => Some(Colour::Black),
+        b"W" => Some(Colour::White),
         _ => None,
     }
 }

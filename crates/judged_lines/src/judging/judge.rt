@@ -1,16 +1,20 @@
-//! A judge goes along the nodes of a line, and back to the last node that the next line shares.
+//! A judge goes along the nodes of a line, and back to the last node that the next line shares. It keeps the score of a board of its line once
+//! that was asked for. Many lines may end on one board, as lines that differ only in a pass or in an empty node do. Its score isn't worked out
+//! again.
 
-ghost use Rattle.std.specs.Prelude.{◌≡◌, ◌+◌, ◌<◌, IsFalse, IsTrue, OnOk, OnErr, IfOk, Some, option_copied};
+ghost use Rattle.std.specs.Prelude.{◌≡◌, ◌+◌, ◌<◌, ◌≤◌, ◌⊎◌, length, IsFalse, IsTrue, OnOk, OnErr, IfOk, IfSome, Some, option_copied};
 ghost use Rattle.sgf_outline.specs.Tree.{Node};
-ghost use Rattle.judged_lines.specs.inner.Gathered.{ComesAs};
-ghost use Rattle.go_board.specs.State.{begun};
+ghost use Rattle.board_stones.specs.declared.stones.Colour.TheVariants.{Black, White};
+ghost use Rattle.board_stones.specs.Score.{score_of};
+ghost use Rattle.go_board.specs.State.{HadSameBoardSince, begun};
 ghost use Rattle.judged_lines.specs.JudgedGames.{game_kind, board};
+ghost use Rattle.judged_lines.specs.inner.Gathered.{ComesAs};
+ghost use Rattle.judged_lines.specs.inner.Judging.{IsScoreAt};
 
-use crate::judging::game::Game;
 use crate::judging::root::board_size;
-use crate::judging::step::{LegalStep, place_of};
+use crate::judging::step::{LegalStep, place_of, take_step};
 use crate::verdict::Verdict;
-use go_board::{Board, SetupOp, Size, TurnFault};
+use go_board::{Board, PrintPast, Referee, SetupOp, Size, TurnFault};
 use sgf_tree::{MemoryFault, NextNode, NodeRef, SequenceNodes};
 use std::alloc::Global;
 use std::marker::Model;
@@ -20,7 +24,12 @@ use std::marker::Model;
 #[derive(Drop)]
 pub(crate) struct Judge {
     /// None if the game isn't judged. Each node that is legal adds one state.
-    game: Option<Game>,
+    game: Option<Referee<PrintPast>>,
+
+    /// The area scores of Black and of White on the board after the first `scored` nodes; None if they aren't known. A node that is taken
+    /// need not look at them: a verdict asks whether the board is still the same, and so does the way back to fewer nodes.
+    score: Option<(u32, u32)>,
+    scored: usize,
 
     /// A buffer for what a node sets up.
     operations: Vec<SetupOp>,
@@ -32,11 +41,13 @@ pub(crate) struct Judge {
 }
 
 impl Model for Judge {
-    ghost use Rattle.judged_lines.specs.inner.Judging.{Judging, judgement_of};
+    ghost use Rattle.judged_lines.specs.inner.Judging.{Judging, IsScoreOn, judgement_of};
 
     ghost Value = { Judging };
 
     ghost view = { λ j. record { judgement = judgement_of j.ended j.game; plays = j.plays } };
+
+    ghost invariant = { λ j. IsScoreOn j.game j.scored j.score };
 }
 
 impl Judge {
@@ -50,6 +61,8 @@ impl Judge {
     {
         Judge {
             game: None,
+            score: None,
+            scored: 0,
             operations: Vec::new(alloc),
             ended: None,
             plays: 0,
@@ -79,14 +92,19 @@ impl Judge {
         ensures unchanged { OnErr result (self.new ≡ self.old) }
     {
         match &mut self.game {
-            Some(game) => game.begin(size)?,
+            Some(game) => {
+                let Ok(()) = game.reset(size) else {
+                    return Err(MemoryFault);
+                };
+            }
             None => put_game(*self.operations.allocator(), size, &mut self.game)?,
         }
+        self.score = None;
         self.ended = None;
         Ok(())
     }
 
-    /// Takes one more node, and returns its step. `next` and `nodes` are as for `Game::take`. None if the node is illegal: the verdict is
+    /// Takes one more node, and returns its step. `next` and `nodes` are as for `take_step`. None if the node is illegal: the verdict is
     /// known then. After a refusal of memory nothing is changed.
     #[inline(always)]
     pub(crate) fn take<'a>(
@@ -107,7 +125,7 @@ impl Judge {
         let Some(game) = &mut self.game else {
             unreachable!()
         };
-        match game.take(next, nodes, &mut self.operations) {
+        match take_step(game, next, nodes, &mut self.operations) {
             Ok(step) => {
                 self.plays += 1;
                 Ok(Some(step))
@@ -145,19 +163,32 @@ impl Judge {
         if let Some(game) = &mut self.game {
             if count <= game.depth() {
                 self.ended = None;
-                game.go_back(count);
+                self.score = score_back(self.score, self.scored, game, count);
+                self.scored = self.scored.min(count);
+                'undo: while count < game.depth() {
+                    game.undo();
+                }
             }
         }
     }
 
-    /// The verdict of the line. `NotGo` before the first game.
+    /// The verdict of the line. `NotGo` before the first game. The area scores are kept for the next call.
     pub(crate) fn verdict(&mut self) -> Verdict
         ensures told { result ≡ verdict_in self.old.judgement }
         ensures unchanged { self.new ≡ self.old }
     {
-        match (self.ended, &mut self.game) {
+        match (self.ended, &self.game) {
             (Some(verdict), _) => verdict,
-            (None, Some(game)) => game.verdict(),
+            (None, Some(game)) => {
+                let (black, white) = present_score(self.score, self.scored, game);
+                self.score = Some((black, white));
+                self.scored = game.depth();
+                Verdict::Score {
+                    black,
+                    white,
+                    over: game.over(),
+                }
+            }
             (None, None) => Verdict::NotGo,
         }
     }
@@ -188,13 +219,63 @@ impl Judge {
     }
 }
 
-/// Puts a game on a board of that size into `slot`. After a refusal of memory `slot` is unchanged.
+/// Puts the referee of a game on a board of that size into `slot`. After a refusal of memory `slot` is unchanged.
 // Not inlined: whole boards stand on its stack, and each call of `begin_on` would set room for them to zeros.
 #[inline(never)]
-fn put_game(alloc: Global, size: Size, slot: &mut Option<Game>) -> Result<(), MemoryFault>
+fn put_game(
+    alloc: Global,
+    size: Size,
+    slot: &mut Option<Referee<PrintPast>>,
+) -> Result<(), MemoryFault>
     ensures ok { OnOk result (slot.new ≡ Some (begun size)) }
     ensures err { OnErr result (slot.new ≡ slot.old) }
 {
-    *slot = Some(Game::new(alloc, size)?);
+    // No `From` can be implemented here between the faults of two other crates.
+    let Ok(game) = Referee::new(alloc, size) else {
+        return Err(MemoryFault);
+    };
+    *slot = Some(game);
     Ok(())
+}
+
+/// The score of the present board. `score` is that of the board after the first `scored` nodes, if it is known.
+#[inline(always)]
+fn present_score(
+    score: Option<(u32, u32)>,
+    scored: usize,
+    referee: &Referee<PrintPast>,
+) -> (u32, u32)
+    requires { IsScoreAt referee.now scored score }
+    ensures black { result.0 ≡ score_of referee.now.present.colouring Black }
+    ensures white { result.1 ≡ score_of referee.now.present.colouring White }
+{
+    if let Some(known) = score {
+        if referee.left_board_since(scored) {
+            return known;
+        }
+    }
+    referee.board().score()
+}
+
+/// What is still known of the score after going back to the first `count` nodes: `score`, if `scored` is at most `count`, or if the nodes after
+/// these left the board alone. `score` is that of the board after the first `scored` nodes, if it is known.
+#[inline(always)]
+fn score_back(
+    score: Option<(u32, u32)>,
+    scored: usize,
+    referee: &Referee<PrintPast>,
+    count: usize,
+) -> Option<(u32, u32)>
+    requires { IsScoreAt referee.now scored score }
+    ensures { IfSome result (λ kept. (score ≡ Some kept) × ((scored ≤ count) ⊎ HadSameBoardSince referee.now count)) }
+{
+    if score.is_none() || scored <= count {
+        return score;
+    }
+    // usually the newest node changed the board
+    if referee.newest_left_board() && referee.left_board_since(count) {
+        score
+    } else {
+        None
+    }
 }

@@ -10,8 +10,7 @@ ghost use Rattle.judged_lines.specs.inner.Gathered.{IsGathered, ComesAs};
 ghost use Rattle.judged_lines.specs.inner.Judging.{IsStepped, setup_effect};
 ghost use Rattle.judged_lines.specs.Judgement.{IsStepOf, IsEffect, IsEffectBy};
 
-use crate::judging::contents::{Contents, Moves, Setup, gathered};
-use crate::node_values::move_value;
+use crate::judging::contents::{Contents, Moves, Setup, gathered, move_value};
 use go_board::{Colour, Past, Play, Reason, Referee, SetupOp, TurnFault};
 use sgf_tree::{NextNode, SequenceNodes};
 
@@ -96,7 +95,9 @@ fn take_any_step<'a, P: Past>(
     take_contents(referee, contents, operations)
 }
 
-/// Takes the step of a node with these contents. `operations` has the operations of the node's stones.
+/// Takes the step of a node with these contents. `operations` has the operations of the node's stones. The first reason that holds is given, in
+/// this order: `mixed` (a move and a setup, even a faulty one), `two-moves`, `bad-setup`, and then those of `take_move`. A `bad-setup` was
+/// found by `gathered`. Of the arms only the last must stay last: those of `two-moves` and `bad-setup` are for nodes that aren't mixed.
 #[inline(always)]
 fn take_contents<'a, P: Past>(
     referee: &mut Referee<P>,
@@ -109,45 +110,21 @@ fn take_contents<'a, P: Past>(
     ensures told { (node : Node) → IsGathered referee.old.present.colouring.side node.properties operations.now contents.entry
         → IfOk result (IsStepOf referee.old.present.colouring.side node) }
 {
-    let effect = effect_of(referee, &contents, operations)?;
+    let effect = match (contents.moves, contents.setup) {
+        (Moves::Nothing, Setup::Nothing) => {
+            referee.stay()?;
+            Effect::Nothing
+        }
+        (Moves::Nothing, Setup::Meant(player)) => set_up(referee, operations, player)?,
+        (Moves::Nothing, Setup::Faulty) => return Err(TurnFault::Illegal(Reason::BadSetup)),
+        (Moves::One(colour, raw), Setup::Nothing) => take_move(referee, colour, raw)?,
+        (Moves::Several, Setup::Nothing) => return Err(TurnFault::Illegal(Reason::TwoMoves)),
+        (_, _) => return Err(TurnFault::Illegal(Reason::Mixed)),
+    };
     Ok(LegalStep {
         effect,
         comment: contents.comment,
     })
-}
-
-/// Takes the step of a node as `take_contents` does, and returns what the node did to the board. The first reason that holds is given, in
-/// this order: `mixed` (a move and a setup, even a faulty one), `two-moves`, `bad-setup`, and then those of `take_move`. A `bad-setup` was
-/// found by `gathered`. Of the arms only the last must stay last: those of `two-moves` and `bad-setup` are for nodes that aren't mixed.
-#[inline(always)]
-fn effect_of<P: Past>(
-    referee: &mut Referee<P>,
-    contents: &Contents<'_>,
-    operations: &[SetupOp],
-) -> Result<Effect, TurnFault>
-    requires { (node : Node) × IsGathered referee.old.present.colouring.side node.properties operations.now contents.now }
-    ensures stepped { (node : Node) → IsGathered referee.old.present.colouring.side node.properties operations.now contents.now
-        → IsStepped (step referee.old.present node) referee.old referee.new result }
-    ensures effect { (node : Node) → IsGathered referee.old.present.colouring.side node.properties operations.now contents.now
-        → IfOk result (IsEffect referee.old.present.colouring.side node) }
-{
-    match (contents.moves, contents.setup) {
-        (Moves::Nothing, Setup::Nothing) => stay(referee),
-        (Moves::Nothing, Setup::Meant(player)) => set_up(referee, operations, player),
-        (Moves::Nothing, Setup::Faulty) => Err(TurnFault::Illegal(Reason::BadSetup)),
-        (Moves::One(colour, raw), Setup::Nothing) => take_move(referee, colour, raw),
-        (Moves::Several, Setup::Nothing) => Err(TurnFault::Illegal(Reason::TwoMoves)),
-        (_, _) => Err(TurnFault::Illegal(Reason::Mixed)),
-    }
-}
-
-/// Adds the present state once more.
-fn stay<P: Past>(referee: &mut Referee<P>) -> Result<Effect, TurnFault>
-    ensures stepped { IsStepped (Ok referee.old.present) referee.old referee.new result }
-    ensures effect { IfOk result (λ effect. effect ≡ Effect.Nothing) }
-{
-    referee.stay()?;
-    Ok(Effect::Nothing)
 }
 
 /// Sets up stones, or only the player if there are no stones.

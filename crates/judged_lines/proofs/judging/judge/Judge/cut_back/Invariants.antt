@@ -1,10 +1,10 @@
 -- What was taken back would have been.
 use Rattle.std.proofs.Common.{◌≡◌, length}
 use Rattle.judged_lines.specs.inner.Judging.{back_to}
-use Rattle.judged_lines.proofs.judging.game.undo_to.Given as goal
+use Rattle.judged_lines.proofs.judging.judge.Judge.cut_back.Given as goal
 
 abbrev pub invariant-undo : goal.invariant-undo
-invariant-undo l = back_to l.referee l.depth ≡ back_to l.fn.referee l.depth
+invariant-undo l = back_to l.game l.count ≡ back_to l.initial.game l.count
 
 abbrev pub decreases-undo : goal.decreases-undo
-decreases-undo l = length l.referee.earlier
+decreases-undo l = length l.game.earlier

@@ -1,7 +1,7 @@
 use Rattle.std.proofs.Common.{refl, arith}
 use Rattle.std.proofs.lemmas.Grind.{common_steps}
 use Rattle.judged_lines.proofs.KeptScores.{scored_now}
-use Rattle.judged_lines.proofs.judging.game.present_score.Goals as goal
+use Rattle.judged_lines.proofs.judging.judge.present_score.Goals as goal
 
 pub returns-then-left_board_since-clause-black : goal.returns-then-left_board_since-clause-black
 returns-then-left_board_since-clause-black c = grind (arith, common_steps, scored_now)

@@ -1,6 +1,0 @@
-use Rattle.std.proofs.Common.{rules}
-use Rattle.judged_lines.proofs.Judgements.{back_none}
-use Rattle.judged_lines.proofs.judging.game.Game.verdict.Goals as goal
-
-pub invariant_of-self : goal.invariant_of-self
-invariant_of-self c = search (rules, back_none)
