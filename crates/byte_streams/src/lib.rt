@@ -17,8 +17,7 @@
 //! | Module | What it has |
 //! |---|---|
 //! | `source` | what gives bytes; sources over a slice and over a reader |
-//! | `sink` | what takes bytes; sinks over a writer and over an array; putting bytes until all are taken |
-//! | `buffered_sink` | a sink over a writer that holds bytes back |
+//! | `sink` | what takes bytes; sinks over a writer, one of which holds bytes back, and over an array; putting bytes until all are taken |
 //!
 //! `Source::give_rest` is the one shortcut: a source whose bytes lie in memory gives them all without a copy. None from it says nothing, and
 //! `Source::get` is the plain way.
@@ -27,10 +26,8 @@
 //! `sgfsplit_job_tests` make sources and sinks fail at each call.
 #![tactic(auto)]
 
-mod buffered_sink;
 mod sink;
 mod source;
 
-pub use buffered_sink::BufferedSink;
-pub use sink::{ArraySink, Sink, SinkFault, WriteSink, put_all};
+pub use sink::{ArraySink, BufferedSink, Sink, SinkFault, WriteSink, put_all};
 pub use source::{ReadSource, SliceSource, Source, SourceFault};

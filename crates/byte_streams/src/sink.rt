@@ -1,11 +1,17 @@
-//! Where the bytes of a run go.
+//! Where the bytes of a run go: what takes bytes, a sink over a writer, which may hold bytes back, and a sink over an array.
 
-ghost use Rattle.std.specs.Prelude.{◌≡◌, ◌<◌, ◌≤◌, List, ℕ, [], length, take, Some, None, IfSome, OnErr};
+ghost use Rattle.std.specs.Prelude.{◌≡◌, ◌<◌, ◌≤◌, ◌+◌, ◌++◌, List, ℕ, [], length, take, drop, vec_len, vec_capacity, Some, None, IfOk, IfSome, OnErr, OnOk};
+ghost use Rattle.std.specs.Io.KnownBytes.{Appends, append_known};
 ghost use Rattle.std.proofs.KnownBytes.{Appends-nil};
 ghost use Rattle.byte_streams.specs.Streams.{SinkState, IsPut, IsFlush, DeliversFront, PutsAll};
+ghost use Rattle.byte_streams.specs.inner.HeldBack.{held_back};
 
+use std::alloc::{AllocError, Global};
 use std::io::Write;
 use thiserror::Error;
+
+/// The most bytes that are held back.
+const CAPACITY: usize = 65_536;
 
 /// A sink failed, and took nothing.
 #[derive(Clone, Copy, Debug, PartialEq, Eq, Error)]
@@ -109,6 +115,143 @@ impl<W: Write + Drop> Sink for WriteSink<W> {
     }
 }
 
+/// A sink over any writer that holds back up to 65,536 bytes.
+///
+/// It writes what it holds back when there is no room for more, and at a flush, which also flushes
+/// the writer. If it gets more bytes at once than it can hold, it passes them straight to the writer. If
+/// the writer reports its bytes, the sink reports those that it has taken and delivered.
+///
+/// An interrupted write counts as failed, and so does a write of 0 bytes. After a failure the writer isn't
+/// called again. Dropping the sink doesn't call the writer either: the bytes that are held back are lost.
+#[derive(Debug, Drop)]
+pub struct BufferedSink<W: Write + Drop> {
+    writer: W,
+
+    /// The bytes held back. If a write failed, the first `handed` of them were written already.
+    buffer: Vec<u8>,
+
+    /// The number of bytes at the buffer's front that were written; 0 until a write fails.
+    handed: usize,
+
+    failures: u64,
+    ghost capacity: { 65536 ≤ vec_capacity buffer },
+    ghost within: { vec_len buffer ≤ 65536 },
+    ghost whole: { failures ≡ 0 → handed ≡ 0 },
+}
+
+impl<W: Write + Drop> BufferedSink<W> {
+    /// A sink that writes to the writer. `AllocError` comes only if memory for the sink was refused; then the writer is dropped.
+    pub fn new(alloc: Global, writer: W) -> Result<BufferedSink<W>, AllocError>
+        ensures { IfOk result (λ sink. ⟦<BufferedSink<W> as Sink>⟧.state sink
+            ≡ record { failures = 0; taken = append_known (W.contents writer) []; delivered = W.contents writer }) }
+    {
+        let buffer = Vec::with_capacity(alloc, CAPACITY)?;
+        Ok(BufferedSink {
+            writer,
+            buffer,
+            handed: 0,
+            failures: 0,
+        })
+    }
+
+    /// The writer, with what was written to it. What is held back is lost.
+    pub fn into_inner(self) -> W
+        ensures { W.contents result ≡ (⟦<BufferedSink<W> as Sink>⟧.state self).delivered }
+    {
+        self.writer
+    }
+
+    /// Holds bytes back. There must be room for them.
+    fn hold(&mut self, bytes: &[u8])
+        requires never_failed { self.old.failures ≡ 0 }
+        requires room { vec_len self.old.buffer + length bytes.now ≤ 65536 }
+        ensures buffer { self.new.buffer.items ≡ self.old.buffer.items ++ bytes.now }
+        ensures writer { self.new.writer ≡ self.old.writer }
+        ensures failures { self.new.failures ≡ 0 }
+    {
+        let Ok(()) = self.buffer.extend_from_slice(bytes) else {
+            unreachable!()
+        };
+    }
+
+    /// Writes all that is held back.
+    fn write_out(&mut self) -> Result<(), SinkFault>
+        requires never_failed { self.old.failures ≡ 0 }
+        ensures out { IsFlush (⟦<BufferedSink<W> as Sink>⟧.state self.old) (⟦<BufferedSink<W> as Sink>⟧.state self.new) result }
+        ensures empty { OnOk result (self.new.buffer.items ≡ []) }
+    {
+        let handed = write_whole(&self.buffer, &mut self.writer);
+        if handed < self.buffer.len() {
+            self.handed = handed;
+            self.failures = 1;
+            return Err(SinkFault);
+        }
+        self.buffer.clear();
+        Ok(())
+    }
+
+    /// Takes bytes for which there is no room. First it writes all that is held back.
+    /// Then it holds the bytes back, or writes them straight if they are too many to hold.
+    #[cold]
+    fn put_without_room(&mut self, bytes: &[u8]) -> Result<usize, SinkFault>
+        requires some { 0 < length bytes.now }
+        requires never_failed { self.old.failures ≡ 0 }
+        ensures { IsPut (⟦<BufferedSink<W> as Sink>⟧.state self.old) (⟦<BufferedSink<W> as Sink>⟧.state self.new) bytes.now result }
+    {
+        self.write_out()?;
+        if bytes.len() <= CAPACITY {
+            self.hold(bytes);
+            return Ok(bytes.len());
+        }
+        match self.writer.write(bytes) {
+            Ok(0) | Err(_) => {
+                self.failures = 1;
+                Err(SinkFault)
+            }
+            Ok(count) => Ok(count),
+        }
+    }
+}
+
+impl<W: Write + Drop> Sink for BufferedSink<W> {
+    ghost state = { λ s. record {
+      failures = s.failures;
+      taken = append_known (W.contents s.writer) (drop s.handed s.buffer.items);
+      delivered = W.contents s.writer;
+    } };
+
+    ghost delivers_front = { λ s. held_back (W.contents s.writer) (drop s.handed s.buffer.items) };
+
+    fn put(&mut self, bytes: &[u8]) -> Result<usize, SinkFault> {
+        if self.failures > 0 {
+            self.failures += 1;
+            return Err(SinkFault);
+        }
+        if bytes.len() > CAPACITY - self.buffer.len() {
+            return self.put_without_room(bytes);
+        }
+        self.hold(bytes);
+        Ok(bytes.len())
+    }
+
+    fn flush(&mut self) -> Result<(), SinkFault> {
+        if self.failures > 0 {
+            self.failures += 1;
+            return Err(SinkFault);
+        }
+        self.write_out()?;
+        if self.writer.flush().is_err() {
+            self.failures = 1;
+            return Err(SinkFault);
+        }
+        Ok(())
+    }
+
+    fn failures(&self) -> u64 {
+        self.failures
+    }
+}
+
 /// A sink over an array. It takes no memory, holds nothing back, and fails once the array is full.
 #[derive(Debug, Drop)]
 pub struct ArraySink<const N: usize> {
@@ -188,4 +331,19 @@ pub fn put_all<T: Sink>(bytes: &[u8], sink: &mut T) -> Result<(), SinkFault>
         done += sink.put(&bytes[done..])?;
     }
     Ok(())
+}
+
+/// Writes bytes, with one write after another, until all are written or a write fails. Returns how many were written.
+fn write_whole<W: Write>(bytes: &[u8], writer: &mut W) -> usize
+    ensures within { result ≤ length bytes.now }
+    ensures bytes { Appends (W.contents writer.old) (W.contents writer.new) (take result bytes.now) }
+{
+    let mut done = 0;
+    'writes: while done < bytes.len() {
+        match writer.write(&bytes[done..]) {
+            Ok(0) | Err(_) => return done,
+            Ok(count) => done += count,
+        }
+    }
+    done
 }

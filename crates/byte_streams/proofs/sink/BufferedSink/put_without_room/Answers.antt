@@ -3,7 +3,7 @@ use Rattle.std.proofs.Common.{◌++◌, take, drop, sym, ap, ◌∙◌, subst, a
 use Rattle.std.specs.Io.KnownBytes.{Appends, append_known}
 use Rattle.std.proofs.KnownBytes.{Appends-trans}
 use Rattle.byte_streams.proofs.SliceStreams.{held_more}
-use Rattle.byte_streams.proofs.buffered_sink.BufferedSink.put_without_room.Goals as goal
+use Rattle.byte_streams.proofs.sink.BufferedSink.put_without_room.Goals as goal
 
 pub returns-in-Ok : goal.returns-in-Ok
 returns-in-Ok g c =

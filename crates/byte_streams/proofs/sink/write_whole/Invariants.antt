@@ -1,7 +1,7 @@
 -- A front of the bytes is written.
 use Rattle.std.proofs.Common.{length, take, ◌-◌, ◌≤◌}
 use Rattle.std.specs.Io.KnownBytes.{Appends}
-use Rattle.byte_streams.proofs.buffered_sink.write_whole.Given as goal
+use Rattle.byte_streams.proofs.sink.write_whole.Given as goal
 
 abbrev pub invariant-writes : goal.invariant-writes
 invariant-writes g l = record {

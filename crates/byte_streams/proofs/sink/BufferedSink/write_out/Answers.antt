@@ -2,7 +2,7 @@
 use Rattle.std.proofs.Common.{take, refl, arith}
 use Rattle.std.proofs.lemmas.Grind.{common_steps}
 use Rattle.byte_streams.proofs.SliceStreams.{handed_on, all_handed_on}
-use Rattle.byte_streams.proofs.buffered_sink.BufferedSink.write_out.Goals as goal
+use Rattle.byte_streams.proofs.sink.BufferedSink.write_out.Goals as goal
 
 pub returns-then-handed-len-clause-out : goal.returns-then-handed-len-clause-out
 returns-then-handed-len-clause-out g c = grind (arith, common_steps, handed_on)
