@@ -180,12 +180,15 @@ impl Judge {
         match (self.ended, &self.game) {
             (Some(verdict), _) => verdict,
             (None, Some(game)) => {
-                let (black, white) = present_score(self.score, self.scored, game);
-                self.score = Some((black, white));
+                let areas = match self.score {
+                    Some(known) if game.left_board_since(self.scored) => known,
+                    _ => game.board().score(),
+                };
+                self.score = Some(areas);
                 self.scored = game.depth();
                 Verdict::Score {
-                    black,
-                    white,
+                    black: areas.0,
+                    white: areas.1,
                     over: game.over(),
                 }
             }
@@ -236,25 +239,6 @@ fn put_game(
     };
     *slot = Some(game);
     Ok(())
-}
-
-/// The score of the present board. `score` is that of the board after the first `scored` nodes, if it is known.
-#[inline(always)]
-fn present_score(
-    score: Option<(u32, u32)>,
-    scored: usize,
-    referee: &Referee<PrintPast>,
-) -> (u32, u32)
-    requires { IsScoreAt referee.now scored score }
-    ensures black { result.0 ≡ score_of referee.now.present.colouring Black }
-    ensures white { result.1 ≡ score_of referee.now.present.colouring White }
-{
-    if let Some(known) = score {
-        if referee.left_board_since(scored) {
-            return known;
-        }
-    }
-    referee.board().score()
 }
 
 /// What is still known of the score after going back to the first `count` nodes: `score`, if `scored` is at most `count`, or if the nodes after

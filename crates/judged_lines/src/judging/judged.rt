@@ -92,8 +92,25 @@ impl<K: StepKeeper> LineKeeper for Judged<K> {
 
     ghost counts = { λ count. count };
 
+    // An illegal node has no step, so the keeper is told nothing of it and of the nodes after it.
     fn follow(&mut self, cursor: &SequenceCursor<'_, '_>, held: Front) -> Result<(), MemoryFault> {
-        judge_line(cursor, held, &mut self.judge, &mut self.keeper)?;
+        // The ends of the sequences rise to the number of nodes.
+        let _nodes = cursor.len();
+        let end = cursor.sequences();
+        if held.nodes == 0 {
+            self.judge.begin(&cursor.root())?;
+        } else {
+            self.judge.cut_back(held.nodes);
+        }
+        self.keeper.keep(held.nodes, self.judge.board())?;
+        if !self.judge.is_decided() {
+            for index in held.sequences..end {
+                let all = judge_sequence(cursor.nodes(index), &mut self.judge, &mut self.keeper)?;
+                if !all {
+                    break;
+                }
+            }
+        }
         self.verdict = self.judge.verdict();
         Ok(())
     }
@@ -101,41 +118,6 @@ impl<K: StepKeeper> LineKeeper for Judged<K> {
     fn plays(&self) -> u64 {
         self.judge.plays()
     }
-}
-
-/// Judges the line before the cursor, and tells its steps. This front of it is judged and told already. An illegal node has no step, so the
-/// keeper is told nothing of it and of the nodes after it. After a refusal of memory nothing is known of the judgement and of what is kept.
-fn judge_line<K: StepKeeper>(
-    cursor: &SequenceCursor<'_, '_>,
-    held: Front,
-    judge: &mut Judge,
-    keeper: &mut K,
-) -> Result<(), MemoryFault>
-    requires front { HasFront cursor.now.ends held }
-    requires held { IsHeldOf (HoldsLine (K.tells keeper.old) judge.old.judgement) cursor.now held }
-    requires countable { judge.old.plays + length (nodes_before cursor.now.at) < u64.MAX }
-    ensures judged { OnOk result (HoldsLine (K.tells keeper.new) judge.new.judgement cursor.now) }
-    ensures plays { PlaysUpTo judge.old.plays judge.new.plays (fresh_plays (nodes_before cursor.now.at) held.nodes) result }
-{
-    // The ends of the sequences rise to the number of nodes.
-    let _nodes = cursor.len();
-    let end = cursor.sequences();
-    if held.nodes == 0 {
-        judge.begin(&cursor.root())?;
-    } else {
-        judge.cut_back(held.nodes);
-    }
-    keeper.keep(held.nodes, judge.board())?;
-    if judge.is_decided() {
-        return Ok(());
-    }
-    for index in held.sequences..end {
-        let all = judge_sequence(cursor.nodes(index), judge, keeper)?;
-        if !all {
-            return Ok(());
-        }
-    }
-    Ok(())
 }
 
 /// Judges the nodes of one more sequence of a line, and tells their steps, up to the first that isn't taken. Returns whether all were taken.

@@ -2,13 +2,13 @@
 use Rattle.std.proofs.Common.{drop, take}
 use Rattle.judged_lines.proofs.Common.{nodes_before, nodes_in, game_kind, root_properties, IsUndecided}
 use Rattle.judged_lines.proofs.JudgedLines.{Going}
-use Rattle.judged_lines.proofs.judging.judged.judge_line.Given as goal
+use Rattle.judged_lines.proofs.judging.judged.JudgedLineKeeper.follow.Given as goal
 
 abbrev pub invariant-loop-index : goal.invariant-loop-index
 invariant-loop-index g l =
     let line = nodes_before l.cursor.at in
     let held = l.fn.held.nodes in
     record {
-      going : Going (g.K.StepKeeper.tells l.keeper) (game_kind (root_properties line)) (take held line) (drop held line) (drop (nodes_in l.cursor.ends l.index) line) l.fn.judge.plays l.judge;
-      undecided : IsUndecided l.judge.judgement;
+      going : Going (g.K.StepKeeper.tells l.self.keeper) (game_kind (root_properties line)) (take held line) (drop held line) (drop (nodes_in l.cursor.ends l.index) line) l.fn.self.judge.plays l.self.judge;
+      undecided : IsUndecided l.self.judge.judgement;
     }
