@@ -1,4 +1,7 @@
 -- What the proofs of this crate import together: words of specs, types, and lemmas of the standard library.
+pub use Rattle.std.proofs.Common.{[], add-one, All, ap, append-nil, append_assoc, arith, Bool, Bor, codes, drop, Err, false, flat_map, fold, inl, inr, IsErr, IsSome, length, length-append, length-drop, length-take, length-take-le, List, map, None, Ok, Option, option_and_then, option_copied, option_map, refl, Result, rules, slice_get, Some, subst, suc, sym, take, take-append-drop, take_all, true, zero, ℕ, ◌++◌, ◌+◌, ◌-◌, ◌<◌, ◌∙◌, ◌∷◌, ◌≡◌, ◌≤◌, ◌⊎◌}
+pub use Rattle.std.proofs.lemmas.List.Sums.{fold-append}
+pub use Rattle.std.specs.Option.{option_or}
 pub use Rattle.std.proofs.lemmas.Bool.{cases_Bool, cases_eq, cases_lt, false_from_ne_true, lt-leb}
 pub use Rattle.std.proofs.lemmas.Grind.{common_steps, flat_map-append}
 pub use Rattle.std.proofs.lemmas.List.{length-map, map-append, nil_from_length, take-append-le, take-map}
@@ -36,7 +39,7 @@ pub use Rattle.judged_lines.specs.GoingOn.{AreHeld, HasFront, HasPlays, index_by
 pub use Rattle.judged_lines.specs.JudgedGames.{bad_size, board, game_kind, GameKind, not_go, root_properties}
 pub use Rattle.judged_lines.specs.Judgement.{after, begun_game, board_in, IsEffectBy, IsLegalStep, IsStepOf, judged, Judgement, judging, unjudged}
 pub use Rattle.judged_lines.specs.Keeping.{fresh_plays, HasJudged, HoldsLine, HoldsVerdict, PlaysUpTo}
-pub use Rattle.judged_lines.specs.NodeContents.{first_value, moves, moves_by, moves_in, players, players_in, stones, stones_in, stones_of}
+pub use Rattle.judged_lines.specs.NodeContents.{first_value, Move, moves, moves_by, moves_in, players, players_in, Stones, stones, stones_in, stones_of}
 pub use Rattle.judged_lines.specs.NodeValues.{last_player, move_value, operation, operations, player_value}
 pub use Rattle.judged_lines.specs.Plays.{all_judged_places, differ, different, judged_places, node_places, places_of, touched_places}
 pub use Rattle.judged_lines.specs.Step.{move_step, setup_step, step, step_by, turn_step}
@@ -45,3 +48,5 @@ pub use Rattle.judged_lines.specs.Walk.{before_root, HasIllegal, IllegalNode, Is
 pub use Rattle.judged_lines.specs.inner.Gathered.{AddsRectangles, AreMoves, ComesAs, HoldsAlone, IsGathered, IsSetup, kind_of, setup_with_player, setup_with_stones}
 pub use Rattle.judged_lines.specs.inner.GoingOn.{GoesOnBy}
 pub use Rattle.judged_lines.specs.inner.Judging.{back, back_from, back_to, IsDecided, IsScoreAt, IsScoreOf, IsStepFrom, IsStepped, IsUndecided, judgement_of, Judging, legal_by, setup_effect, size_said, state_after, state_of, verdict_in}
+pub use Rattle.judged_lines.specs.declared.verdict.Verdict.TheVariants.{BadSize, NotGo}
+pub use Rattle.judged_lines.specs.inner.Keeping.{WentOn}

@@ -1,11 +1,10 @@
 -- The verdicts of small lines, and their judged nodes, computed.
-use Rattle.std.proofs.Common.{◌≡◌, ℕ, List, [], ◌∷◌, map, refl, true, false, codes}
-use Rattle.judged_lines.proofs.Common.{Property, Node, Line, points, point_value, rect_value, score_of, counts_for, Verdict, verdict_of, judged_nodes}
+use Rattle.judged_lines.proofs.Common.{◌≡◌, ℕ, List, [], ◌∷◌, map, refl, true, false, codes, Property, Node, Line, points, point_value, rect_value, score_of, counts_for, Verdict, verdict_of, judged_nodes, NotGo, BadSize}
 use Rattle.go_board.specs.declared.reason.Reason.TheVariants.{Mixed, TwoMoves, BadSetup, BadPoint, Over, Turn, Occupied, Repeat}
 use Rattle.board_stones.specs.Reaching.{reaches, reaching_within, spread}
 use Rattle.board_stones.specs.Clearing.{clear, play, cleared_cell}
 use Rattle.board_stones.specs.Rectangle.{with_rectangle}
-use Rattle.judged_lines.specs.declared.verdict.Verdict.TheVariants.{Score, Illegal, NotGo, BadSize}
+use Rattle.judged_lines.specs.declared.verdict.Verdict.TheVariants.{Score, Illegal}
 
 abbrev pub props : List ℕ → List ℕ → List (List ℕ) → Property
 props name value more = record { name = name; first = value; more = more }

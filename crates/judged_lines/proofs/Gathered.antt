@@ -1,7 +1,5 @@
 -- What properties hold, gathered one after the other.
-use Rattle.std.proofs.Common.{◌≡◌, ◌<◌, ℕ, Bor, Bool, Option, Some, None, List, [], ◌∷◌, ◌++◌, map, length, All, refl, sym, ap, subst, ◌∙◌, append_assoc, arith, append-nil, length-append, rules, option_map, option_and_then, option_copied, codes, flat_map}
-use Rattle.judged_lines.proofs.Common.{cases_Bool, false_from_ne_true, common_steps, flat_map-append, map-append, All-nil, All-head, All-tail, NextNode, IsTakenOff, Property, Node, values, lone_property, told_property, IsRectOn, rect_value, SetupOp, Colour, Several, moves_in, moves_by, stones_in, stones_of, players_in, first_value, player_value, operations, last_player, kind_of, AreMoves, IsSetup, setup_with_stones, setup_with_player, AddsRectangles, HoldsAlone, IsGathered, ComesAs}
-use Rattle.std.specs.Option.{option_or}
+use Rattle.judged_lines.proofs.Common.{◌≡◌, ◌<◌, ℕ, Bor, Bool, Option, Some, None, List, [], ◌∷◌, ◌++◌, map, length, All, refl, sym, ap, subst, ◌∙◌, append_assoc, arith, append-nil, length-append, rules, option_map, option_and_then, option_copied, codes, flat_map, cases_Bool, false_from_ne_true, common_steps, flat_map-append, map-append, All-nil, All-head, All-tail, NextNode, IsTakenOff, Property, Node, values, lone_property, told_property, IsRectOn, rect_value, SetupOp, Colour, Several, moves_in, moves_by, stones_in, stones_of, players_in, first_value, player_value, operations, last_player, kind_of, AreMoves, IsSetup, setup_with_stones, setup_with_player, AddsRectangles, HoldsAlone, IsGathered, ComesAs, option_or, Move, Stones}
 use Rattle.std.proofs.lemmas.List.Folds.{find-append}
 use Rattle.std.proofs.lemmas.Slice.Eq.{bytes_eq-Decides}
 use Rattle.sgf_outline.specs.declared.traversal.NextNode.TheVariants.{Led, Empty as EmptyNode, Unread}
@@ -13,7 +11,6 @@ use Rattle.judged_lines.specs.declared.judging.contents.Setup.{Setup}
 use Rattle.judged_lines.specs.declared.judging.contents.Contents.{Contents}
 use Rattle.judged_lines.specs.declared.judging.contents.Kind.{Kind}
 use Rattle.judged_lines.specs.declared.judging.contents.Kind.TheVariants.{Move as move_kind, Stones as stones_kind, Player as player_kind, Comment as comment_kind}
-use Rattle.judged_lines.specs.NodeContents.{Move, Stones}
 
 -- all of two lists, if each is there
 abbrev pub both : Option (List SetupOp) → Option (List SetupOp) → Option (List SetupOp)

@@ -1,6 +1,5 @@
 -- The cursor went on to the next line, and so many nodes are played for that line.
-use Rattle.std.proofs.Common.{◌≡◌, ℕ, ◌-◌, ◌<◌, length, Result, Err, ap, subst, arith, rules, Bool, IsErr}
-use Rattle.judged_lines.proofs.Common.{common_steps, Front, CursorState, nodes_before, path_before, Continues, SequencesState, Before, Unheld, Held, Refused, AreHeld, HasPlays, PlaysLine, StandsBy, index_by, PlaysUpTo, fresh_plays, GoesOnBy}
+use Rattle.judged_lines.proofs.Common.{◌≡◌, ℕ, ◌-◌, ◌<◌, length, Result, Err, ap, subst, arith, rules, Bool, IsErr, common_steps, Front, CursorState, nodes_before, path_before, Continues, SequencesState, Before, Unheld, Held, Refused, AreHeld, HasPlays, PlaysLine, StandsBy, index_by, PlaysUpTo, fresh_plays, GoesOnBy}
 use Rattle.judged_lines.proofs.Keeping.{some_node}
 use Rattle.tree_lines.proofs.LineNodes.{line_is, some_before}
 use Rattle.judged_lines.proofs.LineVerdicts.{some_line}

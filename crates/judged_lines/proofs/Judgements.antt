@@ -1,10 +1,9 @@
 -- A line's judgement goes on by a node, and back to its first nodes.
-use Rattle.std.proofs.Common.{◌≡◌, ℕ, ◌<◌, ◌≤◌, List, [], ◌∷◌, length, refl, ap, ◌∙◌, arith, suc, ◌+◌, ◌++◌, take, drop, Option, Some, None, Result, Ok, Err, sym, subst, length-append, append-nil, append_assoc, rules, le-leb, fold, take_all, take-append-drop, length-take-le}
-use Rattle.judged_lines.proofs.Common.{lt-leb, common_steps, take-append-le, Node, Reason, State, States, followed_by, Verdict, GameKind, not_go, bad_size, board, Judgement, unjudged, judged, begun_game, after, judging, board_in, step, verdict_at, verdict_by, judged_on, LegalNode, IllegalNode, Walk, before_root, next, walk, legal_on, judged_by, back_from, back_to, Judging, IsDecided, IsUndecided, judgement_of, back, verdict_in, state_after, state_of, legal_by}
+use Rattle.judged_lines.proofs.Common.{◌≡◌, ℕ, ◌<◌, ◌≤◌, List, [], ◌∷◌, length, refl, ap, ◌∙◌, arith, suc, ◌+◌, ◌++◌, take, drop, Option, Some, None, Result, Ok, Err, sym, subst, length-append, append-nil, append_assoc, rules, fold, take_all, take-append-drop, length-take-le, lt-leb, common_steps, take-append-le, Node, Reason, State, States, followed_by, Verdict, GameKind, not_go, bad_size, board, Judgement, unjudged, judged, begun_game, after, judging, board_in, step, verdict_at, verdict_by, judged_on, LegalNode, IllegalNode, Walk, before_root, next, walk, legal_on, judged_by, back_from, back_to, Judging, IsDecided, IsUndecided, judgement_of, back, verdict_in, state_after, state_of, legal_by, fold-append, NotGo, BadSize}
+use Rattle.std.proofs.Common.{le-leb}
 use Rattle.judged_lines.specs.inner.Judging.{side_in}
 use Rattle.judged_lines.specs.Judgement.{stepped}
-use Rattle.std.proofs.lemmas.List.Sums.{fold-append}
-use Rattle.judged_lines.specs.declared.verdict.Verdict.TheVariants.{Illegal, NotGo, BadSize}
+use Rattle.judged_lines.specs.declared.verdict.Verdict.TheVariants.{Illegal}
 use Rattle.judged_lines.specs.Walk.{next_by}
 use Rattle.judged_lines.proofs.Walking.{StandsAfter, next_is, one_judged}
 use Rattle.judged_lines.specs.Walk as along

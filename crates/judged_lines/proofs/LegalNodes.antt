@@ -1,7 +1,5 @@
 -- Taken nodes are told one by one, and those of a line's front are kept for the next line.
-use Rattle.std.proofs.Common.{◌≡◌, ℕ, zero, suc, ◌<◌, List, [], ◌∷◌, ◌++◌, take, Some, None, refl, sym, ap, subst, ◌∙◌, append-nil, append_assoc, rules, fold, arith}
-use Rattle.judged_lines.proofs.Common.{Node, Grid, State, LegalStep, GameKind, not_go, bad_size, board, game_kind, root_properties, Judgement, unjudged, judged, judging, begun_game, after, board_in, IsLegalStep, step, LegalNode, legal_on, IsDecided, state_after, legal_by, IsStepFrom, common_steps}
-use Rattle.judged_lines.specs.declared.verdict.Verdict.TheVariants.{NotGo, BadSize}
+use Rattle.judged_lines.proofs.Common.{◌≡◌, ℕ, zero, suc, ◌<◌, List, [], ◌∷◌, ◌++◌, take, Some, None, refl, sym, ap, subst, ◌∙◌, append-nil, append_assoc, rules, fold, arith, Node, Grid, State, LegalStep, GameKind, not_go, bad_size, board, game_kind, root_properties, Judgement, unjudged, judged, judging, begun_game, after, board_in, IsLegalStep, step, LegalNode, legal_on, IsDecided, state_after, legal_by, IsStepFrom, common_steps, NotGo, BadSize}
 use Rattle.judged_lines.specs.inner.Judging.{side_in}
 use Rattle.judged_lines.proofs.Steps.{side-step}
 use Rattle.judged_lines.proofs.Keeping.{KeepsTaken, judging_front, taken_front}

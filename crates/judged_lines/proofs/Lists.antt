@@ -1,6 +1,5 @@
 -- The elements of a list after its first ones, and of its front.
-use Rattle.std.proofs.lemmas.Grind.{common_steps}
-use Rattle.std.proofs.Common.{◌≡◌, ℕ, suc, length, slice_get, ap, arith, zero, ◌+◌, ◌<◌, ◌≤◌, List, [], ◌∷◌, take, drop, None, refl}
+use Rattle.judged_lines.proofs.Common.{common_steps, ◌≡◌, ℕ, suc, length, slice_get, ap, arith, zero, ◌+◌, ◌<◌, ◌≤◌, List, [], ◌∷◌, take, drop, None, refl}
 
 pub get_dropped : {X : Type 0} (xs : List X) (g k : ℕ) → slice_get (drop g xs) k ≡ slice_get xs (g + k)
 get_dropped xs zero k = let same : k ≡ 0 + k = omega arith in ap (λ n. slice_get xs n) same

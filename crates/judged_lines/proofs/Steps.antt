@@ -1,10 +1,9 @@
 -- A node's step by what is gathered of it.
-use Rattle.std.proofs.Common.{◌≡◌, ◌⊎◌, ◌<◌, ℕ, Option, Some, None, List, [], ◌∷◌, length, Ok, Err, refl, sym, ap, ◌∙◌, arith, rules, Result, option_and_then, IsSome, IsErrOf, ◌↔◌}
-use Rattle.judged_lines.proofs.Common.{common_steps, Node, SetupOp, Colour, TurnFault, Reason, States, turned, followed_by, State, Nothing, Meant, IsEffectBy, moves, stones, players, player_value, operations, last_player, turn_step, move_step, setup_step, step_by, step, AreMoves, IsSetup, IsStepped, setup_effect}
+use Rattle.judged_lines.proofs.Common.{◌≡◌, ◌⊎◌, ◌<◌, ℕ, Option, Some, None, List, [], ◌∷◌, length, Ok, Err, refl, sym, ap, ◌∙◌, arith, rules, Result, option_and_then, IsSome, common_steps, Node, SetupOp, Colour, TurnFault, Reason, States, turned, followed_by, State, Nothing, Meant, IsEffectBy, moves, stones, players, player_value, operations, last_player, turn_step, move_step, setup_step, step_by, step, AreMoves, IsSetup, IsStepped, setup_effect, Move, Stones}
+use Rattle.std.proofs.Common.{IsErrOf, ◌↔◌}
 use Rattle.go_board.specs.declared.referee.plays.Play.{Play}
 use Rattle.go_board.specs.declared.fault.TurnFault.TheVariants.{Illegal, Memory}
 use Rattle.go_board.specs.Reason.{reason_of}
-use Rattle.judged_lines.specs.NodeContents.{Move, Stones}
 use Rattle.judged_lines.specs.Step.{side_in}
 use Rattle.go_board.proofs.TurnLemmas.{side-set_up, side-turned}
 

@@ -1,6 +1,5 @@
 -- How many nodes are judged on lines that follow each other: a line adds those of its judged nodes that it doesn't share with the line before.
-use Rattle.judged_lines.proofs.Common.{common_steps, length-map, slice_get_within, PlacesRise, Games, node_count, CursorState, Line, lines, Before, Unheld, Held, AreHeld, all_judged_places, judged_places, judged_nodes}
-use Rattle.std.proofs.Common.{◌≡◌, ℕ, ◌+◌, ◌<◌, ◌≤◌, List, length, take, arith, ◌-◌, drop, slice_get, Some, length-append, add-one, append_assoc, take-append-drop, length-drop, length-take}
+use Rattle.judged_lines.proofs.Common.{common_steps, length-map, slice_get_within, PlacesRise, Games, node_count, CursorState, Line, lines, Before, Unheld, Held, AreHeld, all_judged_places, judged_places, judged_nodes, ◌≡◌, ℕ, ◌+◌, ◌<◌, ◌≤◌, List, length, take, arith, ◌-◌, drop, slice_get, Some, length-append, add-one, append_assoc, take-append-drop, length-drop, length-take}
 use Rattle.judged_lines.proofs.Touched.{SharesAfter, adds_fresh, judged_first, judged_shared, judged_few}
 use Rattle.judged_lines.proofs.Lists.{get_dropped, get_taken}
 

@@ -1,7 +1,5 @@
 -- A walk along a line ends with the first node whose step is refused, or with the last node. The judged nodes are a front of the line.
-use Rattle.judged_lines.proofs.Common.{common_steps, map-append, Node, Reason, State, starting, GameKind, not_go, bad_size, board, game_kind, root_properties, step, verdict_at, score_in, judged_on, IllegalNode, Walk, before_root, next, walk, IsAfter, no_node, one_node, HasIllegal, judged_by}
-use Rattle.std.proofs.Common.{◌≡◌, ℕ, ◌+◌, List, [], ◌∷◌, ◌++◌, Some, None, Result, Ok, Err, refl, ap, ◌∙◌, ◌⊎◌, inl, inr, zero, suc, ◌≤◌, length, take, Option, sym, arith, append_assoc, append-nil, fold}
-use Rattle.std.proofs.lemmas.List.Sums.{fold-append}
+use Rattle.judged_lines.proofs.Common.{common_steps, map-append, Node, Reason, State, starting, GameKind, not_go, bad_size, board, game_kind, root_properties, step, verdict_at, score_in, judged_on, IllegalNode, Walk, before_root, next, walk, IsAfter, no_node, one_node, HasIllegal, judged_by, ◌≡◌, ℕ, ◌+◌, List, [], ◌∷◌, ◌++◌, Some, None, Result, Ok, Err, refl, ap, ◌∙◌, ◌⊎◌, inl, inr, zero, suc, ◌≤◌, length, take, Option, sym, arith, append_assoc, append-nil, fold, fold-append}
 use Rattle.judged_lines.specs.declared.verdict.Verdict.TheVariants.{Illegal}
 use Rattle.judged_lines.specs.Walk.{stepped, next_by}
 use Rattle.judged_lines.proofs.Along.{same_root}

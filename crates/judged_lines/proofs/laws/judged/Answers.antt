@@ -1,5 +1,4 @@
-use Rattle.std.proofs.Common.{arith}
-use Rattle.std.proofs.lemmas.Grind.{common_steps}
+use Rattle.judged_lines.proofs.Common.{arith, common_steps}
 use Rattle.judged_lines.proofs.Walking.{scores, refuses, ends}
 use Rattle.judged_lines.proofs.laws.judged.Goals as goal
 

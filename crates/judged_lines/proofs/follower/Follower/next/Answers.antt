@@ -1,6 +1,5 @@
 -- The next line was judged from where it leaves the line before it.
-use Rattle.std.proofs.Common.{◌≡◌, ◌≤◌, true, Ok, ap, arith, rules}
-use Rattle.judged_lines.proofs.Common.{common_steps, MemoryFault, PlacesRise, node_count, advanced, nodes_before, path_before, Held, PlaysLine, StandsBy, HoldsVerdict}
+use Rattle.judged_lines.proofs.Common.{◌≡◌, ◌≤◌, true, Ok, ap, arith, rules, common_steps, MemoryFault, PlacesRise, node_count, advanced, nodes_before, path_before, Held, PlaysLine, StandsBy, HoldsVerdict}
 use Rattle.sgf_outline.specs.declared.limit.TheConstants.{MAX_LENGTH}
 use Rattle.judged_lines.specs.GoingOn.{next_by}
 use Rattle.judged_lines.proofs.Followers.{given, streak_countable, few_played, follows_on}

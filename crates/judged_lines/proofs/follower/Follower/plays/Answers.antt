@@ -1,6 +1,5 @@
 -- An answer for speed: a wrong count is refused sooner.
-use Rattle.std.proofs.Common.{length, ap}
-use Rattle.judged_lines.proofs.Common.{FollowerState, lines_judged, all_judged_places}
+use Rattle.judged_lines.proofs.Common.{length, ap, FollowerState, lines_judged, all_judged_places}
 use Rattle.judged_lines.proofs.follower.Follower.plays.Goals as goal
 
 pub returns : goal.returns

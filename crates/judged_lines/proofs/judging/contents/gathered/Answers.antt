@@ -1,6 +1,5 @@
 -- The buffer is empty at first.
-use Rattle.std.proofs.Common.{sym, subst, refl, append_assoc, rules}
-use Rattle.judged_lines.proofs.Common.{told_property, IsGathered}
+use Rattle.judged_lines.proofs.Common.{sym, subst, refl, append_assoc, rules, told_property, IsGathered}
 use Rattle.judged_lines.proofs.judging.contents.gathered.Goals as goal
 
 pub loop-property-init : goal.loop-property-init

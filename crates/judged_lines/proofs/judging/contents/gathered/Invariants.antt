@@ -1,6 +1,5 @@
 -- What is told is what the properties hold that were taken off.
-use Rattle.std.proofs.Common.{◌≡◌, ◌++◌, List, length}
-use Rattle.judged_lines.proofs.Common.{Property, told_property, IsGathered}
+use Rattle.judged_lines.proofs.Common.{◌≡◌, ◌++◌, List, length, Property, told_property, IsGathered}
 use Rattle.judged_lines.proofs.judging.contents.gathered.Given as goal
 
 abbrev pub invariant-loop-property : goal.invariant-loop-property

@@ -1,6 +1,5 @@
-use Rattle.std.proofs.Common.{Some, None, sym, ap, ◌∙◌, option_map}
+use Rattle.judged_lines.proofs.Common.{Some, None, sym, ap, ◌∙◌, option_map, last_player}
 use Rattle.judged_lines.proofs.Gathered.{later_player}
-use Rattle.judged_lines.specs.NodeValues.{last_player}
 use Rattle.judged_lines.proofs.judging.contents.last_player.Goals as goal
 
 pub returns-in_err-last-2 : goal.returns-in_err-last-2

@@ -1,6 +1,5 @@
 -- The last player of all values is that of those left after the one that was met last.
-use Rattle.std.proofs.Common.{◌≡◌, Option, Some, length}
-use Rattle.judged_lines.proofs.Common.{values, Colour, last_player}
+use Rattle.judged_lines.proofs.Common.{◌≡◌, Option, Some, length, values, Colour, last_player}
 use Rattle.judged_lines.proofs.judging.contents.last_player.Given as goal
 
 abbrev pub invariant-loop-raw : goal.invariant-loop-raw

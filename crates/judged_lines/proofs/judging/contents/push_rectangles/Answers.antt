@@ -1,5 +1,4 @@
-use Rattle.std.proofs.Common.{[], ◌∷◌, ◌++◌, sym, ap, ◌∙◌, append_assoc, subst, All}
-use Rattle.judged_lines.proofs.Common.{All-append, All-from_recursion, IsRectOn, SetupOp}
+use Rattle.judged_lines.proofs.Common.{[], ◌∷◌, ◌++◌, sym, ap, ◌∙◌, append_assoc, subst, All, All-append, All-from_recursion, IsRectOn, SetupOp}
 use Rattle.judged_lines.proofs.Gathered.{rectangles_more, rectangles_stop}
 use Rattle.judged_lines.proofs.judging.contents.push_rectangles.Goals as goal
 

@@ -1,6 +1,5 @@
 -- The operations of the values so far were appended.
-use Rattle.std.proofs.Common.{◌≡◌, ◌++◌, ℕ, List, map, Some, All, length}
-use Rattle.judged_lines.proofs.Common.{values, IsRectOn, SetupOp, operations}
+use Rattle.judged_lines.proofs.Common.{◌≡◌, ◌++◌, ℕ, List, map, Some, All, length, values, IsRectOn, SetupOp, operations}
 use Rattle.judged_lines.proofs.judging.contents.push_rectangles.Given as goal
 
 abbrev pub invariant-loop-raw : goal.invariant-loop-raw

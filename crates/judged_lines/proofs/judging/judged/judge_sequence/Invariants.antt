@@ -1,6 +1,5 @@
 -- The judge goes on by the nodes of the sequence, and the verdict isn't known yet.
-use Rattle.std.proofs.Common.{List, length}
-use Rattle.judged_lines.proofs.Common.{Node, GameKind, HasJudged, IsUndecided}
+use Rattle.judged_lines.proofs.Common.{List, length, Node, GameKind, HasJudged, IsUndecided}
 use Rattle.judged_lines.proofs.JudgedLines.{Going}
 use Rattle.judged_lines.proofs.judging.judged.judge_sequence.Given as goal
 

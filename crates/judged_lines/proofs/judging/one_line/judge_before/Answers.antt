@@ -1,6 +1,5 @@
 -- The line is judged from its root.
-use Rattle.std.proofs.Common.{arith}
-use Rattle.std.proofs.lemmas.Grind.{common_steps}
+use Rattle.judged_lines.proofs.Common.{arith, common_steps}
 use Rattle.judged_lines.proofs.LineVerdicts.{told_of}
 use Rattle.tree_lines.proofs.SequenceCursors.{some_end}
 use Rattle.judged_lines.proofs.judging.one_line.judge_before.Goals as goal

@@ -1,7 +1,5 @@
 -- What is held of the properties that were gone over comes before what the others hold.
-use Rattle.std.proofs.Common.{◌≡◌, codes, option_copied}
-use Rattle.std.specs.Option.{option_or}
-use Rattle.judged_lines.specs.NodeContents.{first_value}
+use Rattle.judged_lines.proofs.Common.{◌≡◌, codes, option_copied, option_or, first_value}
 use Rattle.judged_lines.proofs.judging.root.game_and_side.Given as goal
 
 abbrev pub invariant-loop-property : goal.invariant-loop-property

@@ -1,6 +1,5 @@
 -- There is a node with what was gathered.
-use Rattle.std.proofs.Common.{◌++◌, rules}
-use Rattle.judged_lines.proofs.Common.{told_property}
+use Rattle.judged_lines.proofs.Common.{◌++◌, rules, told_property}
 use Rattle.judged_lines.proofs.judging.step.take_any_step.Goals as goal
 
 pub take_contents-requires : goal.take_contents-requires

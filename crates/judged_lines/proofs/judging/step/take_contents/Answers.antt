@@ -1,6 +1,5 @@
 -- Each arm takes a step of the node, and knows its effect.
-use Rattle.std.proofs.Common.{arith, rules}
-use Rattle.judged_lines.proofs.Common.{common_steps}
+use Rattle.judged_lines.proofs.Common.{arith, rules, common_steps}
 use Rattle.judged_lines.specs.Judgement.{IsEffect}
 use Rattle.judged_lines.proofs.Steps.{something, meant_effect}
 use Rattle.judged_lines.proofs.judging.step.take_contents.Goals as goal

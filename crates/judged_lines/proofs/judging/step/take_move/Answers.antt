@@ -1,5 +1,4 @@
-use Rattle.std.proofs.Common.{arith}
-use Rattle.judged_lines.proofs.Common.{common_steps}
+use Rattle.judged_lines.proofs.Common.{arith, common_steps}
 use Rattle.judged_lines.proofs.Steps.{takes_turn, refuses_turn}
 use Rattle.judged_lines.proofs.judging.step.take_move.Goals as goal
 

@@ -1,5 +1,4 @@
-use Rattle.std.proofs.Common.{◌≡◌, ◌++◌, ◌∷◌, []}
-use Rattle.judged_lines.proofs.Common.{lone_property, told_property, HoldsAlone}
+use Rattle.judged_lines.proofs.Common.{◌≡◌, ◌++◌, ◌∷◌, [], lone_property, told_property, HoldsAlone}
 use Rattle.judged_lines.proofs.Gathered.{gathered_alone}
 use Rattle.judged_lines.proofs.judging.step.take_step.Goals as goal
 

@@ -1,6 +1,5 @@
 -- What the property holds is told after what was told.
-use Rattle.std.proofs.Common.{◌≡◌, Some, sym, ap, ◌∙◌, flat_map}
-use Rattle.judged_lines.specs.NodeContents.{moves_in}
+use Rattle.judged_lines.proofs.Common.{◌≡◌, Some, sym, ap, ◌∙◌, flat_map, moves_in}
 use Rattle.judged_lines.proofs.Gathered.{gathered_moves, gathered_stones, gathered_players, gathered_comment, gathered_nothing}
 use Rattle.judged_lines.proofs.judging.contents.Contents.take.Goals as goal
 

@@ -1,6 +1,5 @@
 -- Nothing changes if the line doesn't have so many nodes. Else each state more is taken back, until no more are there.
-use Rattle.std.proofs.Common.{◌≡◌, ◌∙◌, sym, arith, rules}
-use Rattle.judged_lines.proofs.Common.{back_to}
+use Rattle.judged_lines.proofs.Common.{◌≡◌, ◌∙◌, sym, arith, rules, back_to}
 use Rattle.judged_lines.proofs.KeptScores.{scored_back}
 use Rattle.judged_lines.proofs.Judgements.{back_none, back_past, gone_back}
 use Rattle.judged_lines.proofs.judging.judge.Judge.cut_back.Goals as goal

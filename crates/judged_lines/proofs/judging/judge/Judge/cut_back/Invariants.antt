@@ -1,6 +1,5 @@
 -- What was taken back would have been.
-use Rattle.std.proofs.Common.{◌≡◌, length}
-use Rattle.judged_lines.specs.inner.Judging.{back_to}
+use Rattle.judged_lines.proofs.Common.{◌≡◌, length, back_to}
 use Rattle.judged_lines.proofs.judging.judge.Judge.cut_back.Given as goal
 
 abbrev pub invariant-undo : goal.invariant-undo

@@ -1,6 +1,5 @@
 -- The step leads to the state that it added, or the refusal decides the verdict.
-use Rattle.std.proofs.Common.{◌≡◌, Ok, Err, subst, rules}
-use Rattle.judged_lines.proofs.Common.{LegalStep, IsStepOf, step}
+use Rattle.judged_lines.proofs.Common.{◌≡◌, Ok, Err, subst, rules, LegalStep, IsStepOf, step}
 use Rattle.judged_lines.proofs.Gathered.{coming}
 use Rattle.judged_lines.proofs.KeptScores.{scored_stepped}
 use Rattle.judged_lines.proofs.Judgements.{side_stood, leads_to, leads_on, refused, leads_nowhere, untaken}

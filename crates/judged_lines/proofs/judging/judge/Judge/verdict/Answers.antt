@@ -1,6 +1,5 @@
 -- A score that is known is that of the present board, if each node since then left the board alone.
-use Rattle.std.proofs.Common.{Some, rules}
-use Rattle.judged_lines.proofs.Common.{IsScoreOf}
+use Rattle.judged_lines.proofs.Common.{Some, rules, IsScoreOf}
 use Rattle.judged_lines.proofs.Judgements.{back_none}
 use Rattle.judged_lines.proofs.KeptScores.{scored_now}
 use Rattle.judged_lines.proofs.judging.judge.Judge.verdict.Goals as goal

@@ -1,12 +1,10 @@
 -- One sequence more is judged, until all are, or the verdict is known.
-use Rattle.std.proofs.Common.{Ok, ◌≡◌, ◌+◌, ◌++◌, ◌≤◌, List, length, take, drop, refl, sym, ap, ◌∙◌, length-append, arith, rules, length-drop}
-use Rattle.judged_lines.proofs.Common.{Node, nodes_before, nodes_in, game_kind, root_properties, common_steps}
+use Rattle.judged_lines.proofs.Common.{Ok, ◌≡◌, ◌+◌, ◌++◌, ◌≤◌, List, length, take, drop, refl, sym, ap, ◌∙◌, length-append, arith, rules, length-drop, Node, nodes_before, nodes_in, game_kind, root_properties, common_steps, WentOn}
 use Rattle.tree_lines.proofs.Fronts.{next_part, none_after, rises_through}
 use Rattle.judged_lines.proofs.JudgedLines.{Going, begun_front, countable, ends, finish, goes_on, decides, starts, stopped, stops}
 use Rattle.judged_lines.proofs.Keeping.{judgement_kept, judging_front, taken_kept}
 use Rattle.judged_lines.proofs.LegalNodes.{told_front}
 use Rattle.judged_lines.proofs.LineVerdicts.{verdict_is}
-use Rattle.judged_lines.specs.inner.Keeping.{WentOn}
 use Rattle.judged_lines.proofs.judging.judged.JudgedLineKeeper.follow.Given.{Over}
 use Rattle.judged_lines.proofs.judging.judged.JudgedLineKeeper.follow.Goals as goal
 use Rattle.judged_lines.proofs.judging.judged.JudgedLineKeeper.follow.Goals.{After-sequences-end, After-nodes, In_ok-keep, then-held-eq0+in_ok-begin, else-held-eq0, then-not-is_decided+else-loop-index-test, then-not-is_decided+then-loop-index-test+in_ok-all+then-not-all, else-not-is_decided}

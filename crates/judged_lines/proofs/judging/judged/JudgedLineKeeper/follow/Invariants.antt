@@ -1,6 +1,5 @@
 -- The judge goes on by the sequences after the front, and the verdict isn't known yet.
-use Rattle.std.proofs.Common.{drop, take}
-use Rattle.judged_lines.proofs.Common.{nodes_before, nodes_in, game_kind, root_properties, IsUndecided}
+use Rattle.judged_lines.proofs.Common.{drop, take, nodes_before, nodes_in, game_kind, root_properties, IsUndecided}
 use Rattle.judged_lines.proofs.JudgedLines.{Going}
 use Rattle.judged_lines.proofs.judging.judged.JudgedLineKeeper.follow.Given as goal
 
