@@ -1,11 +1,11 @@
 -- What the proofs of this crate import together: words of specs, types, and lemmas of the standard library.
-pub use Rattle.std.proofs.Common.{[], add-one, All, ap, append-nil, append_assoc, arith, Bool, Bor, codes, drop, Err, false, flat_map, fold, inl, inr, IsErr, IsSome, length, length-append, length-drop, length-take, length-take-le, List, map, None, Ok, Option, option_and_then, option_copied, option_map, refl, Result, rules, slice_get, Some, subst, suc, sym, take, take-append-drop, take_all, true, zero, ℕ, ◌++◌, ◌+◌, ◌-◌, ◌<◌, ◌∙◌, ◌∷◌, ◌≡◌, ◌≤◌, ◌⊎◌}
-pub use Rattle.std.proofs.lemmas.List.Sums.{fold-append}
 pub use Rattle.std.specs.Option.{option_or}
+pub use Rattle.std.proofs.Common.{[], add-one, All, ap, append-nil, append_assoc, arith, Bool, Bor, codes, drop, Err, false, flat_map, fold, inl, inr, IsErr, IsSome, length, length-append, length-drop, length-take, length-take-le, List, map, None, Ok, Option, option_and_then, option_copied, option_map, refl, Result, rules, slice_get, Some, subst, suc, sym, take, take-append-drop, take_all, true, zero, ℕ, ◌++◌, ◌+◌, ◌-◌, ◌<◌, ◌∙◌, ◌∷◌, ◌≡◌, ◌≤◌, ◌⊎◌}
 pub use Rattle.std.proofs.lemmas.Bool.{cases_Bool, cases_eq, cases_lt, false_from_ne_true, lt-leb}
 pub use Rattle.std.proofs.lemmas.Grind.{common_steps, flat_map-append}
 pub use Rattle.std.proofs.lemmas.List.{length-map, map-append, nil_from_length, take-append-le, take-map}
 pub use Rattle.std.proofs.lemmas.List.Elements.{All-append, All-filter, All-from_recursion, All-head, All-nil, All-tail, All-weaker, filter-append, filter_passes, recursion_from_All}
+pub use Rattle.std.proofs.lemmas.List.Sums.{fold-append}
 pub use Rattle.std.proofs.lemmas.Option.{slice_get_within}
 pub use Rattle.sgf_properties.specs.declared.fault.MemoryFault.{MemoryFault}
 pub use Rattle.sgf_outline.specs.declared.traversal.NextNode.{NextNode}
