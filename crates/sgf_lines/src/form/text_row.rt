@@ -36,21 +36,14 @@ impl TextRow {
         }
     }
 
-    /// Becomes the empty text. The bytes are kept: those before the start are never shown.
-    fn clear(&mut self)
-        ensures text { built_text self.new ≡ [] }
-        ensures room { self.new.start ≡ 160 }
-    {
-        self.start = ROOM;
-    }
-
     /// Becomes the row of the line before a cursor, with this verdict, and a line feed.
     pub(crate) fn lay_out(&mut self, cursor: &SequenceCursor<'_, '_>, verdict: Verdict)
         requires { 0 < length cursor.now.ends }
         ensures text { (line : Line) → line_before cursor.now.at ≡ Some line → built_text self.new ≡ row_of line verdict ++ codes "\n" }
         ensures room { 2 ≤ self.new.start }
     {
-        self.clear();
+        // The bytes are kept: those before the start are never shown.
+        self.start = ROOM;
         self.put(b"\n");
         self.put_verdict(verdict);
         self.put(b" ");

@@ -1,5 +1,4 @@
-use Rattle.std.proofs.Common.{rules, arith}
-use Rattle.std.proofs.lemmas.Grind.{common_steps}
+use Rattle.sgf_lines.proofs.Common.{rules, arith, common_steps}
 use Rattle.std.proofs.lemmas.Fmt.{length-decimal-le}
 use Rattle.sgf_lines.proofs.form.text_row.TextRow.put_number.Goals as goal
 

@@ -1,6 +1,5 @@
 -- The parts of a verdict are put from its last to its first.
-use Rattle.std.proofs.Common.{append_assoc, arith, rules}
-use Rattle.std.proofs.lemmas.Grind.{common_steps}
+use Rattle.sgf_lines.proofs.Common.{append_assoc, arith, rules, common_steps}
 use Rattle.sgf_lines.proofs.form.text_row.TextRow.put_verdict.Goals as goal
 
 pub returns-in-Illegal-clause-text : goal.returns-in-Illegal-clause-text
