@@ -1,6 +1,5 @@
 -- The sgf output of a collection is itself a text of the grammar, with the same sgf output and the same verdicts.
-use Rattle.sgf_lines.proofs.Common.{AllZip, common_steps, WhiteSpace, no_white_space, white_space, Letters, no_letter, upper, lower, IsPropValue, prop_value, ArePropValues, no_value, value, IsProperty, property, AreProperties, no_property, properties, IsNode, node, AreNodes, no_node, nodes, AreGames, no_game, games, no_byte_order_mark, Spells, spells, Property, Node, Games, no_games, game, Line, through, node_lines, lines_from, lines, Reason, State, starting, GameKind, not_go, bad_size, board, moves_in, stones_in, players_in, step_by, step, score_in, verdict_with, verdict_at, verdict_by, verdict_of, LegalNode, IllegalNode, Walk, stepped, next, walk, Options, page, value_text, property_text, node_text, sgf_record, output, HaveSame, SaysSame, scored, illegal_at, another_game, another_size, IsKept}
-use Rattle.std.proofs.Common.{◌≡◌, ℕ, suc, ◌+◌, List, [], ◌∷◌, ◌++◌, fold, slice_get, Some, None, Result, Ok, Err, refl, sym, ap, ◌∙◌, subst, ◌≢◌, length, map, arith, append_assoc, length-append, rules, flat_map}
+use Rattle.sgf_lines.proofs.Common.{AllZip, common_steps, WhiteSpace, no_white_space, white_space, Letters, no_letter, upper, lower, IsPropValue, prop_value, ArePropValues, no_value, value, IsProperty, property, AreProperties, no_property, properties, IsNode, node, AreNodes, no_node, nodes, AreGames, no_game, games, no_byte_order_mark, Spells, spells, Property, Node, Games, no_games, game, Line, through, node_lines, lines_from, lines, Reason, State, starting, GameKind, not_go, bad_size, board, moves_in, stones_in, players_in, step_by, step, score_in, verdict_with, verdict_at, verdict_by, verdict_of, LegalNode, IllegalNode, Walk, stepped, next, walk, Options, page, value_text, property_text, node_text, sgf_record, output, HaveSame, SaysSame, scored, illegal_at, another_game, another_size, IsKept, ◌≡◌, ℕ, suc, ◌+◌, List, [], ◌∷◌, ◌++◌, fold, slice_get, Some, None, Result, Ok, Err, refl, sym, ap, ◌∙◌, subst, ◌≢◌, length, map, arith, append_assoc, length-append, rules, flat_map}
 use Rattle.judged_lines.specs.declared.verdict.Verdict.TheVariants.{Illegal}
 use Rattle.judged_lines.proofs.Walking.{after_illegal}
 use Rattle.sgf_properties.specs.RawValue.{IsValue, no_unit, ordinary, escaped}

@@ -1,6 +1,8 @@
 -- What the proofs of this crate import together: words of specs, types, and lemmas of the standard library.
+unfoldable pub use Rattle.std.specs.Fmt.{digits}
 pub use Rattle.std.specs.Io.KnownBytes.{Appends}
 pub use Rattle.std.specs.List.{AllZip, concat, list_any, onto_first, position_or_len, range_with_len, slice_split}
+pub use Rattle.std.proofs.Common.{[], add-one, ap, append-nil, append_assoc, arith, Bool, cond, decimal, drop, Err, false, flat_map, fold, length, length-append, length-drop, List, map, nat_le, nat_lt, None, Ok, OnOk, Option, option_map, refl, Result, rules, slice_get, Some, subst, suc, sym, take, take-append-drop, take_all, true, unwrap_or, zero, ℕ, ◌&&◌, ◌*◌, ◌++◌, ◌+◌, ◌-◌, ◌<◌, ◌==◌, ◌∙◌, ◌∷◌, ◌≡◌, ◌≢◌, ◌≤◌}
 pub use Rattle.std.proofs.KnownBytes.{Appends-kept, Appends-trans}
 pub use Rattle.std.proofs.Math.Seq.{drop-append-add, drop-append_seam, take-append-add, take-append_seam}
 pub use Rattle.std.proofs.lemmas.Bool.{and_parts, cases_Bool, cases_eq, cases_lt, eqb-false, false_from_ne_true, not-false, or_parts}
@@ -9,6 +11,7 @@ pub use Rattle.std.proofs.lemmas.Grind.{common_steps, flat_map-append}
 pub use Rattle.std.proofs.lemmas.List.{get_or-replicate, length-map, length-replicate, map-append, take-append-le, take-map}
 pub use Rattle.std.proofs.lemmas.List.Folds.{concat-append, list_any-append, position_or_len_push}
 pub use Rattle.std.proofs.lemmas.Option.{get_or_from_slice_get, slice_get-map, slice_get_past, slice_get_within}
+pub use Rattle.std.proofs.lemmas.Result.{err_from_is_err_and}
 pub use Rattle.sgf_properties.specs.declared.fault.MemoryFault.{MemoryFault}
 pub use Rattle.sgf_outline.specs.declared.limit.TheConstants.{MAX_LENGTH}
 pub use Rattle.sgf_outline.specs.FileOrder.{PlacesRise}
@@ -68,3 +71,4 @@ pub use Rattle.sgf_lines.specs.inner.Recording.{IsRecord, sequences_before, uncl
 pub use Rattle.sgf_lines.specs.inner.Running.{HasRead, HasReadAll, IsReading, IsStart, page_after, WritesLines}
 pub use Rattle.sgf_lines.specs.inner.Scripting.{effect_script, is_unreaching, no_script, said_on, script_along, script_back, script_of, script_text, ScriptState, step_script}
 pub use Rattle.sgf_lines.specs.inner.Views.{built_text, row_of}
+pub use Rattle.board_stones.specs.declared.stones.Cell.TheVariants.{Empty}

@@ -1,6 +1,5 @@
 -- A text in pieces is appended to, closed and cut back.
-use Rattle.std.proofs.Common.{◌≡◌, ℕ, zero, suc, ◌+◌, ◌-◌, List, [], ◌∷◌, ◌++◌, length, take, drop, slice_get, refl, sym, ap, ◌∙◌, arith, append_assoc, append-nil, rules, unwrap_or, take-append-drop, length-append}
-use Rattle.sgf_lines.proofs.Common.{concat, take-append_seam, drop-append_seam, common_steps, concat-append, PiecesState, pushed, closed, cut, pieces_from, rest_from, AreEnds}
+use Rattle.sgf_lines.proofs.Common.{◌≡◌, ℕ, zero, suc, ◌+◌, ◌-◌, List, [], ◌∷◌, ◌++◌, length, take, drop, slice_get, refl, sym, ap, ◌∙◌, arith, append_assoc, append-nil, rules, unwrap_or, take-append-drop, length-append, concat, take-append_seam, drop-append_seam, common_steps, concat-append, PiecesState, pushed, closed, cut, pieces_from, rest_from, AreEnds}
 use Rattle.sgf_outline.specs.Written.{ends_from}
 
 -- ---- the ends of pieces

@@ -1,6 +1,5 @@
 -- What a run writes, and its answer for each way to end.
-use Rattle.std.proofs.Common.{◌≡◌, ℕ, ◌+◌, ◌<◌, List, ◌++◌, length, take, drop, slice_get, Some, Result, Ok, Err, sym, arith, add-one, Option, ap, rules, take-append-drop, length-drop, option_map, OnOk, ◌∙◌}
-use Rattle.sgf_lines.proofs.Common.{Appends, Appends-trans, common_steps, slice_get_within, MAX_LENGTH, Spells, Games, Line, lines, SequencesState, SinkState, SourceState, HasDelivered, RunFault, Form, Options, IsCutShort, read_failures, IsGood, Answers, write_failures, unread, limited, record_of, output, AnswersPlays, IsRunWithPlays, WritesLines, IsReading, HasReadAll, IsStart}
+use Rattle.sgf_lines.proofs.Common.{◌≡◌, ℕ, ◌+◌, ◌<◌, List, ◌++◌, length, take, drop, slice_get, Some, Result, Ok, Err, sym, arith, add-one, Option, ap, rules, take-append-drop, length-drop, option_map, OnOk, ◌∙◌, Appends, Appends-trans, common_steps, slice_get_within, MAX_LENGTH, Spells, Games, Line, lines, SequencesState, SinkState, SourceState, HasDelivered, RunFault, Form, Options, IsCutShort, read_failures, IsGood, Answers, write_failures, unread, limited, record_of, output, AnswersPlays, IsRunWithPlays, WritesLines, IsReading, HasReadAll, IsStart}
 use Rattle.judged_lines.proofs.Joins.{more_texts}
 use Rattle.sgf_tree.specs.Refusal.{IsFaultyWhereNotSgf}
 use Rattle.sgf_tree.specs.declared.fault.ReadFault.{ReadFault}
@@ -69,7 +68,7 @@ module _ (source new_source : SourceState) where
   failed_run o sink plays text fault read failures = search rules
 
   -- the source was read to its end
-  pub read_whole : (text given : List ℕ) (unit : Unit {0}) → IsReading source new_source given (Ok unit) → text ≡ given → new_source.failures ≡ source.failures + 0
+  pub has_read_all : (text given : List ℕ) (unit : Unit {0}) → IsReading source new_source given (Ok unit) → text ≡ given → new_source.failures ≡ source.failures + 0
       → HasReadAll source new_source text
-  read_whole text given unit r is failures =
+  has_read_all text given unit r is failures =
       rw (is ∙ r.answers.1) (record { read = record { gives = r.gives; consumes = r.consumes; failures = omega arith }; whole = r.answers.0 })

@@ -256,13 +256,6 @@ module _ (names : FormNames) where
   unfolding clap_on_literals
   split_met_passes rest = stopped_passes top subs (walk_from nothing_held) (codes "split", []) rest
 
-  abbrev pub takes_by : List Text → Walk → Bool
-  takes_by words w =
-      entered_passes (built (program_app names)) w.stopped
-      && (walk_passes top subs (walk_from nothing_held) words
-      && (settle_passes top.rules top.args_override_self w.held
-      && (list_all default_passes top.rules && is_valid top (finished top.rules w.held) (is_some (entered (built (program_app names)) w.stopped)))))
-
   pub split_taken : (name : Text) (rest : List Text) → level_passes (split_shape names) [] nothing_held rest false ≡ true
       → takes (program_app names) (name ∷ codes "split" ∷ rest) ≡ true
   unfolding clap_on_literals

@@ -1,6 +1,5 @@
 -- The sink failed within the row, or at the flush after it.
-use Rattle.std.proofs.Common.{Ok, Err, [], ◌+◌, ◌∙◌, ap, append-nil, drop, refl, rules, sym, take, take-append-drop}
-use Rattle.sgf_lines.proofs.Common.{Appends-kept, PutsAll, counts_row}
+use Rattle.sgf_lines.proofs.Common.{Ok, Err, [], ◌+◌, ◌∙◌, ap, append-nil, drop, refl, rules, sym, take, take-append-drop, Appends-kept, PutsAll, counts_row}
 use Rattle.sgf_lines.proofs.counting.write_counts.Goals as goal
 
 pub returns-in_default : goal.returns-in_default

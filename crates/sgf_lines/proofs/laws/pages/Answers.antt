@@ -1,6 +1,5 @@
 -- Where places rise, the line with a place is found at its own position.
-use Rattle.std.proofs.Common.{None, option_map, ap}
-use Rattle.sgf_lines.specs.Page.{limited}
+use Rattle.sgf_lines.proofs.Common.{None, option_map, ap, limited}
 use Rattle.sgf_lines.proofs.Pages.{goes_on}
 use Rattle.sgf_lines.proofs.laws.pages.Goals as goal
 

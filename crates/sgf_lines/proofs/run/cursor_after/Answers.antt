@@ -1,6 +1,5 @@
 -- The lines that follow the line with the place are those after the cursor.
-use Rattle.std.proofs.Common.{arith}
-use Rattle.std.proofs.lemmas.Grind.{common_steps}
+use Rattle.sgf_lines.proofs.Common.{arith, common_steps}
 use Rattle.sgf_lines.proofs.Pages.{started}
 use Rattle.sgf_lines.proofs.run.cursor_after.Goals as goal
 

@@ -1,6 +1,5 @@
 -- The text is what the source has given, which hasn't failed.
-use Rattle.std.proofs.Common.{length, ◌-◌, ◌≡◌, ◌≤◌}
-use Rattle.sgf_lines.proofs.Common.{MAX_LENGTH, HasRead}
+use Rattle.sgf_lines.proofs.Common.{length, ◌-◌, ◌≡◌, ◌≤◌, MAX_LENGTH, HasRead}
 use Rattle.sgf_lines.proofs.run.read_all.Given as goal
 
 abbrev pub invariant-read : goal.invariant-read

@@ -1,7 +1,6 @@
 -- A run ends where reading ends. A source that has nothing to give at once is as it was.
-use Rattle.std.proofs.Common.{ℕ, ◌+◌, ◌≤◌, arith}
-use Rattle.std.proofs.lemmas.Result.{err_from_is_err_and}
-use Rattle.sgf_lines.proofs.Running.{failed_run, read_whole}
+use Rattle.sgf_lines.proofs.Common.{ℕ, ◌+◌, ◌≤◌, arith, err_from_is_err_and}
+use Rattle.sgf_lines.proofs.Running.{failed_run, has_read_all}
 use Rattle.sgf_lines.proofs.run.split_counted.Goals as goal
 
 pub returns-in_err-read_all-clause-runs : goal.returns-in_err-read_all-clause-runs
@@ -20,7 +19,7 @@ pub returns-clause-runs : goal.returns-clause-runs
 returns-clause-runs g c =
     let none = rw c.in_default.is at c.give_rest.follows.holds-at-none in
     let read = c.in_ok-read_all.ensures in
-    rw (← none.0) (c.split_text-2.ensures _ _ (read_whole _ _ _ _ _ read.answer c.deref.ensures.value read.failures))
+    rw (← none.0) (c.split_text-2.ensures _ _ (has_read_all _ _ _ _ _ read.answer c.deref.ensures.value read.failures))
 
 pub split_text-requires-2-clause-sink_countable : goal.split_text-requires-2-clause-sink_countable
 split_text-requires-2-clause-sink_countable g c = c.requires.sink_countable

@@ -1,7 +1,5 @@
 -- What is said of the text is said of the run, whatever source gave it.
-use Rattle.std.proofs.Common.{◌≡◌, take, drop, Err, ap, ◌∙◌, rules, unwrap_or}
-use Rattle.std.proofs.lemmas.Result.{err_from_is_err_and}
-use Rattle.sgf_lines.proofs.Common.{Spells, node_count, lines, WritesLines}
+use Rattle.sgf_lines.proofs.Common.{◌≡◌, take, drop, Err, ap, ◌∙◌, rules, unwrap_or, err_from_is_err_and, Spells, node_count, lines, WritesLines}
 use Rattle.sgf_lines.proofs.PlayCounts.{for_options}
 use Rattle.sgf_lines.proofs.Running.{no_start_run, unread_run, lines_run}
 use Rattle.sgf_lines.proofs.run.split_text.Goals as goal

@@ -1,6 +1,5 @@
 -- One record more was written, or the sink failed within it.
-use Rattle.std.proofs.Common.{◌≡◌, true, None, Some, Ok, Err, slice_get, sym, ap, ◌∙◌, arith}
-use Rattle.sgf_lines.proofs.Common.{common_steps, MemoryFault, CursorState, advanced, line_before, nodes_before, lines, PutsAll, Held, PlaysLine, StandsBy, record_of, WritesLines, page_after}
+use Rattle.sgf_lines.proofs.Common.{◌≡◌, true, None, Some, Ok, Err, slice_get, sym, ap, ◌∙◌, arith, common_steps, MemoryFault, CursorState, advanced, line_before, nodes_before, lines, PutsAll, Held, PlaysLine, StandsBy, record_of, WritesLines, page_after}
 use Rattle.byte_streams.specs.declared.sink.SinkFault.{SinkFault}
 use Rattle.judged_lines.specs.GoingOn.{next_by}
 use Rattle.judged_lines.proofs.Keeping.{line_next}

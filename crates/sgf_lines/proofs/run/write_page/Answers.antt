@@ -1,6 +1,5 @@
 -- The lines of the page were written, and no more nodes were played than there are.
-use Rattle.std.proofs.Common.{arith}
-use Rattle.sgf_lines.proofs.Common.{common_steps, WritesLines, page_after}
+use Rattle.sgf_lines.proofs.Common.{arith, common_steps, WritesLines, page_after}
 use Rattle.sgf_lines.proofs.PlayCounts.{few_played}
 use Rattle.sgf_lines.proofs.run.write_page.Given.{Over}
 use Rattle.sgf_lines.proofs.run.write_page.Goals as goal

@@ -1,5 +1,4 @@
-use Rattle.std.proofs.Common.{arith}
-use Rattle.std.proofs.lemmas.Grind.{common_steps}
+use Rattle.sgf_lines.proofs.Common.{arith, common_steps}
 use Rattle.sgf_lines.proofs.ScriptRows.{row-below}
 use Rattle.sgf_lines.proofs.form.commands.push_play.Goals as goal
 

@@ -1,5 +1,4 @@
-use Rattle.std.proofs.Common.{◌≡◌, Some, slice_get, ◌*◌, ◌+◌, [], subst, arith}
-use Rattle.sgf_lines.proofs.Common.{Point, points, commands_at, AreAppended}
+use Rattle.sgf_lines.proofs.Common.{◌≡◌, Some, slice_get, ◌*◌, ◌+◌, [], subst, arith, Point, points, commands_at, AreAppended}
 use Rattle.board_points.proofs.PointLemmas.{slice_get-points}
 use Rattle.judged_lines.proofs.Joins.{joins}
 use Rattle.sgf_lines.proofs.form.commands.push_row.Goals as goal

@@ -1,6 +1,5 @@
 -- The stones of the columns so far are appended, too.
-use Rattle.std.proofs.Common.{ℕ, List, ◌*◌, ◌+◌}
-use Rattle.sgf_lines.specs.inner.Cutting.{AreAppended}
+use Rattle.sgf_lines.proofs.Common.{ℕ, List, ◌*◌, ◌+◌, AreAppended}
 use Rattle.sgf_lines.proofs.form.commands.push_row.Given as goal
 
 abbrev pub invariant-columns : goal.invariant-columns

@@ -1,5 +1,4 @@
-use Rattle.std.proofs.Common.{arith}
-use Rattle.sgf_lines.proofs.Common.{nat_tests, common_steps}
+use Rattle.sgf_lines.proofs.Common.{arith, nat_tests, common_steps}
 use Rattle.sgf_lines.proofs.ScriptRows.{command-one_digit, command-two_digits}
 use Rattle.sgf_lines.proofs.form.commands.push_stone.Goals as goal
 

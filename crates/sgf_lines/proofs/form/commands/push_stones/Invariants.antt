@@ -1,6 +1,5 @@
 -- The stones of the rows so far are appended.
-use Rattle.std.proofs.Common.{◌*◌}
-use Rattle.sgf_lines.specs.inner.Cutting.{AreAppended}
+use Rattle.sgf_lines.proofs.Common.{◌*◌, AreAppended}
 use Rattle.sgf_lines.proofs.form.commands.push_stones.Given as goal
 
 abbrev pub invariant-rows : goal.invariant-rows

@@ -1,5 +1,4 @@
-use Rattle.std.proofs.Common.{◌≡◌, ◌++◌, ◌==◌, length, sym, ap, subst, ◌∙◌, OnOk}
-use Rattle.sgf_lines.proofs.Common.{eqb-false, comment_row}
+use Rattle.sgf_lines.proofs.Common.{◌≡◌, ◌++◌, ◌==◌, length, sym, ap, subst, ◌∙◌, OnOk, eqb-false, comment_row}
 use Rattle.sgf_lines.proofs.CutTexts.{of_pieces, rows-on, rows-none}
 use Rattle.sgf_lines.proofs.form.commands.push_text_rows.Goals as goal
 

@@ -1,5 +1,4 @@
-use Rattle.std.proofs.Common.{◌≡◌, ◌++◌, ◌==◌, length, flat_map}
-use Rattle.sgf_lines.proofs.Common.{slice_split, comment_row}
+use Rattle.sgf_lines.proofs.Common.{◌≡◌, ◌++◌, ◌==◌, length, flat_map, slice_split, comment_row}
 use Rattle.sgf_lines.proofs.form.commands.push_text_rows.Given as goal
 
 -- the rows so far, and those of the pieces of the rest, are all

@@ -1,6 +1,5 @@
 -- The whole of what was begun is a piece.
-use Rattle.std.proofs.Common.{arith}
-use Rattle.std.proofs.lemmas.Grind.{common_steps}
+use Rattle.sgf_lines.proofs.Common.{arith, common_steps}
 use Rattle.sgf_lines.proofs.PieceTexts.{seen_closed}
 use Rattle.sgf_lines.proofs.form.pieces.Pieces.close.Goals as goal
 

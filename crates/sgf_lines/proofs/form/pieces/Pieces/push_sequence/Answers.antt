@@ -1,6 +1,5 @@
 -- The sequence was begun after what was begun already, and then it was finished.
-use Rattle.std.proofs.Common.{◌≡◌, ◌++◌, List, slice_get, Some, arith, flat_map}
-use Rattle.sgf_lines.proofs.Common.{common_steps, Node, nodes_before, node_text, sequences_before}
+use Rattle.sgf_lines.proofs.Common.{◌≡◌, ◌++◌, List, slice_get, Some, arith, flat_map, common_steps, Node, nodes_before, node_text, sequences_before}
 use Rattle.tree_lines.proofs.Fronts.{as_many_parts}
 use Rattle.tree_lines.proofs.Lists.{element}
 use Rattle.sgf_lines.proofs.PieceTexts.{seen, seen_pushed}

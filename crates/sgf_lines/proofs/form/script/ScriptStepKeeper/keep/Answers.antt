@@ -1,6 +1,5 @@
 -- The pieces of the nodes that are held are left.
-use Rattle.std.proofs.Common.{◌≡◌, ℕ, List, take, ap, ◌∙◌, rules}
-use Rattle.sgf_lines.proofs.Common.{GameKind, LegalNode, ScriptState, script_back, script_of}
+use Rattle.sgf_lines.proofs.Common.{◌≡◌, ℕ, List, take, ap, ◌∙◌, rules, GameKind, LegalNode, ScriptState, script_back, script_of}
 use Rattle.sgf_lines.proofs.Scripts.{script_cut}
 use Rattle.sgf_lines.proofs.form.script.ScriptStepKeeper.keep.Goals as goal
 

@@ -1,6 +1,5 @@
 -- One more piece has the commands of the node.
-use Rattle.std.proofs.Common.{◌≡◌, ap, ◌∙◌, arith, rules}
-use Rattle.sgf_lines.proofs.Common.{common_steps, ScriptState, is_unreaching, said_on, step_script}
+use Rattle.sgf_lines.proofs.Common.{◌≡◌, ap, ◌∙◌, arith, rules, common_steps, ScriptState, is_unreaching, said_on, step_script}
 use Rattle.sgf_lines.proofs.Scripts.{says}
 use Rattle.sgf_lines.proofs.form.script.ScriptStepKeeper.say.Goals as goal
 
