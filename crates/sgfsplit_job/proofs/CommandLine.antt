@@ -1,11 +1,11 @@
 -- How clap reads the words that ask for a job.
-use Rattle.std.proofs.Common.{Bool, ◌≡◌, true, List, [], ◌∷◌, ◌++◌, codes, refl, false, ◌&&◌, Option, Some, None, ap, sym, rules, unwrap_or, find, fold, IfSome, is_some, bytes_eq, arith}
+use Rattle.std.proofs.Common.{Bool, ◌≡◌, true, List, [], ◌∷◌, ◌++◌, codes, refl, false, ◌&&◌, Option, Some, None, ap, sym, rules, unwrap_or, find, fold, IfSome, bytes_eq, arith}
 use Rattle.std.proofs.lemmas.Grind.{common_steps}
 use Rattle.std.proofs.Math.Bool.{and-false}
 use Rattle.std.proofs.lemmas.Bool.{and_from}
 use Rattle.std.specs.List.{list_any, list_all}
 use Rattle.clap.specs.Faults.{is_simple_and_free}
-use Rattle.clap.specs.Takes.{takes, walk_passes, settle_passes, level_passes, default_passes, is_valid, entered_passes}
+use Rattle.clap.specs.Takes.{takes, walk_passes, settle_passes, level_passes, default_passes, is_valid}
 use Rattle.clap.specs.Walk.{Held, Names, Row, Rule, Text, Walk, walk, walked, idle, settled_rows, finished, nothing_held, answers_to, first_of, walk_from, rows_after}
 use Rattle.clap.specs.Simple.{Shape, is_simple, built, entered, label_of, names_of as subcommands, new_shape, subcommand_of}
 use Rattle.clap.specs.Values.{same_text}
