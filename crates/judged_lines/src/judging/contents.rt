@@ -236,8 +236,8 @@ fn kind_of(property: &PropRef<'_>) -> Option<Kind>
     }
 }
 
-/// The play of a move: a pass, or a stone on a point of the board. None for any other raw value. A raw value is a pass if it is empty, or if
-/// it is `tt` on a side of 19 or less.
+/// The play of a move: a pass, or a stone on a point of the board. None for any other raw value. A raw value is a pass if it is empty, or
+/// if it is `tt` on a side of 19 or less.
 pub(crate) fn move_value(raw: &[u8], size: Size) -> Option<Play>
     ensures value { result ≡ move_value_rule raw.now size }
     ensures on_board { IfSome result (IsPlayOn size) }

@@ -1,6 +1,6 @@
-//! A judge goes along the nodes of a line, and back to the last node that the next line shares. It keeps the score of a board of its line once
-//! that was asked for. Many lines may end on one board, as lines that differ only in a pass or in an empty node do. Its score isn't worked out
-//! again.
+//! A judge goes along the nodes of a line, and back to the last node that the next line shares. It keeps the score of a board of its line
+//! once that was asked for. Many lines may end on one board, as lines that differ only in a pass or in an empty node do. Its score isn't
+//! worked out again.
 
 ghost use Rattle.std.specs.Prelude.{◌≡◌, ◌+◌, ◌<◌, ◌≤◌, ◌⊎◌, length, IsFalse, IsTrue, OnOk, OnErr, IfOk, IfSome, Some, option_copied};
 ghost use Rattle.sgf_outline.specs.Tree.{Node};

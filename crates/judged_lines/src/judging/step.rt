@@ -95,9 +95,9 @@ fn take_any_step<'a, P: Past>(
     take_contents(referee, contents, operations)
 }
 
-/// Takes the step of a node with these contents. `operations` has the operations of the node's stones. The first reason that holds is given, in
-/// this order: `mixed` (a move and a setup, even a faulty one), `two-moves`, `bad-setup`, and then those of `take_move`. A `bad-setup` was
-/// found by `gathered`. Of the arms only the last must stay last: those of `two-moves` and `bad-setup` are for nodes that aren't mixed.
+/// Takes the step of a node with these contents. `operations` has the operations of the node's stones. The first reason that holds is given,
+/// in this order: `mixed` (a move and a setup, even a faulty one), `two-moves`, `bad-setup`, and then those of `take_move`. A `bad-setup`
+/// was found by `gathered`. Of the arms only the last must stay last: those of `two-moves` and `bad-setup` are for nodes that aren't mixed.
 #[inline(always)]
 fn take_contents<'a, P: Past>(
     referee: &mut Referee<P>,
