@@ -84,10 +84,12 @@ impl Board {
     {
         let row = usize::from(point.row);
         let col = usize::from(point.col);
-        if has_column(self.black[row], col) {
+        // both words are read first, so that a test for an empty point is one test
+        let (black, white) = (self.black[row], self.white[row]);
+        if has_column(black, col) {
             return Cell::Black;
         }
-        if has_column(self.white[row], col) {
+        if has_column(white, col) {
             Cell::White
         } else {
             Cell::Empty
