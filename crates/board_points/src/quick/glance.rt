@@ -63,7 +63,7 @@ fn stands_apart(own: &[u64], others: &[u64], point: Point) -> bool
     !has_column(touched | closed, usize::from(point.col))
 }
 
-/// The row `next` next to a row. `there` tells whether the board has it.
+/// The row with the number `next`, above or below a stone's row. `there` tells whether the board has it.
 #[inline(always)]
 fn next_row(own: &[u64], others: &[u64], there: bool, next: usize) -> NextRow
     requires rows { AreOfOneBoard own.now others.now }
