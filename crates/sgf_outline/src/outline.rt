@@ -19,7 +19,7 @@ ghost use Rattle.sgf_outline.specs.Outlining.{IsOutlined};
 use crate::node::NodeRef;
 use crate::sequences::Sequences;
 use crate::traversal::SequenceNodes;
-use sgf_properties::{LongValue, MemoryFault, rest_from};
+use sgf_properties::{LongValue, MemoryFault};
 use std::marker::Model;
 
 /// The sequences of the collection that a text spells (SGF FF[4], EBNF). A sequence has the nodes between a `(` and the next
@@ -180,7 +180,7 @@ impl<'a> Outline<'a> {
     {
         NodeRef {
             place,
-            text: rest_from(self.text, place as usize),
+            text: &self.text[place as usize..],
             long: &self.long,
         }
     }

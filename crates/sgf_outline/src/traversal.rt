@@ -12,7 +12,7 @@ ghost use Rattle.sgf_properties.specs.KeptLengths.{AreKeptLengths};
 ghost use Rattle.sgf_outline.specs.inner.Traversing.{nodes_between, IsTraversal};
 
 use crate::quick::lead::{is_empty_node, is_lone_front, led_end};
-use sgf_properties::{LongValue, PropRef, capital_at, property_at, rest_from, skip_white_space};
+use sgf_properties::{LongValue, PropRef, capital_at, property_at, skip_white_space};
 use std::marker::Model;
 
 /// A node that `SequenceNodes::next` took off.
@@ -92,7 +92,7 @@ impl<'c, 'a> SequenceNodes<'c, 'a> {
             return None;
         }
         let place = self.at;
-        let text = rest_from(self.text, place);
+        let text = &self.text[place..];
         if let Some(end) = led_end(text, names) {
             self.number += 1;
             self.at = place + end;
@@ -122,7 +122,7 @@ impl<'c, 'a> SequenceNodes<'c, 'a> {
         let place = self.at;
         let text = self.text;
         self.number += 1;
-        let node = rest_from(text, place);
+        let node = &text[place..];
         if is_lone_front(node) {
             self.at = skip_white_space(text, place + 6);
             let front = Some((node[1], &node[3..5]));
@@ -138,7 +138,7 @@ impl<'c, 'a> SequenceNodes<'c, 'a> {
         ensures { MatchOption result ((self.old.properties ≡ []) × (self.new ≡ self.old))
             (λ property. (self.old.properties ≡ property ∷ self.new.properties) × (self.new.nodes ≡ self.old.nodes)) }
     {
-        let text = rest_from(self.text, self.at);
+        let text = &self.text[self.at..];
         if !capital_at(text, 0) {
             return None;
         }

@@ -14,7 +14,7 @@ ghost use Rattle.sgf_properties.specs.inner.PropertyCode.{properties_code, value
 use crate::property::PropRef;
 use crate::quick::name::short_name_end;
 use crate::quick::value::{past_points, short_value_end};
-use crate::scan::{begins_value, capital_at, letters_end, rest_from, skip_white_space, stands_at};
+use crate::scan::{begins_value, capital_at, letters_end, skip_white_space, stands_at};
 use crate::value::{LongValue, far_end};
 use std::marker::Model;
 
@@ -45,7 +45,7 @@ impl<'c, 'a> Properties<'c, 'a> {
         requires kept { AreKeptLengths text.now long.now.items }
         ensures { result ≡ properties_in (drop at text.now) }
     {
-        let rest = rest_from(text, at);
+        let rest = &text[at..];
         Properties { rest, long }
     }
 }
@@ -66,7 +66,7 @@ impl<'c, 'a> Iterator for Properties<'c, 'a> {
             return None;
         }
         let (property, next) = property_at(text, start, self.long);
-        self.rest = rest_from(text, next);
+        self.rest = &text[next..];
         Some(property)
     }
 }
@@ -122,7 +122,7 @@ impl<'a> Iterator for Values<'a> {
         let Some((start, close)) = value_at(text, 0, None) else {
             return None;
         };
-        self.rest = rest_from(text, close + 1);
+        self.rest = &text[close + 1..];
         Some(&text[start..close])
     }
 }
@@ -152,7 +152,7 @@ pub fn property_at<'a>(text: &'a [u8], start: usize, long: &Vec<LongValue>) -> (
     let property = PropRef {
         identifier: &text[start..end],
         first: &text[from..close],
-        more: rest_from(text, more),
+        more: &text[more..],
     };
     (property, next)
 }

@@ -68,7 +68,7 @@ pub use numbers::number;
 pub use property::PropRef;
 pub use quick::name::short_name_end;
 pub use quick::value::{NEAR, is_two_ordinary, near_value_end, past_points, short_value_end};
-pub use scan::{begins_value, capital_at, letters_end, rest_from, skip_white_space, stands_at};
+pub use scan::{begins_value, capital_at, letters_end, skip_white_space, stands_at};
 pub use text::push_text;
 pub use value::{LongValue, far_value_end};
 pub use written::push_property;

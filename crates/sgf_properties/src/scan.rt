@@ -5,14 +5,6 @@ ghost use Rattle.sgf_properties.specs.Spelling.{is_white_space, is_upper};
 ghost use Rattle.sgf_properties.specs.Front.{is_letter};
 ghost use Rattle.sgf_properties.specs.Offsets.{IsSpan, IsPropertyEnd};
 
-/// The text from the offset `at` on. `at` is at most the text's length.
-pub fn rest_from(text: &[u8], at: usize) -> &[u8]
-    requires { at ≤ length text.now }
-    ensures { result.now ≡ drop at text.now }
-{
-    &text[at..]
-}
-
 /// The offset after the white space that begins at `at`; `at` if none is there, which is usual. White space is the bytes space, tab, line feed,
 /// carriage return, vertical tab and form feed (this project's choice).
 #[inline(always)]

@@ -1,4 +1,4 @@
-use Rattle.sgf_properties.proofs.Common.{IsSome, ◌+◌, get_or, ℕ, List, Option, Some, None, MatchOption, drop, slice_range, refl, rules, is_letter, IsSpan, IsNoPropValue}
+use Rattle.sgf_properties.proofs.Common.{IsSome, ◌+◌, get_or, ℕ, List, Option, Some, None, MatchOption, drop, slice_range, refl, take_rest, rules, is_letter, IsSpan, IsNoPropValue}
 use Rattle.sgf_properties.proofs.NameEnds.{name-begins}
 use Rattle.sgf_properties.proofs.Iterating.{IsNextProperty, value-there, next-property}
 use Rattle.sgf_properties.proofs.iter.property_at.Goals as goal
@@ -31,7 +31,7 @@ invariant_of-property c =
     let s = c.args.text.now in
     let capital = c.requires.capital in
     let long = letters (goal.at.invariant_of-property c).After-value_at in (
-      rw c.rest_from.ensures (found (goal.at.invariant_of-property c).After-values_end-next long).more,
+      rw (take_rest s (c.unwrap-from.result.1 + 1)) (found (goal.at.invariant_of-property c).After-values_end-next long).more,
       (
         get_or s c.args.start 0,
         slice_range s (c.args.start + 1) c.match-short_name_end.end,
@@ -48,7 +48,7 @@ returns-clause-left c =
 pub returns-clause-first : goal.returns-clause-first
 returns-clause-first c =
     let at = goal.at.returns-clause-first c in
-    rw c.rest_from.ensures (found at.After-values_end-next (letters at.After-value_at)).is
+    rw (take_rest c.args.text.now (c.unwrap-from.result.1 + 1)) (found at.After-values_end-next (letters at.After-value_at)).is
 
 pub returns-clause-spelled : goal.returns-clause-spelled
 returns-clause-spelled c =

@@ -1,4 +1,4 @@
-use Rattle.std.proofs.Common.{◌∙◌, sym}
+use Rattle.sgf_properties.proofs.Common.{◌∙◌, sym, take_rest}
 use Rattle.sgf_properties.proofs.KeptLengths.{kept-drop}
 use Rattle.sgf_properties.proofs.Iterating.{no-property}
 use Rattle.sgf_properties.proofs.iter.PropertiesIterator.next.Goals as goal
@@ -12,4 +12,4 @@ returns-then-not-capital_at-clause-steps c =
 pub invariant_of-self : goal.invariant_of-self
 invariant_of-self c =
     let at = c.property_at-property.ensures in
-    rw c.rest_from-self-inside.ensures (at.left, kept-drop _ _ _ at.within c.self.invariant.1)
+    rw (take_rest c.self.inside.rest.now _) (at.left, kept-drop _ _ _ at.within c.self.invariant.1)
