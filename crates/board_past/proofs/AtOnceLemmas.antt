@@ -1,9 +1,8 @@
 -- Below which number of steps a stone may be played at once.
-use Rattle.board_past.proofs.Common.{◌≡◌, ℕ, suc, ◌<◌, ◌≤◌, [], ◌∷◌, List, false, length, inl, inr, sym, ap, ◌∙◌, arith, cases_eq, false≢true, Point, is_set, Colour, has_unreaching, play, IsMove, Emptied, Table, Held, PastColourings, all_of, newest_grid, with_next, is_full, ArePlayedAtOnce, IsAsleepTable, IsEmptied, IsTable, HasAllEmptied, has_bit-zero}
+use Rattle.board_past.proofs.Common.{◌≡◌, ℕ, suc, ◌<◌, ◌≤◌, [], ◌∷◌, List, false, length, inl, inr, sym, ap, ◌∙◌, arith, cases_eq, false≢true, Point, is_set, Colour, has_unreaching, play, IsMove, Emptied, Table, Held, PastColourings, all_of, newest_grid, with_next, is_full, ArePlayedAtOnce, IsAsleepTable, IsEmptied, IsTable, HasAllEmptied, has_bit-zero, settled_by_play}
 use Rattle.board_past.proofs.EmptiedLemmas.{history_all, logged_more, logged_next}
 use Rattle.board_past.proofs.RepeatLemmas.{emptied_by_play}
 use Rattle.board_past.proofs.TableLemmas.{asleep_more}
-use Rattle.board_stones.proofs.SettledLemmas.{settled_by_play}
 
 -- a table that has room while it sleeps is asleep
 pub asleep_if_room : (held : List Held) (table : Table) (below : ℕ) → IsTable held table → 0 < below → (0 < below → below < table.room_asleep) → IsAsleepTable held table

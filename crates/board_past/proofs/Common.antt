@@ -7,12 +7,17 @@ pub use Rattle.std.proofs.lemmas.List.Elements.{All-append, All-drop, All-get_or
 pub use Rattle.std.proofs.lemmas.Nat.Bits.{bit_at-suc, bit_at-trailing_zeros, bit_at-zero, bit_at_cat_high, bit_at_cat_low, bit_at_lowest, same_from_bits, same_from_bits_below}
 pub use Rattle.std.proofs.lemmas.Option.{same_Some}
 pub use Rattle.std.proofs.Common.{[], add-mul, All, ap, append-nil, append_assoc, arith, below_more, bit_and, bit_or, bit_xor, Bool, cond, Contains, drop, drop-drop, drop_at, eq-eqb, false, fold, get_or, get_or-set_other, get_or-set_same, IfNone, IfSome, if◌then◌else◌, inl, inr, IsErr, IsFalse, IsTrue, length, length-append, length-set, length-take, List, lt-ltb, map, min, mul-add, ne_eqb, None, not, Ok, Option, option_to_list, pow-add, pow_pos, refl, Result, reverse, rules, set, set-set, slice_index, slice_range, slice_set, Some, subst, suc, suc-mul, sym, take, take-append-drop, take-take, take_all, take_at, true, vec_capacity, w64, zero, ℕ, ◌%◌, ◌&&◌, ◌*◌, ◌++◌, ◌+◌, ◌-◌, ◌/◌, ◌<◌, ◌==◌, ◌^◌, ◌||◌, ◌↔◌, ◌∙◌, ◌∷◌, ◌≡◌, ◌≢◌, ◌≤◌, ◌⊎◌}
-pub use Rattle.std.proofs.lemmas.Grind.{common_steps}
+pub use Rattle.std.proofs.lemmas.Grind.{common_steps, get_or_default_zero}
 pub use Rattle.std.proofs.lemmas.Nat.{mul-mod}
+pub use Rattle.std.proofs.Math.Nat.{add-mod-mod, mod-add-div}
+pub use Rattle.std.proofs.lemmas.List.FromFn.{get_or-map-range_with_len}
+pub use Rattle.std.specs.List.{range_with_len}
+pub use Rattle.board_stones.proofs.GroupLemmas.{one_colouring}
+pub use Rattle.board_stones.proofs.StoneRowsLemmas.{bit_same}
 pub use Rattle.board_points.proofs.PointLemmas.{same_or_not}
-pub use Rattle.board_points.proofs.WordLemmas.{has_bit-zero}
+pub use Rattle.board_points.proofs.WordLemmas.{bit_at-gone, bit_at-mod, has_bit-and, has_bit-zero}
 pub use Rattle.board_stones.proofs.GridLemmas.{cell_at-with_cell, cell_at-with_cell_elsewhere}
-pub use Rattle.board_stones.proofs.SettledLemmas.{side_play}
+pub use Rattle.board_stones.proofs.SettledLemmas.{settled_by_play, side_play}
 pub use Rattle.key_trie.proofs.TrieLemmas.{agree_self, parts_as, way_nearest}
 pub use Rattle.board_points.specs.declared.points.Point.{Point}
 pub use Rattle.board_points.specs.Point.{index_of, IsOn}

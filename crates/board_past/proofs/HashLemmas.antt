@@ -1,6 +1,5 @@
 -- The number of the columns of a row, by its bits.
-use Rattle.board_past.proofs.Common.{◌≡◌, ℕ, zero, suc, ◌/◌, ◌%◌, ◌<◌, ◌==◌, Bool, true, if◌then◌else◌, inl, inr, sym, ap, ◌∙◌, arith, cases_Bool, bit_at-suc, bit_at-zero, bit_at_lowest, same_from_bits, has_bit, number_of}
-use Rattle.board_points.proofs.WordLemmas.{bit_at-gone}
+use Rattle.board_past.proofs.Common.{◌≡◌, ℕ, zero, suc, ◌/◌, ◌%◌, ◌<◌, ◌==◌, Bool, true, if◌then◌else◌, inl, inr, sym, ap, ◌∙◌, arith, cases_Bool, bit_at-suc, bit_at-zero, bit_at_lowest, same_from_bits, has_bit, number_of, bit_at-gone}
 
 digit_is : (n : ℕ) → n < 2 → (if n == 1 then 1 else 0) ≡ n
 digit_is n low = grind arith

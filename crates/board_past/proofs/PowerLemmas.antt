@@ -1,8 +1,5 @@
 -- The tables of powers of 31 are right.
-use Rattle.board_past.proofs.Common.{◌≡◌, ℕ, ◌*◌, ◌/◌, ◌%◌, ◌^◌, ◌<◌, List, map, get_or, refl, ap, ◌∙◌, arith, pow-add, mul-mod}
-use Rattle.std.specs.List.{range_with_len}
-use Rattle.std.proofs.lemmas.List.FromFn.{get_or-map-range_with_len}
-use Rattle.std.proofs.Math.Nat.{mod-add-div}
+use Rattle.board_past.proofs.Common.{◌≡◌, ℕ, ◌*◌, ◌/◌, ◌%◌, ◌^◌, ◌<◌, List, map, get_or, refl, ap, ◌∙◌, arith, pow-add, mul-mod, range_with_len, get_or-map-range_with_len, mod-add-div}
 use Rattle.board_past.specs.declared.past.print_past.powers.TheConstants.{LOW, HIGH}
 
 abbrev low : ℕ → ℕ

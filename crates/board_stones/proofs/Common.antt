@@ -1,5 +1,5 @@
 -- What the proofs of this crate import together: words of specs, types, and lemmas of the standard library and of board_points.
-pub use Rattle.std.proofs.Common.{[], ap, arith, bit_or, Bool, cond, Contains, Decides, false, fold, get_or, inl, inr, IsTrue, length, length-set, List, nat_lt, not, refl, rules, set, slice_index, Some, subst, sym, take, take_all, true, true≢false, ℕ, ◌&&◌, ◌*◌, ◌+◌, ◌<◌, ◌==◌, ◌||◌, ◌↔◌, ◌∙◌, ◌∷◌, ◌≡◌, ◌≢◌, ◌≤◌, ◌⊎◌}
+pub use Rattle.std.proofs.Common.{[], ap, arith, bit_and, bit_or, Bool, cond, Contains, Decides, false, fold, get_or, inl, inr, IsTrue, length, length-set, List, nat_lt, not, refl, rules, set, slice_index, Some, subst, sym, take, take_all, true, true≢false, w64, ℕ, ◌&&◌, ◌*◌, ◌+◌, ◌<◌, ◌==◌, ◌||◌, ◌↔◌, ◌∙◌, ◌∷◌, ◌≡◌, ◌≢◌, ◌≤◌, ◌⊎◌}
 pub use Rattle.std.proofs.Math.Bool.{and-false, and-true, or-true}
 pub use Rattle.std.proofs.lemmas.Bool.{and_from, and_parts, cases_Bool, cases_eq, cases_lt, false_from_ne_true, false≢true, not-false, not-true, or_cases, or_left, or_parts, or_right}
 pub use Rattle.std.proofs.lemmas.Bool.Decides.{Decides-and, Decides-at, Decides-eqb, Decides-like, Decides-ltb, Decides-not, Decides-or, nat_tests, not_from_Decides, same_from_decides}

@@ -3,6 +3,8 @@ pub use Rattle.std.proofs.lemmas.List.{get_or-reverse, length-reverse, reverse-a
 pub use Rattle.std.proofs.Common.{[], ap, arith, Bool, cond, Contains, Decides, Err, false, fold, get_or, inl, inr, IsErrOf, IsTrue, length, length-append, List, None, Ok, OnErr, Option, refl, Result, reverse, rules, slice_index_or, Some, subst, suc, sym, true, unwrap_or, ℕ, ◌++◌, ◌+◌, ◌-◌, ◌<◌, ◌↔◌, ◌∙◌, ◌∷◌, ◌≡◌, ◌≤◌}
 pub use Rattle.std.proofs.lemmas.Grind.{common_steps}
 pub use Rattle.std.proofs.lemmas.Bool.{false≢true}
+pub use Rattle.std.specs.Int.{from_bool}
+pub use Rattle.board_stones.proofs.RectangleLemmas.{side-with_rectangles}
 pub use Rattle.board_stones.proofs.SettledLemmas.{side_play}
 pub use Rattle.go_board.specs.declared.referee.Call.{Call}
 pub use Rattle.board_stones.specs.declared.stones.Colour.{Colour}
@@ -16,4 +18,4 @@ pub use Rattle.go_board.specs.declared.referee.Earlier.{Earlier}
 pub use Rattle.go_board.specs.declared.referee.plays.Play.TheVariants.{Stone}
 pub use Rattle.go_board.specs.Reason.{Forbids, is_occupied, is_repeat, IsFirstReason, must_move, rank_of, reason_of, same_grid}
 pub use Rattle.go_board.specs.State.{begun, HadSameBoardSince, is_over, set_up, starting, State, States}
-pub use Rattle.go_board.specs.inner.Earlier.{grew, IsRefereeKept, MayOnlyRepeat, past_before, past_of_older, state_of, states_before, states_of, turn_count, turns_before}
+pub use Rattle.go_board.specs.inner.Earlier.{grew, IsRefereeKept, MayOnlyRepeat, past_before, past_of_older, state_of, states_before, states_of, turn_count, turned, turns_before}

@@ -1,9 +1,7 @@
 -- A referee has as many earlier states as it keeps something of.
-use Rattle.go_board.proofs.Common.{◌≡◌, ℕ, suc, ◌+◌, ◌-◌, ◌<◌, ◌≤◌, get_or, Bool, true, false, cond, List, [], ◌∷◌, ◌++◌, length, length-append, reverse, refl, sym, ap, subst, ◌∙◌, arith, get_or-reverse, length-reverse, reverse-append, Grid, empty_grid, Held, PastColourings, newest_grid, only, with_next, AllHaveSide, HaveSide, Earlier, State, HadSameBoardSince, begun, starting, grew, past_before, past_of_older, states_before, turns_before, turn_count, state_of, states_of, IsRefereeKept, Call}
-use Rattle.std.specs.Int.{from_bool}
+use Rattle.go_board.proofs.Common.{◌≡◌, ℕ, suc, ◌+◌, ◌-◌, ◌<◌, ◌≤◌, get_or, Bool, true, false, cond, List, [], ◌∷◌, ◌++◌, length, length-append, reverse, refl, sym, ap, subst, ◌∙◌, arith, get_or-reverse, length-reverse, reverse-append, Grid, empty_grid, Held, PastColourings, newest_grid, only, with_next, AllHaveSide, HaveSide, Earlier, State, HadSameBoardSince, begun, starting, grew, past_before, past_of_older, states_before, turns_before, turn_count, state_of, states_of, IsRefereeKept, Call, from_bool, turned}
 use Rattle.go_board.specs.declared.referee.Call.TheVariants.{Stay}
 use Rattle.go_board.specs.declared.referee.Mover.{Mover}
-use Rattle.go_board.specs.inner.Earlier.{turned}
 
 length-states_before : (past : PastColourings) (turns : ℕ) (es : List Earlier) → length (states_before past turns es) ≡ length es
 length-states_before past turns [] = refl

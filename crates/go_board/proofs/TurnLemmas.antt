@@ -1,5 +1,5 @@
 -- What the tests on turns say.
-use Rattle.go_board.proofs.Common.{◌≡◌, ℕ, Bool, false, inl, inr, ◌↔◌, List, [], ◌∷◌, Option, Some, None, Contains, IsTrue, refl, sym, ap, cond, arith, unwrap_or, ◌<◌, ◌+◌, slice_index_or, subst, Decides, Result, OnErr, IsErrOf, Ok, Err, Colour, play, Grid, Illegal, Reason, Mixed, TwoMoves, BadSetup, BadPoint, Over, Turn, Occupied, Repeat, Stone, must_move, is_occupied, is_repeat, same_grid, reason_of, Forbids, IsFirstReason, rank_of, State, is_over, set_up, MayOnlyRepeat, side_play}
+use Rattle.go_board.proofs.Common.{◌≡◌, ℕ, Bool, false, inl, inr, ◌↔◌, List, [], ◌∷◌, Option, Some, None, Contains, IsTrue, refl, sym, ap, cond, arith, unwrap_or, ◌<◌, ◌+◌, slice_index_or, subst, Decides, Result, OnErr, IsErrOf, Ok, Err, Colour, play, Grid, Illegal, Reason, Mixed, TwoMoves, BadSetup, BadPoint, Over, Turn, Occupied, Repeat, Stone, must_move, is_occupied, is_repeat, same_grid, reason_of, Forbids, IsFirstReason, rank_of, State, is_over, set_up, MayOnlyRepeat, side_play, side-with_rectangles}
 use Rattle.std.specs.List.{list_any}
 use Rattle.std.proofs.lemmas.Bool.{false≢true, cases_lt, cases_Bool}
 use Rattle.std.proofs.lemmas.Bool.Decides.{Decides-by_or, Decides-and, Decides-not, Decides-like, Decides-eqb, same_from_decides, not_from_Decides}
@@ -12,7 +12,6 @@ use Rattle.board_stones.specs.Colour.{opponent}
 use Rattle.go_board.specs.State.{turned}
 use Rattle.board_stones.proofs.GridLemmas.{one_grid, Decides-same_cell}
 use Rattle.board_stones.proofs.RuleLemmas.{false_from_Decides}
-use Rattle.board_stones.proofs.RectangleLemmas.{side-with_rectangles}
 
 pub Decides-grids : (g h : Grid) → Decides (same_grid g h) (g ≡ h)
 Decides-grids g h = grind (arith, Decides-and, Decides-eqb, Decides-like, Decides-same_cell, one_grid, slice_eq-Decides)

@@ -2,7 +2,7 @@
 unfoldable pub use Rattle.std.specs.Fmt.{digits}
 pub use Rattle.std.specs.Io.KnownBytes.{Appends}
 pub use Rattle.std.specs.List.{AllZip, concat, list_any, onto_first, position_or_len, range_with_len, slice_split}
-pub use Rattle.std.proofs.Common.{[], add-one, ap, append-nil, append_assoc, arith, Bool, cond, decimal, drop, Err, false, flat_map, fold, length, length-append, length-drop, List, map, nat_le, nat_lt, None, Ok, OnOk, Option, option_map, refl, Result, rules, slice_get, Some, subst, suc, sym, take, take-append-drop, take_all, true, unwrap_or, zero, ℕ, ◌&&◌, ◌*◌, ◌++◌, ◌+◌, ◌-◌, ◌<◌, ◌==◌, ◌∙◌, ◌∷◌, ◌≡◌, ◌≢◌, ◌≤◌}
+pub use Rattle.std.proofs.Common.{[], add-one, ap, append-nil, append_assoc, arith, Bool, codes, cond, decimal, drop, Err, false, filter, flat_map, fold, inl, inr, length, length-append, length-drop, List, map, nat_le, nat_lt, None, Ok, OnOk, Option, option_map, refl, Result, rules, slice_get, slice_index, Some, subst, suc, sym, take, take-append-drop, take_all, true, unwrap_or, zero, ℕ, ◌&&◌, ◌*◌, ◌++◌, ◌+◌, ◌-◌, ◌<◌, ◌==◌, ◌∙◌, ◌∷◌, ◌≡◌, ◌≢◌, ◌≤◌}
 pub use Rattle.std.proofs.KnownBytes.{Appends-kept, Appends-trans}
 pub use Rattle.std.proofs.Math.Seq.{drop-append-add, drop-append_seam, take-append-add, take-append_seam}
 pub use Rattle.std.proofs.lemmas.Bool.{and_parts, cases_Bool, cases_eq, cases_lt, eqb-false, false_from_ne_true, not-false, or_parts}
@@ -12,6 +12,8 @@ pub use Rattle.std.proofs.lemmas.List.{get_or-replicate, length-map, length-repl
 pub use Rattle.std.proofs.lemmas.List.Folds.{concat-append, list_any-append, position_or_len_push}
 pub use Rattle.std.proofs.lemmas.Option.{get_or_from_slice_get, slice_get-map, slice_get_past, slice_get_within}
 pub use Rattle.std.proofs.lemmas.Result.{err_from_is_err_and}
+pub use Rattle.tree_lines.proofs.Fronts.{as_many_parts}
+pub use Rattle.tree_lines.proofs.Lists.{Each, each_append, element}
 pub use Rattle.sgf_properties.specs.declared.fault.MemoryFault.{MemoryFault}
 pub use Rattle.sgf_outline.specs.declared.limit.TheConstants.{MAX_LENGTH}
 pub use Rattle.sgf_outline.specs.FileOrder.{PlacesRise}
@@ -46,7 +48,7 @@ pub use Rattle.go_board.specs.State.{set_up, starting, State, turned}
 pub use Rattle.byte_streams.specs.Streams.{GivesRest, HasDelivered, PutsAll, SinkState, SourceState, TakesNothing}
 pub use Rattle.judged_lines.specs.declared.over_lines.Before.TheVariants.{Held, Unheld}
 pub use Rattle.judged_lines.specs.declared.verdict.Verdict.{Verdict}
-pub use Rattle.judged_lines.specs.GoingOn.{HasPlays, index_by, IsHeldOf, PlaysLine, StandsBy}
+pub use Rattle.judged_lines.specs.GoingOn.{HasPlays, index_by, IsHeldOf, next_by, PlaysLine, StandsBy}
 pub use Rattle.judged_lines.specs.JudgedGames.{bad_size, board, game_kind, GameKind, not_go, root_properties, side_of}
 pub use Rattle.judged_lines.specs.NodeContents.{first_value, Move, moves, moves_in, players, players_in, stones, stones_in}
 pub use Rattle.judged_lines.specs.Plays.{all_judged_places, touched_places}

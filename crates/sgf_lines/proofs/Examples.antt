@@ -1,6 +1,5 @@
 -- The output of small collections, in sgf form.
-use Rattle.std.proofs.Common.{◌≡◌, [], ◌∷◌, refl, codes}
-use Rattle.sgf_lines.proofs.Common.{no_games, game, lines, output}
+use Rattle.sgf_lines.proofs.Common.{no_games, game, lines, output, ◌≡◌, [], ◌∷◌, refl, codes}
 use Rattle.tree_lines.proofs.Examples.{node_with, variations, two_games}
 use Rattle.sgf_lines.specs.declared.options.Form.TheVariants.{Sgf as sgf_form}
 

@@ -1,6 +1,5 @@
 -- Which places small collections touch, and which are judged, computed.
-use Rattle.std.proofs.Common.{◌≡◌, ℕ, List, [], ◌∷◌, map, Option, Some, None, refl, codes, option_map}
-use Rattle.sgf_lines.proofs.Common.{Node, Games, no_games, game, lines, points, point_value, rect_value, clear, play, cleared_cell, reaches, reaching_within, spread, with_rectangle, score_of, counts_for, touched_places, all_judged_places, Form, page, plays_of}
+use Rattle.sgf_lines.proofs.Common.{Node, Games, no_games, game, lines, points, point_value, rect_value, clear, play, cleared_cell, reaches, reaching_within, spread, with_rectangle, score_of, counts_for, touched_places, all_judged_places, Form, page, plays_of, ◌≡◌, ℕ, List, [], ◌∷◌, map, Option, Some, None, refl, codes, option_map}
 use Rattle.sgf_lines.specs.declared.options.Form.TheVariants.{List as list_form, Sgf as sgf_form, Gtp as gtp_form}
 
 abbrev node : ℕ → List ℕ → List ℕ → Node

@@ -1,6 +1,5 @@
 -- The records of small lines, computed.
-use Rattle.sgf_lines.proofs.Common.{◌≡◌, ℕ, List, [], ◌∷◌, map, refl, digits, Node, points, point_value, rect_value, vertex_of, clear, play, cleared_cell, has_unreaching, reaches, reaching_within, spread, with_rectangle, score_of, counts_for, Form, record_of}
-use Rattle.std.proofs.Common.{codes}
+use Rattle.sgf_lines.proofs.Common.{◌≡◌, ℕ, List, [], ◌∷◌, map, refl, digits, Node, points, point_value, rect_value, vertex_of, clear, play, cleared_cell, has_unreaching, reaches, reaching_within, spread, with_rectangle, score_of, counts_for, Form, record_of, codes}
 use Rattle.sgf_lines.specs.declared.options.Form.TheVariants.{List as list_form, Gtp as gtp_form}
 use Rattle.judged_lines.proofs.ExamplesOfVerdicts.{props, prop, at, black, white, size, in_game}
 

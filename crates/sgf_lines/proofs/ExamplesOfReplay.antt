@@ -1,6 +1,5 @@
 -- Small scripts, followed.
-use Rattle.std.proofs.Common.{◌≡◌, ℕ, List, [], ◌∷◌, map, codes, Option, Some, None, refl}
-use Rattle.sgf_lines.proofs.Common.{Point, Vertex, points, cleared_cell, clear, play, empty_grid, spread, reaching_within, reaches, Command, Engine, sets_size, plays_stone, does_nothing, words, command_of, point_of, sized, shows, refused, replayed}
+use Rattle.sgf_lines.proofs.Common.{Point, Vertex, points, cleared_cell, clear, play, empty_grid, spread, reaching_within, reaches, Command, Engine, sets_size, plays_stone, does_nothing, words, command_of, point_of, sized, shows, refused, replayed, ◌≡◌, ℕ, List, [], ◌∷◌, map, codes, Option, Some, None, refl}
 use Rattle.board_stones.specs.declared.stones.Cell.TheVariants.{Black, Empty}
 use Rattle.board_stones.specs.declared.stones.Colour.TheVariants.{Black as BlackPlayer}
 

@@ -1,10 +1,9 @@
 -- The rows of a script: the words of each, and what a text of whole rows does to the board, whatever follows it.
 use Rattle.std.proofs.Common.{◌≡◌, ℕ, zero, suc, ◌≤◌, ◌/◌, ◌%◌, List, [], ◌∷◌, ◌++◌, Bool, true, false, codes, refl, ap, ◌∙◌, arith, append_assoc, decimal, cond, ◌==◌, ◌-◌, ◌<◌, filter, Option, Some, None, nat_le, ◌&&◌, slice_index, option_map, option_and_then, inl, inr, ◌+◌, rules, flat_map, position}
-use Rattle.sgf_lines.proofs.Common.{slice_split, onto_first, and_parts, cases_eq, common_steps, Line, Point, Vertex, IsOn, column_letters, vertex_of, Colour, Verdict, verdict_text, list_row, Engine, after_row, after_text, before_comment, is_word, words, capital, vertex_named, point_there, point_of, plays_stone, sets_size, size_command, command_of, comment_row, text_rows, colour_letter, vertex_text, stone_command}
+use Rattle.sgf_lines.proofs.Common.{slice_split, onto_first, and_parts, cases_eq, common_steps, Line, Point, Vertex, IsOn, column_letters, vertex_of, Colour, Verdict, verdict_text, list_row, Engine, after_row, after_text, before_comment, is_word, words, capital, vertex_named, point_there, point_of, plays_stone, sets_size, size_command, command_of, comment_row, text_rows, colour_letter, vertex_text, stone_command, Each, each_append}
 use Rattle.std.specs.Fmt.{digits, digits_onto, digit_glyph}
 use Rattle.std.proofs.lemmas.List.Splits.{slice_split_at, slice_split_none}
 use Rattle.std.proofs.lemmas.List.Elements.{All-from_recursion}
-use Rattle.tree_lines.proofs.Lists.{Each, each_append}
 use Rattle.sgf_properties.specs.Number.{magnitude_of}
 use Rattle.std.proofs.lemmas.Fmt.{decimal_digit, decimal_step}
 

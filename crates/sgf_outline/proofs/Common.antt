@@ -5,6 +5,12 @@ pub use Rattle.std.proofs.lemmas.Grind.{common_steps}
 pub use Rattle.std.proofs.lemmas.List.{drop-append-le, drop_all, drop_more, get_or-append_right, get_or_default, get_or_past, length-map, map-append, take_rest}
 pub use Rattle.std.proofs.lemmas.List.Elements.{All-append, All-cons, All-more, All-nil, All-push}
 pub use Rattle.std.proofs.lemmas.Option.{get_or_from_slice_get, same_Some, slice_get-get_or, slice_get-map, slice_get_cases, slice_get_read, slice_get_within}
+pub use Rattle.std.specs.List.{range_with_len}
+pub use Rattle.sgf_properties.proofs.FrontSpelled.{properties-in}
+pub use Rattle.sgf_properties.proofs.Iterating.{byte-at}
+pub use Rattle.sgf_properties.proofs.KeptLengths.{kept-drop}
+pub use Rattle.sgf_properties.proofs.PlacedBytes.{above}
+pub use Rattle.sgf_properties.proofs.Spans.{empty-span}
 pub use Rattle.sgf_properties.specs.Front.{ArePropertiesIn, is_letter, NoPropertyFollows, NoValueFollows, properties_in}
 pub use Rattle.sgf_properties.specs.Offsets.{is_ordinary, IsSpan, IsValueEnd}
 pub use Rattle.sgf_properties.specs.RawValue.{IsValue, no_unit, ordinary}

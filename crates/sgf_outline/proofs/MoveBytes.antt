@@ -1,7 +1,6 @@
 -- The bytes of two moves, all compared at once with the least one that may stand there.
-use Rattle.sgf_outline.proofs.Common.{◌≡◌, ◌∙◌, ℕ, ◌+◌, ◌/◌, ◌%◌, ◌^◌, ◌<◌, ◌≤◌, List, [], ◌∷◌, length, get_or, refl, ap, arith, le-leb, and_from, cases_lt, common_steps, IsMove, IsMoveNode}
+use Rattle.sgf_outline.proofs.Common.{◌≡◌, ◌∙◌, ℕ, ◌+◌, ◌/◌, ◌%◌, ◌^◌, ◌<◌, ◌≤◌, List, [], ◌∷◌, length, get_or, refl, ap, arith, le-leb, and_from, cases_lt, common_steps, IsMove, IsMoveNode, above}
 use Rattle.sgf_properties.proofs.PlacedBytes
-use Rattle.sgf_properties.proofs.PlacedBytes.{above}
 use Rattle.sgf_properties.proofs.PointBytes.{other-than, in-place}
 
 -- a move, by how far its bytes are above the least ones

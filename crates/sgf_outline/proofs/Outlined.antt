@@ -1,12 +1,10 @@
 -- What the table of an outline says of its nodes and sequences.
-use Rattle.sgf_outline.proofs.Common.{◌≡◌, ℕ, zero, suc, ◌+◌, ◌-◌, ◌<◌, ◌≤◌, true, false, inl, inr, List, [], ◌∷◌, ◌++◌, length, map, drop, get_or, slice_get, slice_range, Option, Some, None, option_map, refl, sym, ap, subst, ◌∙◌, arith, length-append, rules, MatchOption, ◌≢◌, flat_map, drop-drop, length-drop, cases_lt, common_steps, length-map, get_or_default, get_or_past, slice_get-get_or, get_or_from_slice_get, slice_get_within, slice_get_read, slice_get-map, same_Some, KeptSegment, Sequence, Sequences, OrderedNode, further_nodes, ordered_nodes, node_at, nodes_at, place_at, parent_at, IsLeaf, game_of, sequence_starts, sequence_start, sequence_end, sequence_numbers, Listed, sequences_of, games_in, outer_by, game_by, is_written_by, nodes_of, HasSegments, IsKept, AreKept, IsOutlined, Spells, Node, Games, node_count, node_text, node_in, IsNodeIn}
-use Rattle.std.specs.List.{range_with_len}
+use Rattle.sgf_outline.proofs.Common.{◌≡◌, ℕ, zero, suc, ◌+◌, ◌-◌, ◌<◌, ◌≤◌, true, false, inl, inr, List, [], ◌∷◌, ◌++◌, length, map, drop, get_or, slice_get, slice_range, Option, Some, None, option_map, refl, sym, ap, subst, ◌∙◌, arith, length-append, rules, MatchOption, ◌≢◌, flat_map, drop-drop, length-drop, cases_lt, common_steps, length-map, get_or_default, get_or_past, slice_get-get_or, get_or_from_slice_get, slice_get_within, slice_get_read, slice_get-map, same_Some, KeptSegment, Sequence, Sequences, OrderedNode, further_nodes, ordered_nodes, node_at, nodes_at, place_at, parent_at, IsLeaf, game_of, sequence_starts, sequence_start, sequence_end, sequence_numbers, Listed, sequences_of, games_in, outer_by, game_by, is_written_by, nodes_of, HasSegments, IsKept, AreKept, IsOutlined, Spells, Node, Games, node_count, node_text, node_in, IsNodeIn, range_with_len, properties-in}
 use Rattle.sgf_outline.proofs.Lists.{slice_get-left, slice_get-right}
 use Rattle.sgf_outline.proofs.Rises.{Rises, rises-most, rises-count}
 use Rattle.sgf_outline.proofs.OrderedNodes.{length-further_nodes, length-ordered_nodes, parent_in-further, parent_at-within, next-child, game_of-parent}
 use Rattle.sgf_outline.proofs.Starts.{starts_from, starts-are, first-start}
 use Rattle.sgf_outline.proofs.NodesSpelled.{IsNodeSpelled, ordered-spelled}
-use Rattle.sgf_properties.proofs.FrontSpelled.{properties-in}
 use Rattle.sgf_outline.proofs.ListedNodes.{number_of, last_number, own_ordered, starts-listed, starts-rise, ends-listed, IsListedAt, listed-at}
 
 -- a spelled node is the one that its place tells

@@ -1,6 +1,5 @@
 -- Going over the nodes of a sequence on the text.
-use Rattle.sgf_outline.proofs.Common.{◌≡◌, ℕ, suc, ◌+◌, ◌-◌, ◌<◌, ◌≤◌, List, [], ◌∷◌, ◌++◌, length, get_or, slice_get, slice_range, drop, All, Option, Some, None, option_map, refl, sym, ap, subst, ◌∙◌, inl, inr, arith, get_or-drop, length-drop, rules, drop-drop, cases_lt, common_steps, drop_all, All-nil, All-cons, All-append, slice_get_cases, slice_get_within, get_or_from_slice_get, same_Some, properties_in, NoValueFollows, NoPropertyFollows, ArePropertiesIn, IsSpan, Sequence, Sequences, OrderedNode, further_nodes, ordered_nodes, node_at, nodes_at, sequence_starts, sequence_start, sequence_end, Listed, listed, sequences_of, games_in, IsOutlined, is_white_space, WhiteSpace, no_white_space, white_space, IsProperty, AreProperties, no_property, properties, IsNode, node, AreNodes, no_node, nodes, AreGames, no_game, games, Spells, spells, Property, lone_property, Node, Games, node_count, IsNodeEnd, IsLoneFront, node_in, nodes_between, IsRest, IsTraversal}
-use Rattle.std.specs.List.{range_with_len}
+use Rattle.sgf_outline.proofs.Common.{◌≡◌, ℕ, suc, ◌+◌, ◌-◌, ◌<◌, ◌≤◌, List, [], ◌∷◌, ◌++◌, length, get_or, slice_get, slice_range, drop, All, Option, Some, None, option_map, refl, sym, ap, subst, ◌∙◌, inl, inr, arith, get_or-drop, length-drop, rules, drop-drop, cases_lt, common_steps, drop_all, All-nil, All-cons, All-append, slice_get_cases, slice_get_within, get_or_from_slice_get, same_Some, properties_in, NoValueFollows, NoPropertyFollows, ArePropertiesIn, IsSpan, Sequence, Sequences, OrderedNode, further_nodes, ordered_nodes, node_at, nodes_at, sequence_starts, sequence_start, sequence_end, Listed, listed, sequences_of, games_in, IsOutlined, is_white_space, WhiteSpace, no_white_space, white_space, IsProperty, AreProperties, no_property, properties, IsNode, node, AreNodes, no_node, nodes, AreGames, no_game, games, Spells, spells, Property, lone_property, Node, Games, node_count, IsNodeEnd, IsLoneFront, node_in, nodes_between, IsRest, IsTraversal, range_with_len, empty-span}
 use Rattle.sgf_properties.proofs.Iterating.{byte-at, held-past, white-between}
 use Rattle.sgf_outline.proofs.LoneNodes.{lone, ends-node, lone-ends, spelled as front-spelled}
 use Rattle.sgf_properties.proofs.Ends.{IsEnd, all, tail, end-drop, end-WhiteSpace}
@@ -8,7 +7,6 @@ use Rattle.sgf_outline.proofs.Ends.{end-IsNode, end-AreNodes, end-AreGames, end-
 use Rattle.sgf_outline.proofs.NodesSpelled.{ends-at, ends-nodes}
 use Rattle.sgf_outline.proofs.OrderedNodes.{length-ordered_nodes}
 use Rattle.sgf_properties.proofs.FrontSpelled.{white-same, white-none, white-join, white-past, ends-values, properties-in}
-use Rattle.sgf_properties.proofs.Spans.{empty-span}
 use Rattle.sgf_outline.proofs.Outlined.{start-listed, end-listed, own-at, one-listed, sequence-within, entry-in}
 use Rattle.sgf_properties.proofs.FirstProperty.{left-after, head-same, upper-first}
 

@@ -1,6 +1,5 @@
 -- The classes of bytes stand apart.
-use Rattle.sgf_properties.proofs.Common.{◌≡◌, ◌≢◌, ℕ, ◌≤◌, false, ◌==◌, nat_le, ◌<◌, IsTrue, arith, leb-true, eqb-true, and_parts, or_cases, false_from_ne_true, is_white_space, is_upper, is_lower}
-use Rattle.std.proofs.lemmas.Bool.Decides.{nat_tests}
+use Rattle.sgf_properties.proofs.Common.{◌≡◌, ◌≢◌, ℕ, ◌≤◌, false, ◌==◌, nat_le, ◌<◌, IsTrue, arith, leb-true, eqb-true, and_parts, or_cases, false_from_ne_true, is_white_space, is_upper, is_lower, nat_tests}
 
 pub white-range : (b : ℕ) → IsTrue (is_white_space b) → b ≤ 32
 white-range b h = grind (arith, nat_tests, or_cases)

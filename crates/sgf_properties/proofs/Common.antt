@@ -8,6 +8,9 @@ pub use Rattle.std.proofs.lemmas.Bool.{and_parts, cases_eq, cases_lt, eqb-false,
 pub use Rattle.std.proofs.lemmas.Grind.{common_steps}
 pub use Rattle.std.proofs.lemmas.List.{drop_all, drop_more, get_or_at, length-map, take_more, take_rest}
 pub use Rattle.std.proofs.lemmas.Simd.{bit_mask_l, bitmask_splat, first_set_mask_l, get_or-chunk, get_or-zip2, length-chunk, length-zip2, mask_l-mod, none_from_empty_mask, run_in_chunk_fails, run_in_chunk_le, run_in_chunk_stops, tops_compared, trailing_mask_l}
+pub use Rattle.std.proofs.Math.ListN.{get_or-eq_default}
+pub use Rattle.std.proofs.lemmas.Bool.Decides.{nat_tests}
+pub use Rattle.std.proofs.lemmas.Nat.Bits.{bit_at-trailing_zeros}
 pub use Rattle.sgf_properties.specs.Front.{ArePropertiesIn, AreValuesIn, by_front, is_letter, name_in, NoPropertyFollows, NoValueFollows, property_from}
 unfoldable pub use Rattle.sgf_properties.specs.Front.{after_raw_value, after_values_up_to, front, left_after, properties_in, properties_up_to, raw_value, values_in, values_up_to}
 pub use Rattle.sgf_properties.specs.Number.{decimal_value, is_digit}

@@ -1,7 +1,5 @@
 -- Sixteen bytes that are tested at once, and the mask of those that pass.
-use Rattle.sgf_properties.proofs.Common.{◌≡◌, ℕ, ◌+◌, ◌<◌, ◌≤◌, Bool, true, false, List, map, length, get_or, inl, inr, ap, ◌∙◌, arith, w64, rules, count_trailing_zeros, chunk, mask_l, cases_lt, length-map, length-chunk, mask_l-mod, bit_mask_l, trailing_mask_l, first_set_mask_l, run_in_chunk_le, run_in_chunk_fails, run_in_chunk_stops, lowest_bit}
-use Rattle.std.proofs.lemmas.Nat.Bits.{bit_at-trailing_zeros}
-use Rattle.std.proofs.Math.ListN.{get_or-eq_default}
+use Rattle.sgf_properties.proofs.Common.{◌≡◌, ℕ, ◌+◌, ◌<◌, ◌≤◌, Bool, true, false, List, map, length, get_or, inl, inr, ap, ◌∙◌, arith, w64, rules, count_trailing_zeros, chunk, mask_l, cases_lt, length-map, length-chunk, mask_l-mod, bit_mask_l, trailing_mask_l, first_set_mask_l, run_in_chunk_le, run_in_chunk_fails, run_in_chunk_stops, lowest_bit, bit_at-trailing_zeros, get_or-eq_default}
 
 module _ (test : ℕ → Bool) (t : List ℕ) (at : ℕ) (room : at + 16 ≤ length t) where
   abbrev bytes : List ℕ

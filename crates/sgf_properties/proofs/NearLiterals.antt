@@ -1,6 +1,5 @@
 -- Bytes that are neither a `\` nor below 14 stand for themselves.
-use Rattle.sgf_properties.proofs.Common.{◌≡◌, ℕ, ◌+◌, ◌≤◌, true, false, eqb, ltb, List, length, arith, common_steps, is_literal, AreLiterals}
-use Rattle.std.proofs.lemmas.Bool.Decides.{nat_tests}
+use Rattle.sgf_properties.proofs.Common.{◌≡◌, ℕ, ◌+◌, ◌≤◌, true, false, eqb, ltb, List, length, arith, common_steps, is_literal, AreLiterals, nat_tests}
 use Rattle.sgf_properties.proofs.NearBits.{AreBefore}
 
 literal-by-tests : (b : ℕ) → eqb b 92 ≡ false → ltb b 14 ≡ false → is_literal b ≡ true

@@ -1,7 +1,5 @@
 -- Sixteen bytes, all compared at once: bit i tells whether byte i is at most so much above the least one of its place.
-use Rattle.sgf_properties.proofs.Common.{◌≡◌, ◌∙◌, ℕ, ◌+◌, ◌-◌, ◌/◌, ◌%◌, ◌^◌, ◌<◌, ◌≤◌, Bool, true, false, cond, List, map, length, get_or, sym, ap, arith, le-leb, leb-true, w8, w64, rules, leb, count_trailing_zeros, chunk, zip2, mask_l, top, cases_lt, false≢true, common_steps, length-chunk, length-zip2, get_or-chunk, get_or-zip2, tops_compared, mask_l-mod, bit_mask_l}
-use Rattle.std.proofs.Math.ListN.{get_or-eq_default}
-use Rattle.std.proofs.lemmas.Nat.Bits.{bit_at-trailing_zeros}
+use Rattle.sgf_properties.proofs.Common.{◌≡◌, ◌∙◌, ℕ, ◌+◌, ◌-◌, ◌/◌, ◌%◌, ◌^◌, ◌<◌, ◌≤◌, Bool, true, false, cond, List, map, length, get_or, sym, ap, arith, le-leb, leb-true, w8, w64, rules, leb, count_trailing_zeros, chunk, zip2, mask_l, top, cases_lt, false≢true, common_steps, length-chunk, length-zip2, get_or-chunk, get_or-zip2, tops_compared, mask_l-mod, bit_mask_l, get_or-eq_default, bit_at-trailing_zeros}
 
 -- how far a byte is above another, where 0 comes after 255
 abbrev pub above : ℕ → ℕ → ℕ

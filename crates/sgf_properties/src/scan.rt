@@ -1,6 +1,6 @@
 //! Where spans of a text end, and what stands at an offset. Offsets are in bytes, from 0.
 
-ghost use Rattle.std.specs.Prelude.{◌≡◌, ◌≢◌, false, ◌≤◌, ◌<◌, ◌+◌, length, drop, slice_index, IsTrue};
+ghost use Rattle.std.specs.Prelude.{◌≡◌, ◌≢◌, false, ◌≤◌, ◌<◌, ◌+◌, length, slice_index, IsTrue};
 ghost use Rattle.sgf_properties.specs.Spelling.{is_white_space, is_upper};
 ghost use Rattle.sgf_properties.specs.Front.{is_letter};
 ghost use Rattle.sgf_properties.specs.Offsets.{IsSpan, IsPropertyEnd};

@@ -6,6 +6,13 @@ pub use Rattle.std.proofs.lemmas.List.{get_or-append_right, get_or_append_left, 
 pub use Rattle.std.proofs.lemmas.List.Elements.{All-append, All-cons, All-nil, All-replicate, filter-append}
 pub use Rattle.std.proofs.lemmas.Option.{none-some, option_and_then_some, same_Some, slice_get-get_or, slice_get-map, slice_get_read}
 pub use Rattle.std.proofs.lemmas.Result.{err_from_is_err_and, on_ok_weaker}
+pub use Rattle.sgf_outline.proofs.Copying.{copied-as, copies-none, copies-then}
+pub use Rattle.sgf_outline.proofs.GameEnds.{add_games, closed-in, fewer-games, game-ends, unclosed_count-closed}
+pub use Rattle.sgf_outline.proofs.OrderedNodes.{length-further_nodes, length-nodes_from, parent_at-lt}
+pub use Rattle.sgf_properties.proofs.Classes.{lower-not_upper, upper-not_bracket, upper-not_white_space, white-not_lower, white-not_upper}
+pub use Rattle.sgf_properties.proofs.NameEnds.{bracket-here, span-one}
+pub use Rattle.sgf_properties.proofs.Spans.{span-none}
+pub use Rattle.sgf_properties.proofs.ValueEnds.{span-join}
 pub use Rattle.sgf_properties.specs.Front.{is_letter, name_in}
 pub use Rattle.sgf_properties.specs.KeptLengths.{AreKeptLengths}
 pub use Rattle.sgf_properties.specs.Offsets.{ArePoints, in_escape, in_units, IsBracket, IsPoint, IsSpan, IsUnended, IsValueEnd, SpellsValue}

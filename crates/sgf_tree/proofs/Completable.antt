@@ -1,7 +1,6 @@
 -- Some bytes complete each state that a text reaches.
-use Rattle.sgf_tree.proofs.Common.{◌≡◌, ℕ, ◌+◌, ◌<◌, suc, Bool, false, true, List, [], ◌∷◌, ◌++◌, length, replicate, Some, All, option_and_then, if◌then◌else◌, refl, subst, lit<, rules, All-nil, All-cons, All-replicate, none-some, same_Some, option_and_then_some, UnclosedGame, Stack, Started, MachineState, start, first_of_mark, second_of_mark, opened, in_node, in_name, after_name, in_value, after_escape, after_value, after_game, joined, property_of, with_property, add_node, new_game, new_node, ended, whole_game, close_in, whole_games, next_state, run, accepted, Property, Node, Games, no_games, game}
+use Rattle.sgf_tree.proofs.Common.{◌≡◌, ℕ, ◌+◌, ◌<◌, suc, Bool, false, true, List, [], ◌∷◌, ◌++◌, length, replicate, Some, All, option_and_then, if◌then◌else◌, refl, subst, lit<, rules, All-nil, All-cons, All-replicate, none-some, same_Some, option_and_then_some, UnclosedGame, Stack, Started, MachineState, start, first_of_mark, second_of_mark, opened, in_node, in_name, after_name, in_value, after_escape, after_value, after_game, joined, property_of, with_property, add_node, new_game, new_node, ended, whole_game, close_in, whole_games, next_state, run, accepted, Property, Node, Games, no_games, game, closed-in}
 use Rattle.sgf_tree.proofs.Transitions.{Between, white_between, opens_game, closes_game, AfterNode, next_node, opens_below, closes_nodes, no_stack, IsTransition, mark_first, mark_second, mark_third, at_start, at_game, white_opened, first_node, white_node, first_name, ends_bare, upper_name, lower_name, white_name, first_value, white_after_name, later_value, ends_value, escapes, ordinary_byte, escaped_byte, white_value, next_value, next_name, ends_node, transition}
-use Rattle.sgf_outline.proofs.GameEnds.{closed-in}
 
 -- a node begins a game, or a game is unclosed around it
 abbrev pub Within : Bool → List UnclosedGame → Type 0

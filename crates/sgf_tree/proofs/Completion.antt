@@ -1,6 +1,5 @@
 -- A text completes a state to a collection: what the state has read and what the text spells make the collection.
-use Rattle.sgf_tree.proofs.Common.{◌≡◌, ℕ, ◌+◌, true, List, [], ◌∷◌, ◌++◌, length, Some, refl, ap, append_assoc, append-nil, rules, IsValue, UnclosedGame, Stack, Started, MachineState, start, first_of_mark, second_of_mark, opened, in_node, in_name, after_name, in_value, after_escape, after_value, after_game, joined, property_of, with_property, add_node, ended, whole_games, WhiteSpace, Letters, ArePropValues, AreProperties, AreNodes, AreGames, ByteOrderMark, Property, Node, Games, no_games, game}
-use Rattle.sgf_outline.proofs.GameEnds.{add_games}
+use Rattle.sgf_tree.proofs.Common.{◌≡◌, ℕ, ◌+◌, true, List, [], ◌∷◌, ◌++◌, length, Some, refl, ap, append_assoc, append-nil, rules, IsValue, UnclosedGame, Stack, Started, MachineState, start, first_of_mark, second_of_mark, opened, in_node, in_name, after_name, in_value, after_escape, after_value, after_game, joined, property_of, with_property, add_node, ended, whole_games, WhiteSpace, Letters, ArePropValues, AreProperties, AreNodes, AreGames, ByteOrderMark, Property, Node, Games, no_games, game, add_games}
 
 -- nodes at the end of the innermost unclosed game
 abbrev pub add_nodes : List UnclosedGame → List Node → List UnclosedGame

@@ -1,6 +1,5 @@
 -- How the machine goes from game to game.
-use Rattle.sgf_tree.proofs.Common.{◌≡◌, ◌≢◌, ℕ, ◌+◌, ◌<◌, ◌≤◌, false, List, [], ◌∷◌, length, get_or, Some, None, refl, ap, subst, ◌∙◌, arith, ne_eqb, rules, common_steps, IsSpan, UnclosedGame, Stack, opened, after_game, between_games, close_in, whole_game, next_state, accepted, is_white_space, Games, no_games, game, game_count, unclosed_count, IsFaultyAt, StandsBetween, ComesTo}
-use Rattle.sgf_outline.proofs.GameEnds.{add_games, closed-in}
+use Rattle.sgf_tree.proofs.Common.{◌≡◌, ◌≢◌, ℕ, ◌+◌, ◌<◌, ◌≤◌, false, List, [], ◌∷◌, length, get_or, Some, None, refl, ap, subst, ◌∙◌, arith, ne_eqb, rules, common_steps, IsSpan, UnclosedGame, Stack, opened, after_game, between_games, close_in, whole_game, next_state, accepted, is_white_space, Games, no_games, game, game_count, unclosed_count, IsFaultyAt, StandsBetween, ComesTo, add_games, closed-in}
 use Rattle.sgf_tree.proofs.Run.{run-take-step}
 use Rattle.sgf_tree.proofs.Spans.{run-white}
 use Rattle.sgf_tree.proofs.ValueEnds.{ends-faulty, refused-faulty}

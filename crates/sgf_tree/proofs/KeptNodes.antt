@@ -1,6 +1,5 @@
 -- What is kept of all nodes: with one more unclosed game, and after a game that ends.
-use Rattle.sgf_tree.proofs.Common.{◌≡◌, ℕ, ◌+◌, ◌-◌, List, [], ◌∷◌, ◌++◌, length, set, Some, refl, sym, ap, ◌∙◌, arith, append-nil, common_steps, length-map, map-append, set_at, further_nodes, UnclosedGame, Stack, after_game, whole_game, close, HoldsSequences, Coming, nothing, own_of, places_of, coming_of, with_game, Node, Games, no_games, node_count, unclosed_count, Numbered, unclosed_nodes, ordered_places, HoldsNodes}
-use Rattle.sgf_outline.proofs.GameEnds.{add_games, game-ends}
+use Rattle.sgf_tree.proofs.Common.{◌≡◌, ℕ, ◌+◌, ◌-◌, List, [], ◌∷◌, ◌++◌, length, set, Some, refl, sym, ap, ◌∙◌, arith, append-nil, common_steps, length-map, map-append, set_at, further_nodes, UnclosedGame, Stack, after_game, whole_game, close, HoldsSequences, Coming, nothing, own_of, places_of, coming_of, with_game, Node, Games, no_games, node_count, unclosed_count, Numbered, unclosed_nodes, ordered_places, HoldsNodes, add_games, game-ends}
 use Rattle.sgf_outline.proofs.Listed.{before}
 use Rattle.sgf_tree.proofs.Stacks.{unclosed_lasts-listed, length-unclosed_nodes, unclosed_nodes-closed, unclosed_lasts-closed}
 

@@ -1,6 +1,5 @@
 -- A leaf is the last node below itself.
-use Rattle.sgf_tree.proofs.Common.{◌≡◌, ℕ, refl, arith, rules, IsLeaf, IsAtOrBelow, itself, below, IsLastBelow, Games}
-use Rattle.sgf_outline.proofs.OrderedNodes.{parent_at-lt}
+use Rattle.sgf_tree.proofs.Common.{◌≡◌, ℕ, refl, arith, rules, IsLeaf, IsAtOrBelow, itself, below, IsLastBelow, Games, parent_at-lt}
 
 -- nothing is below a leaf
 under-leaf : (g : Games) (i k : ℕ) → IsLeaf g i → IsAtOrBelow g i k → k ≡ i

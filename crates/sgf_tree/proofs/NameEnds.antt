@@ -1,10 +1,7 @@
 -- How the name of a property is read, up to the `[` after it.
-use Rattle.sgf_tree.proofs.Common.{◌≡◌, ◌≢◌, ℕ, zero, suc, ◌+◌, ◌-◌, ◌<◌, ◌≤◌, false, inl, inr, IsTrue, List, [], ◌∷◌, ◌++◌, length, get_or, slice_range, Some, None, refl, sym, ap, subst, ◌∙◌, arith, if◌then◌else◌, ne_eqb, rules, cases_lt, or_cases, or_parts, common_steps, filter-append, is_letter, name_in, IsSpan, IsBracket, Started, MachineState, in_name, after_name, in_value, next_state, accepted, is_white_space, is_upper, IsFaultyAt, ComesTo, IsNameRead}
-use Rattle.sgf_properties.proofs.Classes.{white-not_upper, white-not_lower}
+use Rattle.sgf_tree.proofs.Common.{◌≡◌, ◌≢◌, ℕ, zero, suc, ◌+◌, ◌-◌, ◌<◌, ◌≤◌, false, inl, inr, IsTrue, List, [], ◌∷◌, ◌++◌, length, get_or, slice_range, Some, None, refl, sym, ap, subst, ◌∙◌, arith, if◌then◌else◌, ne_eqb, rules, cases_lt, or_cases, or_parts, common_steps, filter-append, is_letter, name_in, IsSpan, IsBracket, Started, MachineState, in_name, after_name, in_value, next_state, accepted, is_white_space, is_upper, IsFaultyAt, ComesTo, IsNameRead, white-not_upper, white-not_lower, span-none, span-join}
 use Rattle.sgf_tree.proofs.Run.{run-take-step}
-use Rattle.sgf_properties.proofs.Spans.{span-none}
 use Rattle.sgf_tree.proofs.Spans.{run-white, run-letters}
-use Rattle.sgf_properties.proofs.ValueEnds.{span-join}
 use Rattle.sgf_tree.proofs.ValueEnds.{stops-faulty}
 use Rattle.sgf_properties.proofs.NameEnds.{span-one, name-longer, name-begins}
 

@@ -1,11 +1,8 @@
 -- How the own nodes of a game are read one by one, and what a visitor keeps of them.
-use Rattle.sgf_tree.proofs.Common.{◌≡◌, ◌≢◌, ℕ, ◌+◌, ◌-◌, ◌<◌, ◌≤◌, true, List, [], ◌∷◌, ◌++◌, length, get_or, slice_range, refl, sym, ap, subst, ◌∙◌, arith, length-append, append_assoc, append-nil, rules, flat_map, flat_map-append, map-append, IsSpan, OwnNodes, UnclosedGame, Stack, Started, opened, in_node, IsMoveNode, EndsNode, Coming, nothing, coming_of, places_of, own_of, with_game, IsCopied, Copies, CopiesNode, AreOwnNodes, is_white_space, Property, Node, no_games, unclosed_count, property_text, node_text, NodesRead, IsFaultyAt, IsGameRead, NodesSoFar, AreReadTo, AreOwnRead, AreNodesRead, ComesTo, StandsIn, ArePropertiesRead, common_steps}
+use Rattle.sgf_tree.proofs.Common.{◌≡◌, ◌≢◌, ℕ, ◌+◌, ◌-◌, ◌<◌, ◌≤◌, true, List, [], ◌∷◌, ◌++◌, length, get_or, slice_range, refl, sym, ap, subst, ◌∙◌, arith, length-append, append_assoc, append-nil, rules, flat_map, flat_map-append, map-append, IsSpan, OwnNodes, UnclosedGame, Stack, Started, opened, in_node, IsMoveNode, EndsNode, Coming, nothing, coming_of, places_of, own_of, with_game, IsCopied, Copies, CopiesNode, AreOwnNodes, is_white_space, Property, Node, no_games, unclosed_count, property_text, node_text, NodesRead, IsFaultyAt, IsGameRead, NodesSoFar, AreReadTo, AreOwnRead, AreNodesRead, ComesTo, StandsIn, ArePropertiesRead, common_steps, span-one, span-none, span-join}
 use Rattle.std.proofs.Math.Seq.{get_or-append_seam}
 use Rattle.sgf_outline.specs.declared.layout.Segment.{Segment}
-use Rattle.sgf_properties.proofs.NameEnds.{span-one}
 use Rattle.sgf_tree.proofs.ShortProperties.{lone-read}
-use Rattle.sgf_properties.proofs.Spans.{span-none}
-use Rattle.sgf_properties.proofs.ValueEnds.{span-join}
 use Rattle.sgf_tree.proofs.SequencesRead.{nodes-first, nodes-next, nodes-node, nodes-done, place-node, place-faulty}
 
 -- a node that a move begins ends the node before it

@@ -1,6 +1,5 @@
 -- Values such as `[pd]`, one after the other: what was read before them goes on after them.
-use Rattle.sgf_tree.proofs.Common.{◌≡◌, ℕ, zero, suc, ◌+◌, ◌*◌, ◌<◌, ◌≤◌, List, ◌++◌, slice_range, sym, subst, arith, rules, IsSpan, IsValueEnd, IsPoint, ArePoints, IsBracket, is_white_space}
-use Rattle.sgf_properties.proofs.NameEnds.{bracket-here}
+use Rattle.sgf_tree.proofs.Common.{◌≡◌, ℕ, zero, suc, ◌+◌, ◌*◌, ◌<◌, ◌≤◌, List, ◌++◌, slice_range, sym, subst, arith, rules, IsSpan, IsValueEnd, IsPoint, ArePoints, IsBracket, is_white_space, bracket-here}
 use Rattle.sgf_tree.proofs.ValuesRead.{After, ValuesSoFar, ValuesBefore, after-none, values-as, values-step, values-more}
 use Rattle.sgf_properties.proofs.Points.{value-end, first-point, later-points}
 

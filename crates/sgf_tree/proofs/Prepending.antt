@@ -1,8 +1,7 @@
 -- A byte before a text that completes a state: one lemma for each way that a byte takes a state to the next one.
-use Rattle.sgf_tree.proofs.Common.{◌≡◌, ℕ, ◌+◌, IsTrue, List, [], ◌∷◌, length, Some, refl, sym, ap, ◌∙◌, subst, append_assoc, append-nil, none-some, same_Some, no_unit, ordinary, escaped, UnclosedGame, Stack, Started, MachineState, after_game, with_property, ended, whole_game, close_in, is_white_space, is_upper, WhiteSpace, no_white_space, white_space, no_letter, upper, lower, prop_value, no_value, value, property, no_property, properties, IsNode, node, AreNodes, no_node, nodes, AreGames, no_game, games, no_byte_order_mark, byte_order_mark, Property, Node, Games, no_games, game}
+use Rattle.sgf_tree.proofs.Common.{◌≡◌, ℕ, ◌+◌, IsTrue, List, [], ◌∷◌, length, Some, refl, sym, ap, ◌∙◌, subst, append_assoc, append-nil, none-some, same_Some, no_unit, ordinary, escaped, UnclosedGame, Stack, Started, MachineState, after_game, with_property, ended, whole_game, close_in, is_white_space, is_upper, WhiteSpace, no_white_space, white_space, no_letter, upper, lower, prop_value, no_value, value, property, no_property, properties, IsNode, node, AreNodes, no_node, nodes, AreGames, no_game, games, no_byte_order_mark, byte_order_mark, Property, Node, Games, no_games, game, closed-in, add_games}
 use Rattle.sgf_tree.proofs.Transitions.{Between, white_between, opens_game, closes_game, AfterNode, next_node, opens_below, closes_nodes, no_stack, IsTransition, mark_first, mark_second, mark_third, at_start, at_game, white_opened, first_node, white_node, first_name, ends_bare, upper_name, lower_name, white_name, first_value, white_after_name, later_value, ends_value, escapes, ordinary_byte, escaped_byte, white_value, next_value, next_name, ends_node}
 use Rattle.sgf_tree.proofs.Completion.{followed-none, followed_assoc, nodes-none, nodes-more, with_values, with_properties, Rest, ends, closes, After_node, In_node, Opened, After_value, In_name, Completes}
-use Rattle.sgf_outline.proofs.GameEnds.{closed-in, add_games}
 
 module _ (whole : ℕ) (c : Games) where
   rest-white : {closed : Games} {unclosed : List UnclosedGame} {b : ℕ} {t : List ℕ} → IsTrue (is_white_space b)

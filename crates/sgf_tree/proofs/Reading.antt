@@ -1,6 +1,5 @@
 -- How the machine reads the parts of a text, up to the properties of a node.
-use Rattle.sgf_tree.proofs.Common.{◌≡◌, ℕ, ◌+◌, ◌-◌, Bool, List, [], ◌∷◌, ◌++◌, length, Option, Some, None, option_and_then, refl, ap, ◌∙◌, append_assoc, append-nil, arith, ne_eqb, rules, common_steps, IsValue, no_unit, ordinary, escaped, Stack, Started, MachineState, start, in_name, after_name, in_value, after_value, property_of, new_node, next_state, run, WhiteSpace, no_white_space, white_space, Letters, no_letter, upper, lower, prop_value, ArePropValues, no_value, value, Property, values}
-use Rattle.sgf_properties.proofs.Classes.{white-not_upper, white-not_lower, lower-not_upper}
+use Rattle.sgf_tree.proofs.Common.{◌≡◌, ℕ, ◌+◌, ◌-◌, Bool, List, [], ◌∷◌, ◌++◌, length, Option, Some, None, option_and_then, refl, ap, ◌∙◌, append_assoc, append-nil, arith, ne_eqb, rules, common_steps, IsValue, no_unit, ordinary, escaped, Stack, Started, MachineState, start, in_name, after_name, in_value, after_value, property_of, new_node, next_state, run, WhiteSpace, no_white_space, white_space, Letters, no_letter, upper, lower, prop_value, ArePropValues, no_value, value, Property, values, white-not_upper, white-not_lower, lower-not_upper}
 use Rattle.sgf_tree.proofs.Spans.{Stays}
 use Rattle.sgf_tree.proofs.Completion.{with_values}
 

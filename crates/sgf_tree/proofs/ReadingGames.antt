@@ -1,8 +1,6 @@
 -- How the machine reads properties, nodes and games.
-use Rattle.sgf_tree.proofs.Common.{◌≡◌, ℕ, Bool, false, true, IsTrue, List, [], ◌∷◌, Some, refl, sym, ap, ◌∙◌, append_assoc, append-nil, arith, rules, UnclosedGame, Stack, Started, MachineState, opened, in_node, in_name, after_value, after_game, joined, property_of, with_property, add_node, new_game, ended, whole_game, close, new_node, next_state, is_upper, WhiteSpace, prop_value, IsProperty, property, AreProperties, no_property, properties, IsNode, node, AreNodes, no_node, nodes, AreGames, no_game, games, Property, Node, Games, no_games, game, common_steps}
-use Rattle.sgf_properties.proofs.Classes.{upper-not_white_space, upper-not_bracket}
+use Rattle.sgf_tree.proofs.Common.{◌≡◌, ℕ, Bool, false, true, IsTrue, List, [], ◌∷◌, Some, refl, sym, ap, ◌∙◌, append_assoc, append-nil, arith, rules, UnclosedGame, Stack, Started, MachineState, opened, in_node, in_name, after_value, after_game, joined, property_of, with_property, add_node, new_game, ended, whole_game, close, new_node, next_state, is_upper, WhiteSpace, prop_value, IsProperty, property, AreProperties, no_property, properties, IsNode, node, AreNodes, no_node, nodes, AreGames, no_game, games, Property, Node, Games, no_games, game, common_steps, upper-not_white_space, upper-not_bracket, closed-in, add_games}
 use Rattle.sgf_tree.proofs.Completion.{followed-none, followed_assoc, nodes-none, nodes-more, add_nodes, with_properties}
-use Rattle.sgf_outline.proofs.GameEnds.{closed-in, add_games}
 use Rattle.sgf_tree.proofs.Spans.{Stays}
 use Rattle.sgf_tree.proofs.Reading.{read, one-byte, one-node, over-white, over-units, over-values, over-letters, to-value}
 

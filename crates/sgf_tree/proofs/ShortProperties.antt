@@ -1,14 +1,11 @@
 -- A property with one value, as the code tells it.
-use Rattle.sgf_tree.proofs.Common.{◌≡◌, ◌≢◌, ℕ, ◌+◌, ◌<◌, ◌≤◌, Bool, false, IsTrue, List, [], ◌∷◌, ◌++◌, length, get_or, slice_range, refl, sym, ap, subst, ◌∙◌, arith, append-nil, rules, flat_map, ne_eqb, or_left, common_steps, flat_map-append, is_letter, IsSpan, IsBracket, IsValueEnd, Started, in_node, IsMove, EndsNode, IsShortProperty, is_white_space, is_upper, is_lower, Property, property_text, ComesTo, AreValuesEnded, StandsIn, IsNameRead, IsPropertyRead, ArePropertiesRead, with_properties, next_state, accepted, after_value}
+use Rattle.sgf_tree.proofs.Common.{◌≡◌, ◌≢◌, ℕ, ◌+◌, ◌<◌, ◌≤◌, Bool, false, IsTrue, List, [], ◌∷◌, ◌++◌, length, get_or, slice_range, refl, sym, ap, subst, ◌∙◌, arith, append-nil, rules, flat_map, ne_eqb, or_left, common_steps, flat_map-append, is_letter, IsSpan, IsBracket, IsValueEnd, Started, in_node, IsMove, EndsNode, IsShortProperty, is_white_space, is_upper, is_lower, Property, property_text, ComesTo, AreValuesEnded, StandsIn, IsNameRead, IsPropertyRead, ArePropertiesRead, with_properties, next_state, accepted, after_value, bracket-here, span-none, span-join}
 use Rattle.sgf_properties.proofs.Classes.{upper-range, between-not_upper, upper-not_white_space, upper-not_bracket}
 use Rattle.sgf_tree.proofs.NameEnds.{name-read, capitals-are}
-use Rattle.sgf_properties.proofs.NameEnds.{bracket-here}
 use Rattle.sgf_tree.proofs.NodeEnds.{StandsInNode, node-done, node-name}
 use Rattle.sgf_outline.proofs.LoneNodes.{nothing-skipped}
 use Rattle.sgf_outline.proofs.ShortBytes.{two-name, two-letters, two-value}
 use Rattle.sgf_tree.proofs.Spans.{run-white}
-use Rattle.sgf_properties.proofs.Spans.{span-none}
-use Rattle.sgf_properties.proofs.ValueEnds.{span-join}
 use Rattle.sgf_properties.proofs.ValueUnits.{no-units, ordinary-units, units-ended}
 use Rattle.sgf_tree.proofs.ValuesRead.{After, ValuesBefore, after-none, values-begin, values-step}
 

@@ -1,10 +1,7 @@
 -- How the values of a property are read, one after another, and what the sgf form writes for them.
-use Rattle.sgf_tree.proofs.Common.{◌≡◌, ℕ, ◌+◌, ◌<◌, ◌≤◌, List, [], ◌∷◌, ◌++◌, length, get_or, slice_range, refl, sym, ap, subst, ◌∙◌, arith, append_assoc, append-nil, rules, flat_map, flat_map-append, IsSpan, IsBracket, IsValueEnd, Started, in_value, after_value, property_of, next_state, is_white_space, Property, values, value_text, ComesTo}
-use Rattle.sgf_properties.proofs.NameEnds.{span-one}
+use Rattle.sgf_tree.proofs.Common.{◌≡◌, ℕ, ◌+◌, ◌<◌, ◌≤◌, List, [], ◌∷◌, ◌++◌, length, get_or, slice_range, refl, sym, ap, subst, ◌∙◌, arith, append_assoc, append-nil, rules, flat_map, flat_map-append, IsSpan, IsBracket, IsValueEnd, Started, in_value, after_value, property_of, next_state, is_white_space, Property, values, value_text, ComesTo, span-one, span-none, span-join}
 use Rattle.sgf_tree.proofs.Run.{run-take-step}
 use Rattle.sgf_tree.proofs.Spans.{run-white}
-use Rattle.sgf_properties.proofs.Spans.{span-none}
-use Rattle.sgf_properties.proofs.ValueEnds.{span-join}
 use Rattle.sgf_tree.proofs.ValueEnds.{units-read}
 
 -- a property's values, with one more

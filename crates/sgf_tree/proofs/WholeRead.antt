@@ -1,7 +1,6 @@
 -- How all games of a text are read, and what holds then.
-use Rattle.sgf_tree.proofs.Common.{◌≡◌, ℕ, ◌+◌, ◌-◌, ◌<◌, ◌≤◌, ◌⊎◌, inl, inr, List, [], ◌∷◌, length, get_or, Some, None, unwrap_or, sym, ap, subst, ◌∙◌, arith, rules, common_steps, nil_from_length, IsSpan, UnclosedGame, Stack, MachineState, after_game, close, accepted, collection_of, Coming, nothing, is_white_space, Games, no_games, game, game_count, node_count, unclosed_count, IsFaultyAt, StandsBetween, IsGameRead, ReadsWhole, ComesTo}
+use Rattle.sgf_tree.proofs.Common.{◌≡◌, ℕ, ◌+◌, ◌-◌, ◌<◌, ◌≤◌, ◌⊎◌, inl, inr, List, [], ◌∷◌, length, get_or, Some, None, unwrap_or, sym, ap, subst, ◌∙◌, arith, rules, common_steps, nil_from_length, IsSpan, UnclosedGame, Stack, MachineState, after_game, close, accepted, collection_of, Coming, nothing, is_white_space, Games, no_games, game, game_count, node_count, unclosed_count, IsFaultyAt, StandsBetween, IsGameRead, ReadsWhole, ComesTo, closed-in, unclosed_count-closed}
 use Rattle.sgf_tree.proofs.AcceptedSpelled.{accepted-spelled}
-use Rattle.sgf_outline.proofs.GameEnds.{closed-in, unclosed_count-closed}
 use Rattle.sgf_tree.proofs.GamesLoop.{none-accepted, close-faulty, close-stands, games-unfinished, games-whole, games-accepted, depth-closed}
 use Rattle.sgf_tree.proofs.Run.{collection-run}
 use Rattle.sgf_tree.proofs.SequencesRead.{unclosed-unaccepted}

@@ -1,7 +1,6 @@
 -- How many lines end before a node, which line ends at it, and what a cursor that stands after it shows.
-use Rattle.tree_lines.proofs.Common.{◌≡◌, ℕ, ◌+◌, ◌-◌, ◌<◌, ◌≤◌, List, [], length, slice_get, Option, Some, None, option_map, sym, ap, ◌∙◌, inl, inr, arith, zero, suc, get_or, nat_lt, lt-ltb, le-ltb, cases_lt, common_steps, slice_get-map, slice_get_within, get_or_from_slice_get, slice_get_past, IsLeaf, place_at, game_of, Games, node_count, CursorState, advanced, IsLine, lines_before, path_before, line_before, Line, lines, place_of, Path, paths, leaf_of, IsPathTo, HasNoLeaf, IsNextLeaf, IsAfterLeaf}
+use Rattle.tree_lines.proofs.Common.{◌≡◌, ℕ, ◌+◌, ◌-◌, ◌<◌, ◌≤◌, List, [], length, slice_get, Option, Some, None, option_map, sym, ap, ◌∙◌, inl, inr, arith, zero, suc, get_or, nat_lt, lt-ltb, le-ltb, cases_lt, common_steps, slice_get-map, slice_get_within, get_or_from_slice_get, slice_get_past, IsLeaf, place_at, game_of, Games, node_count, CursorState, advanced, IsLine, lines_before, path_before, line_before, Line, lines, place_of, Path, paths, leaf_of, IsPathTo, HasNoLeaf, IsNextLeaf, IsAfterLeaf, rises-pair}
 use Rattle.std.proofs.lemmas.List.Sums.{prefix_len_is}
-use Rattle.sgf_outline.proofs.Rises.{rises-pair}
 use Rattle.tree_lines.proofs.Lists.{element, each_get}
 use Rattle.tree_lines.proofs.Visits.{one_way, way_within, last-way, some_node, leads, leaves_in_order, covered}
 use Rattle.tree_lines.proofs.Named.{game_of_root, line_at, length-paths}

@@ -1,7 +1,5 @@
 -- From a leaf's path to that of the next leaf: back to the parent of the node after it, and down from there.
-use Rattle.tree_lines.proofs.Common.{◌≡◌, ℕ, zero, suc, ◌+◌, ◌-◌, ◌<◌, ◌≤◌, List, [], ◌∷◌, ◌++◌, length, take, slice_get, Option, Some, None, inl, inr, refl, sym, ap, ◌∙◌, arith, length-append, rules, step, range_with_len, take-append_seam, cases_lt, common_steps, slice_get_within, parent_at, Games, CursorState, lines_before, first_after, Continues, numbers_before, path_before, paths, IsPathTo, IsNextLeaf, IsCutBack, IsAfterLeaf}
-use Rattle.sgf_outline.proofs.Lists.{slice_get-right}
-use Rattle.sgf_outline.proofs.Rises.{Rises, rises-count, rises-pair}
+use Rattle.tree_lines.proofs.Common.{◌≡◌, ℕ, zero, suc, ◌+◌, ◌-◌, ◌<◌, ◌≤◌, List, [], ◌∷◌, ◌++◌, length, take, slice_get, Option, Some, None, inl, inr, refl, sym, ap, ◌∙◌, arith, length-append, rules, step, range_with_len, take-append_seam, cases_lt, common_steps, slice_get_within, parent_at, Games, CursorState, lines_before, first_after, Continues, numbers_before, path_before, paths, IsPathTo, IsNextLeaf, IsCutBack, IsAfterLeaf, slice_get-right, Rises, rises-count, rises-pair}
 use Rattle.tree_lines.proofs.Lists.{get_left}
 use Rattle.tree_lines.proofs.Visits.{none_above, way_rises, GoesOn, goes_on_there, after_way}
 use Rattle.tree_lines.proofs.CursorStates.{before_none, next_line, given_line, before}

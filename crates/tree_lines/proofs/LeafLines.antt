@@ -1,6 +1,5 @@
 -- A line ends at each leaf, so there are as many lines as leaves, and no more lines than nodes.
-use Rattle.tree_lines.proofs.Common.{◌≡◌, ℕ, ◌+◌, ◌<◌, ◌≤◌, List, [], ◌∷◌, ◌++◌, length, map, refl, arith, length-append, common_steps, length-map, Node, Games, no_games, game, leaf_count, node_count, lines, lines_from, node_lines, through, paths, leaf_of}
-use Rattle.sgf_outline.proofs.Rises.{rises-count}
+use Rattle.tree_lines.proofs.Common.{◌≡◌, ℕ, ◌+◌, ◌<◌, ◌≤◌, List, [], ◌∷◌, ◌++◌, length, map, refl, arith, length-append, common_steps, length-map, Node, Games, no_games, game, leaf_count, node_count, lines, lines_from, node_lines, through, paths, leaf_of, rises-count}
 use Rattle.tree_lines.proofs.Visits.{leaves_in_order}
 use Rattle.tree_lines.proofs.Named.{length-paths}
 

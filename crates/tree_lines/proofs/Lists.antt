@@ -1,6 +1,5 @@
 -- Lists: an element of two lists joined, and facts of each element by recursion.
-use Rattle.tree_lines.proofs.Common.{◌≡◌, ℕ, zero, suc, ◌+◌, ◌<◌, List, [], ◌∷◌, ◌++◌, length, map, take, slice_get, Some, refl, ap, ◌∙◌, arith, AllByRecursion, range_with_len, common_steps, take_more, map-append, slice_get_within, get_or_from_slice_get, through}
-use Rattle.sgf_outline.proofs.Lists.{slice_get-left}
+use Rattle.tree_lines.proofs.Common.{◌≡◌, ℕ, zero, suc, ◌+◌, ◌<◌, List, [], ◌∷◌, ◌++◌, length, map, take, slice_get, Some, refl, ap, ◌∙◌, arith, AllByRecursion, range_with_len, common_steps, take_more, map-append, slice_get_within, get_or_from_slice_get, through, slice_get-left}
 
 pub get_left : {A : Type 0} (xs ys : List A) (k : ℕ) (y : A) → slice_get xs k ≡ Some y → slice_get (xs ++ ys) k ≡ Some y
 get_left xs ys k y e = slice_get-left xs ys k (slice_get_within xs k y e) ∙ e

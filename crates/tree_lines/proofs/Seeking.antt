@@ -1,6 +1,5 @@
 -- The place of the leaf that a line ends in, and the position after that line.
-use Rattle.tree_lines.proofs.Common.{◌≡◌, ℕ, ◌+◌, ◌<◌, List, Some, ap, ◌∙◌, arith, ◌≢◌, get_or, common_steps, slice_get_within, get_or_from_slice_get, IsLeaf, place_at, Games, node_count, CursorState, IsAfterPlace, lines, place_of, HasNoLineAt, paths, leaf_of, IsPathTo, IsAfterLeaf}
-use Rattle.sgf_outline.proofs.OrderedNodes.{length-nodes_from}
+use Rattle.tree_lines.proofs.Common.{◌≡◌, ℕ, ◌+◌, ◌<◌, List, Some, ap, ◌∙◌, arith, ◌≢◌, get_or, common_steps, slice_get_within, get_or_from_slice_get, IsLeaf, place_at, Games, node_count, CursorState, IsAfterPlace, lines, place_of, HasNoLineAt, paths, leaf_of, IsPathTo, IsAfterLeaf, length-nodes_from}
 use Rattle.tree_lines.proofs.Visits.{leads}
 use Rattle.tree_lines.proofs.CursorStates.{next_line, before}
 use Rattle.tree_lines.proofs.Lists.{element}

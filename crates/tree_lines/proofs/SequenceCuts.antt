@@ -1,6 +1,5 @@
 -- From the parts of a line to those of the next line.
-use Rattle.tree_lines.proofs.Common.{◌≡◌, ◌≢◌, ℕ, zero, suc, ◌+◌, ◌-◌, ◌<◌, ◌≤◌, List, [], ◌∷◌, ◌++◌, length, take, drop, slice_get, Option, Some, refl, sym, ap, ◌∙◌, arith, append_assoc, append-nil, length-append, take-append-drop, length-take-le, range_with_len, common_steps, flat_map-append, take-append-le, get_or-range_with_len, length-range_with_len, slice_get-get_or, sequence_starts, sequence_start, sequence_end, sequence_numbers, Games, Front, nodes_in, Part, first_of, sequence_length, parts_of, part_numbers, part_ends, AreParts, IsUpTo, IsFrontUpTo, GoesDown, IsCutBack}
-use Rattle.sgf_outline.proofs.Lists.{slice_get-left, slice_get-right}
+use Rattle.tree_lines.proofs.Common.{◌≡◌, ◌≢◌, ℕ, zero, suc, ◌+◌, ◌-◌, ◌<◌, ◌≤◌, List, [], ◌∷◌, ◌++◌, length, take, drop, slice_get, Option, Some, refl, sym, ap, ◌∙◌, arith, append_assoc, append-nil, length-append, take-append-drop, length-take-le, range_with_len, common_steps, flat_map-append, take-append-le, get_or-range_with_len, length-range_with_len, slice_get-get_or, sequence_starts, sequence_start, sequence_end, sequence_numbers, Games, Front, nodes_in, Part, first_of, sequence_length, parts_of, part_numbers, part_ends, AreParts, IsUpTo, IsFrontUpTo, GoesDown, IsCutBack, slice_get-left, slice_get-right}
 use Rattle.tree_lines.proofs.Lists.{Each, each_append, each_get, element, front_more, range_append}
 use Rattle.tree_lines.proofs.SequenceStarts.{first_no_less, never_empty, same_sequence, last_in, start_is, length_is}
 use Rattle.tree_lines.proofs.SequenceParts.{end_of, numbers_more, parts_more, part_within, parts_front, front_end, sequence_long, length-parts_of, take-parts_of, parts_of-append}

@@ -1,9 +1,8 @@
 -- Parts of a line: the numbers of their nodes, where they end, and the way to a sequence by the sequences above it.
-use Rattle.tree_lines.proofs.Common.{◌≡◌, ℕ, zero, suc, ◌+◌, ◌-◌, ◌<◌, ◌≤◌, List, [], ◌∷◌, ◌++◌, length, get_or, take, slice_get, Option, Some, None, option_map, refl, ap, ◌∙◌, arith, append-nil, length-append, rules, flat_map, range_with_len, take-append_seam, drop-append_seam, common_steps, flat_map-append, length-range_with_len, OrderedNode, parent_at, node_at, nodes_at, sequence_starts, sequence_start, sequence_end, sequence_numbers, Node, Games, node_count, RiseTo, parts_from, Part, sequence_length, parts_of, part_numbers, part_ends, AreParts, IsAbove, IsPathTo}
+use Rattle.tree_lines.proofs.Common.{◌≡◌, ℕ, zero, suc, ◌+◌, ◌-◌, ◌<◌, ◌≤◌, List, [], ◌∷◌, ◌++◌, length, get_or, take, slice_get, Option, Some, None, option_map, refl, ap, ◌∙◌, arith, append-nil, length-append, rules, flat_map, range_with_len, take-append_seam, drop-append_seam, common_steps, flat_map-append, length-range_with_len, OrderedNode, parent_at, node_at, nodes_at, sequence_starts, sequence_start, sequence_end, sequence_numbers, Node, Games, node_count, RiseTo, parts_from, Part, sequence_length, parts_of, part_numbers, part_ends, AreParts, IsAbove, IsPathTo, sequence-further}
 use Rattle.tree_lines.proofs.Lists.{front_more}
 use Rattle.tree_lines.proofs.Visits.{way_along}
 use Rattle.tree_lines.proofs.SequenceStarts.{ordered_there, never_empty, length_is, start_is, first_within}
-use Rattle.sgf_outline.proofs.Outlined.{sequence-further}
 
 module _ (c : Games) where
   -- ---- Where parts end.

@@ -1,7 +1,6 @@
 -- One record more was written, or the sink failed within it.
-use Rattle.sgf_lines.proofs.Common.{◌≡◌, true, None, Some, Ok, Err, slice_get, sym, ap, ◌∙◌, arith, common_steps, MemoryFault, CursorState, advanced, line_before, nodes_before, lines, PutsAll, Held, PlaysLine, StandsBy, record_of, WritesLines, page_after}
+use Rattle.sgf_lines.proofs.Common.{◌≡◌, true, None, Some, Ok, Err, slice_get, sym, ap, ◌∙◌, arith, common_steps, MemoryFault, CursorState, advanced, line_before, nodes_before, lines, PutsAll, Held, PlaysLine, StandsBy, record_of, WritesLines, page_after, next_by}
 use Rattle.byte_streams.specs.declared.sink.SinkFault.{SinkFault}
-use Rattle.judged_lines.specs.GoingOn.{next_by}
 use Rattle.judged_lines.proofs.Keeping.{line_next}
 use Rattle.sgf_lines.proofs.PlayCounts.{one_written, cut_short, none_left, limit_met, few, goes_forth, not_flushed, one_played, played_then_cut, played_in_part}
 use Rattle.sgf_lines.proofs.run.write_lines.Given.{Over}

@@ -1,5 +1,4 @@
-use Rattle.board_stones.proofs.Common.{◌≡◌, ◌∙◌, get_or, set, bit_or, false≢true, rules, AreStones, grid_with, with_columns}
-use Rattle.std.proofs.Common.{bit_and, w64}
+use Rattle.board_stones.proofs.Common.{◌≡◌, ◌∙◌, get_or, set, bit_or, false≢true, rules, AreStones, grid_with, with_columns, bit_and, w64}
 use Rattle.std.specs.Int.{bit_not}
 use Rattle.board_stones.proofs.GridLemmas.{same_cell-eq}
 use Rattle.board_stones.proofs.StoneRowsLemmas.{coloured, recoloured}

@@ -1,5 +1,4 @@
-use Rattle.board_stones.proofs.Common.{◌≡◌, take, fold}
-use Rattle.board_stones.specs.Rectangle.{with_rectangle}
+use Rattle.board_stones.proofs.Common.{◌≡◌, take, fold, with_rectangle}
 use Rattle.board_stones.proofs.board.Board.colour_rectangles.Given as goal
 
 abbrev pub invariant-loop-op : goal.invariant-loop-op

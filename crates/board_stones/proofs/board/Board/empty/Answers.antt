@@ -1,5 +1,4 @@
-use Rattle.board_stones.proofs.Common.{◌∙◌, ap, arith}
-use Rattle.board_stones.specs.Clearing.{has_unreaching}
+use Rattle.board_stones.proofs.Common.{◌∙◌, ap, arith, has_unreaching}
 use Rattle.board_stones.proofs.StoneRowsLemmas.{AreStones-none}
 use Rattle.board_stones.proofs.SettledLemmas.{settled-empty_grid}
 use Rattle.board_stones.proofs.board.Board.empty.Goals as goal

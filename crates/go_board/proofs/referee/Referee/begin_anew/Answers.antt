@@ -1,7 +1,6 @@
-use Rattle.go_board.proofs.Common.{◌≡◌, ◌++◌, [], ◌∷◌, true, fold, refl, arith, rules, newest_grid}
+use Rattle.go_board.proofs.Common.{◌≡◌, ◌++◌, [], ◌∷◌, true, fold, refl, arith, rules, newest_grid, side-with_rectangles}
 use Rattle.go_board.specs.declared.referee.Call.TheVariants.{Setup}
 use Rattle.board_stones.specs.Rectangle.{with_rectangle}
-use Rattle.board_stones.proofs.RectangleLemmas.{side-with_rectangles}
 use Rattle.go_board.proofs.EarlierLemmas.{IsRefereeKept-grown}
 use Rattle.go_board.proofs.TurnLemmas.{on_err}
 use Rattle.go_board.proofs.referee.Referee.begin_anew.Goals as goal

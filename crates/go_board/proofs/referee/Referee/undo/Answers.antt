@@ -1,6 +1,4 @@
-use Rattle.go_board.proofs.Common.{◌≡◌, ◌≤◌, ◌++◌, reverse, [], ◌∷◌, arith, cond, refl, sym, ap, ◌∙◌, rules, reverse-append, Earlier, past_of_older, past_before}
-use Rattle.std.specs.Int.{from_bool}
-use Rattle.go_board.specs.inner.Earlier.{turned}
+use Rattle.go_board.proofs.Common.{◌≡◌, ◌≤◌, ◌++◌, reverse, [], ◌∷◌, arith, cond, refl, sym, ap, ◌∙◌, rules, reverse-append, Earlier, past_of_older, past_before, from_bool, turned}
 use Rattle.go_board.proofs.EarlierLemmas.{IsRefereeKept-back}
 use Rattle.go_board.proofs.referee.Referee.undo.Goals as goal
 

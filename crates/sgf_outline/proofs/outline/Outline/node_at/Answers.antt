@@ -1,5 +1,4 @@
-use Rattle.sgf_outline.proofs.Common.{◌≤◌, length, take_rest, arith, rules}
-use Rattle.sgf_properties.proofs.KeptLengths.{kept-drop}
+use Rattle.sgf_outline.proofs.Common.{◌≤◌, length, take_rest, arith, rules, kept-drop}
 use Rattle.sgf_outline.proofs.Outlined.{node-in}
 use Rattle.sgf_outline.proofs.outline.Outline.node_at.Goals as goal
 

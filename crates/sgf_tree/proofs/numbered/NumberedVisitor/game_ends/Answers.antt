@@ -1,5 +1,4 @@
-use Rattle.sgf_tree.proofs.Common.{◌≡◌, ℕ, ◌-◌, length, set, Some, sym, ap, subst, arith, HoldsSequences, nothing, Numbered}
-use Rattle.sgf_outline.proofs.GameEnds.{fewer-games}
+use Rattle.sgf_tree.proofs.Common.{◌≡◌, ℕ, ◌-◌, length, set, Some, sym, ap, subst, arith, HoldsSequences, nothing, Numbered, fewer-games}
 use Rattle.sgf_tree.proofs.KeptNodes.{length-places, length-lasts, nodes-ended}
 use Rattle.sgf_outline.proofs.KeptSequences.{innermost-within}
 use Rattle.sgf_tree.proofs.numbered.NumberedVisitor.game_ends.Goals.{in-Some, in_default}

@@ -1,5 +1,4 @@
-use Rattle.sgf_tree.proofs.Common.{refl, on_ok_weaker}
-use Rattle.sgf_outline.proofs.Copying.{copied-as}
+use Rattle.sgf_tree.proofs.Common.{refl, on_ok_weaker, copied-as}
 use Rattle.sgf_tree.proofs.KeptNodes.{nodes-opened}
 use Rattle.sgf_tree.proofs.numbered.NumberedVisitor.own_nodes.Goals as goal
 

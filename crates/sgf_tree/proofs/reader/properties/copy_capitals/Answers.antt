@@ -1,7 +1,5 @@
-use Rattle.sgf_tree.proofs.Common.{◌≡◌, ◌+◌, slice_range, subst, arith, rules, name_in, Copies}
-use Rattle.sgf_outline.proofs.Copying.{copies-then}
+use Rattle.sgf_tree.proofs.Common.{◌≡◌, ◌+◌, slice_range, subst, arith, rules, name_in, Copies, copies-then, span-none}
 use Rattle.sgf_tree.proofs.NameEnds.{name-join}
-use Rattle.sgf_properties.proofs.Spans.{span-none}
 use Rattle.sgf_tree.proofs.reader.properties.copy_capitals.Goals as goal
 
 pub letters-init : goal.letters-init

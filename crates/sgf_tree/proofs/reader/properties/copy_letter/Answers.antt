@@ -1,5 +1,4 @@
-use Rattle.sgf_tree.proofs.Common.{subst, arith, rules, Copies}
-use Rattle.sgf_outline.proofs.Copying.{copies-none}
+use Rattle.sgf_tree.proofs.Common.{subst, arith, rules, Copies, copies-none}
 use Rattle.sgf_tree.proofs.NameEnds.{name-capital, name-small}
 use Rattle.sgf_tree.proofs.reader.properties.copy_letter.Goals as goal
 

@@ -1,6 +1,5 @@
-use Rattle.sgf_tree.proofs.Common.{subst, arith, Copies}
+use Rattle.sgf_tree.proofs.Common.{subst, arith, Copies, bracket-here}
 use Rattle.sgf_tree.proofs.NameEnds.{name-read, capitals-are}
-use Rattle.sgf_properties.proofs.NameEnds.{bracket-here}
 use Rattle.sgf_tree.proofs.reader.properties.read_name.Goals as goal
 
 pub returns-clause-read : goal.returns-clause-read

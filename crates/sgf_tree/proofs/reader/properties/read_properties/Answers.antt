@@ -1,5 +1,4 @@
-use Rattle.sgf_tree.proofs.Common.{sym, subst, arith, rules, err_from_is_err_and, Copies, StandsIn}
-use Rattle.sgf_outline.proofs.Copying.{copies-none, copies-then}
+use Rattle.sgf_tree.proofs.Common.{sym, subst, arith, rules, err_from_is_err_and, Copies, StandsIn, copies-none, copies-then}
 use Rattle.sgf_tree.proofs.NodeEnds.{node-name}
 use Rattle.sgf_tree.proofs.ShortProperties.{ReadSoFar, so-far-begin, so-far-more, so-far-done}
 use Rattle.sgf_tree.proofs.reader.properties.read_properties.Goals as goal

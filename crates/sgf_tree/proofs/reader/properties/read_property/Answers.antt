@@ -1,5 +1,4 @@
-use Rattle.sgf_tree.proofs.Common.{rules, ◌+◌, sym, subst, arith, Copies, IsPropertyRead}
-use Rattle.sgf_outline.proofs.Copying.{copies-none, copies-then}
+use Rattle.sgf_tree.proofs.Common.{rules, ◌+◌, sym, subst, arith, Copies, IsPropertyRead, copies-none, copies-then}
 use Rattle.sgf_tree.proofs.Points.{points-read, values-run}
 use Rattle.sgf_tree.proofs.ShortProperties.{property-read}
 use Rattle.sgf_tree.proofs.ValuesRead.{After, after-none, values-as, values-begin, values-more}

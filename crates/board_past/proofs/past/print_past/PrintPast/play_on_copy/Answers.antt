@@ -1,6 +1,5 @@
-use Rattle.board_past.proofs.Common.{◌≡◌, Contains, false, ap, subst, sym, ◌∙◌, false≢true, has_unreaching, play, Grid, newest_grid, present_stretch, with_next}
+use Rattle.board_past.proofs.Common.{◌≡◌, Contains, false, ap, subst, sym, ◌∙◌, false≢true, has_unreaching, play, Grid, newest_grid, present_stretch, with_next, settled_by_play}
 use Rattle.board_past.proofs.RepeatLemmas.{played_new, played_refused}
-use Rattle.board_stones.proofs.SettledLemmas.{settled_by_play}
 use Rattle.board_past.proofs.past.print_past.PrintPast.play_on_copy.Goals as goal
 use Rattle.board_past.proofs.past.print_past.PrintPast.play_on_copy.Goals.{Else-holds}
 

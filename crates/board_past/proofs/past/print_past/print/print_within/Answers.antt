@@ -1,6 +1,5 @@
-use Rattle.board_past.proofs.Common.{◌≡◌, ℕ, ◌+◌, ◌*◌, ◌%◌, ◌^◌, bit_and, slice_index, ap, ◌∙◌, sym, arith, and_parts, in_base, row_within, word_number, mul-mod}
+use Rattle.board_past.proofs.Common.{◌≡◌, ℕ, ◌+◌, ◌*◌, ◌%◌, ◌^◌, bit_and, slice_index, ap, ◌∙◌, sym, arith, and_parts, in_base, row_within, word_number, mul-mod, has_bit-and}
 use Rattle.board_past.proofs.PrintLemmas.{digit_more, in_base-more, none_within, row_within_words, sum_of_both}
-use Rattle.board_points.proofs.WordLemmas.{has_bit-and}
 use Rattle.board_past.proofs.past.print_past.print.print_within.Goals as goal
 use Rattle.board_past.proofs.past.print_past.print.print_within.Goals.{then-within-ne0, else-within-ne0}
 

@@ -1,6 +1,5 @@
 -- The parts of the record were put one after the other.
-use Rattle.std.proofs.Common.{◌≡◌, ◌++◌, Some, Ok, Err, subst, rules, codes}
-use Rattle.sgf_lines.proofs.Common.{line_before, Line, PutsAll, script, script_text, built_text}
+use Rattle.sgf_lines.proofs.Common.{line_before, Line, PutsAll, script, script_text, built_text, ◌≡◌, ◌++◌, Some, Ok, Err, subst, rules, codes}
 use Rattle.sgf_lines.proofs.LineCounts.{both_put, first_cut}
 use Rattle.sgf_lines.proofs.RunRecords.{made_script}
 use Rattle.sgf_lines.proofs.form.gtp.GtpFormLineForm.put.Given.{Over}

@@ -1,7 +1,5 @@
 -- The sequence was begun after what was begun already, and then it was finished.
-use Rattle.sgf_lines.proofs.Common.{◌≡◌, ◌++◌, List, slice_get, Some, arith, flat_map, common_steps, Node, nodes_before, node_text, sequences_before}
-use Rattle.tree_lines.proofs.Fronts.{as_many_parts}
-use Rattle.tree_lines.proofs.Lists.{element}
+use Rattle.sgf_lines.proofs.Common.{◌≡◌, ◌++◌, List, slice_get, Some, arith, flat_map, common_steps, Node, nodes_before, node_text, sequences_before, as_many_parts, element}
 use Rattle.sgf_lines.proofs.PieceTexts.{seen, seen_pushed}
 use Rattle.sgf_lines.proofs.form.pieces.Pieces.push_sequence.Goals as goal
 use Rattle.sgf_lines.proofs.form.pieces.Pieces.push_sequence.Goals.{In_ok-push_sequence}

@@ -1,8 +1,6 @@
 -- One sequence more is a piece, until all are. Then the end is begun.
-use Rattle.sgf_lines.proofs.Common.{◌≡◌, ap, ◌∙◌, arith, rules, flat_map, take_all, cases_lt, common_steps, nodes_before, node_text, pushed, closed, sequences_before}
-use Rattle.tree_lines.proofs.Fronts.{as_many_parts}
+use Rattle.sgf_lines.proofs.Common.{◌≡◌, ap, ◌∙◌, arith, rules, flat_map, take_all, cases_lt, common_steps, nodes_before, node_text, pushed, closed, sequences_before, as_many_parts, element}
 use Rattle.sgf_lines.proofs.Recordings.{record_kept, record_more}
-use Rattle.tree_lines.proofs.Lists.{element}
 use Rattle.sgf_lines.proofs.RunRecords.{made_record}
 use Rattle.judged_lines.proofs.LineVerdicts.{some_line}
 use Rattle.tree_lines.proofs.SequenceCursors.{some_end}

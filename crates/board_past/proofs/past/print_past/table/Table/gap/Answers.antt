@@ -1,5 +1,4 @@
-use Rattle.board_past.proofs.Common.{◌≡◌, ◌<◌, ◌^◌, ◌∷◌, false, bit_xor, w64, inl, inr, length, get_or, refl, ap, subst, sym, ◌∙◌, arith, bit_at, trailing_zeros, Fits-lt-pow, Fits-xor, Fits-of_lt, cases_lt, bit_at-trailing_zeros, item_count, child_at, IsNearest, IsTrie, IsWayTo, WIDTH, Held, all_of, bits_of, keys_of, way_nearest}
-use Rattle.std.proofs.lemmas.Grind.{get_or_default_zero}
+use Rattle.board_past.proofs.Common.{◌≡◌, ◌<◌, ◌^◌, ◌∷◌, false, bit_xor, w64, inl, inr, length, get_or, refl, ap, subst, sym, ◌∙◌, arith, bit_at, trailing_zeros, Fits-lt-pow, Fits-xor, Fits-of_lt, cases_lt, bit_at-trailing_zeros, item_count, child_at, IsNearest, IsTrie, IsWayTo, WIDTH, Held, all_of, bits_of, keys_of, way_nearest, get_or_default_zero}
 use Rattle.board_past.proofs.PrintLemmas.{print_small}
 use Rattle.board_past.proofs.TableLemmas.{tabled, gap_parts, linked_before, number_there, print_there}
 use Rattle.board_past.proofs.past.print_past.table.Table.gap.Goals as goal

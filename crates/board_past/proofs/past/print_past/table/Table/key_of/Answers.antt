@@ -1,5 +1,4 @@
-use Rattle.board_past.proofs.Common.{◌≡◌, ℕ, Bool, ◌∙◌, get_or, subst, sym, arith, Agree, all_of, IsNumber, bits_of, hash_in_key, keys_of}
-use Rattle.std.proofs.lemmas.Grind.{get_or_default_zero}
+use Rattle.board_past.proofs.Common.{◌≡◌, ℕ, Bool, ◌∙◌, get_or, subst, sym, arith, Agree, all_of, IsNumber, bits_of, hash_in_key, keys_of, get_or_default_zero}
 use Rattle.board_past.proofs.TableLemmas.{tabled, head_made, key_made}
 use Rattle.board_past.proofs.past.print_past.table.Table.key_of.Goals as goal
 use Rattle.board_past.proofs.past.print_past.table.Table.key_of.Goals.{After-new}
