@@ -1,0 +1,5 @@
+use Rattle.board_points.proofs.Common.{rules}
+use Rattle.board_points.proofs.search.Search.take_one.Goals as goal
+
+pub returns-then-self-eq0-clause-none_waits : goal.returns-then-self-eq0-clause-none_waits
+returns-then-self-eq0-clause-none_waits c = search rules
