@@ -22,8 +22,8 @@ use board_points::fill::fill;
 use board_points::quick::halves::{FEW_ROWS, HALF, count_halves, pair_rows};
 
 impl Board {
-    /// The area scores of Black and of White (`score`) on a small board: an empty column is left between the halves of a word. The low
-    /// half of a word has a row for Black and the high half has it for White. So one filling finds both areas.
+    /// The area scores of Black and of White (`score`) on a board so small that the rows of both fit in the halves of words, with an empty
+    /// column between them. The low half of a word has a row for Black, the high half for White. So one filling finds both areas.
     pub(crate) fn score_in_halves(&self) -> (u32, u32)
         requires { self.now.side < HALF }
         ensures black { result.0 ≡ score_of self.now Black }

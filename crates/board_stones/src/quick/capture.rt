@@ -1,7 +1,7 @@
 //! What a stone clears, as rows of bits: nothing, the groups beside it that it captures, or its own group by suicide. `Board::place` is
 //! the plain way.
 
-ghost use Rattle.std.specs.Prelude.{◌≡◌, ◌↔◌, ◌⊎◌, [], false, IsTrue, IsFalse, length};
+ghost use Rattle.std.specs.Prelude.{◌≡◌, ◌↔◌, [], false, IsTrue, IsFalse, length};
 ghost use Rattle.board_stones.specs.declared.stones.Cell.TheVariants.{Empty};
 ghost use Rattle.board_points.specs.declared.points.Point.{Point};
 ghost use Rattle.board_points.specs.Point.{IsOn};
@@ -9,7 +9,7 @@ ghost use Rattle.board_stones.specs.Colour.{stone_of};
 ghost use Rattle.board_stones.specs.Grid.{cell_at};
 ghost use Rattle.board_stones.specs.Clearing.{has_unreaching, play};
 ghost use Rattle.board_stones.specs.Reaching.{Reaches};
-ghost use Rattle.board_stones.specs.inner.Groups.{AreKnownAlive, ReachesIfStone, AddsShut, AreShutGroups, AreClearedOrReachBeside, ReachBeside};
+ghost use Rattle.board_stones.specs.inner.Groups.{ReachesIfStone, AddsShut, AreShutGroups, AreClearedOrReachBeside, ReachBeside};
 ghost use Rattle.board_stones.specs.Move.{IsEmptyOnSettled, IsMove, Clears};
 ghost use Rattle.board_points.specs.Rows.{is_set, HasNoPoint};
 
