@@ -1,10 +1,8 @@
-//! Points, sizes, pasts, numbers and checks for the tests.
+//! Points, sizes, numbers and checks for the tests.
 
-ghost use Rattle.std.specs.Prelude.{◌≡◌, true, false};
-ghost use Rattle.board_past.specs.Past.{only, with_next, HaveSide};
+ghost use Rattle.std.specs.Prelude.{◌≡◌};
 
-use go_board::{Board, Past, Point, Size};
-use std::alloc::Global;
+use go_board::{Point, Size};
 use std::process::Abort;
 
 /// The point with this column and row, both from 0.
@@ -20,36 +18,6 @@ pub(crate) fn size(rt: &impl Abort, side: u8) -> Size
     ensures { result ≡ side }
 {
     Size::new(side).expect(rt, "the side of a board")
-}
-
-/// A past of this one colouring.
-pub(crate) fn begin<P: Past>(rt: &impl Abort, alloc: Global, board: &Board) -> P
-    ensures { P.held result ≡ only board.now }
-{
-    let Ok(past) = P::new(alloc, board) else {
-        panic!(rt; "no past")
-    };
-    past
-}
-
-/// Adds a colouring to the present stretch of a past.
-pub(crate) fn push<P: Past>(rt: &impl Abort, past: &mut P, board: &Board)
-    requires { HaveSide board.now.side (P.held past.old) }
-    ensures { P.held past.new ≡ with_next (P.held past.old) board.now false }
-{
-    let Ok(()) = past.push(board) else {
-        panic!(rt; "no push")
-    };
-}
-
-/// Adds a colouring that begins a stretch of a past.
-pub(crate) fn restart<P: Past>(rt: &impl Abort, past: &mut P, board: &Board)
-    requires { HaveSide board.now.side (P.held past.old) }
-    ensures { P.held past.new ≡ with_next (P.held past.old) board.now true }
-{
-    let Ok(()) = past.restart(board) else {
-        panic!(rt; "no restart")
-    };
 }
 
 /// This must hold.

@@ -1,162 +1,40 @@
 //! The same calls of both pasts. After each call, both must have the same newest colouring, and hold the same colourings.
 
-ghost use Rattle.std.specs.Prelude.{◌≡◌, ◌≤◌, length};
-ghost use Rattle.board_past.specs.Past.{HaveSide};
+ghost use Rattle.std.specs.Prelude.{◌≡◌};
 ghost use Rattle.board_points.specs.Point.{IsOn};
 
-use crate::given::{at, begin, holds_at, next_number, push, restart, size};
-use go_board::{
-    Board, Cell, Colour, ListPast, MAX_POINTS, MAX_SIDE, Past, Point, PrintPast, Rect, SetupOp,
-};
+use crate::given::{at, holds_at, next_number, size};
+use crate::kept::Kept;
+use go_board::{Board, Cell, Colour, ListPast, MAX_POINTS, MAX_SIDE, Past, Point, PrintPast};
 use std::alloc::Global;
-use std::marker::Model;
 use std::process::Abort;
 
-/// Two pasts that get the same calls.
-#[derive(Drop)]
-struct Both {
-    listed: ListPast,
-    printed: PrintPast,
-    side: u8,
-    /// So many colourings can be taken back, or more.
-    depth: usize,
-}
-
-impl Model for Both {
-    ghost use Rattle.std.specs.Prelude.{ℕ, ◌≤◌, length};
-    ghost use Rattle.board_past.specs.Past.{HaveSide};
-
-    ghost Value = { ℕ };
-
-    ghost view = { λ b. b.side };
-
-    ghost invariant = { λ b. HaveSide b.side b.listed × HaveSide b.side b.printed
-        × (b.depth ≤ length b.listed.older) × (b.depth ≤ length b.printed.older) };
-}
-
-impl Both {
-    /// Both pasts of this one colouring.
-    fn new(rt: &impl Abort, alloc: Global, board: &Board) -> Both
-        ensures { result ≡ board.now.side }
-    {
-        Both {
-            listed: begin(rt, alloc, board),
-            printed: begin(rt, alloc, board),
-            side: board.size().side(),
-            depth: 0,
-        }
-    }
-
-    /// Adds a colouring to the present stretch.
-    fn push(&mut self, rt: &impl Abort, board: &Board)
-        requires { board.now.side ≡ self.old }
-        ensures { self.new ≡ self.old }
-    {
-        push(rt, &mut self.listed, board);
-        push(rt, &mut self.printed, board);
-        self.depth = self.depth.saturating_add(1);
-    }
-
-    /// Adds a colouring that begins a stretch.
-    fn restart(&mut self, rt: &impl Abort, board: &Board)
-        requires { board.now.side ≡ self.old }
-        ensures { self.new ≡ self.old }
-    {
-        restart(rt, &mut self.listed, board);
-        restart(rt, &mut self.printed, board);
-        self.depth = self.depth.saturating_add(1);
-    }
-
-    /// Takes back the newest colouring, if there is an older one.
-    fn pop(&mut self)
-        ensures { self.new ≡ self.old }
-    {
-        if self.depth > 0 {
-            self.listed.pop();
-            self.printed.pop();
-            self.depth -= 1;
-        }
-    }
-
-    /// Plays a stone, if its point is empty. It isn't counted in `depth`. Returns whether both pasts return the same.
-    fn play(&mut self, rt: &impl Abort, colour: Colour, point: Point) -> bool
-        requires { IsOn self.old point }
-        ensures { self.new ≡ self.old }
-    {
-        let added = play_on(rt, &mut self.listed, self.side, colour, point);
-        play_on(rt, &mut self.printed, self.side, colour, point) == added
-    }
-
-    /// Colours one point of the newest colouring, which then begins a stretch. It isn't counted in `depth`.
-    fn set_up(&mut self, rt: &impl Abort, cell: Cell, point: Point)
-        requires { IsOn self.old point }
-        ensures { self.new ≡ self.old }
-    {
-        set_up_on(rt, &mut self.listed, self.side, cell, point);
-        set_up_on(rt, &mut self.printed, self.side, cell, point);
-    }
-
-    /// Makes the call that a number stands for. Returns whether both pasts return the same.
-    fn call(&mut self, rt: &impl Abort, number: u64) -> bool
-        ensures { self.new ≡ self.old }
-    {
-        let board = numbered(rt, self.side, number >> 48);
-        let colour = if number >> 40 & 1 == 0 {
-            Colour::Black
-        } else {
-            Colour::White
-        };
-        let point = point_at(rt, self.side, (number >> 32) as usize % 16);
-        match number >> 60 {
-            0 => self.restart(rt, &board),
-            1 => self.set_up(rt, colour.stone(), point),
-            2..=4 => self.pop(),
-            5..=9 => return self.play(rt, colour, point),
-            _ => self.push(rt, &board),
-        }
-        true
-    }
-
-    /// Whether both pasts have the same newest colouring, and both or neither hold the one with this number.
-    fn agrees(&self, rt: &impl Abort, number: u64) -> bool {
-        let board = numbered(rt, self.side, number >> 48);
-        self.listed.newest().same(self.printed.newest())
-            && self.listed.holds(&board) == self.printed.holds(&board)
-    }
-}
-
-/// Plays a stone, if its point is empty. Returns whether the past has one colouring more.
-fn play_on<P: Past>(rt: &impl Abort, past: &mut P, side: u8, colour: Colour, point: Point) -> bool
-    requires side { HaveSide side (P.held past.old) }
-    requires on_board { IsOn side point }
-    ensures side { HaveSide side (P.held past.new) }
-    ensures kept { length (P.held past.old).older ≤ length (P.held past.new).older }
+/// Makes the call of a past that a number stands for. Returns false if that is to play a stone, and the stone isn't added.
+fn call<P: Past>(rt: &impl Abort, past: &mut Kept<P>, number: u64) -> bool
+    ensures { past.new ≡ past.old }
 {
-    assert!(rt; past.newest().size().side() == side);
-    if past.newest().at(point) != Cell::Empty {
-        return false;
-    }
-    let Ok(added) = past.play(colour, point) else {
-        panic!(rt; "no play")
+    let board = numbered(rt, past.side(), number >> 48);
+    let colour = if number >> 40 & 1 == 0 {
+        Colour::Black
+    } else {
+        Colour::White
     };
-    assert!(rt; past.newest().size().side() == side);
-    added
+    let point = point_at(rt, past.side(), (number >> 32) as usize % 16);
+    match number >> 60 {
+        0 => past.restart(rt, &board),
+        1 => past.set_up(rt, colour.stone(), point),
+        2..=4 => past.pop(),
+        5..=9 => return past.play(rt, colour, point),
+        _ => past.push(rt, &board),
+    }
+    true
 }
 
-/// Colours one point of the newest colouring, which then begins a stretch.
-fn set_up_on<P: Past>(rt: &impl Abort, past: &mut P, side: u8, cell: Cell, point: Point)
-    requires side { HaveSide side (P.held past.old) }
-    requires on_board { IsOn side point }
-    ensures side { HaveSide side (P.held past.new) }
-    ensures kept { length (P.held past.old).older ≤ length (P.held past.new).older }
-{
-    assert!(rt; past.newest().size().side() == side);
-    let area = Rect {
-        first: point,
-        last: point,
-    };
-    assert!(rt; past.set_up(&[SetupOp { cell, area }]).is_ok());
-    assert!(rt; past.newest().size().side() == side);
+/// Whether both pasts have the same newest colouring, and both or neither hold the one with this number.
+fn agree(rt: &impl Abort, listed: &Kept<ListPast>, printed: &Kept<PrintPast>, number: u64) -> bool {
+    let board = numbered(rt, listed.side(), number >> 48);
+    assert!(rt; printed.side() == listed.side());
+    listed.newest().same(printed.newest()) && listed.holds(&board) == printed.holds(&board)
 }
 
 /// The point with an index, row by row from the top, from left to right. If the board has fewer points, counting begins again.
@@ -219,22 +97,37 @@ fn set(rt: &impl Abort, board: &mut Board, index: usize, cell: Cell) {
     board.set(point, cell);
 }
 
-/// Makes calls of both pasts on boards of one side.
-fn calls(rt: &impl Abort, alloc: Global, side: u8, count: u32) {
-    let mut both = Both::new(rt, alloc, &numbered(rt, side, 0));
+/// Makes the same calls of both pasts. Both must return the same.
+fn calls(
+    rt: &impl Abort,
+    listed: &mut Kept<ListPast>,
+    printed: &mut Kept<PrintPast>,
+    side: u8,
+    count: u32,
+) {
     let mut number = u64::from(side);
     for i in 0..count {
-        holds_at(rt, both.call(rt, number), "call", i, side);
+        let is_so = call(rt, listed, number) == call(rt, printed, number);
+        holds_at(rt, is_so, "call", i, side);
         for _ in 0..4 {
-            holds_at(rt, both.agrees(rt, number), "after call", i, side);
+            let is_so = agree(rt, listed, printed, number);
+            holds_at(rt, is_so, "after call", i, side);
             number = next_number(number);
         }
     }
 }
 
+/// Makes the same calls of two pasts on boards of one side.
+fn pasts(rt: &impl Abort, alloc: Global, side: u8, count: u32) {
+    let first = numbered(rt, side, 0);
+    let mut listed = Kept::<ListPast>::new(rt, alloc, &first);
+    let mut printed = Kept::<PrintPast>::new(rt, alloc, &first);
+    calls(rt, &mut listed, &mut printed, side, count);
+}
+
 #[test]
 fn pasts_in_step(rt: HostRuntime) {
     for (side, count) in [(1, 200), (2, 1000), (3, 1000), (4, 1000), (52, 1500)] {
-        calls(&rt, rt.alloc(), side, count);
+        pasts(&rt, rt.alloc(), side, count);
     }
 }

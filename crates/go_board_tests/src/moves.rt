@@ -11,7 +11,7 @@ fn on(rt: &impl Abort, board: &Board, col: u8, row: u8) -> Point
     ensures { IsOn board.now.side result }
 {
     let side = board.size().side();
-    assert!(rt; col < side && row < side, "column {col}, row {row}");
+    assert!(rt; col < side && row < side);
     Point { col, row }
 }
 

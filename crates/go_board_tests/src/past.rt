@@ -1,10 +1,10 @@
 //! Worked examples of a past.
 
 ghost use Rattle.std.specs.Prelude.{◌≡◌};
-ghost use Rattle.board_past.specs.Past.{only, HaveSide};
 ghost use Rattle.board_points.specs.Point.{IsOn};
 
-use crate::given::{at, begin, holds, push, restart, size};
+use crate::given::{at, holds, size};
+use crate::kept::Kept;
 use go_board::{Board, Cell, ListPast, Past, Point, PrintPast};
 use std::alloc::Global;
 use std::process::Abort;
@@ -21,24 +21,30 @@ fn with_stone(board: &Board, point: Point, cell: Cell) -> Board
 
 /// If `anew`: whether the present stretch holds `white` alone. Else: whether
 /// it holds `empty` and `black`, and not `white`.
-fn has_alone<P: Past>(past: &P, anew: bool, empty: &Board, black: &Board, white: &Board) -> bool
-    requires empty { HaveSide empty.now.side (P.held past.now) }
-    requires black { HaveSide black.now.side (P.held past.now) }
-    requires white { HaveSide white.now.side (P.held past.now) }
+fn has_alone<P: Past>(
+    past: &Kept<P>,
+    anew: bool,
+    empty: &Board,
+    black: &Board,
+    white: &Board,
+) -> bool
+    requires empty { empty.now.side ≡ past.now }
+    requires black { black.now.side ≡ past.now }
+    requires white { white.now.side ≡ past.now }
 {
     past.holds(empty) != anew && past.holds(black) != anew && past.holds(white) == anew
 }
 
 /// A new stretch hides the earlier colourings, until the stretch is taken back.
-fn begins_anew<P: Past>(rt: &impl Abort, past: &mut P, empty: &Board)
+fn begins_anew<P: Past>(rt: &impl Abort, past: &mut Kept<P>, empty: &Board)
     requires side { empty.now.side ≡ 3 }
-    requires one { P.held past.old ≡ only empty.now }
+    requires past { past.old ≡ 3 }
 {
     let black = with_stone(empty, at(0, 0), Cell::Black);
     let white = with_stone(empty, at(1, 1), Cell::White);
-    push(rt, past, &black);
+    past.push(rt, &black);
     holds(rt, past.holds(empty), "the first colouring");
-    restart(rt, past, &white);
+    past.restart(rt, &white);
     let is_alone = has_alone(past, true, empty, &black, &white);
     holds(rt, is_alone, "a new stretch");
     past.pop();
@@ -50,7 +56,7 @@ fn begins_anew<P: Past>(rt: &impl Abort, past: &mut P, empty: &Board)
 /// Begins a new stretch in a past of the empty board alone.
 fn past_begins_anew<P: Past>(rt: &impl Abort, alloc: Global) {
     let empty = Board::empty(size(rt, 3));
-    let mut past = begin::<P>(rt, alloc, &empty);
+    let mut past = Kept::<P>::new(rt, alloc, &empty);
     begins_anew(rt, &mut past, &empty);
 }
 
@@ -59,7 +65,7 @@ fn prints_alike<P: Past>(rt: &impl Abort, alloc: Global) {
     let empty = Board::empty(size(rt, 25));
     let inner = with_stone(&empty, at(12, 4), Cell::Black);
     let last = with_stone(&empty, at(24, 24), Cell::Black);
-    let past = begin::<P>(rt, alloc, &inner);
+    let past = Kept::<P>::new(rt, alloc, &inner);
     holds(rt, past.holds(&inner), "what a past has");
     holds(rt, !past.holds(&last), "what a past doesn't have");
 }

@@ -59,12 +59,14 @@ fn stands<P: Past>(
     scores(rt, referee, score);
 }
 
-/// Colours an area, which must be on the board. Then either player may move.
-fn set_area<P: Past>(rt: &impl Abort, referee: &mut Referee<P>, cell: Cell, area: Rect) {
-    let side = referee.board().size().side();
-    let Rect { first, last } = area;
-    assert!(rt; first.col <= last.col && last.col < side);
-    assert!(rt; first.row <= last.row && last.row < side);
+/// Gives White the top row of a board of side 3. Then either player may move.
+fn set_top<P: Past>(rt: &impl Abort, referee: &mut Referee<P>) {
+    assert!(rt; referee.board().size().side() == 3);
+    let area = Rect {
+        first: at(0, 0),
+        last: at(2, 0),
+    };
+    let cell = Cell::White;
     let taken = referee.setup(&[SetupOp { cell, area }], None);
     holds(rt, taken.is_ok(), "a setup");
 }
@@ -119,11 +121,7 @@ const ON_THREE: [(u8, u8, Answer); 3] = [(0, 0, OCCUPIED), (1, 1, Ok(())), (2, 2
 /// A setup colours an area, lets either player move, and is taken back as a whole.
 fn on_three<P: Past>(rt: &impl Abort, alloc: Global) {
     let mut game = begin::<P>(rt, alloc, 3);
-    let top = Rect {
-        first: at(0, 0),
-        last: at(2, 0),
-    };
-    set_area(rt, &mut game, Cell::White, top);
+    set_top(rt, &mut game);
     for &(col, row, answer) in &ON_THREE {
         let stone = Play::Stone(at(col, row));
         answers(rt, &mut game, Colour::White, stone, answer);

@@ -1,21 +1,21 @@
 //! Worked examples of values that name points and rectangles.
 
-use crate::given::size;
+use crate::given::{holds, size};
 use go_board::{Point, Rect, point, rect};
 
-/// Each value has the side of a board, and the point that it names there.
-const POINTS: [(&str, u8, Option<Point>); 11] = [
-    ("aa", 1, Some(Point { col: 0, row: 0 })),
-    ("ba", 1, None),
-    ("a", 25, None),
-    ("", 25, None),
-    ("aaa", 25, None),
-    ("aA", 25, None),
-    ("yy", 25, Some(Point { col: 24, row: 24 })),
-    ("tt", 19, None),
-    ("Aa", 26, None),
-    ("Aa", 27, Some(Point { col: 26, row: 0 })),
-    ("ZZ", 52, Some(Point { col: 51, row: 51 })),
+/// Each value has the side of a board, the point that it names there, and a word on why.
+const POINTS: [(&str, u8, Option<Point>, &str); 11] = [
+    ("aa", 1, Some(Point { col: 0, row: 0 }), "the only point"),
+    ("ba", 1, None, "no column b"),
+    ("a", 25, None, "one letter"),
+    ("", 25, None, "no letter"),
+    ("aaa", 25, None, "three letters"),
+    ("aA", 25, None, "no row A"),
+    ("yy", 25, Some(Point { col: 24, row: 24 }), "the last point"),
+    ("tt", 19, None, "no column t"),
+    ("Aa", 26, None, "no column A"),
+    ("Aa", 27, Some(Point { col: 26, row: 0 }), "column A"),
+    ("ZZ", 52, Some(Point { col: 51, row: 51 }), "column Z"),
 ];
 
 /// Values, and the rectangle that each names on a board of side 3.
@@ -49,17 +49,14 @@ const RECTANGLES: [(&str, Option<Rect>); 7] = [
 
 #[test]
 fn points(rt: HostRuntime) {
-    for &(raw, side, expected) in &POINTS {
-        assert!(rt;
-            point(raw.as_bytes(), size(&rt, side)) == expected,
-            "{raw:?} on side {side}"
-        );
+    for &(raw, side, expected, why) in &POINTS {
+        holds(&rt, point(raw.as_bytes(), size(&rt, side)) == expected, why);
     }
 }
 
 #[test]
 fn rectangles(rt: HostRuntime) {
     for &(raw, expected) in &RECTANGLES {
-        assert!(rt; rect(raw.as_bytes(), size(&rt, 3)) == expected, "{raw:?}");
+        holds(&rt, rect(raw.as_bytes(), size(&rt, 3)) == expected, raw);
     }
 }

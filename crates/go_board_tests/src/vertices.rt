@@ -1,6 +1,6 @@
 //! Worked examples of vertices.
 
-use crate::given::{at, size};
+use crate::given::{at, holds_at, size};
 use go_board::{Vertex, vertex};
 
 /// The column, the row and the side of the board; then the letter and the row of the vertex.
@@ -16,9 +16,7 @@ fn vertices(rt: HostRuntime) {
     for &(col, above, side, letter, row) in &VERTICES {
         assert!(rt; col < side && above < side && side <= 25);
         let found = vertex(at(col, above), size(&rt, side));
-        assert!(rt;
-            found == Vertex { letter, row },
-            "letter {letter}, row {row}"
-        );
+        let is_so = found == Vertex { letter, row };
+        holds_at(&rt, is_so, "a vertex in row", u32::from(row), side);
     }
 }
