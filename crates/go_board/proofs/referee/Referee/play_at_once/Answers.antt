@@ -1,4 +1,4 @@
-use Rattle.go_board.proofs.Common.{◌-◌, reverse, sym, reverse-append, Earlier, ◌≡◌, ◌+◌, ◌++◌, [], ◌∷◌, false, refl, ap, ◌∙◌, arith, rules, play, newest_grid, with_next, reason_of, States, Call, side_play}
+use Rattle.go_board.proofs.Common.{◌-◌, length-reverse, reverse, sym, reverse-append, Earlier, ◌≡◌, ◌+◌, ◌++◌, [], ◌∷◌, false, refl, ap, ◌∙◌, arith, rules, play, newest_grid, with_next, reason_of, States, Call, side_play}
 use Rattle.go_board.proofs.EarlierLemmas.{IsRefereeKept-grown}
 use Rattle.go_board.proofs.TurnLemmas.{reason_of-new}
 use Rattle.go_board.proofs.referee.Referee.play_at_once.Goals as goal
@@ -19,7 +19,10 @@ returns-clause-legal g c = λ _.
     ∙ reason_of-new c.args.self.now.present c.args.colour c.in-Stone.point _ _ (ap (λ (states : States). states.present.seen) c.self.view_is)
     (ap (λ (states : States). play states.present.colouring c.args.colour c.in-Stone.point) c.self.view_is) c.in_default-reason_before_repeat.ensures.only_repeat (c.if-not-play_at_once.ensures.new refl)
 
--- only there for speed
+-- these two are only there for speed
+pub overflow_add-self : goal.overflow_add-self
+overflow_add-self g c = omega (arith, rw length-reverse at c.self.invariant.few_turns)
+
 pub returns-clause-taken : goal.returns-clause-taken
 returns-clause-taken g c = λ _.
     let was = c.self.inside in
