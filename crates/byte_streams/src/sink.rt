@@ -1,6 +1,6 @@
-//! Where the bytes of a run go: what takes bytes, a sink over a writer, which may hold bytes back, and a sink over an array.
+//! Where the bytes of a run go: what takes bytes; sinks over a writer, one of which holds bytes back, and a sink over an array.
 
-ghost use Rattle.std.specs.Prelude.{◌≡◌, ◌<◌, ◌≤◌, ◌+◌, ◌++◌, List, ℕ, [], length, take, drop, vec_len, vec_capacity, Some, None, IfOk, IfSome, OnErr, OnOk};
+ghost use Rattle.std.specs.Prelude.{◌≡◌, ◌<◌, ◌≤◌, ◌+◌, ◌++◌, [], length, take, drop, vec_len, vec_capacity, Some, IfOk, IfSome, OnErr, OnOk};
 ghost use Rattle.std.specs.Io.KnownBytes.{Appends, append_known};
 ghost use Rattle.std.proofs.KnownBytes.{Appends-nil};
 ghost use Rattle.byte_streams.specs.Streams.{SinkState, IsPut, IsFlush, DeliversFront, PutsAll};
@@ -10,7 +10,7 @@ use std::alloc::{AllocError, Global};
 use std::io::Write;
 use thiserror::Error;
 
-/// The most bytes that are held back.
+/// The most bytes that a `BufferedSink` holds back.
 const CAPACITY: usize = 65_536;
 
 /// A sink failed, and took nothing.

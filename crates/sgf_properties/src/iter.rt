@@ -1,7 +1,7 @@
 //! Going forward over the properties of a node, and over the values of a property.
 //! All steps over a node together take time in proportion to its text, however many properties and values it has.
 
-ghost use Rattle.std.specs.Prelude.{◌≡◌, ◌↔◌, ◌≤◌, ◌<◌, [], ◌∷◌, length, drop, slice_index, IsTrue, IfSome, MatchOption, List, ℕ, option_copied};
+ghost use Rattle.std.specs.Prelude.{◌≡◌, ◌≤◌, ◌<◌, ◌∷◌, length, drop, slice_index, IsTrue, IfSome, MatchOption, List, ℕ, option_copied};
 ghost use Rattle.std.specs.Iterator.{YieldsFirst, YieldsFirstRef, item_count};
 ghost use Rattle.sgf_properties.specs.Property.{Property};
 ghost use Rattle.sgf_properties.specs.Spelling.{is_white_space, is_upper, IsProperty};
@@ -191,7 +191,7 @@ fn values_end(text: &[u8], at: usize, long: &Vec<LongValue>) -> usize
     }
 }
 
-/// The end of the values at `at`, however many there are. This is the plain way, but for the shortcut that passes over points.
+/// The end of the values at `at`, however many there are. A shortcut passes over points, and the loop is the plain way.
 #[inline(never)]
 fn more_values_end(text: &[u8], at: usize, long: &Vec<LongValue>) -> usize
     requires within { at ≤ length text.now }

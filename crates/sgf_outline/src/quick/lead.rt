@@ -1,6 +1,6 @@
 //! Recognizing at a glance a node that is a move and then properties that don't matter to the caller, one without properties, and one that
-//! begins with a lone property. Of a move, sixteen bytes are compared at once, each with the least and the greatest byte that may stand in
-//! its place.
+//! begins with a lone property. Moves are recognized by one comparison of sixteen bytes, each with the least and the greatest byte that may
+//! stand in its place.
 
 ghost use Rattle.std.specs.Prelude.{◌≡◌, ◌≢◌, ◌≤◌, ◌<◌, ◌+◌, ◌%◌, length, All, IsTrue, IfSome};
 ghost use Rattle.sgf_outline.specs.Move.{IsMoveNode, EndsNode};
