@@ -2,7 +2,7 @@
 
 #![tactic(auto, using(crate::proofs::Outlined::table_length))]
 
-ghost use Rattle.std.specs.Prelude.{◌≡◌, ◌-◌, ◌<◌, ◌≤◌, ◌++◌, ◌↔◌, ℕ, [], Some, None, length, IsTrue, IfSome, OnOk, OnErr, MatchOption};
+ghost use Rattle.std.specs.Prelude.{◌≡◌, ◌-◌, ◌<◌, ◌≤◌, ◌++◌, ◌↔◌, ℕ, [], Some, None, length, IsTrue, OnOk, OnErr, MatchOption};
 ghost use Rattle.std.specs.List.{flat_map};
 ghost use Rattle.sgf_outline.specs.declared.limit.TheConstants.{MAX_LENGTH};
 ghost use Rattle.sgf_outline.specs.Tree.{game_count, node_count, Games};
@@ -10,7 +10,6 @@ ghost use Rattle.sgf_outline.specs.Written.{node_text};
 ghost use Rattle.sgf_outline.specs.FileOrder.{node_at, nodes_at, place_at, parent_at, IsLeaf, game_of, PlacesRise};
 ghost use Rattle.sgf_outline.specs.FileOrder.{sequence_starts, sequence_start, sequence_end, sequence_numbers};
 ghost use Rattle.sgf_properties.specs.Written.{GoesOn};
-ghost use Rattle.sgf_outline.specs.inner.NodeText.{IsNodeIn};
 ghost use Rattle.sgf_properties.specs.KeptLengths.{AreKeptLengths};
 ghost use Rattle.sgf_outline.specs.inner.TreeCode.{games_code};
 ghost use Rattle.sgf_outline.specs.Machine.{games_in};

@@ -1,6 +1,6 @@
-use Rattle.sgf_outline.proofs.Common.{◌+◌, ◌∙◌, [], ◌∷◌, drop, slice_range, refl, sym, arith, append_assoc, append-nil, rules, flat_map, nodes_at, sequence_numbers, AreWhole, node_text}
+use Rattle.sgf_outline.proofs.Common.{◌≡◌, ◌+◌, ◌∙◌, [], ◌∷◌, ◌++◌, drop, slice_range, refl, sym, ap, arith, append_assoc, append-nil, rules, flat_map, nodes_at, sequence_numbers, AreWhole, node_text}
 use Rattle.sgf_outline.proofs.Outlined.{IsEntryOf, entry-in}
-use Rattle.sgf_outline.proofs.SegmentsKept.{whole-first}
+use Rattle.sgf_outline.proofs.SegmentsKept.{text_by, whole-first, whole-within}
 use Rattle.sgf_outline.proofs.outline.Outline.push_segments.Goals as goal
 use Rattle.sgf_outline.proofs.outline.Outline.push_segments.Goals.{After-index-sequence, After-index-segment}
 
@@ -30,9 +30,29 @@ segments-init c = record {
   goes_on = ([], sym (append-nil c.args.out.now.items));
 }
 
+pub index-segment-requires : goal.index-segment-requires
+index-segment-requires c =
+    let kept = c.self.inside.sequences.segments in
+    omega (arith, whole-within c.self.inside.text.now kept.items c.segments.at c.segments.invariant.left c.segments.invariant.whole, kept.ok.0)
+
 -- the segment at the index, and those after it
 first : (c : After-index-segment) → AreWhole c.self.inside.text.now (c.index-segment.result.now ∷ drop (c.segments.at + 1) c.self.inside.sequences.segments.items) c.segments.invariant.left
 first c = whole-first c.self.inside.text.now c.self.inside.sequences.segments.items c.segments.at c.segments.invariant.left c.index-segment.result.now c.segments.invariant.whole c.index-segment.ensures
+
+pub slice_bounds-copied-start : goal.slice_bounds-copied-start
+slice_bounds-copied-start c = omega (arith, (first (goal.at.slice_bounds-copied-start c).After-index-segment).1.rises, c.start.ensures)
+
+pub slice_bounds-copied-end : goal.slice_bounds-copied-end
+slice_bounds-copied-end c = (first (goal.at.slice_bounds-copied-end c).After-index-segment).1.within
+
+pub returns-then-is_last-clause-appended : goal.returns-then-is_last-clause-appended
+returns-then-is_last-clause-appended c =
+    let (rest, is, last, next) = first (goal.at.returns-then-is_last-clause-appended c).After-index-segment in
+    let text = c.self.inside.text.now in
+    let segment = c.index-segment.result.now in
+    let all : slice_range text c.start.result segment.end ≡ c.segments.invariant.left = ap (λ start. slice_range text start segment.end) c.start.ensures
+    ∙ sym (append-nil (text_by text segment)) ∙ ap (λ more. text_by text segment ++ more) (sym (last (sym c.is_last.ensures ∙ c.if-is_last.true))) ∙ sym is.are in
+    c.in_ok-extend_from_slice-2.ensures.items ∙ ap (λ more. c.segments.out.items ++ more) all ∙ c.segments.invariant.appended
 
 pub segments-preserved : goal.segments-preserved
 segments-preserved c =
