@@ -1,11 +1,10 @@
 //! Going over the lines of play of a collection.
 
-ghost use Rattle.std.specs.Prelude.{◌≡◌, ◌+◌, ◌-◌, ◌<◌, ◌≤◌, ◌++◌, length, take, slice_get, vec_len, vec_capacity, IfOk, IfErr, IfSome, IfNone, OnOk, OnErr, MatchOption};
+ghost use Rattle.std.specs.Prelude.{◌≡◌, ◌+◌, ◌-◌, ◌<◌, ◌≤◌, ◌++◌, length, take, vec_len, vec_capacity, IfOk, IfErr, OnOk, OnErr};
 ghost use Rattle.std.specs.List.{range_with_len};
-ghost use Rattle.tree_lines.specs.Lines.{lines};
-ghost use Rattle.tree_lines.specs.Cursor.{advanced, IsLine};
+ghost use Rattle.tree_lines.specs.Cursor.{IsLine};
 ghost use Rattle.tree_lines.specs.Following.{nodes_before, path_before};
-ghost use Rattle.tree_lines.specs.Sequences.{SharesFront, nodes_in};
+ghost use Rattle.tree_lines.specs.Sequences.{nodes_in};
 
 use crate::line::LineRef;
 use crate::seek::SeekFault;

@@ -3,7 +3,7 @@
 //! A sequence has the nodes between a `(` and the next parenthesis. A line is whole sequences, one after the other, and two lines
 //! part only between sequences. So a cursor goes over a game without variations in one step, however many nodes it has.
 
-ghost use Rattle.std.specs.Prelude.{◌≡◌, ◌+◌, ◌-◌, ◌<◌, ◌≤◌, ◌++◌, None, Some, [], length, take, slice_get, vec_len, option_map, IfOk, IfErr, IfSome, IfNone, OnOk, OnErr, MatchOption};
+ghost use Rattle.std.specs.Prelude.{◌≡◌, ◌+◌, ◌-◌, ◌<◌, ◌≤◌, ◌++◌, None, Some, [], length, slice_get, option_map, IfOk, IfErr, IfSome, IfNone, OnOk, OnErr, MatchOption};
 ghost use Rattle.std.specs.List.{flat_map, range_with_len};
 ghost use Rattle.sgf_outline.specs.Tree.{node_count};
 ghost use Rattle.sgf_outline.specs.declared.limit.TheConstants.{MAX_LENGTH};

@@ -1,6 +1,6 @@
 //! Properties with a name of one or two letters and a short value, in place of `read_properties` and `read_property` of `reader::properties`.
 
-ghost use Rattle.std.specs.Prelude.{◌≡◌, ◌≢◌, ◌<◌, ◌≤◌, ◌+◌, ◌%◌, length, slice_index, IsTrue, IfSome};
+ghost use Rattle.std.specs.Prelude.{◌≡◌, ◌<◌, ◌≤◌, ◌+◌, length, slice_index, IsTrue, IfSome};
 ghost use Rattle.sgf_outline.specs.Spelling.{is_white_space, is_upper};
 ghost use Rattle.sgf_properties.specs.Offsets.{IsSpan};
 ghost use Rattle.sgf_outline.specs.Move.{IsMove};

@@ -1,6 +1,6 @@
 //! Reading games (SGF FF[4], EBNF: Collection, GameTree, Sequence). What is kept of them is up to a visitor.
 
-ghost use Rattle.std.specs.Prelude.{◌≡◌, ◌<◌, ◌≤◌, [], length, IfOk, IfErr, OnOk};
+ghost use Rattle.std.specs.Prelude.{◌<◌, ◌≤◌, [], length, IfOk, IfErr, OnOk};
 ghost use Rattle.sgf_outline.specs.Tree.{no_games};
 ghost use Rattle.sgf_outline.specs.Machine.{Stack, opened};
 ghost use Rattle.sgf_tree.specs.inner.Progress.{ComesTo, IsTrueFault};

@@ -1,7 +1,6 @@
 //! Reading the properties of a node (SGF FF[4], EBNF: Node, Property, PropIdent), and telling a visitor what the sgf form copies of them.
 
-ghost use Rattle.std.specs.Prelude.{◌<◌, ◌≤◌, ◌+◌, length, slice_index, slice_range, IsTrue, IfOk, IfErr, OnOk};
-ghost use Rattle.sgf_outline.specs.Spelling.{is_upper};
+ghost use Rattle.std.specs.Prelude.{◌<◌, ◌≤◌, ◌+◌, length, slice_range, IfOk, IfErr, OnOk};
 ghost use Rattle.sgf_properties.specs.Front.{name_in};
 ghost use Rattle.sgf_outline.specs.OwnNodes.{Copies, MayGoOn};
 ghost use Rattle.sgf_tree.specs.inner.PropertiesRead.{BeginsProperty, IsNameCopied, IsPropertyRead, ArePropertiesRead, IsFaultInProperty, IsFaultInNode};

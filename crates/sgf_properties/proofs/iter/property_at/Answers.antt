@@ -17,14 +17,19 @@ some None u P none there = absurd (there none)
 some (Some v) u P h there = refl
 
 pub unwrap-from-requires : goal.unwrap-from-requires
-unwrap-from-requires c = let long = letters c in search (rules, some, value-there)
+unwrap-from-requires c =
+    let r = c.requires in
+    some c.value_at.result _ _ c.value_at.ensures
+    (value-there c.args.text.now c.args.start r.white_space r.held r.within r.capital c.match-short_name_end.end (letters c))
 
 -- a property was found
 found : (c : After-values_end-next) → IsSpan is_letter c.args.text.now c.args.start c.match-short_name_end.end → IsNextProperty c.args.text.now c.args.start c.match-short_name_end.end
     (slice_range c.args.text.now c.unwrap-from.result.0 c.unwrap-from.result.1)
     (drop (c.unwrap-from.result.1 + 1) c.args.text.now)
     (drop c.values_end-next.result c.args.text.now)
-found c long = search (rules, next-property, slice_range)
+found c long =
+    let r = c.requires in
+    next-property c.args.text.now c.args.start r.white_space r.held r.within r.capital c.match-short_name_end.end long _ _ _ (search rules) c.values_end-next.ensures.past
 
 pub invariant_of-property : goal.invariant_of-property
 invariant_of-property c =
