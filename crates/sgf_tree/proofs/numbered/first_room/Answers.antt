@@ -1,0 +1,5 @@
+use Rattle.sgf_tree.proofs.Common.{rules}
+use Rattle.sgf_tree.proofs.numbered.first_room.Goals as goal
+
+pub returns : goal.returns
+returns c = search rules
