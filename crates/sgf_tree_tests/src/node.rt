@@ -16,6 +16,14 @@ fn count(left: Properties<'_, '_>) -> usize {
     count
 }
 
+/// Whether the text's first node is as wanted.
+fn gives(alloc: Global, text: &str, want: Look) -> bool {
+    match read(alloc, text.as_bytes()) {
+        Ok(collection) => collection.nodes() > 0 && looks(alloc, &collection.node(0), want),
+        Err(_) => false,
+    }
+}
+
 /// Whether the node is as wanted.
 fn looks(alloc: Global, node: &NodeRef<'_, '_>, want: Look) -> bool {
     let (told, left) = node.front();
@@ -26,14 +34,6 @@ fn looks(alloc: Global, node: &NodeRef<'_, '_>, want: Look) -> bool {
 fn writes(alloc: Global, node: &NodeRef<'_, '_>, want: &str) -> bool {
     let mut text = Vec::new(alloc);
     node.push_to(&mut text).is_ok() && text.as_slice() == want.as_bytes()
-}
-
-/// Whether the text's first node is as wanted.
-fn gives(alloc: Global, text: &str, want: Look) -> bool {
-    match read(alloc, text.as_bytes()) {
-        Ok(collection) => collection.nodes() > 0 && looks(alloc, &collection.node(0), want),
-        Err(_) => false,
-    }
 }
 
 /// Texts whose first node has a recognized move alone, and what the sgf form writes for it.
@@ -135,41 +135,50 @@ fn properties_one_after_another(rt: HostRuntime) {
     );
 }
 
-/// Whether the text's first node comes as recognized just if it should, and with the same property as from `front`. The names of the other
-/// properties must then be the wanted ones.
-fn leads(alloc: Global, text: &str, names: &[[u8; 2]], want: Option<&str>) -> bool {
+/// How a node should come.
+#[derive(Clone, Copy)]
+enum Comes<'w> {
+    /// As recognized, with the same property as from `front`. The names of the other properties follow, each of two letters.
+    Led(&'w str),
+    /// As one without properties, at the first place.
+    Empty,
+    /// As unread, with the same property as from `front`.
+    Unread,
+}
+
+/// Whether the text's first node comes as wanted.
+fn leads(alloc: Global, text: &str, names: &[[u8; 2]], want: Comes<'_>) -> bool {
     match read(alloc, text.as_bytes()) {
-        Ok(collection) => is_led(collection.outline(), names, want),
+        Ok(collection) => next_is(collection.outline(), names, want),
         Err(_) => false,
     }
 }
 
-/// Whether that holds of the first node of an outline.
-fn is_led(outline: &Outline<'_>, names: &[[u8; 2]], want: Option<&str>) -> bool {
+/// Whether the first node of an outline comes so.
+fn next_is(outline: &Outline<'_>, names: &[[u8; 2]], want: Comes<'_>) -> bool {
     if outline.sequences() == 0 {
         return false;
     }
-    let node = outline.first_node(0);
+    let (told, mut left) = outline.first_node(0).front();
     match (want, outline.sequence_nodes(0).next(names)) {
-        (None, Some(NextNode::Unread { front, .. })) => front == node.front().0,
-        (Some(others), Some(NextNode::Led { letter, value, .. })) => {
-            node.front().0 == Some((letter, value)) && are_named(&node, others.as_bytes())
+        (Comes::Led(others), Some(NextNode::Led { letter, value, .. })) => {
+            told == Some((letter, value)) && are_named(&mut left, others.as_bytes())
         }
+        (Comes::Empty, Some(NextNode::Empty { place })) => place == 1,
+        (Comes::Unread, Some(NextNode::Unread { front, .. })) => front == told,
         _ => false,
     }
 }
 
-/// Whether the properties of a node after the first have these names of two letters.
-fn are_named(node: &NodeRef<'_, '_>, names: &[u8]) -> bool {
-    let (_told, mut left) = node.front();
+/// Whether the properties that are left have these names of two letters.
+fn are_named(left: &mut Properties<'_, '_>, names: &[u8]) -> bool {
     for name in names.chunks(2) {
-        match left.next() {
-            Some(property) => {
-                if !property.is(name) {
-                    return false;
-                }
-            }
-            None => return false,
+        let is_next = match left.next() {
+            Some(property) => property.is(name),
+            None => false,
+        };
+        if !is_next {
+            return false;
         }
     }
     left.next().is_none()
@@ -249,47 +258,28 @@ const UNREAD: [&str; 35] = [
 ];
 
 #[test]
-fn nodes_led(rt: HostRuntime) {
+fn nodes_one_after_another(rt: HostRuntime) {
     for &(text, names) in &LED {
-        assert!(rt; leads(rt.alloc(), text, &SETUP, Some(names)), "of {text:?}");
+        assert!(rt;
+            leads(rt.alloc(), text, &SETUP, Comes::Led(names)),
+            "of {text:?}"
+        );
     }
-}
-
-#[test]
-fn nodes_unread(rt: HostRuntime) {
     for &text in &UNREAD {
-        assert!(rt; leads(rt.alloc(), text, &SETUP, None), "of {text:?}");
+        assert!(rt;
+            leads(rt.alloc(), text, &SETUP, Comes::Unread),
+            "of {text:?}"
+        );
     }
 }
 
 #[test]
-fn nodes_led_beside_other_names(rt: HostRuntime) {
+fn nodes_beside_other_names(rt: HostRuntime) {
     let setup = "(;B[pd]AB[aa]PL[W];C[012345678901234567])";
-    assert!(rt; leads(rt.alloc(), setup, &[], Some("ABPL")));
-    assert!(rt; leads(rt.alloc(), setup, &[*b"AW"], Some("ABPL")));
-    assert!(rt; leads(rt.alloc(), setup, &[*b"AW", *b"PL"], None));
-}
-
-/// Whether the text's first node comes as one without properties.
-fn comes_empty(alloc: Global, text: &str) -> bool {
-    match read(alloc, text.as_bytes()) {
-        Ok(collection) => is_empty(collection.outline()),
-        Err(_) => false,
-    }
-}
-
-/// Whether the first node of an outline comes so.
-fn is_empty(outline: &Outline<'_>) -> bool {
-    outline.sequences() > 0
-        && matches!(
-            outline.sequence_nodes(0).next(&[]),
-            Some(NextNode::Empty { place: 1 })
-        )
-}
-
-#[test]
-fn nodes_without_properties(rt: HostRuntime) {
-    assert!(rt; comes_empty(rt.alloc(), "(;;B[pd])"));
-    assert!(rt; comes_empty(rt.alloc(), "(;(;B[pd]))"));
-    assert!(rt; !comes_empty(rt.alloc(), "(; ;B[pd])"));
+    assert!(rt; leads(rt.alloc(), setup, &[], Comes::Led("ABPL")));
+    assert!(rt; leads(rt.alloc(), setup, &[*b"AW"], Comes::Led("ABPL")));
+    assert!(rt; leads(rt.alloc(), setup, &[*b"AW", *b"PL"], Comes::Unread));
+    assert!(rt; leads(rt.alloc(), "(;;B[pd])", &[], Comes::Empty));
+    assert!(rt; leads(rt.alloc(), "(;(;B[pd]))", &[], Comes::Empty));
+    assert!(rt; leads(rt.alloc(), "(; ;B[pd])", &[], Comes::Unread));
 }
