@@ -3,7 +3,7 @@
 ghost use Rattle.std.specs.Prelude.{◌≡◌, ℕ, ◌+◌, ◌-◌, ◌*◌, ◌<◌, ◌≤◌, ◌^◌, min, ◌↔◌, Bool, length, IsTrue, IfOk, MatchOption, OnOk, OnErr};
 ghost use Rattle.std.specs.Vec.{vec_capacity};
 ghost use Rattle.key_trie.specs.Key.{Agree};
-ghost use Rattle.key_trie.specs.Trie.{nodes_of, item_count, capacity_of, child_of, IsIn, child_at, HasRoom, IsTrie, IsWayTo, Passes, IsNearest, IsParting, IsOpening, with_named, without_newest};
+ghost use Rattle.key_trie.specs.Trie.{nodes_of, item_count, capacity_of, child_of, IsIn, child_at, HasRoom, IsTrie, IsWayTo, Passes, IsParting, IsOpening, with_named, without_newest};
 
 use crate::key::{Key, MAX_WIDTH};
 use crate::node::{Node, lone_node, parted_node};
