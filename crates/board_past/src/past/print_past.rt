@@ -29,7 +29,7 @@ ghost use Rattle.board_stones.specs.declared.stones.Cell.TheVariants.{Empty};
 ghost use Rattle.board_points.specs.declared.points.Point.{Point};
 ghost use Rattle.board_stones.specs.declared.stones.Colour.{Colour};
 ghost use Rattle.board_points.specs.Point.{IsOn};
-ghost use Rattle.board_stones.specs.Grid.{Grid, cell_at};
+ghost use Rattle.board_stones.specs.Grid.{cell_at};
 ghost use Rattle.board_stones.specs.Clearing.{has_unreaching, play};
 ghost use Rattle.board_past.specs.Past.{all_of, newest_grid, with_next, present_stretch, HaveSide, PastColourings, IsPlayed};
 ghost use Rattle.board_past.specs.inner.Changes.{is_fresh, is_settled, IsFreshStone};
@@ -66,7 +66,7 @@ pub struct PrintPast {
     table: Table,
     /// The points that were emptied. A stone that stays can bring a colouring back only on one of these.
     emptied: Emptied,
-    /// A stone is played at once only if there were fewer steps than this, and so no more colourings. Then the newest colouring is
+    /// A stone is played at once only if there were fewer steps than this, so at most as many colourings. Then the newest colouring is
     /// settled, the table sleeps and has room, and the next step isn't a full one: one comparison tells it all. It is 0 if the newest isn't
     /// settled, or the table is awake.
     at_once_below: usize,
@@ -418,9 +418,9 @@ fn at_once_below(colourings: &Colourings, table: &Table) -> usize
         return 0;
     }
     let room = table.room_asleep.saturating_sub(1);
-    // before the next full step there is room for a step, and a lone stone keeps its point alone
-    let step = colourings.len() - 1;
-    room.min(step - step % FULL + (FULL - 1))
+    // until the next full step there is room, and a lone stone is kept as a point alone
+    let steps = colourings.len() - 1;
+    room.min(steps - steps % FULL + (FULL - 1))
 }
 
 /// Adds the colouring that a stone makes; `cleared` is what the stone clears. `known` is what is known of the newest colouring, and whether

@@ -1,7 +1,7 @@
 //! Past colourings. The newest is kept whole. Of an older one, only what leads back to it from the colouring after it is kept: mostly the
 //! point of a stone.
 
-ghost use Rattle.std.specs.Prelude.{◌≡◌, ℕ, ◌+◌, ◌-◌, ◌*◌, ◌^◌, ◌<◌, ◌≤◌, ◌↔◌, ◌∷◌, [], false, IsFalse, IsTrue, IfOk, IfSome, Contains, MatchOption, OnOk, OnErr, length, replicate, ◌==◌, reverse};
+ghost use Rattle.std.specs.Prelude.{◌≡◌, ◌+◌, ◌-◌, ◌*◌, ◌^◌, ◌<◌, ◌≤◌, ◌↔◌, ◌∷◌, [], false, IsFalse, IsTrue, IfOk, IfSome, Contains, MatchOption, OnOk, OnErr, length, replicate, ◌==◌, reverse};
 ghost use Rattle.std.specs.Vec.{vec_capacity};
 ghost use Rattle.board_stones.specs.Clearing.{has_unreaching, play};
 ghost use Rattle.board_past.specs.Past.{all_of, newest_grid, only, present_stretch, with_next, PastColourings};
@@ -75,7 +75,8 @@ impl Colourings {
         &self.newest
     }
 
-    /// The number of colourings, one more than that of the steps, each from a colouring to the next. The next colouring gets this number.
+    /// The number of colourings: one more than there are steps, since each step leads from a colouring to the next. The next colouring
+    /// gets this number.
     pub(crate) fn len(&self) -> usize
         ensures { result ≡ length (all_of self.now) }
     {
@@ -113,8 +114,8 @@ impl Colourings {
         false
     }
 
-    /// The number of the first colouring of the present stretch, which the last setup of stones began, or the game. Only the colourings from it on
-    /// count for positional superko.
+    /// The number of the first colouring of the present stretch, which the last setup of stones began, or the game. Only the colourings from
+    /// it on count for positional superko.
     pub(crate) fn stretch_start(&self) -> usize
         ensures below { result < length (all_of self.now) }
         ensures start { result ≡ start_of (all_of self.now) }
@@ -165,8 +166,8 @@ impl Colourings {
         self.is_at(number, board)
     }
 
-    /// The board of the colouring with this number. It is worked out from the newest one, or begun at the next full step after that
-    /// colouring, in at most `FULL` steps.
+    /// The board of the colouring with this number. It is worked out in at most `FULL` steps: back from the newest colouring, or from the
+    /// next full step after the colouring if there is one.
     pub(crate) fn board_at(&self, number: usize) -> Board
         requires { number < length (all_of self.now) }
         ensures { IsNumber (all_of self.now) number result }

@@ -7,7 +7,7 @@
 //! Hashes of past colourings are kept, so that none is worked out twice. This takes memory only once keys have hashes. If memory is
 //! refused, a hash isn't kept, and is worked out again.
 
-ghost use Rattle.std.specs.Prelude.{◌≡◌, ◌≢◌, ℕ, ◌<◌, ◌≤◌, ◌^◌, ◌∷◌, ◌++◌, [], List, IfSome, OnOk, length};
+ghost use Rattle.std.specs.Prelude.{◌≡◌, ◌≢◌, ℕ, ◌<◌, ◌≤◌, ◌^◌, ◌∷◌, ◌++◌, List, IfSome, OnOk, length};
 ghost use Rattle.std.specs.Int.{w64, from_be_bytes};
 ghost use Rattle.sha2.specs.Hashers.{Holds512};
 ghost use Rattle.board_stones.specs.Grid.{Grid};

@@ -25,9 +25,9 @@
 //! and a stone that is played at once costs nothing here. `wake` works the prints out, once a game, one for each colouring. A setup
 //! after other steps wakes it, too. From then on the table has those of all colourings.
 
-ghost use Rattle.std.specs.Prelude.{◌≡◌, ◌↔◌, ◌+◌, ◌*◌, ◌^◌, ◌<◌, ◌≤◌, [], ◌∷◌, List, ℕ, length, false, slice_index, IsTrue, IsFalse, IfNone, IfSome, IfOk, IfErr, OnOk, Contains};
+ghost use Rattle.std.specs.Prelude.{◌≡◌, ◌+◌, ◌*◌, ◌^◌, ◌<◌, ◌≤◌, [], ◌∷◌, List, ℕ, length, false, IsTrue, IsFalse, IfNone, IfSome, IfOk, IfErr, OnOk, Contains};
 ghost use Rattle.board_stones.specs.Grid.{Grid};
-ghost use Rattle.board_past.specs.Past.{Held, all_of, present_stretch, stretch_of, with_next, HaveSide};
+ghost use Rattle.board_past.specs.Past.{Held, all_of, present_stretch, with_next, HaveSide};
 ghost use Rattle.board_past.specs.inner.Changes.{IsNumber};
 ghost use Rattle.board_past.specs.inner.Key.{bits_of, hash_in_key, keys_of};
 ghost use Rattle.board_past.specs.inner.Print.{print_of};

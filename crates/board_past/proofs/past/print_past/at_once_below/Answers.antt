@@ -5,5 +5,5 @@ pub returns : goal.returns
 returns c = record {
   settled = search rules;
   asleep = λ some. omega (arith, some);
-  not_full = λ count from below. ne_eqb (count % 128) 127 (λ is. absurd (omega (arith, is, below, from, c.len-step.ensures)));
+  not_full = λ count from below. ne_eqb (count % 128) 127 (λ is. absurd (omega (arith, is, below, from, c.len-steps.ensures)));
 }
