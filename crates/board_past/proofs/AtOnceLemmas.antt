@@ -9,6 +9,10 @@ pub asleep_if_room : (held : List Held) (table : Table) (below : ℕ) → IsTabl
 asleep_if_room held table below (inl is) some room = is
 asleep_if_room held table below (inr is) some room = absurd (omega (arith, some, room some, is.awake))
 
+-- 0 is always right
+pub at_once_none : (past : PastColourings) (table : Table) → ArePlayedAtOnce past table 0
+at_once_none past table = record { settled = λ some. absurd (omega (arith, some)); asleep = λ some. absurd (omega (arith, some)); not_full = λ count from few. absurd (omega (arith, few)) }
+
 -- with more room, and as many colourings, the number holds still
 pub at_once_same : (past : PastColourings) (old new : Table) (below : ℕ) → old.room_asleep ≤ new.room_asleep → ArePlayedAtOnce past old below → ArePlayedAtOnce past new below
 at_once_same past old new below more is = record { settled = is.settled; asleep = λ some. omega (arith, more, is.asleep some); not_full = is.not_full }

@@ -48,4 +48,4 @@ unfoldable pub use Rattle.board_past.specs.inner.Hash.{hash_of}
 pub use Rattle.board_past.specs.inner.Key.{bits_of, has_stone, hash_in_key, key_bit, key_bits, keys_of, oldest, since, start_of}
 pub use Rattle.board_past.specs.inner.Print.{code, in_base, number_within, prints_of, row_number, row_within, word_number}
 unfoldable pub use Rattle.board_past.specs.inner.Print.{print_of}
-pub use Rattle.board_past.specs.inner.Table.{HasRoomForNext, IsAsleepTable, IsAwakeTable, IsGap, IsPrintOfNext, IsTable, LinksNext, most_to_link, SameButHashes}
+pub use Rattle.board_past.specs.inner.Table.{GrowsTable, HasRoomForNext, IsAsleepTable, IsAwakeTable, IsGap, IsPrintOfNext, IsTable, LinksNext, most_to_link, SameButHashes}

@@ -1,5 +1,5 @@
 -- The table by which colourings are looked up.
-use Rattle.board_past.proofs.Common.{◌≡◌, ℕ, ◌+◌, ◌*◌, ◌<◌, ◌≤◌, ◌^◌, bit_xor, Bool, true, false, if◌then◌else◌, List, [], ◌∷◌, ◌++◌, Option, None, Some, IfSome, length, length-append, get_or, reverse, Contains, inl, inr, refl, sym, ap, subst, ◌∙◌, arith, eq-eqb, ne_eqb, bit_at, cases_Bool, reverse-append, same_Some, Point, has_bit, Trie, Agree, nodes_of, item_count, capacity_of, IsTrie, IsNearest, IsOpening, IsParting, Colour, play, Grid, WIDTH, Table, Held, PastColourings, all_of, newest_grid, present_stretch, stretch_of, with_next, IsNumber, hash_of, HasHashes, hash_in_key, key_bits, start_of, since, keys_of, print_of, prints_of, HasRoomForNext, IsAsleepTable, IsAwakeTable, IsGap, IsPrintOfNext, IsTable, LinksNext, SameButHashes, most_to_link}
+use Rattle.board_past.proofs.Common.{◌≡◌, ℕ, ◌+◌, ◌*◌, ◌<◌, ◌≤◌, ◌^◌, bit_xor, Bool, true, false, if◌then◌else◌, List, [], ◌∷◌, ◌++◌, Option, None, Some, IfSome, length, length-append, get_or, reverse, Contains, inl, inr, refl, sym, ap, subst, ◌∙◌, arith, eq-eqb, ne_eqb, bit_at, cases_Bool, reverse-append, same_Some, Point, has_bit, Trie, Agree, nodes_of, item_count, capacity_of, IsTrie, IsNearest, IsOpening, IsParting, Colour, play, Grid, WIDTH, Table, Held, PastColourings, all_of, newest_grid, present_stretch, stretch_of, with_next, IsNumber, hash_of, HasHashes, hash_in_key, key_bits, start_of, since, keys_of, print_of, prints_of, HasRoomForNext, IsAsleepTable, IsAwakeTable, IsGap, IsPrintOfNext, IsTable, LinksNext, SameButHashes, most_to_link, vec_capacity, GrowsTable}
 use Rattle.board_past.specs.declared.past.print_past.table.Gap.{Gap}
 use Rattle.board_past.specs.declared.past.print_past.hashes.Hashes.{Hashes}
 use Rattle.board_past.proofs.NumberLemmas.{since-newest, since-older, at-newest, at-older, cases-number, start-since, start-before}
@@ -246,6 +246,28 @@ module _ (held : List Held) (old new : Table) (asleep : IsAsleepTable held old �
   pub print_same : (next : Held) (print : Option ℕ) → IsPrintOfNext held old next print → IsPrintOfNext held new next print
   print_same next None is = record { awake = tt; asleep = asleep is.asleep }
   print_same next (Some number) is = record { awake = (awake is.awake.0, is.awake.1); asleep = tt }
+
+-- a table that only got more room, and may count on it while it sleeps
+pub asleep_grown : (held : List Held) (old new : Table) (room : ℕ) → GrowsTable old new → old.room_asleep ≤ room → room ≤ capacity_of new.trie → room ≤ vec_capacity new.prints → IsAsleepTable held old → IsAsleepTable held (record new { room_asleep = room })
+asleep_grown held old new room grows more trie prints is = record {
+  asleep = omega (arith, is.asleep, more);
+  fits = omega (arith, is.fits, more);
+  no_prints = grows.prints ∙ is.no_prints;
+  no_items = grows.nodes ∙ is.no_items;
+  room = trie;
+  prints_room = prints;
+  most = grows.most;
+  kept = rw grows.hashes is.kept;
+}
+
+pub awake_grown : (held : List Held) (old new : Table) → GrowsTable old new → IsAwakeTable held old → IsAwakeTable held new
+awake_grown held old new grows is =
+    tabled_with held old new is grows.prints grows.hashes grows.asleep (omega (arith, is.room, grows.room)) grows.most (rw grows.nodes is.few) (rw (grows.nodes, grows.hashed) is.linked)
+
+-- there is room in the trie for all colourings, and no more prints than these
+pub table_fits : (held : List Held) (table : Table) → IsTable held table → (length table.prints.items ≤ length held) × (length held ≤ capacity_of table.trie)
+table_fits held table (inl is) = (rw is.no_prints (omega arith), omega (arith, is.fits, is.room))
+table_fits held table (inr is) = (omega (arith, tabled held table is), omega (arith, is.room, tabled held table is))
 
 -- so many colourings that a number of 32 bits counts them
 pub few_all : (held : List Held) (table : Table) → IsTable held table → length held < 2 ^ 32

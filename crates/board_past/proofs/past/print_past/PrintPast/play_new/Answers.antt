@@ -1,8 +1,8 @@
-use Rattle.board_past.proofs.Common.{false, ap, ◌∙◌, arith, play, Grid, all_of, newest_grid, with_next, print_of, IsAwakeTable}
-use Rattle.board_past.proofs.RepeatLemmas.{played_refused}
+use Rattle.board_past.proofs.Common.{false, ap, ◌∙◌, arith, play, Grid, all_of, newest_grid, with_next, print_of, IsAwakeTable, ◌≡◌, sym, PastColourings}
+use Rattle.board_past.proofs.RepeatLemmas.{played_refused, played_new}
 use Rattle.board_past.proofs.TableLemmas.{tabled}
 use Rattle.board_past.proofs.past.print_past.PrintPast.play_new.Goals as goal
-use Rattle.board_past.proofs.past.print_past.PrintPast.play_new.Goals.{Then-is_awake, then-is_awake, else-is_awake}
+use Rattle.board_past.proofs.past.print_past.PrintPast.play_new.Goals.{Then-is_awake, then-is_awake, else-is_awake, In_ok-add_stone, else-is_none-via-then-is_none+else-len-self, else-is_none-via-else-is_none}
 
 awake : (c : Then-is_awake) → IsAwakeTable (all_of c.self.inside.colourings) c.self.inside.table
 awake c = c.is_awake.ensures.awake c.self.inside.colourings.newest c.self.inside.colourings.older c.self.invariant.tabled c.if-is_awake.true
@@ -23,3 +23,40 @@ add_stone-requires-clause-print c =
 pub returns-in_err-add_stone : goal.returns-in_err-add_stone
 returns-in_err-add_stone c =
     played_refused c.args.colour c.args.point c.args.self.now c.add_stone.new.colourings c.from_residual.result c.from_residual.ensures.0 c.requires.never (c.in_err-add_stone.ensures.err ∙ c.self.view_is)
+
+pub print_after_clearing-requires-clause-print : goal.print_after_clearing-requires-clause-print
+print_after_clearing-requires-clause-print c =
+    let was = c.self.inside.colourings in
+    c.newest.ensures was.newest was.older (awake (goal.at.print_after_clearing-requires-clause-print c).Then-is_awake) ∙ ap (λ (g : Grid). print_of g) (sym c.newest-newest.ensures)
+
+pub invariant_of-self : goal.invariant_of-self
+invariant_of-self c =
+    let is = c.add_stone.ensures in
+    record { tabled = is.table; emptied_in = is.emptied; at_once = is.at_once c.self.inside.at_once_below c.self.invariant.at_once }
+
+pub invariant_of-self-then-len-self : goal.invariant_of-self-then-len-self
+invariant_of-self-then-len-self c = record { tabled = c.add_stone.ensures.table; emptied_in = c.add_stone.ensures.emptied; at_once = c.at_once_below-self-inside.ensures }
+
+pub invariant_of-self-else-len-self : goal.invariant_of-self-else-len-self
+invariant_of-self-else-len-self c =
+    let is = c.add_stone.ensures in
+    record { tabled = is.table; emptied_in = is.emptied; at_once = is.at_once c.self.inside.at_once_below c.self.invariant.at_once }
+
+pub invariant_of-self-else-is_none : goal.invariant_of-self-else-is_none
+invariant_of-self-else-is_none c =
+    let is = c.add_stone.ensures in
+    record { tabled = is.table; emptied_in = is.emptied; at_once = is.at_once c.self.inside.at_once_below c.self.invariant.at_once }
+
+added : (c : In_ok-add_stone) → c.add_stone.new.colourings ≡ with_next c.args.self.now (play (newest_grid c.args.self.now) c.args.colour c.args.point) false
+added c = c.in_ok-add_stone.ensures.ok ∙ ap (λ (past : PastColourings). with_next past (play (newest_grid past) c.args.colour c.args.point) false) c.self.view_is
+
+pub returns-then-len-self : goal.returns-then-len-self
+returns-then-len-self c = played_new c.args.colour c.args.point c.args.self.now c.add_stone.new.colourings c.requires.never (added (goal.at.returns-then-len-self c).In_ok-add_stone)
+
+pub returns-else-is_none : goal.returns-else-is_none
+returns-else-is_none c =
+    let is = added (goal.at.returns-else-is_none c).In_ok-add_stone in
+    played_new c.args.colour c.args.point c.args.self.now c.else-is_none.self c.requires.never (elim c.else-is_none.branch [
+      | else-is_none-via-then-is_none+else-len-self w ↦ w.self-is ∙ is
+      | else-is_none-via-else-is_none w ↦ w.self-is ∙ is
+    ])

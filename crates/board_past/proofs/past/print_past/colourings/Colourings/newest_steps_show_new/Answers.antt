@@ -20,6 +20,15 @@ some c =
     let before = take c.each.number p.older.items in
     omega (arith, started-le p.stretch_start (reverse before) c.each.invariant.there.past.started, length-reverse before, length-take c.each.number p.older.items, c.each.invariant.high, c.if-number-self.false)
 
+pub has_point-requires-then-is_fresh : goal.has_point-requires-then-is_fresh
+has_point-requires-then-is_fresh c =
+    let at = (goal.at.has_point-requires-then-is_fresh c).After-index-step in
+    let p = c.self.inside in
+    let move = subst (λ (grid : Grid). IsMove grid c.requires.stone.0 c.args.point c.args.cleared.now) (same at) c.requires.stone.1 in
+    let on = fresh_on (all_of c.args.self.now) p.older.items p.changes.items p.stretch_start c.each.number p.newest c.args.point move.on_board move.empty c.each.invariant c.index-step.result.now (some at) c.index-step.ensures
+    (λ e. omega (arith, e, c.if-number-self.false)) (sym c.is_fresh.ensures ∙ c.if-is_fresh.true) in
+    omega (arith, on.0, c.has_all_cells.ensures.few)
+
 pub returns-then-not-has_point : goal.returns-then-not-has_point
 returns-then-not-has_point c = λ colour moved _ has.
     let at = (goal.at.returns-then-not-has_point c).After-index-step in
