@@ -1,6 +1,5 @@
 -- The table of the numbers of bytes is right.
-use Rattle.board_past.proofs.Common.{◌≡◌, ℕ, ◌%◌, ◌<◌, List, map, get_or, refl, ap, ◌∙◌, arith, bit_at, word_number, range_with_len, get_or-map-range_with_len, bit_at-mod}
-use Rattle.board_past.specs.declared.past.print_past.print.TheConstants.{NUMBERS}
+use Rattle.board_past.proofs.Common.{◌≡◌, ℕ, ◌%◌, ◌<◌, List, map, get_or, refl, ap, ◌∙◌, arith, bit_at, word_number, range_with_len, get_or-map-range_with_len, bit_at-mod, NUMBERS}
 use Rattle.board_past.proofs.PrintLemmas.{in_base-same}
 
 all_numbers : NUMBERS ≡ map (word_number 8) (range_with_len 0 256)

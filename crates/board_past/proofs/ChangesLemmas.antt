@@ -1,9 +1,7 @@
 -- Changes that lead back from a colouring to the one before it.
-use Rattle.board_past.proofs.Common.{◌≡◌, ◌≢◌, ◌⊎◌, ◌==◌, ℕ, ◌+◌, ◌*◌, ◌<◌, ◌≤◌, inl, inr, Bool, true, false, cond, List, [], ◌∷◌, ◌++◌, length, take, drop, refl, sym, ap, subst, ◌∙◌, append_assoc, length-append, All, slice_index, arith, below_more, append-nil, take-append-drop, length-set, cases_lt, cases_Bool, cases_eq, false≢true, All-nil, All-push, All-head, All-tail, All-weaker, Point, IsOn, has_bit, Cell, Black, White, Empty, Colour, play, same_cell, stone_of, Grid, cell_at, with_cell, with_row, IsMove, Clears, Change, Older, with_change, after_changes, AddsRow, AreOn, IsChangeOn, IsRowOf, IsSameRow, HasRow, KeepRows, MakeOne, step_back, same_or_not, has_bit-zero, one_colouring}
+use Rattle.board_past.proofs.Common.{◌≡◌, ◌≢◌, ◌⊎◌, ◌==◌, ℕ, ◌+◌, ◌*◌, ◌<◌, ◌≤◌, inl, inr, Bool, true, false, cond, List, [], ◌∷◌, ◌++◌, length, take, drop, refl, sym, ap, subst, ◌∙◌, append_assoc, length-append, All, slice_index, arith, below_more, append-nil, take-append-drop, length-set, cases_lt, cases_Bool, cases_eq, false≢true, All-nil, All-push, All-head, All-tail, All-weaker, Point, IsOn, has_bit, Cell, Black, White, Empty, Colour, play, same_cell, stone_of, Grid, cell_at, with_cell, with_row, IsMove, Clears, Change, Older, with_change, after_changes, AddsRow, AreOn, IsChangeOn, IsRowOf, IsSameRow, HasRow, KeepRows, MakeOne, step_back, same_or_not, has_bit-zero, one_colouring, cell_at-grid_of, length-grid_of, cell_at-with_cell, cell_at-with_cell_elsewhere, row_below}
 use Rattle.std.proofs.lemmas.Bool.Decides.{Decides-eqb}
 use Rattle.board_stones.proofs.RuleLemmas.{false_from_Decides}
-use Rattle.board_stones.proofs.GridLemmas.{cell_at-grid_of, length-grid_of, cell_at-with_cell, cell_at-with_cell_elsewhere}
-use Rattle.board_points.proofs.GrowLemmas.{row_below}
 
 -- what stands in a row once it is changed
 abbrev stone_of_bits : Bool → Bool → Cell

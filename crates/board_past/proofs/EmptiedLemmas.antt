@@ -1,10 +1,7 @@
 -- The points that were emptied, and the rows that lead back to earlier sets of them.
-use Rattle.board_past.proofs.Common.{◌≡◌, ℕ, suc, ◌+◌, ◌-◌, ◌<◌, ◌≤◌, Bool, List, [], ◌∷◌, ◌++◌, length, length-append, reverse, drop, get_or, slice_set, bit_or, sym, ap, subst, ◌∙◌, arith, vec_capacity, length-set, set-set, or_left, get_or_append_left, set-get_or, reverse-append, All-push, Point, has_bit, is_set, IsAmong, Emptied, OldRow, Held, HasAllEmptied, HasHistory, HasRowsBelow, IsBelow, IsEmptied, IsLogged, oldest}
+use Rattle.board_past.proofs.Common.{◌≡◌, ℕ, suc, ◌+◌, ◌-◌, ◌<◌, ◌≤◌, Bool, List, [], ◌∷◌, ◌++◌, length, length-append, reverse, drop, get_or, slice_set, bit_or, sym, ap, subst, ◌∙◌, arith, vec_capacity, length-set, set-set, or_left, get_or_append_left, set-get_or, reverse-append, All-push, Point, has_bit, is_set, IsAmong, Emptied, OldRow, Held, HasAllEmptied, HasHistory, HasRowsBelow, IsBelow, IsEmptied, IsLogged, oldest, AddedBelow, each_row, has_bit-or}
 use Rattle.board_past.proofs.RepeatLemmas.{HasAllEmptied-more}
-use Rattle.board_points.proofs.RowLemmas.{AddedBelow}
-use Rattle.board_points.proofs.GrowLemmas.{each_row}
 use Rattle.board_points.specs.inner.Columns.{IsPart}
-use Rattle.board_points.proofs.WordLemmas.{has_bit-or}
 
 oldest-same : (count : ℕ) (x : Held) (xs : List Held) → count ≤ length xs → oldest count (x ∷ xs) ≡ oldest count xs
 oldest-same count x xs le = let next : suc (length xs) - count ≡ suc (length xs - count) = omega (arith, le) in ap (λ n. drop n (x ∷ xs)) next

@@ -1,6 +1,5 @@
 -- Keys of colourings: their words, and what keys that agree tell.
-use Rattle.board_past.proofs.Common.{◌≡◌, ℕ, ◌+◌, ◌-◌, ◌*◌, ◌^◌, ◌<◌, ◌≤◌, ◌==◌, if◌then◌else◌, length, sym, ◌∙◌, arith, lt-ltb, cases_lt, same_from_bits_below, has_bit, Agree, Cell, Black, White, same_cell, Grid, cell_at, has_stone, key_bit, key_bits, one_colouring, bit_same}
-use Rattle.board_stones.proofs.GridLemmas.{same_stones}
+use Rattle.board_past.proofs.Common.{◌≡◌, ℕ, ◌+◌, ◌-◌, ◌*◌, ◌^◌, ◌<◌, ◌≤◌, ◌==◌, if◌then◌else◌, length, sym, ◌∙◌, arith, lt-ltb, cases_lt, same_from_bits_below, has_bit, Agree, Cell, Black, White, same_cell, Grid, cell_at, has_stone, key_bit, key_bits, one_colouring, bit_same, same_stones}
 
 -- The front of a key: the print, and the start of the stretch.
 

@@ -1,11 +1,7 @@
 -- The print of a colouring as a number in base 31: the numbers of its rows, and of the words of its stones.
-use Rattle.board_past.proofs.Common.{◌≡◌, ◌≢◌, inl, inr, ℕ, zero, suc, ◌+◌, ◌-◌, ◌*◌, ◌/◌, ◌%◌, ◌^◌, ◌<◌, ◌≤◌, ◌&&◌, Bool, true, false, cond, bit_and, List, slice_index, length, get_or, set, take, refl, sym, subst, ap, ◌∙◌, arith, fold, add-mul, mul-add, suc-mul, pow_pos, take_all, get_or-set_same, get_or-set_other, length-set, set-set, bit_at, cases_Bool, cases_eq, set-get_or, bit_at-zero, bit_at_cat_high, bit_at_cat_low, Point, IsOn, index_of, has_bit, is_set, Cell, Black, White, Empty, same_cell, Grid, cell_at, with_cell, code, print_of, in_base, row_number, word_number, row_within, number_within, cell_at-with_cell, bit_same}
-use Rattle.std.proofs.Math.Nat.{mod-add-mod, add-mod-mod, add-mul-mod_self_left, mod-add-div, pow-succ', zero-mod}
+use Rattle.board_past.proofs.Common.{◌≡◌, ◌≢◌, inl, inr, ℕ, zero, suc, ◌+◌, ◌-◌, ◌*◌, ◌/◌, ◌%◌, ◌^◌, ◌<◌, ◌≤◌, ◌&&◌, Bool, true, false, cond, bit_and, List, slice_index, length, get_or, set, take, refl, sym, subst, ap, ◌∙◌, arith, fold, add-mul, mul-add, suc-mul, pow_pos, take_all, get_or-set_same, get_or-set_other, length-set, set-set, bit_at, cases_Bool, cases_eq, set-get_or, bit_at-zero, bit_at_cat_high, bit_at_cat_low, Point, IsOn, index_of, has_bit, is_set, Cell, Black, White, Empty, same_cell, Grid, cell_at, with_cell, code, print_of, in_base, row_number, word_number, row_within, number_within, cell_at-with_cell, bit_same, mod-add-mod, add-mod-mod, add-mul-mod_self_left, mod-add-div, pow-succ', zero-mod, mod_below, mul-mod, mul-mod_second, shr_split, index_below, bit_at-there, bit_at-gone, bit_at-mod, has_bit-and, has_bit-zero}
 use Rattle.std.proofs.Math.Bool.{and-true, and-false}
-use Rattle.std.proofs.lemmas.Nat.{mod_below, mul-mod, mul-mod_second, shr_split}
 use Rattle.std.proofs.lemmas.List.Sums.{fold_more}
-use Rattle.board_points.proofs.PointLemmas.{index_below}
-use Rattle.board_points.proofs.WordLemmas.{bit_at-there, bit_at-gone, bit_at-mod, has_bit-and, has_bit-zero}
 
 pub in_base-more : (base n : ℕ) (d : ℕ → ℕ) → in_base base (n + 1) d ≡ base * in_base base n d + d n
 in_base-more base n d = let next : n + 1 ≡ suc n = omega arith in ap (λ m. in_base base m d) next

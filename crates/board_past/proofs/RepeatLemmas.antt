@@ -1,7 +1,5 @@
 -- A stone that stays can repeat a colouring of the stretch only on a point that was emptied.
-use Rattle.board_past.proofs.Common.{◌≡◌, ◌≢◌, ◌*◌, zero, suc, inl, inr, ℕ, Bool, true, false, cond, List, [], ◌∷◌, length, Contains, Result, Ok, ap, sym, subst, ◌∙◌, arith, IsErr, cases_Bool, false≢true, Point, IsOn, is_set, IsAmong, Empty, Colour, play, same_cell, Grid, cell_at, IsMove, Held, PastColourings, all_of, newest_grid, with_next, stretch_of, present_stretch, AllHaveSide, HaveSide, IsPlayed, WasEmptied, IsFreshStone, HasEmptied, HasAllEmptied, same_or_not, side_play}
-use Rattle.board_stones.proofs.GridLemmas.{Decides-same_cell, cell_at-with_cell, cell_at-with_cell_elsewhere}
-use Rattle.board_stones.proofs.GroupLemmas.{stone_of≢Empty}
+use Rattle.board_past.proofs.Common.{◌≡◌, ◌≢◌, ◌*◌, zero, suc, inl, inr, ℕ, Bool, true, false, cond, List, [], ◌∷◌, length, Contains, Result, Ok, ap, sym, subst, ◌∙◌, arith, IsErr, cases_Bool, false≢true, Point, IsOn, is_set, IsAmong, Empty, Colour, play, same_cell, Grid, cell_at, IsMove, Held, PastColourings, all_of, newest_grid, with_next, stretch_of, present_stretch, AllHaveSide, HaveSide, IsPlayed, WasEmptied, IsFreshStone, HasEmptied, HasAllEmptied, same_or_not, side_play, Decides-same_cell, cell_at-with_cell, cell_at-with_cell_elsewhere, stone_of≢Empty}
 
 -- a colouring that has a stone where the newest has none comes back only where that point was emptied
 pub emptied-if_back : (point : Point) (made newest : Grid) (others : List Grid) → cell_at newest point ≡ Empty → cell_at made point ≢ Empty → Contains (newest ∷ others) made → WasEmptied point (newest ∷ others)

@@ -71,3 +71,15 @@ returns-clause-at_once c = λ below is.
 
 pub overflow_cast-number : goal.overflow_cast-number
 overflow_cast-number c = Fits-of_lt (omega (arith, c.len-number.ensures, few_all (all_of c.args.colourings.now) c.args.table.now c.requires.table))
+
+pub add-requires-clause-emptied : goal.add-requires-clause-emptied
+add-requires-clause-emptied c = (all_of c.args.colourings.now, c.reserve.ensures.emptied (all_of c.args.colourings.now) c.requires.emptied)
+
+pub returns-in_err-reserve-clause-emptied : goal.returns-in_err-reserve-clause-emptied
+returns-in_err-reserve-clause-emptied c = c.reserve.ensures.emptied (all_of c.args.colourings.now) c.requires.emptied
+
+pub returns-in_err-reserve-2-clause-emptied : goal.returns-in_err-reserve-2-clause-emptied
+returns-in_err-reserve-2-clause-emptied c = c.reserve.ensures.emptied (all_of c.args.colourings.now) c.requires.emptied
+
+pub returns-in_err-add_stone-clause-emptied : goal.returns-in_err-add_stone-clause-emptied
+returns-in_err-add_stone-clause-emptied c = rw c.in_err-add_stone.ensures.err (c.reserve.ensures.emptied (all_of c.args.colourings.now) c.requires.emptied)

@@ -16,6 +16,9 @@ given c =
       | else-is_awake w ↦ rw w.print-is (record { awake = tt; asleep = c.is_awake.ensures.asleep (all_of was) c.self.invariant.tabled w.if-is_awake.false })
     ]
 
+pub invariant_of-self : goal.invariant_of-self
+invariant_of-self c = record { tabled = c.self.invariant.tabled; emptied_in = c.reserve.ensures.emptied (all_of c.self.inside.colourings) c.self.invariant.emptied_in; at_once = c.self.invariant.at_once }
+
 pub invariant_of-self-in_err-reserve-2 : goal.invariant_of-self-in_err-reserve-2
 invariant_of-self-in_err-reserve-2 c =
     let held = all_of c.self.inside.colourings in
@@ -39,6 +42,9 @@ overflow_cast-number c = Fits-of_lt (omega (arith, c.len-number.ensures, few_all
 
 pub add-requires-clause-few : goal.add-requires-clause-few
 add-requires-clause-few c = omega (arith, few_all (all_of c.self.inside.colourings) c.self.inside.table c.self.invariant.tabled)
+
+pub add-requires-2-clause-emptied : goal.add-requires-2-clause-emptied
+add-requires-2-clause-emptied c = (all_of c.self.inside.colourings, c.reserve.ensures.emptied (all_of c.self.inside.colourings) c.self.invariant.emptied_in)
 
 pub push-requires : goal.push-requires
 push-requires c =

@@ -1,5 +1,4 @@
-use Rattle.board_past.proofs.Common.{◌≡◌, ℕ, suc, ◌+◌, ◌++◌, List, ap, subst, ◌∙◌, arith, w64, from_be_bytes, Black, White, same_cell, cell_at, columns_bytes, columns_of, hash_of, rows_bytes}
-use Rattle.sha2.specs.Hashers.{Holds512}
+use Rattle.board_past.proofs.Common.{◌≡◌, ℕ, suc, ◌+◌, ◌++◌, List, ap, subst, ◌∙◌, arith, w64, from_be_bytes, Black, White, same_cell, cell_at, columns_bytes, columns_of, hash_of, rows_bytes, Holds512}
 use Rattle.sha2.specs.Sha512.{sha512}
 use Rattle.board_past.proofs.HashLemmas.{number_is}
 use Rattle.board_past.proofs.past.print_past.hashes.hash_of.Goals as goal

@@ -1,5 +1,4 @@
-use Rattle.board_past.proofs.Common.{◌≡◌, ◌+◌, ◌-◌, ◌*◌, ◌≤◌, ◌%◌, ◌^◌, get_or, ap, sym, ◌∙◌, arith, word_number, add-mod-mod}
-use Rattle.board_past.specs.declared.past.print_past.print.TheConstants.{NUMBERS}
+use Rattle.board_past.proofs.Common.{◌≡◌, ◌+◌, ◌-◌, ◌*◌, ◌≤◌, ◌%◌, ◌^◌, get_or, ap, sym, ◌∙◌, arith, word_number, add-mod-mod, NUMBERS}
 use Rattle.board_past.proofs.ByteLemmas.{low_byte}
 use Rattle.board_past.proofs.PrintLemmas.{byte_less, byte_more, digit_more, shifted_number}
 use Rattle.board_past.proofs.past.print_past.print.number_by_bytes.Goals as goal

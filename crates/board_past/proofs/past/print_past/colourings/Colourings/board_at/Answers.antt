@@ -37,6 +37,12 @@ slice_bounds-take_back-end c =
     let is = full (goal.at.slice_bounds-take_back-end c).After-next_full-at c.index.result.now (omega (arith, c.if-at-len.true, count)) c.index.ensures in
     search rules
 
+pub take_back-requires : goal.take_back-requires
+take_back-requires c =
+    let count : c.len-2.result ≡ length c.self.inside.older.items = search rules in
+    let is = full (goal.at.take_back-requires c).After-next_full-at c.index.result.now (omega (arith, c.if-at-len.true, count)) c.index.ensures in
+    rw c.deref-then-at-len.ensures.value is.on
+
 pub each-init : goal.each-init
 each-init c =
     let p = c.self.inside in
@@ -73,6 +79,14 @@ step c =
     let p = c.self.inside in
     step-from (all_of c.args.self.now) p.older.items p.changes.items c.each.at c.each.end c.each.invariant.there.0 c.each.board c.index-kept.result.now
     (omega (arith, c.each-test.true)) c.each.invariant.high c.index-kept.ensures c.each.invariant.there.1
+
+pub slice_bounds-step_back-count : goal.slice_bounds-step_back-count
+slice_bounds-step_back-count c = (step (goal.at.slice_bounds-step_back-count c).After-deref-in-each).low
+
+pub slice_bounds-step_back-start : goal.slice_bounds-step_back-start
+slice_bounds-step_back-start c =
+    let low = (step (goal.at.slice_bounds-step_back-start c).After-deref-in-each).low in
+    search rules
 
 pub step_back-requires-clause-point : goal.step_back-requires-clause-point
 step_back-requires-clause-point c = (step (goal.at.step_back-requires-clause-point c).After-deref-in-each).point

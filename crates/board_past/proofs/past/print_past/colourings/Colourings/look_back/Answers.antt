@@ -1,6 +1,5 @@
-use Rattle.board_past.proofs.Common.{common_steps, ◌≡◌, ◌↔◌, ◌-◌, ◌<◌, not, Contains, List, length, take, slice_range, reverse, drop, ap, sym, subst, ◌∙◌, arith, length-take, rules, false≢true, length-reverse, Empty, Grid, cell_at, all_of, present_stretch, stretch_of, step_back}
+use Rattle.board_past.proofs.Common.{common_steps, ◌≡◌, ◌↔◌, ◌-◌, ◌<◌, not, Contains, List, length, take, slice_range, reverse, drop, ap, sym, subst, ◌∙◌, arith, length-take, rules, false≢true, length-reverse, Empty, Grid, cell_at, all_of, present_stretch, stretch_of, step_back, Decides-cell_eq}
 use Rattle.board_past.proofs.ColouringsLemmas.{IsThere, IsStep, IsLook, started-le, step-from, look-from, contains-others, there-newest}
-use Rattle.board_stones.proofs.GridLemmas.{Decides-cell_eq}
 use Rattle.board_past.proofs.past.print_past.colourings.Colourings.look_back.Goals as goal
 use Rattle.board_past.proofs.past.print_past.colourings.Colourings.look_back.Goals.{After-index-kept}
 

@@ -1,7 +1,6 @@
-use Rattle.board_past.proofs.Common.{◌+◌, ◌<◌, [], ◌∷◌, List, ℕ, length, length-append, get_or, refl, slice_set, sym, subst, ap, ◌∙◌, arith, length-set, or_left, or_right, set-get_or, is_set, Emptied, OldRow, HasAllEmptied}
+use Rattle.board_past.proofs.Common.{◌+◌, ◌<◌, [], ◌∷◌, List, ℕ, length, length-append, get_or, refl, slice_set, sym, subst, ap, ◌∙◌, arith, length-set, or_left, or_right, set-get_or, is_set, Emptied, OldRow, HasAllEmptied, AddedBelow, added_all, added_next}
 use Rattle.board_past.proofs.EmptiedLemmas.{IsAddedBelow, history_all, logged_more, logged_next, logged_row}
 use Rattle.board_past.proofs.RepeatLemmas.{HasAllEmptied-more}
-use Rattle.board_points.proofs.RowLemmas.{AddedBelow, added_all, added_next}
 use Rattle.board_past.proofs.past.print_past.emptied.Emptied.add.Goals.{then-word-old, else-word-old}
 use Rattle.board_past.proofs.past.print_past.emptied.Emptied.add.Goals as goal
 

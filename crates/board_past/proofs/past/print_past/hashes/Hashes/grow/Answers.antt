@@ -1,5 +1,4 @@
-use Rattle.board_past.proofs.Common.{refl, arith, common_steps, rules}
-use Rattle.std.proofs.lemmas.List.{get_or_past}
+use Rattle.board_past.proofs.Common.{refl, arith, common_steps, rules, get_or_past}
 use Rattle.board_past.proofs.past.print_past.hashes.Hashes.grow.Goals as goal
 
 pub each-init : goal.each-init

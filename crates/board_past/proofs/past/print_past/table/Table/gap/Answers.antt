@@ -38,7 +38,7 @@ returns-clause-gap c =
       hash = λ some. absurd (some refl);
     }
 
--- these two are only there for speed
+-- these are only there for speed
 pub descend-from-requires-clause-some : goal.descend-from-requires-clause-some
 descend-from-requires-clause-some c = omega (arith, c.link.ensures.all, tabled (all_of c.args.colourings.now) c.link.new.self c.link.ensures.table)
 
@@ -48,3 +48,10 @@ index-requires c =
     let linked = c.link.ensures.table.linked in
     let near = way_nearest WIDTH keys c.link.new.self.trie linked c.descend-from.result (c.descend-from.ensures.way WIDTH keys linked) (omega arith) in
     omega (arith, c.child-near.ensures, c.link.ensures.all, near.there)
+
+pub returns-then-apart-eq0-clause-near : goal.returns-then-apart-eq0-clause-near
+returns-then-apart-eq0-clause-near c =
+    let held = all_of c.args.colourings.now in
+    let is = c.link.ensures.table in
+    let near = way_nearest WIDTH (keys_of c.link.new.self.hashed held) c.link.new.self.trie is.linked c.descend-from.result (c.descend-from.ensures.way WIDTH (keys_of c.link.new.self.hashed held) is.linked) (omega arith) in
+    omega (arith, c.child-near.ensures, c.link.ensures.all, near.there, tabled held c.link.new.self is)

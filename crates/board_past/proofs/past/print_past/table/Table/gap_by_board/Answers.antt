@@ -92,3 +92,14 @@ returns-in-None-clause-has c =
 
 pub returns-in-None-clause-gap : goal.returns-in-None-clause-gap
 returns-in-None-clause-gap c = tt
+
+pub descend-from-requires-clause-some : goal.descend-from-requires-clause-some
+descend-from-requires-clause-some c = omega (arith, c.hash_if_deep.ensures.all, tabled (all_of c.args.colourings.now) c.hash_if_deep.new.self c.hash_if_deep.ensures.table)
+
+pub first_apart-requires-clause-number : goal.first_apart-requires-clause-number
+first_apart-requires-clause-number c =
+    let held = all_of c.args.colourings.now in
+    let is = c.hash_if_deep.ensures.table in
+    let t = c.hash_if_deep.new.self in
+    let near = way_nearest WIDTH (keys_of t.hashed held) t.trie is.linked c.descend-from.result (c.descend-from.ensures.way WIDTH (keys_of t.hashed held) is.linked) (omega arith) in
+    omega (arith, c.child-near.ensures, c.hash_if_deep.ensures.all, near.there, tabled held t is)

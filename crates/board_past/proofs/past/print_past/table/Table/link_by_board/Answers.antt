@@ -1,6 +1,5 @@
-use Rattle.board_past.proofs.Common.{◌≡◌, ℕ, Bool, ap, sym, subst, ◌∙◌, arith, Trie, Agree, item_count, child_at, IsNearest, IsParting, IsTrie, IsWayTo, WIDTH, all_of, bits_of, hash_in_key, keys_of, SameButHashes}
+use Rattle.board_past.proofs.Common.{◌≡◌, ℕ, Bool, ap, sym, subst, ◌∙◌, arith, Trie, Agree, item_count, child_at, IsNearest, IsParting, IsTrie, IsWayTo, WIDTH, all_of, bits_of, hash_in_key, keys_of, SameButHashes, agree_back, agree_on, agree_self, parts_as, way_nearest}
 use Rattle.board_past.proofs.TableLemmas.{all_anew, links_with, same_both, tabled}
-use Rattle.key_trie.proofs.TrieLemmas.{agree_back, agree_on, agree_self, parts_as, way_nearest}
 use Rattle.board_past.proofs.past.print_past.table.Table.link_by_board.Goals as goal
 use Rattle.board_past.proofs.past.print_past.table.Table.link_by_board.Goals.{After-first_apart}
 
@@ -84,3 +83,6 @@ first_apart-requires-clause-number c =
 pub take_hash-hash-requires-clause-number : goal.take_hash-hash-requires-clause-number
 take_hash-hash-requires-clause-number c =
     omega (arith, c.len-next.ensures, c.requires.unlinked.more, tabled (all_of c.args.colourings.now) c.args.self.now c.requires.unlinked.table)
+
+pub key_of-key-requires-clause-number : goal.key_of-key-requires-clause-number
+key_of-key-requires-clause-number c = omega (arith, c.len-next.ensures, c.requires.unlinked.more, tabled (all_of c.args.colourings.now) c.args.self.now c.requires.unlinked.table)

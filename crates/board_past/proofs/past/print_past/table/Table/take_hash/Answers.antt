@@ -1,5 +1,5 @@
-use Rattle.board_past.proofs.Common.{◌∙◌, all_of}
-use Rattle.board_past.proofs.TableLemmas.{at_number, in_key, with_hashes}
+use Rattle.board_past.proofs.Common.{◌∙◌, all_of, inr, arith}
+use Rattle.board_past.proofs.TableLemmas.{at_number, in_key, with_hashes, few_all}
 use Rattle.board_past.proofs.past.print_past.table.Table.take_hash.Goals as goal
 
 pub returns-in-Some-clause-hash : goal.returns-in-Some-clause-hash
@@ -11,3 +11,6 @@ returns-clause-table c =
     let held = all_of c.args.colourings.now in
     with_hashes held c.args.self.now c.keep.new.self c.requires.table
     (c.keep.ensures held c.requires.number c.requires.table.kept (λ grid at some. c.hash_of-hash.ensures ∙ at_number held c.args.number c.board_at.result grid c.board_at.ensures at))
+
+pub keep-requires : goal.keep-requires
+keep-requires c = omega (arith, few_all (all_of c.args.colourings.now) c.args.self.now (inr c.requires.table), c.requires.number)
