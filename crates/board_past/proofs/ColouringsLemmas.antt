@@ -1,5 +1,5 @@
 -- Past colourings, as what is kept of them tells them.
-use Rattle.board_past.proofs.Common.{◌≡◌, ◌≢◌, ◌↔◌, ◌==◌, ℕ, zero, suc, ◌+◌, ◌-◌, ◌*◌, ◌%◌, ◌<◌, ◌≤◌, inl, inr, List, [], ◌∷◌, ◌++◌, Bool, true, false, cond, length, get_or, take, drop, reverse, slice_range, slice_set, append_assoc, refl, sym, ap, subst, ◌∙◌, arith, length-take, length-append, IsTrue, IsFalse, Contains, length-set, take_all, take_at, drop_at, drop-drop, take-take, append-nil, eq-eqb, ne_eqb, cases_eq, false≢true, take_more, drop-set, drop_all, reverse-append, length-reverse, get_or-reverse, get_or_default, All-take, All-drop, All-append, Point, IsOn, index_of, Empty, has_unreaching, Grid, cell_at, with_cell, Change, Older, Held, PastColourings, all_of, with_next, stretch_of, first_grid, after_changes, step_back, is_full, is_settled, is_fresh, HasRoom, IsEndOf, IsNumber, IsFreshStone, KeepRows, IsChangeOn, MakeOne, before, changes_before, held_before, all_held, AreFresh, AreKept, AreStarted, AreOn, IsPast, start_of, since, print_of, prints_of, same_or_not, cell_at-with_cell, cell_at-with_cell_elsewhere}
+use Rattle.board_past.proofs.Common.{◌≡◌, ◌≢◌, ◌↔◌, ◌==◌, ℕ, zero, suc, ◌+◌, ◌-◌, ◌*◌, ◌%◌, ◌^◌, ◌<◌, ◌≤◌, inl, inr, List, [], ◌∷◌, ◌++◌, Bool, true, false, cond, length, get_or, take, drop, reverse, slice_range, slice_set, append_assoc, refl, sym, ap, subst, ◌∙◌, arith, length-take, length-append, IsTrue, IsFalse, Contains, length-set, take_all, take_at, drop_at, drop-drop, take-take, append-nil, eq-eqb, ne_eqb, cases_eq, false≢true, take_more, drop-set, drop_all, reverse-append, length-reverse, get_or-reverse, get_or_default, All-take, All-drop, All-append, Point, IsOn, index_of, Empty, has_unreaching, Grid, cell_at, with_cell, Change, Older, Held, PastColourings, all_of, with_next, stretch_of, first_grid, after_changes, step_back, is_full, is_settled, is_fresh, HasRoom, IsEndOf, IsNumber, IsFreshStone, KeepRows, IsChangeOn, MakeOne, before, changes_before, held_before, all_held, AreFresh, AreKept, AreStarted, AreOn, IsPast, start_of, since, print_of, prints_of, same_or_not, cell_at-with_cell, cell_at-with_cell_elsewhere}
 use Rattle.std.proofs.lemmas.Slice.{between_is}
 use Rattle.board_past.specs.declared.past.print_past.changes.TheConstants.{MOST}
 use Rattle.board_past.proofs.ChangesLemmas.{step-side, leads_back, makes_one, kept_on}
@@ -8,10 +8,6 @@ use Rattle.board_past.proofs.ChangesLemmas.{step-side, leads_back, makes_one, ke
 pub started-le : (start : ℕ) (os : List Older) → AreStarted start os → start ≤ length os
 started-le start [] h = omega (arith, h)
 started-le start (o ∷ os) h = h.0
-
--- so its start is below any number that the count of the older ones is below
-pub started-below : (was older : List Older) (start most : ℕ) → older ≡ was → length older < most → AreStarted start (reverse was) → start < most
-started-below was older start most same low started = omega (arith, ap (λ (os : List Older). length os) same, low, started-le start (reverse was) started, length-reverse was)
 
 pub length-held : (g : Grid) (os : List Older) (changes : List Change) → length (held_before g os changes) ≡ length os
 length-held g [] changes = refl
@@ -412,6 +408,10 @@ written-all held older prints at all none written =
 -- the number of colourings
 pub count-all : (g : Grid) (start : ℕ) (older : List Older) (changes : List Change) (past : PastColourings) → past_held g start (reverse older) changes ≡ past → length (all_of past) ≡ length older + 1
 count-all g start older changes past same = grind (arith, length-held, length-reverse)
+
+-- so 32 bits have the start of the present stretch
+pub start_fits : (g : Grid) (start : ℕ) (older : List Older) (changes : List Change) (past : PastColourings) → past_held g start (reverse older) changes ≡ past → IsPast g start older changes → length (all_of past) ≤ MOST → start < 2 ^ 32
+start_fits g start older changes past same is few = omega (arith, few, count-all g start older changes past same, started-le start (reverse older) is.started, length-reverse older)
 
 -- Starts of stretches.
 

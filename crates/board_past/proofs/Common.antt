@@ -42,7 +42,7 @@ pub use Rattle.board_past.specs.declared.past.print_past.key.TheConstants.{FRONT
 pub use Rattle.board_past.specs.declared.past.print_past.table.Table.{Table}
 pub use Rattle.board_past.specs.Past.{all_of, AllHaveSide, HaveSide, Held, IsPlayed, newest_grid, PastColourings, present_stretch, stretch_of, WasEmptied, with_next}
 pub use Rattle.board_past.specs.inner.Changes.{AddsRow, after_changes, all_held, AreFresh, AreKept, AreOn, AreStarted, before, changes_before, first_grid, HasNumber, HasRoom, HasRow, held_before, is_fresh, is_full, is_settled, IsChangeOn, IsEndOf, IsFreshStone, IsNumber, IsPast, IsRowOf, IsSameRow, KeepRows, MakeOne, step_back, with_change}
-pub use Rattle.board_past.specs.inner.Emptied.{ArePlayedAtOnce, HasAllEmptied, HasEmptied, HasHistory, HasRowsBelow, IsBelow, IsEmptied, IsLogged}
+pub use Rattle.board_past.specs.inner.Emptied.{ArePlayedAtOnce, HasAllEmptied, HasEmptied, HasHistory, HasRowsBelow, IsBelow, IsEmptied, IsLogged, IsPrintPast}
 pub use Rattle.board_past.specs.inner.Hash.{columns_bytes, columns_of, HasHashes, number_of, rows_bytes}
 unfoldable pub use Rattle.board_past.specs.inner.Hash.{hash_of}
 pub use Rattle.board_past.specs.inner.Key.{bits_of, has_stone, hash_in_key, key_bit, key_bits, keys_of, oldest, since, start_of}

@@ -1,7 +1,8 @@
 -- The table by which colourings are looked up.
-use Rattle.board_past.proofs.Common.{◌≡◌, ℕ, ◌+◌, ◌*◌, ◌<◌, ◌≤◌, ◌^◌, bit_xor, Bool, true, false, if◌then◌else◌, List, [], ◌∷◌, ◌++◌, Option, None, Some, IfSome, length, length-append, get_or, reverse, Contains, inl, inr, refl, sym, ap, subst, ◌∙◌, arith, eq-eqb, ne_eqb, bit_at, cases_Bool, reverse-append, same_Some, Point, has_bit, Trie, Agree, nodes_of, item_count, capacity_of, IsTrie, IsNearest, IsOpening, IsParting, Colour, play, Grid, WIDTH, Table, Held, PastColourings, all_of, newest_grid, present_stretch, stretch_of, with_next, IsNumber, hash_of, HasHashes, hash_in_key, key_bits, start_of, since, keys_of, print_of, prints_of, HasRoomForNext, IsAsleepTable, IsAwakeTable, IsGap, IsPrintOfNext, IsTable, LinksNext, SameButHashes, most_to_link, vec_capacity, GrowsTable, agree_self, agree_less, parts_as, trie_same, opening_same}
+use Rattle.board_past.proofs.Common.{◌≡◌, ℕ, ◌+◌, ◌*◌, ◌<◌, ◌≤◌, ◌^◌, bit_xor, Bool, true, false, if◌then◌else◌, List, [], ◌∷◌, ◌++◌, Option, None, Some, IfSome, length, length-append, get_or, reverse, Contains, inl, inr, refl, sym, ap, subst, ◌∙◌, arith, eq-eqb, ne_eqb, bit_at, cases_Bool, reverse-append, same_Some, Point, has_bit, Trie, Agree, nodes_of, item_count, capacity_of, IsTrie, IsNearest, IsOpening, IsParting, Colour, play, Grid, WIDTH, Table, Held, PastColourings, all_of, newest_grid, present_stretch, stretch_of, with_next, IsNumber, hash_of, HasHashes, hash_in_key, key_bits, start_of, since, keys_of, print_of, prints_of, HasRoomForNext, IsAsleepTable, IsAwakeTable, IsGap, IsPrintOfNext, IsTable, LinksNext, SameButHashes, most_to_link, vec_capacity, GrowsTable, agree_self, agree_less, parts_as, trie_same, opening_same, IsWayTo, child_at, way_nearest}
 use Rattle.board_past.specs.declared.past.print_past.table.Gap.{Gap}
 use Rattle.board_past.specs.declared.past.print_past.hashes.Hashes.{Hashes}
+use Rattle.key_trie.specs.declared.trie.Slot.{Slot}
 use Rattle.board_past.proofs.NumberLemmas.{since-newest, since-older, at-newest, at-older, cases-number, start-since, start-before}
 pub use Rattle.board_past.proofs.NumberLemmas.{number_there, side-number, has_number, has_colouring}
 use Rattle.board_past.proofs.KeyLemmas.{print_bit, front_same, front_agrees, head_agrees, whole_same}
@@ -105,6 +106,12 @@ module _ (held : List Held) (table : Table) (is : IsAwakeTable held table) where
       (record { each = λ p h. key_print p (omega (arith, h, low)) ∙ same_bit print other p (same p h) ∙ sym (near_print p (omega (arith, h, low))) })
       (λ e. other_bits print other position differ (sym (key_print position low) ∙ e ∙ near_print position low))
 
+-- what a descent comes to is one of the items
+pub found_in : {key : ℕ → Bool} {end child : ℕ} {slot : Slot} (held : List Held) (table : Table) → IsAwakeTable held table → ((width : ℕ) (keys : ℕ → ℕ → Bool) → IsTrie width keys table.trie → IsWayTo keys table.trie key end slot) → end ≤ WIDTH → child ≡ child_at table.trie slot → child < item_count table.trie
+found_in {key} {end} {child} {slot} held table is way within at =
+    let keys = keys_of table.hashed held in
+    omega (arith, at, (way_nearest WIDTH keys table.trie is.linked slot (way WIDTH keys is.linked) within).there)
+
 -- the same prints, and a trie of as many colourings or of more
 pub tabled_with : (held : List Held) (table after : Table) → IsAwakeTable held table → after.prints.items ≡ table.prints.items → after.hashes ≡ table.hashes → after.room_asleep ≡ table.room_asleep
     → length table.prints.items ≤ capacity_of after.trie → capacity_of after.trie < 2 ^ 32 → item_count after.trie ≤ length table.prints.items → IsTrie WIDTH (keys_of after.hashed held) after.trie → IsAwakeTable held after
@@ -155,18 +162,9 @@ links_with held old now trie is same more room next linked =
       prints = same.prints;
     }
 
--- other hashes that are right may be kept
-pub with_hashes : (held : List Held) (table : Table) (hashes : Hashes) → IsAwakeTable held table → HasHashes held hashes → IsAwakeTable held (record table { hashes = hashes })
-with_hashes held table hashes is kept =
-    record { awake = is.awake; printed = is.printed; few = is.few; linked = is.linked; room = is.room; most = is.most; kept = kept }
-
 -- a number has one colouring, and so one hash
 pub at_number : (held : List Held) (number : ℕ) (one other : Grid) → IsNumber held number one → IsNumber held number other → hash_of one ≡ hash_of other
 at_number held number one other at too = ap hash_of (same_Some one other (sym at ∙ too))
-
--- if keys have hashes, the hash stands in the key
-pub in_key : (hashed : Bool) (grid : Grid) → hashed ≡ true → hash_of grid ≡ hash_in_key hashed grid
-in_key hashed grid on = ap (λ (t : Bool). if t then hash_of grid else 0) (sym on)
 
 -- one colouring more
 pub tabled_more : (held : List Held) (table after : Table) (next : Held) (print : ℕ) → IsAwakeTable held table → print ≡ print_of next.colouring → after.prints.items ≡ table.prints.items ++ print ∷ [] → after.room_asleep ≡ table.room_asleep

@@ -1,8 +1,8 @@
-use Rattle.board_past.proofs.Common.{◌≡◌, ◌≢◌, true, subst, arith, Fits-of_lt, Point, IsOn, is_set, Empty, Grid, cell_at, Held, all_of, IsPrintOfNext}
+use Rattle.board_past.proofs.Common.{◌≡◌, ◌≢◌, true, subst, arith, Fits-of_lt, Point, IsOn, is_set, Empty, Grid, cell_at, Held, all_of, IsPrintOfNext, IsPrintPast}
 use Rattle.board_past.proofs.AtOnceLemmas.{at_once_same}
 use Rattle.board_past.proofs.TableLemmas.{few_all, print_same, table_same}
 use Rattle.board_past.proofs.past.print_past.PrintPast.add.Goals as goal
-use Rattle.board_past.proofs.past.print_past.PrintPast.add.Goals.{After-add_stones, then-is_awake, else-is_awake}
+use Rattle.board_past.proofs.past.print_past.PrintPast.add.Goals.{After-add_stones, After-reserve-2, then-is_awake, else-is_awake}
 
 abbrev next_of : After-add_stones → Held
 next_of c = record { colouring = c.args.board.now; begins = c.args.begins }
@@ -19,23 +19,22 @@ given c =
 pub invariant_of-self : goal.invariant_of-self
 invariant_of-self c = record { tabled = c.self.invariant.tabled; emptied_in = c.reserve.ensures.emptied (all_of c.self.inside.colourings) c.self.invariant.emptied_in; at_once = c.self.invariant.at_once }
 
-pub invariant_of-self-in_err-reserve-2 : goal.invariant_of-self-in_err-reserve-2
-invariant_of-self-in_err-reserve-2 c =
-    let held = all_of c.self.inside.colourings in
+-- the room alone is changed
+kept : (c : After-reserve-2) → IsPrintPast c.self.inside.colourings c.reserve-2.new.self c.reserve.new.self c.self.inside.at_once_below
+kept c =
+    let was = c.self.inside in
+    let held = all_of was.colourings in
     record {
-      tabled = table_same held c.self.inside.table c.reserve-2.new.self (c.reserve-2.ensures.asleep held) (c.reserve-2.ensures.awake held) c.self.invariant.tabled;
+      tabled = table_same held was.table c.reserve-2.new.self (c.reserve-2.ensures.asleep held) (c.reserve-2.ensures.awake held) c.self.invariant.tabled;
       emptied_in = c.reserve.ensures.emptied held c.self.invariant.emptied_in;
-      at_once = at_once_same c.self.inside.colourings c.self.inside.table c.reserve-2.new.self c.self.inside.at_once_below c.reserve-2.ensures.room c.self.invariant.at_once;
+      at_once = at_once_same was.colourings was.table c.reserve-2.new.self was.at_once_below c.reserve-2.ensures.room c.self.invariant.at_once;
     }
 
+pub invariant_of-self-in_err-reserve-2 : goal.invariant_of-self-in_err-reserve-2
+invariant_of-self-in_err-reserve-2 c = kept (goal.at.invariant_of-self-in_err-reserve-2 c).After-reserve-2
+
 pub invariant_of-self-in_err-add : goal.invariant_of-self-in_err-add
-invariant_of-self-in_err-add c =
-    let held = all_of c.self.inside.colourings in
-    rw c.in_err-add.ensures.err (record {
-      tabled = table_same held c.self.inside.table c.reserve-2.new.self (c.reserve-2.ensures.asleep held) (c.reserve-2.ensures.awake held) c.self.invariant.tabled;
-      emptied_in = c.reserve.ensures.emptied held c.self.invariant.emptied_in;
-      at_once = at_once_same c.self.inside.colourings c.self.inside.table c.reserve-2.new.self c.self.inside.at_once_below c.reserve-2.ensures.room c.self.invariant.at_once;
-    })
+invariant_of-self-in_err-add c = rw c.in_err-add.ensures.err (kept (goal.at.invariant_of-self-in_err-add c).After-reserve-2)
 
 pub overflow_cast-number : goal.overflow_cast-number
 overflow_cast-number c = Fits-of_lt (omega (arith, c.len-number.ensures, few_all (all_of c.self.inside.colourings) c.self.inside.table c.self.invariant.tabled))

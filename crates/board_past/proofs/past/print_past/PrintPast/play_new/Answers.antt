@@ -1,8 +1,8 @@
-use Rattle.board_past.proofs.Common.{false, ap, ◌∙◌, arith, play, Grid, all_of, newest_grid, with_next, print_of, IsAwakeTable, ◌≡◌, sym, PastColourings}
+use Rattle.board_past.proofs.Common.{false, ap, ◌∙◌, arith, play, Grid, all_of, newest_grid, with_next, print_of, IsAwakeTable, ◌≡◌, sym, PastColourings, IsPrintPast}
 use Rattle.board_past.proofs.RepeatLemmas.{played_refused, played_new}
 use Rattle.board_past.proofs.TableLemmas.{tabled}
 use Rattle.board_past.proofs.past.print_past.PrintPast.play_new.Goals as goal
-use Rattle.board_past.proofs.past.print_past.PrintPast.play_new.Goals.{Then-is_awake, then-is_awake, else-is_awake, In_ok-add_stone, else-is_none-via-then-is_none+else-len-self, else-is_none-via-else-is_none}
+use Rattle.board_past.proofs.past.print_past.PrintPast.play_new.Goals.{Then-is_awake, then-is_awake, else-is_awake, After-add_stone, In_ok-add_stone, else-is_none-via-then-is_none+else-len-self, else-is_none-via-else-is_none}
 
 awake : (c : Then-is_awake) → IsAwakeTable (all_of c.self.inside.colourings) c.self.inside.table
 awake c = c.is_awake.ensures.awake c.self.inside.colourings.newest c.self.inside.colourings.older c.self.invariant.tabled c.if-is_awake.true
@@ -29,23 +29,23 @@ print_after_clearing-requires-clause-print c =
     let was = c.self.inside.colourings in
     c.newest.ensures was.newest was.older (awake (goal.at.print_after_clearing-requires-clause-print c).Then-is_awake) ∙ ap (λ (g : Grid). print_of g) (sym c.newest-newest.ensures)
 
-pub invariant_of-self : goal.invariant_of-self
-invariant_of-self c =
+-- with as many colourings, or one stone more, the number holds still
+kept : (c : After-add_stone) → IsPrintPast c.add_stone.new.colourings c.add_stone.new.table c.add_stone.new.emptied c.self.inside.at_once_below
+kept c =
     let is = c.add_stone.ensures in
     record { tabled = is.table; emptied_in = is.emptied; at_once = is.at_once c.self.inside.at_once_below c.self.invariant.at_once }
+
+pub invariant_of-self : goal.invariant_of-self
+invariant_of-self c = kept (goal.at.invariant_of-self c).After-add_stone
 
 pub invariant_of-self-then-len-self : goal.invariant_of-self-then-len-self
 invariant_of-self-then-len-self c = record { tabled = c.add_stone.ensures.table; emptied_in = c.add_stone.ensures.emptied; at_once = c.at_once_below-self-inside.ensures }
 
 pub invariant_of-self-else-len-self : goal.invariant_of-self-else-len-self
-invariant_of-self-else-len-self c =
-    let is = c.add_stone.ensures in
-    record { tabled = is.table; emptied_in = is.emptied; at_once = is.at_once c.self.inside.at_once_below c.self.invariant.at_once }
+invariant_of-self-else-len-self c = kept (goal.at.invariant_of-self-else-len-self c).After-add_stone
 
 pub invariant_of-self-else-is_none : goal.invariant_of-self-else-is_none
-invariant_of-self-else-is_none c =
-    let is = c.add_stone.ensures in
-    record { tabled = is.table; emptied_in = is.emptied; at_once = is.at_once c.self.inside.at_once_below c.self.invariant.at_once }
+invariant_of-self-else-is_none c = kept (goal.at.invariant_of-self-else-is_none c).After-add_stone
 
 added : (c : In_ok-add_stone) → c.add_stone.new.colourings ≡ with_next c.args.self.now (play (newest_grid c.args.self.now) c.args.colour c.args.point) false
 added c = c.in_ok-add_stone.ensures.ok ∙ ap (λ (past : PastColourings). with_next past (play (newest_grid past) c.args.colour c.args.point) false) c.self.view_is

@@ -1,13 +1,10 @@
 use Rattle.board_past.proofs.Common.{◌≡◌, ◌+◌, ◌<◌, cond, false, ◌++◌, [], ◌∷◌, length, reverse, refl, ap, sym, ◌∙◌, arith, rules, Fits-of_lt, false≢true, Grid, Older, PastColourings, newest_grid, with_next, is_full, IsPast, KeepRows}
-use Rattle.board_past.proofs.ColouringsLemmas.{count-all, started-below, past_held, room_for_all, grown}
+use Rattle.board_past.proofs.ColouringsLemmas.{count-all, start_fits, past_held, room_for_all, grown}
 use Rattle.board_past.proofs.past.print_past.colourings.Colourings.add.Goals as goal
 use Rattle.board_past.proofs.past.print_past.colourings.Colourings.add.Goals.{After-copy-self-inside, then-begins, else-begins}
 
 pub overflow_cast-kept-2 : goal.overflow_cast-kept-2
-overflow_cast-kept-2 c =
-    let was = c.self.inside in
-    let few : length was.older.items < 4294967295 = omega (arith, c.requires.few, count-all was.newest was.stretch_start was.older.items was.changes.items c.args.self.now c.self.view_is) in
-    Fits-of_lt (omega (arith, started-below was.older.items was.older.items was.stretch_start 4294967295 refl few c.self.invariant.0.started))
+overflow_cast-kept-2 c = Fits-of_lt (start_fits _ _ _ _ _ c.self.view_is c.self.invariant.0 c.requires.few)
 
 -- what is kept, and what it tells
 next : (c : After-copy-self-inside) → IsPast c.copy-self-inside.result c.if-begins.stretch_start c.push_reserved.new.self.items c.keep_rows.new.changes.items

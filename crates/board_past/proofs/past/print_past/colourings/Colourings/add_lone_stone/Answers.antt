@@ -1,6 +1,6 @@
 use Rattle.board_past.proofs.Common.{◌≡◌, ◌+◌, [], false, true, length, reverse, refl, ap, sym, subst, ◌∙◌, ◌<◌, IsTrue, arith, rules, Fits-of_lt, has_unreaching, play, IsMove, Older, PastColourings, newest_grid, with_next, is_full, is_fresh, IsFreshStone, IsPast, side_play}
 use Rattle.board_past.proofs.ChangesLemmas.{alone_back}
-use Rattle.board_past.proofs.ColouringsLemmas.{count-all, started-below, past_held, room_before_full, grown_alone}
+use Rattle.board_past.proofs.ColouringsLemmas.{count-all, start_fits, past_held, room_before_full, grown_alone}
 use Rattle.board_past.proofs.past.print_past.colourings.Colourings.add_lone_stone.Goals as goal
 use Rattle.board_past.proofs.past.print_past.colourings.Colourings.add_lone_stone.Goals.{After-push_reserved, After-has_all_cells}
 
@@ -13,10 +13,7 @@ not_full : (c : After-has_all_cells) → is_full (length c.self.inside.older.ite
 not_full c = subst (λ n. is_full n ≡ false) (count c) c.requires.not_full
 
 pub overflow_cast-kept-2 : goal.overflow_cast-kept-2
-overflow_cast-kept-2 c =
-    let was = c.self.inside in
-    let few : length was.older.items < 4294967295 = omega (arith, c.requires.few, count (goal.at.overflow_cast-kept-2 c).After-has_all_cells) in
-    Fits-of_lt (omega (arith, started-below was.older.items was.older.items was.stretch_start 4294967295 refl few c.self.invariant.0.started))
+overflow_cast-kept-2 c = Fits-of_lt (start_fits _ _ _ _ _ c.self.view_is c.self.invariant.0 c.requires.few)
 
 pub push_reserved-requires : goal.push_reserved-requires
 push_reserved-requires c = omega (arith, c.self.inside.older.ok.0, (room_before_full _ _ c.self.invariant.1 (not_full (goal.at.push_reserved-requires c).After-has_all_cells)).0)

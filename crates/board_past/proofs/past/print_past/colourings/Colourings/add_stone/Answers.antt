@@ -1,6 +1,6 @@
 use Rattle.board_past.proofs.Common.{common_steps, ◌≡◌, ◌+◌, ◌++◌, [], ◌∷◌, false, length, reverse, refl, ap, sym, subst, ◌∙◌, ◌<◌, IsTrue, arith, rules, Fits-of_lt, has_unreaching, play, IsMove, Older, PastColourings, newest_grid, with_next, is_full, is_fresh, is_settled, IsFreshStone, IsPast, KeepRows, side_play}
 use Rattle.board_past.proofs.ChangesLemmas.{play_cells}
-use Rattle.board_past.proofs.ColouringsLemmas.{count-all, started-below, past_held, room_for_all, grown}
+use Rattle.board_past.proofs.ColouringsLemmas.{count-all, start_fits, past_held, room_for_all, grown}
 use Rattle.board_past.proofs.past.print_past.colourings.Colourings.add_stone.Goals as goal
 use Rattle.board_past.proofs.past.print_past.colourings.Colourings.add_stone.Goals.{After-push_reserved}
 
@@ -11,10 +11,7 @@ add_lone_stone-requires-clause-not_full c =
     ap is_full (sym count) ∙ sym c.is_full-full.ensures ∙ c.if-not-full.true
 
 pub overflow_cast-kept-2 : goal.overflow_cast-kept-2
-overflow_cast-kept-2 c =
-    let was = c.self.inside in
-    let few : length was.older.items < 4294967295 = omega (arith, c.requires.few, count-all was.newest was.stretch_start was.older.items was.changes.items c.args.self.now c.self.view_is) in
-    Fits-of_lt (omega (arith, started-below was.older.items was.older.items was.stretch_start 4294967295 refl few c.self.invariant.0.started))
+overflow_cast-kept-2 c = Fits-of_lt (start_fits _ _ _ _ _ c.self.view_is c.self.invariant.0 c.requires.few)
 
 -- what is kept, and what it tells
 next : (c : After-push_reserved) → IsPast c.place_and_clear.new.self c.self.inside.stretch_start c.push_reserved.new.self.items c.keep_played.new.changes.items

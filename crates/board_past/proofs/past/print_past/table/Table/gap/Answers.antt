@@ -1,6 +1,6 @@
 use Rattle.board_past.proofs.Common.{◌≡◌, ◌<◌, ◌^◌, ◌∷◌, false, bit_xor, w64, inl, inr, length, get_or, refl, ap, subst, sym, ◌∙◌, arith, bit_at, trailing_zeros, Fits-lt-pow, Fits-xor, Fits-of_lt, cases_lt, bit_at-trailing_zeros, item_count, child_at, IsNearest, IsTrie, IsWayTo, WIDTH, Held, all_of, bits_of, keys_of, way_nearest, get_or_default_zero}
 use Rattle.board_past.proofs.PrintLemmas.{print_small}
-use Rattle.board_past.proofs.TableLemmas.{tabled, gap_parts, linked_before, number_there, print_there}
+use Rattle.board_past.proofs.TableLemmas.{tabled, gap_parts, linked_before, number_there, print_there, found_in}
 use Rattle.board_past.proofs.past.print_past.table.Table.gap.Goals as goal
 
 pub returns-clause-gap : goal.returns-clause-gap
@@ -43,15 +43,10 @@ pub descend-from-requires-clause-some : goal.descend-from-requires-clause-some
 descend-from-requires-clause-some c = omega (arith, c.link.ensures.all, tabled (all_of c.args.colourings.now) c.link.new.self c.link.ensures.table)
 
 pub index-requires : goal.index-requires
-index-requires c =
-    let keys = keys_of c.link.new.self.hashed (all_of c.args.colourings.now) in
-    let linked = c.link.ensures.table.linked in
-    let near = way_nearest WIDTH keys c.link.new.self.trie linked c.descend-from.result (c.descend-from.ensures.way WIDTH keys linked) (omega arith) in
-    omega (arith, c.child-near.ensures, c.link.ensures.all, near.there)
+index-requires c = omega (arith, c.link.ensures.all, found_in (all_of c.args.colourings.now) c.link.new.self c.link.ensures.table c.descend-from.ensures.way (omega arith) c.child-near.ensures)
 
 pub returns-then-apart-eq0-clause-near : goal.returns-then-apart-eq0-clause-near
 returns-then-apart-eq0-clause-near c =
     let held = all_of c.args.colourings.now in
     let is = c.link.ensures.table in
-    let near = way_nearest WIDTH (keys_of c.link.new.self.hashed held) c.link.new.self.trie is.linked c.descend-from.result (c.descend-from.ensures.way WIDTH (keys_of c.link.new.self.hashed held) is.linked) (omega arith) in
-    omega (arith, c.child-near.ensures, c.link.ensures.all, near.there, tabled held c.link.new.self is)
+    omega (arith, c.link.ensures.all, found_in held c.link.new.self is c.descend-from.ensures.way (omega arith) c.child-near.ensures, tabled held c.link.new.self is)

@@ -1,5 +1,5 @@
 use Rattle.board_past.proofs.Common.{◌≡◌, ◌≢◌, ℕ, Bool, true, false, ◌<◌, ◌∷◌, length, ap, subst, sym, ◌∙◌, arith, Trie, Agree, item_count, child_at, IsNearest, IsOpening, IsTrie, IsWayTo, Grid, WIDTH, Held, all_of, hash_of, bits_of, hash_in_key, key_bits, keys_of, start_of, print_of, agree_self, parts_as, way_nearest}
-use Rattle.board_past.proofs.TableLemmas.{keys-next, keys-older, linked_before, repeats, side-number, tabled}
+use Rattle.board_past.proofs.TableLemmas.{keys-next, keys-older, linked_before, repeats, side-number, tabled, found_in}
 use Rattle.board_past.proofs.past.print_past.table.Table.gap_by_board.Goals as goal
 use Rattle.board_past.proofs.past.print_past.table.Table.gap_by_board.Goals.{After-first_apart}
 
@@ -99,7 +99,6 @@ descend-from-requires-clause-some c = omega (arith, c.hash_if_deep.ensures.all, 
 pub first_apart-requires-clause-number : goal.first_apart-requires-clause-number
 first_apart-requires-clause-number c =
     let held = all_of c.args.colourings.now in
-    let is = c.hash_if_deep.ensures.table in
     let t = c.hash_if_deep.new.self in
-    let near = way_nearest WIDTH (keys_of t.hashed held) t.trie is.linked c.descend-from.result (c.descend-from.ensures.way WIDTH (keys_of t.hashed held) is.linked) (omega arith) in
-    omega (arith, c.child-near.ensures, c.hash_if_deep.ensures.all, near.there, tabled held t is)
+    let is = c.hash_if_deep.ensures in
+    omega (arith, is.all, found_in held t is.table c.descend-from.ensures.way (omega arith) c.child-near.ensures, tabled held t is.table)

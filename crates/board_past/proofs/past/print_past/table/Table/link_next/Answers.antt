@@ -1,5 +1,5 @@
 use Rattle.board_past.proofs.Common.{ℕ, List, refl, subst, arith, Agree, item_count, FRONT, WIDTH, all_of, bits_of, keys_of, parts_as, way_nearest}
-use Rattle.board_past.proofs.TableLemmas.{one_linked, tabled, tabled_with}
+use Rattle.board_past.proofs.TableLemmas.{one_linked, tabled, tabled_with, found_in}
 use Rattle.board_past.proofs.past.print_past.table.Table.link_next.Goals as goal
 
 pub returns-in-Some : goal.returns-in-Some
@@ -28,8 +28,5 @@ key_of-key-requires-clause-number c =
 pub key_of-other-requires-clause-number : goal.key_of-other-requires-clause-number
 key_of-other-requires-clause-number c =
     let held = all_of c.args.colourings.now in
-    let t = c.args.self.now in
-    let keys = keys_of t.hashed held in
-    let linked = c.requires.unlinked.table.linked in
-    let near = way_nearest WIDTH keys t.trie linked c.descend-from.result (c.descend-from.ensures.way WIDTH keys linked) (omega arith) in
-    omega (arith, c.child-near.ensures, near.there, c.requires.unlinked.more, tabled (all_of c.args.colourings.now) c.args.self.now c.requires.unlinked.table)
+    let is = c.requires.unlinked in
+    omega (arith, found_in held c.args.self.now is.table c.descend-from.ensures.way (omega arith) c.child-near.ensures, is.more, tabled held c.args.self.now is.table)
