@@ -6,9 +6,8 @@ invariant_of-self c =
     let was = c.self.inside in
     let newest = was.colourings.newest in
     let left = all_of c.pop-2.new.self in
-    let table = c.pop.ensures newest left (subst (λ (held : List Held). IsTable (newest ∷ held) was.table) c.pop-2.ensures c.self.invariant.tabled) in
     record {
-      tabled = table;
+      tabled = c.pop.ensures newest left (subst (λ (held : List Held). IsTable (newest ∷ held) was.table) c.pop-2.ensures c.self.invariant.tabled);
       emptied_in = c.go_back.ensures newest left (subst (λ (held : List Held). IsEmptied (newest ∷ held) was.emptied) c.pop-2.ensures c.self.invariant.emptied_in) c.len.ensures;
       at_once = c.at_once_below-self-inside.ensures;
     }

@@ -8,12 +8,10 @@ returns c =
     let m = 2 ^ 64 in
     let g = c.args.board.now in
     let p = c.args.point in
-    let k = c.args.colour in
     let power = 31 ^ (g.side * g.side - 1 - index_of g.side p) in
-    let side = c.side.ensures.value ∙ c.size.ensures in
     let weight : c.power-weight.result ≡ power % m =
-    c.power-weight.ensures ∙ ap (λ n. 31 ^ n % m) (c.points_after.ensures.value ∙ ap (λ n. n * n - 1 - index_of n p) side) in
-    stone_added g p (stone_of k) c.requires.on_board c.requires.empty c.has_all_cells.ensures.all c.args.print c.match-colour.result c.requires.print
+    c.power-weight.ensures ∙ ap (λ n. 31 ^ n % m) (c.points_after.ensures.value ∙ ap (λ n. n * n - 1 - index_of n p) (c.side.ensures.value ∙ c.size.ensures)) in
+    stone_added g p (stone_of c.args.colour) c.requires.on_board c.requires.empty c.has_all_cells.ensures.all c.args.print c.match-colour.result c.requires.print
     (elim c.match-colour.branch [
       | in-Black w ↦
           ap (λ n. n % m) (w.result-is ∙ weight) ∙ counted_once power ∙ ap (λ x. (code (stone_of x) * power) % m) (sym w.in-Black.is)

@@ -13,9 +13,8 @@ returns c =
     let p = c.args.point in
     let power = 31 ^ (g.side * g.side - 1 - index_of g.side p) in
     let cell : c.at.result ≡ cell_at g p = c.at.ensures in
-    let side = c.side.ensures.value ∙ c.size.ensures in
     let weight : c.power-weight.result ≡ power % m =
-    c.power-weight.ensures ∙ ap (λ n. 31 ^ n % m) (c.points_after.ensures.value ∙ ap (λ n. n * n - 1 - index_of n p) side) in
+    c.power-weight.ensures ∙ ap (λ n. 31 ^ n % m) (c.points_after.ensures.value ∙ ap (λ n. n * n - 1 - index_of n p) (c.side.ensures.value ∙ c.size.ensures)) in
     let removed : (c.match-at.result < m) × (c.match-at.result % m ≡ (code (cell_at g p) * power) % m) =
     elim c.match-at.branch [
       | in-Empty w ↦

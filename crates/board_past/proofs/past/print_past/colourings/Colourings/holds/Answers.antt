@@ -11,22 +11,19 @@ returns-then-is_at c =
 
 pub each-preserved : goal.each-preserved
 each-preserved c =
-    let held = all_of c.args.self.now in
-    let here = c.each.number - 1 in
     record {
       within = omega (arith, c.each.invariant.within);
-      none = λ y low high at. elim (cases_eq y here) [
+      none = λ y low high at. elim (cases_eq y (c.each.number - 1)) [
         | inr other ↦ c.each.invariant.none y (omega (arith, low, other)) high at
-        | inl same ↦ false≢true (sym c.if-is_at.false ∙ c.is_at.ensures.1 (subst (λ n. IsNumber held n c.args.board.now) same at))
+        | inl same ↦ false≢true (sym c.if-is_at.false ∙ c.is_at.ensures.1 (subst (λ n. IsNumber (all_of c.args.self.now) n c.args.board.now) same at))
       ];
     }
 
 pub returns : goal.returns
 returns c =
-    let held = all_of c.args.self.now in
     let start = c.stretch_start-start.ensures.start in (
       λ is. absurd (false≢true is),
       λ has.
-          let h = has_number held c.args.board.now has in
+          let h = has_number (all_of c.args.self.now) c.args.board.now has in
           absurd (c.each.invariant.none h.0 (omega (arith, start, h.2, c.each-test.false)) (omega (arith, h.1)) h.3),
     )

@@ -48,10 +48,9 @@ pub returns-clause-emptied : goal.returns-clause-emptied
 returns-clause-emptied c = λ next newest older was number empties.
     let l = c.each in
     let old = c.args.self.now in
-    let is = l.invariant in
     let both = returns-clause-both c in
     let all : HasAllEmptied (is_set l.self.rows) (next ∷ newest ∷ older) = (
       λ goes_on p on stone free. both p ∙ or_right _ _ (empties goes_on p on stone free),
       HasAllEmptied-more (is_set old.rows) (is_set l.self.rows) (newest ∷ older) (λ p set. both p ∙ or_left _ _ set) (history_all old.rows _ _ was.history),
     ) in
-    logged_next (newest ∷ older) next l.self all (is.logged (newest ∷ older) number was)
+    logged_next (newest ∷ older) next l.self all (l.invariant.logged (newest ∷ older) number was)
