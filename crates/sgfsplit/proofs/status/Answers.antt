@@ -1,5 +1,5 @@
 -- The job that is done is the one that the words ask for.
-use Rattle.std.proofs.Common.{inl}
+use Rattle.std.proofs.Common.{inl, rules}
 use Rattle.sgfsplit.proofs.status.Goals as goal
 
 pub returns-in-Ok-clause-split : goal.returns-in-Ok-clause-split
@@ -7,3 +7,10 @@ returns-in-Ok-clause-split c = λ name given plain words. inl (c.in-Ok.job, c.in
 
 pub returns-in-Ok-clause-count : goal.returns-in-Ok-clause-count
 returns-in-Ok-clause-count c = λ name file named words. inl (c.in-Ok.job, c.in-Ok.ensures.count name file named words, c.opened.ensures)
+
+-- the others are written out though the prover needs no help: it then refuses a wrong body sooner
+pub returns-in-Ok-clause-any : goal.returns-in-Ok-clause-any
+returns-in-Ok-clause-any c = inl (c.in-Ok.job, c.in-Ok.ensures.faultless, c.opened.ensures)
+
+pub returns-in-Err-Words-clause-any : goal.returns-in-Err-Words-clause-any
+returns-in-Err-Words-clause-any c = search rules
