@@ -6,7 +6,6 @@ ghost use Rattle.clap.specs.Values.{kind_of};
 ghost use Rattle.sgf_lines.specs.Answer.{reads_failed, writes_failed};
 ghost use Rattle.byte_streams.specs.Streams.{HasDelivered};
 ghost use Rattle.sgf_lines.specs.declared.fault.RunFault.TheVariants.{Memory};
-ghost use Rattle.sgfsplit_job.specs.Fault.{fault_row, status_of};
 ghost use Rattle.sgfsplit_job.specs.Act.{DoesJob, FlushesAfter, IsAct, Shows, TakesText, Tells};
 
 use crate::fault::Fault;

@@ -1,6 +1,6 @@
 //! The words of a command line, and the job that they ask for.
 
-ghost use Rattle.std.specs.Prelude.{◌≡◌, true, ℕ, List, Some, None, Option, option_map, map, IfErr, IfOk, IfSome, OnOk, MatchResult, codes, string_bytes};
+ghost use Rattle.std.specs.Prelude.{◌≡◌, true, List, Some, None, Option, option_map, map, IfErr, IfOk, IfSome, OnOk, MatchResult, codes, string_bytes};
 ghost use Rattle.std.specs.Str.Parse.{digits_value};
 ghost use Rattle.clap.specs.Matches.{has_subcommand};
 ghost use Rattle.clap.specs.Simple.{subcommand_rows_of};
