@@ -1,8 +1,15 @@
 -- The cursor went on to the next line, and so many nodes are played for that line.
-use Rattle.judged_lines.proofs.Common.{◌≡◌, ℕ, ◌-◌, ◌<◌, length, Result, Err, ap, subst, arith, rules, Bool, IsErr, common_steps, Front, CursorState, nodes_before, path_before, Continues, SequencesState, Before, Unheld, Held, Refused, AreHeld, HasPlays, PlaysLine, StandsBy, index_by, PlaysUpTo, fresh_plays, GoesOnBy}
+use Rattle.judged_lines.proofs.Common.{◌≡◌, ℕ, ◌-◌, ◌<◌, length, Result, Err, ap, subst, arith, rules, Bool, IsErr, common_steps, Front, CursorState, nodes_before, path_before, Continues, SequencesState, Before, Unheld, Held, Refused, AreHeld, HasPlays, PlaysLine, StandsBy, index_by, PlaysUpTo, fresh_plays, advanced, SharesFront}
+use Rattle.judged_lines.specs.GoingOn.{no_front}
 use Rattle.judged_lines.proofs.Keeping.{some_node}
 use Rattle.tree_lines.proofs.LineNodes.{line_is, some_before}
 use Rattle.judged_lines.proofs.LineVerdicts.{some_line}
+
+-- the cursor went on to the next line, of which this front is held
+abbrev pub GoesOnBy : Before → SequencesState → SequencesState → Front → Type 0
+GoesOnBy Unheld old new held = (new.at ≡ advanced old.at) × (held ≡ no_front) × ((shared : Front) × SharesFront old new shared)
+GoesOnBy Held old new held = (new.at ≡ advanced old.at) × SharesFront old new held
+GoesOnBy Refused old new held = (new ≡ old) × (held ≡ no_front)
 
 -- the next line stands before the cursor
 pub record IsNext (before : Before) (old new : SequencesState) (held : Front) : Type 0 where

@@ -2,5 +2,4 @@
 pub mod Gathered
 pub mod Judging
 pub mod Keeping
-pub mod GoingOn
 pub mod Followers

@@ -38,8 +38,8 @@ impl LineKeeper for JudgedLine {
     }
 }
 
-/// A follower goes over lines in file order, all or those after a cursor, and judges each. Nodes that a line shares with the line before it are
-/// not played again. Contracts see it as the collection, the index (from 0) of its next line, and its streak: how many lines directly
+/// A follower goes over lines in file order, all or those after a cursor, and judges each. Nodes that a line shares with the line before it
+/// are not played again. Contracts see it as the collection, the index (from 0) of its next line, and its streak: how many lines directly
 /// before that one it has judged, since it began or since memory was last refused.
 #[derive(Drop)]
 pub struct Follower<'c, 'a> {

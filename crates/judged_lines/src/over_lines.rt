@@ -1,14 +1,13 @@
-//! Going over the lines after a cursor, and what is kept from line to line. A run and a `Follower` both do it by `OverLines::next`. `StandsBy` says
-//! what is held of the line before the cursor. It holds after each `next`, even after a refusal.
+//! Going over the lines after a cursor, and what is kept from line to line. A run and a `Follower` both do it by `OverLines::next`.
+//! `StandsBy` says what is held of the line before the cursor. It holds after each `next`, even after a refusal.
 
-ghost use Rattle.std.specs.Prelude.{◌≡◌, ◌≢◌, ◌+◌, ◌<◌, ℕ, None, length, slice_get, IfNone, IfOk, IfSome, OnErr, OnOk, MatchBool};
+ghost use Rattle.std.specs.Prelude.{◌≡◌, ◌≢◌, ◌+◌, ◌<◌, ℕ, None, length, slice_get, IfOk, OnErr, OnOk, MatchBool};
 ghost use Rattle.sgf_outline.specs.Tree.{node_count};
 ghost use Rattle.tree_lines.specs.Lines.{lines};
 ghost use Rattle.tree_lines.specs.Cursor.{advanced};
 ghost use Rattle.judged_lines.specs.declared.over_lines.Before.TheVariants.{Unheld, Held};
 ghost use Rattle.tree_lines.specs.Following.{nodes_before};
 ghost use Rattle.judged_lines.specs.GoingOn.{HasFront, IsHeldOf, PlaysLine, StandsBy, next_by};
-ghost use Rattle.judged_lines.specs.inner.GoingOn.{GoesOnBy};
 ghost use Rattle.judged_lines.specs.Keeping.{PlaysUpTo, fresh_plays};
 ghost use Rattle.tree_lines.specs.Sequences.{SequencesState, RiseTo};
 
@@ -77,7 +76,7 @@ impl<'c, 'a, K: LineKeeper> OverLines<'c, 'a, K> {
         ensures stands { StandsBy self.new.before (nodes_before self.new.cursor.at) (K.holds self.new.keeper self.new.cursor) }
         ensures plays { PlaysLine K.counts self.old.before self.old.cursor.at (K.played self.old.keeper) (K.played self.new.keeper) result }
     {
-        // What is held already of the next line. After a refusal the cursor stands after that line.
+        // What is held already of the next line. After `Before::Refused` the cursor stands after that line already.
         let held = if let Before::Refused = self.before {
             NO_FRONT
         } else {

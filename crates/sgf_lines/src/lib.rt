@@ -18,8 +18,8 @@
 //! }
 //! ```
 //!
-//! The loops end because each pass leaves one line fewer. (`lines_in_memory` has the whole loops, with their proofs. Here are the measures of
-//! the two labelled loops.)
+//! The loops end because each pass leaves one line fewer. (`lines_in_memory` has the whole loops, with their proofs. Here are the measures
+//! of the two labelled loops.)
 //!
 //! ```text
 //! decreases-lines l = length (lines l.cursor.games) - l.cursor.index

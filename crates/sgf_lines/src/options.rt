@@ -1,6 +1,6 @@
 //! What a run is asked for.
 
-ghost use Rattle.std.specs.Prelude.{◌≡◌, List, ℕ, IfSome, None, Some, map, slice_get};
+ghost use Rattle.std.specs.Prelude.{◌≡◌, List, IfSome, None, Some, map, slice_get};
 ghost use Rattle.sgf_lines.specs.Form.{forms, form_word};
 
 /// The words that name the forms, in the order of their numbers.

@@ -2,9 +2,7 @@
 
 ghost use Rattle.std.specs.Prelude.{◌≡◌, ◌<◌, ◌≤◌, ◌+◌, ℕ, List, [], length, IfOk, OnOk};
 ghost use Rattle.sgf_outline.specs.declared.limit.TheConstants.{MAX_LENGTH};
-ghost use Rattle.sgf_outline.specs.FileOrder.{PlacesRise};
 ghost use Rattle.sgf_outline.specs.Spelling.{Spells};
-ghost use Rattle.sgf_outline.specs.Tree.{node_count};
 ghost use Rattle.byte_streams.specs.Streams.{HasDelivered, SourceState};
 ghost use Rattle.sgf_lines.specs.Answer.{IsRun, read_failures, write_failures};
 ghost use Rattle.sgf_lines.specs.RunPlays.{IsRunWithPlays};

@@ -1,5 +1,5 @@
-//! What a node holds for the referee and for a script: moves, stones and players (SGF FF[4], move and setup properties), and a
-//! comment. It is gathered in one pass over the node's properties. And what raw values say on a board (SGF FF[4], "Move" and "Color").
+//! What a node holds for the referee and for a script: moves, stones and players (SGF FF[4], move and setup properties), and a comment. It
+//! is gathered in one pass over the node's properties. What raw values say on a board stands here, too (SGF FF[4], "Move" and "Color").
 
 ghost use Rattle.std.specs.Prelude.{◌≡◌, ◌∷◌, ◌++◌, [], ℕ, List, Option, IfOk, IfSome, OnOk, option_map, Some};
 ghost use Rattle.sgf_outline.specs.Tree.{Property, lone_property, told_property, values};
@@ -220,7 +220,8 @@ fn last_player(property: &PropRef<'_>) -> Option<Colour>
     Some(last)
 }
 
-/// What the values of a property are; None if neither the referee nor a script needs them. So KM, HA, KO, MA, RE and all others have no effect.
+/// What the values of a property are; None if neither the referee nor a script needs them. So KM, HA, KO, MA, RE and all others have no
+/// effect.
 fn kind_of(property: &PropRef<'_>) -> Option<Kind>
     ensures { result ≡ kind_of_rule property.now }
 {

@@ -2,10 +2,8 @@
 //! once that was asked for. Many lines may end on one board, as lines that differ only in a pass or in an empty node do. Its score isn't
 //! worked out again.
 
-ghost use Rattle.std.specs.Prelude.{◌≡◌, ◌+◌, ◌<◌, ◌≤◌, ◌⊎◌, length, IsFalse, IsTrue, OnOk, OnErr, IfOk, IfSome, Some, option_copied};
+ghost use Rattle.std.specs.Prelude.{◌≡◌, ◌+◌, ◌<◌, ◌≤◌, ◌⊎◌, IsFalse, IsTrue, OnOk, OnErr, IfOk, IfSome, Some, option_copied};
 ghost use Rattle.sgf_outline.specs.Tree.{Node};
-ghost use Rattle.board_stones.specs.declared.stones.Colour.TheVariants.{Black, White};
-ghost use Rattle.board_stones.specs.Score.{score_of};
 ghost use Rattle.go_board.specs.State.{HadSameBoardSince, begun};
 ghost use Rattle.judged_lines.specs.JudgedGames.{game_kind, board};
 ghost use Rattle.judged_lines.specs.inner.Gathered.{ComesAs};
@@ -241,8 +239,8 @@ fn put_game(
     Ok(())
 }
 
-/// What is still known of the score after going back to the first `count` nodes: `score`, if `scored` is at most `count`, or if the nodes after
-/// these left the board alone. `score` is that of the board after the first `scored` nodes, if it is known.
+/// What is still known of the score after going back to the first `count` nodes: `score`, if `scored` is at most `count`, or if the nodes
+/// after these left the board alone. `score` is that of the board after the first `scored` nodes, if it is known.
 #[inline(always)]
 fn score_back(
     score: Option<(u32, u32)>,

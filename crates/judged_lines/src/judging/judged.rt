@@ -2,13 +2,11 @@
 
 ghost use Rattle.std.specs.Prelude.{◌≡◌, ◌+◌, ◌<◌, ◌≤◌, ◌++◌, ◌∷◌, [], List, length, take, option_copied, IfOk, IsFalse, IsTrue, OnErr, OnOk};
 ghost use Rattle.sgf_outline.specs.Tree.{Node};
-ghost use Rattle.tree_lines.specs.Following.{nodes_before};
 ghost use Rattle.judged_lines.specs.JudgedGames.{GameKind};
 ghost use Rattle.judged_lines.specs.Walk.{LegalNode};
-ghost use Rattle.judged_lines.specs.GoingOn.{HasFront, IsHeldOf};
 ghost use Rattle.judged_lines.specs.inner.Judging.{IsDecided, IsUndecided};
 ghost use Rattle.judged_lines.specs.Judgement.{IsLegalStep, begun_game, board_in};
-ghost use Rattle.judged_lines.specs.Keeping.{HasJudged, HoldsLine, HoldsVerdict, PlaysUpTo, fresh_plays};
+ghost use Rattle.judged_lines.specs.Keeping.{HasJudged, HoldsVerdict};
 ghost use Rattle.judged_lines.specs.inner.Keeping.{WentOn, plays_for};
 
 use crate::judging::contents::NEEDED_NAMES;
@@ -120,8 +118,8 @@ impl<K: StepKeeper> LineKeeper for Judged<K> {
     }
 }
 
-/// Judges the nodes of one more sequence of a line, and tells their steps, up to the first that isn't taken. Returns whether all were taken.
-/// So nothing asks before each node whether the verdict is known.
+/// Judges the nodes of one more sequence of a line, and tells their steps, up to the first that isn't taken. Returns whether all were
+/// taken. So nothing asks before each node whether the verdict is known.
 #[inline(always)]
 fn judge_sequence<K: StepKeeper>(
     mut nodes: SequenceNodes<'_, '_>,

@@ -8,7 +8,7 @@ ghost use Rattle.judged_lines.specs.NodeValues.{move_value as move_value_rule};
 ghost use Rattle.judged_lines.specs.Step.{step, move_step};
 ghost use Rattle.judged_lines.specs.inner.Gathered.{IsGathered, ComesAs};
 ghost use Rattle.judged_lines.specs.inner.Judging.{IsStepped, setup_effect};
-ghost use Rattle.judged_lines.specs.Judgement.{IsStepOf, IsEffect, IsEffectBy};
+ghost use Rattle.judged_lines.specs.Judgement.{IsStepOf, IsEffectBy};
 
 use crate::judging::contents::{Contents, Moves, Setup, gathered, move_value};
 use go_board::{Colour, Past, Play, Reason, Referee, SetupOp, TurnFault};
@@ -95,9 +95,10 @@ fn take_any_step<'a, P: Past>(
     take_contents(referee, contents, operations)
 }
 
-/// Takes the step of a node with these contents. `operations` has the operations of the node's stones. The first reason that holds is given,
-/// in this order: `mixed` (a move and a setup, even a faulty one), `two-moves`, `bad-setup`, and then those of `take_move`. A `bad-setup`
-/// was found by `gathered`. Of the arms only the last must stay last: those of `two-moves` and `bad-setup` are for nodes that aren't mixed.
+/// Takes the step of a node with these contents. `operations` has the operations of the node's stones. The first reason that holds is
+/// given, in this order: `mixed` (a move and a setup, even a faulty one), `two-moves`, `bad-setup`, and then those of `take_move`. A
+/// `bad-setup` was found by `gathered`. Of the arms only the last must stay last: those of `two-moves` and `bad-setup` are for nodes that
+/// aren't mixed.
 #[inline(always)]
 fn take_contents<'a, P: Past>(
     referee: &mut Referee<P>,

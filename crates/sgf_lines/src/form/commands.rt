@@ -1,14 +1,15 @@
 //! The commands of a node in the script of a line (Go Text Protocol, version 2).
 //!
 //! `#[inline(always)]` is on a play command, which most nodes add, and on the search for a board's stones, so that it is compiled for each
-//! colour. `#[inline(never)]` is on what few nodes or points need. Without these attributes gtp form takes up to 1.4 percent more instructions.
+//! colour. `#[inline(never)]` is on what few nodes or points need. Without these attributes gtp form takes up to 1.4 percent more
+//! instructions.
 
 ghost use Rattle.std.specs.Prelude.{◌≡◌, ℕ, List, [], ◌∷◌, ◌++◌, ◌+◌, ◌≤◌, ◌<◌, ◌*◌, OnOk, option_copied};
 ghost use Rattle.board_points.specs.Point.{IsOn};
 ghost use Rattle.go_board.specs.declared.referee.plays.Play.TheVariants.{Stone};
 ghost use Rattle.go_board.specs.State.{IsPlayOn};
 ghost use Rattle.sgf_properties.specs.Text.{text_of};
-ghost use Rattle.sgf_lines.specs.Script.{text_rows, comment_row, comment_text, colour_letter, play_command, stone_commands, colouring_commands, board_commands};
+ghost use Rattle.sgf_lines.specs.Script.{text_rows, comment_row, comment_text, colour_letter, play_command, stone_commands, colouring_commands};
 ghost use Rattle.sgf_lines.specs.inner.Cutting.{commands_at, AreAppended, stone_command};
 ghost use Rattle.sgf_lines.specs.inner.Scripting.{IsPlayable, step_script};
 

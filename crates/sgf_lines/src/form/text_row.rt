@@ -1,5 +1,5 @@
-//! A text row, such as that of a line, alone or as a comment. It is built from its end to its front, because the digits of a number are found
-//! last to first.
+//! A text row, such as that of a line, alone or as a comment. It is built from its end to its front, because the digits of a number are
+//! found last to first.
 
 ghost use Rattle.std.specs.Prelude.{◌≡◌, ◌<◌, ◌≤◌, ◌+◌, Some, [], ◌++◌, length, codes, decimal};
 ghost use Rattle.tree_lines.specs.Lines.{Line};
