@@ -9,7 +9,7 @@ pub asleep_if_room : (held : List Held) (table : Table) (below : ℕ) → IsTabl
 asleep_if_room held table below (inl is) some room = is
 asleep_if_room held table below (inr is) some room = absurd (omega (arith, some, room some, is.awake))
 
--- 0 is always right
+-- the number 0 is right for every past: no step is below it
 pub at_once_none : (past : PastColourings) (table : Table) → ArePlayedAtOnce past table 0
 at_once_none past table = record { settled = λ some. absurd (omega (arith, some)); asleep = λ some. absurd (omega (arith, some)); not_full = λ count from few. absurd (omega (arith, few)) }
 

@@ -409,7 +409,7 @@ written-all held older prints at all none written =
 pub count-all : (g : Grid) (start : ℕ) (older : List Older) (changes : List Change) (past : PastColourings) → past_held g start (reverse older) changes ≡ past → length (all_of past) ≡ length older + 1
 count-all g start older changes past same = grind (arith, length-held, length-reverse)
 
--- so 32 bits have the start of the present stretch
+-- so the start of the present stretch fits into 32 bits
 pub start_fits : (g : Grid) (start : ℕ) (older : List Older) (changes : List Change) (past : PastColourings) → past_held g start (reverse older) changes ≡ past → IsPast g start older changes → length (all_of past) ≤ MOST → start < 2 ^ 32
 start_fits g start older changes past same is few = omega (arith, few, count-all g start older changes past same, started-le start (reverse older) is.started, length-reverse older)
 

@@ -244,7 +244,7 @@ module _ (held : List Held) (old new : Table) (asleep : IsAsleepTable held old �
   print_same next None is = record { awake = tt; asleep = asleep is.asleep }
   print_same next (Some number) is = record { awake = (awake is.awake.0, is.awake.1); asleep = tt }
 
--- a table that only got more room, and may count on it while it sleeps
+-- a sleeping table is still right if it only gets more room; it may count on `room` if the trie and the prints have that
 pub asleep_grown : (held : List Held) (old new : Table) (room : ℕ) → GrowsTable old new → old.room_asleep ≤ room → room ≤ capacity_of new.trie → room ≤ vec_capacity new.prints → IsAsleepTable held old → IsAsleepTable held (record new { room_asleep = room })
 asleep_grown held old new room grows more trie prints is = record {
   asleep = omega (arith, is.asleep, more);
@@ -257,6 +257,7 @@ asleep_grown held old new room grows more trie prints is = record {
   kept = rw grows.hashes is.kept;
 }
 
+-- so is an awake one
 pub awake_grown : (held : List Held) (old new : Table) → GrowsTable old new → IsAwakeTable held old → IsAwakeTable held new
 awake_grown held old new grows is =
     tabled_with held old new is grows.prints grows.hashes grows.asleep (omega (arith, is.room, grows.room)) grows.most (rw grows.nodes is.few) (rw (grows.nodes, grows.hashed) is.linked)

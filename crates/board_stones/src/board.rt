@@ -84,7 +84,7 @@ impl Board {
     {
         let row = usize::from(point.row);
         let col = usize::from(point.col);
-        // both words are read before either is tested, so that asking for an empty point takes one test
+        // both words are read before either is tested, so that one test tells whether the point is empty
         let (black, white) = (self.black[row], self.white[row]);
         if has_column(black, col) {
             return Cell::Black;

@@ -1,4 +1,4 @@
-//! Where the bytes of a run go: what takes bytes; sinks over a writer, one of which holds bytes back, and a sink over an array.
+//! Where the bytes of a run go: the trait `Sink`, two sinks over a writer, one of which holds bytes back, and a sink over an array.
 
 ghost use Rattle.std.specs.Prelude.{◌≡◌, ◌<◌, ◌≤◌, ◌+◌, ◌++◌, [], length, take, drop, vec_len, vec_capacity, Some, IfOk, IfSome, OnErr, OnOk};
 ghost use Rattle.std.specs.Io.KnownBytes.{Appends, append_known};

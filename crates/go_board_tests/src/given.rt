@@ -27,7 +27,7 @@ pub(crate) fn holds(rt: &impl Abort, is_so: bool, what: &str) {
     }
 }
 
-/// This must hold at a step on a board of this side.
+/// This must hold. The message has `what`, a number and the side of the board.
 pub(crate) fn holds_at(rt: &impl Abort, is_so: bool, what: &str, number: u32, side: u8) {
     assert!(rt; is_so, "{what} {number} on side {side}");
 }

@@ -4,13 +4,13 @@ ghost use Rattle.std.specs.Prelude.{◌≡◌};
 ghost use Rattle.board_points.specs.Point.{IsOn};
 
 use crate::given::{at, holds_at, next_number, size};
-use crate::kept::Kept;
+use crate::sided_past::SidedPast;
 use go_board::{Board, Cell, Colour, ListPast, MAX_POINTS, MAX_SIDE, Past, Point, PrintPast};
 use std::alloc::Global;
 use std::process::Abort;
 
 /// Makes the call of a past that a number stands for. Returns false if that is to play a stone, and the stone isn't added.
-fn call<P: Past>(rt: &impl Abort, past: &mut Kept<P>, number: u64) -> bool
+fn call<P: Past>(rt: &impl Abort, past: &mut SidedPast<P>, number: u64) -> bool
     ensures { past.new ≡ past.old }
 {
     let board = numbered(rt, past.side(), number >> 48);
@@ -31,8 +31,14 @@ fn call<P: Past>(rt: &impl Abort, past: &mut Kept<P>, number: u64) -> bool
 }
 
 /// Whether both pasts have the same newest colouring, and both or neither hold the one with this number.
-fn agree(rt: &impl Abort, listed: &Kept<ListPast>, printed: &Kept<PrintPast>, number: u64) -> bool {
+fn agree(
+    rt: &impl Abort,
+    listed: &SidedPast<ListPast>,
+    printed: &SidedPast<PrintPast>,
+    number: u64,
+) -> bool {
     let board = numbered(rt, listed.side(), number >> 48);
+    // for the proof: `holds` needs a board of this side
     assert!(rt; printed.side() == listed.side());
     listed.newest().same(printed.newest()) && listed.holds(&board) == printed.holds(&board)
 }
@@ -97,11 +103,11 @@ fn set(rt: &impl Abort, board: &mut Board, index: usize, cell: Cell) {
     board.set(point, cell);
 }
 
-/// Makes the same calls of both pasts. Both must return the same.
+/// Makes the same calls of both pasts. Each call must return the same from both, and after it they must agree.
 fn calls(
     rt: &impl Abort,
-    listed: &mut Kept<ListPast>,
-    printed: &mut Kept<PrintPast>,
+    listed: &mut SidedPast<ListPast>,
+    printed: &mut SidedPast<PrintPast>,
     side: u8,
     count: u32,
 ) {
@@ -118,16 +124,16 @@ fn calls(
 }
 
 /// Makes the same calls of two pasts on boards of one side.
-fn pasts(rt: &impl Abort, alloc: Global, side: u8, count: u32) {
+fn calls_on_side(rt: &impl Abort, alloc: Global, side: u8, count: u32) {
     let first = numbered(rt, side, 0);
-    let mut listed = Kept::<ListPast>::new(rt, alloc, &first);
-    let mut printed = Kept::<PrintPast>::new(rt, alloc, &first);
+    let mut listed = SidedPast::<ListPast>::new(rt, alloc, &first);
+    let mut printed = SidedPast::<PrintPast>::new(rt, alloc, &first);
     calls(rt, &mut listed, &mut printed, side, count);
 }
 
 #[test]
 fn pasts_in_step(rt: HostRuntime) {
     for (side, count) in [(1, 200), (2, 1000), (3, 1000), (4, 1000), (52, 1500)] {
-        pasts(&rt, rt.alloc(), side, count);
+        calls_on_side(&rt, rt.alloc(), side, count);
     }
 }

@@ -11,7 +11,7 @@
 //! | `referee` | turns, setup, undo, another game; the messages of the faults |
 //! | `captures` | games with captures over both pasts |
 //! | `in_step` | the same calls of both pasts, also on many colourings with one print |
-//! | `given`, `kept` | nothing: they have points, sizes, numbers and checks for the other modules, and a past of boards of one side |
+//! | `given`, `sided_past` | nothing: they have points, sizes, numbers and checks for the other modules, and a past of boards of one side |
 #![tactic(auto)]
 
 #[cfg(test)]
@@ -23,13 +23,13 @@ mod given;
 #[cfg(test)]
 mod in_step;
 #[cfg(test)]
-mod kept;
-#[cfg(test)]
 mod moves;
 #[cfg(test)]
 mod past;
 #[cfg(test)]
 mod referee;
+#[cfg(test)]
+mod sided_past;
 #[cfg(test)]
 mod size;
 #[cfg(test)]

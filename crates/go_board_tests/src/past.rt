@@ -4,7 +4,7 @@ ghost use Rattle.std.specs.Prelude.{◌≡◌};
 ghost use Rattle.board_points.specs.Point.{IsOn};
 
 use crate::given::{at, holds, size};
-use crate::kept::Kept;
+use crate::sided_past::SidedPast;
 use go_board::{Board, Cell, ListPast, Past, Point, PrintPast};
 use std::alloc::Global;
 use std::process::Abort;
@@ -22,7 +22,7 @@ fn with_stone(board: &Board, point: Point, cell: Cell) -> Board
 /// If `anew`: whether the present stretch holds `white` alone. Else: whether
 /// it holds `empty` and `black`, and not `white`.
 fn has_alone<P: Past>(
-    past: &Kept<P>,
+    past: &SidedPast<P>,
     anew: bool,
     empty: &Board,
     black: &Board,
@@ -36,7 +36,7 @@ fn has_alone<P: Past>(
 }
 
 /// A new stretch hides the earlier colourings, until the stretch is taken back.
-fn begins_anew<P: Past>(rt: &impl Abort, past: &mut Kept<P>, empty: &Board)
+fn begins_anew<P: Past>(rt: &impl Abort, past: &mut SidedPast<P>, empty: &Board)
     requires side { empty.now.side ≡ 3 }
     requires past { past.old ≡ 3 }
 {
@@ -56,7 +56,7 @@ fn begins_anew<P: Past>(rt: &impl Abort, past: &mut Kept<P>, empty: &Board)
 /// Begins a new stretch in a past of the empty board alone.
 fn past_begins_anew<P: Past>(rt: &impl Abort, alloc: Global) {
     let empty = Board::empty(size(rt, 3));
-    let mut past = Kept::<P>::new(rt, alloc, &empty);
+    let mut past = SidedPast::<P>::new(rt, alloc, &empty);
     begins_anew(rt, &mut past, &empty);
 }
 
@@ -65,7 +65,7 @@ fn prints_alike<P: Past>(rt: &impl Abort, alloc: Global) {
     let empty = Board::empty(size(rt, 25));
     let inner = with_stone(&empty, at(12, 4), Cell::Black);
     let last = with_stone(&empty, at(24, 24), Cell::Black);
-    let past = Kept::<P>::new(rt, alloc, &inner);
+    let past = SidedPast::<P>::new(rt, alloc, &inner);
     holds(rt, past.holds(&inner), "what a past has");
     holds(rt, !past.holds(&last), "what a past doesn't have");
 }

@@ -3,7 +3,7 @@
 use crate::given::holds;
 use go_board::{MAX_SIDE, Size};
 
-/// Sides, and whether a board can have each.
+/// Sides, whether a board can have each, and the message if that is wrong.
 const SIDES: [(u8, bool, &str); 6] = [
     (0, false, "side 0"),
     (1, true, "side 1"),

@@ -3,7 +3,7 @@
 use crate::given::{holds, size};
 use go_board::{Point, Rect, point, rect};
 
-/// Each value has the side of a board, the point that it names there, and a word on why.
+/// Each value has the side of a board, the point that it names there, and the message if that is wrong.
 const POINTS: [(&str, u8, Option<Point>, &str); 11] = [
     ("aa", 1, Some(Point { col: 0, row: 0 }), "the only point"),
     ("ba", 1, None, "no column b"),

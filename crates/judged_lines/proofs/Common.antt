@@ -4,7 +4,7 @@ pub use Rattle.std.proofs.Common.{[], add-one, All, ap, append-nil, append_assoc
 pub use Rattle.std.proofs.lemmas.Bool.{cases_Bool, cases_eq, cases_lt, false_from_ne_true, lt-leb}
 pub use Rattle.std.proofs.lemmas.Grind.{common_steps, flat_map-append}
 pub use Rattle.std.proofs.lemmas.List.{length-map, map-append, nil_from_length, take-append-le, take-map}
-pub use Rattle.std.proofs.lemmas.List.Elements.{All-append, All-filter, All-from_recursion, All-head, All-nil, All-tail, All-weaker, filter-append, filter_passes, recursion_from_All}
+pub use Rattle.std.proofs.lemmas.List.Elements.{All-append, All-filter, All-from_recursion, All-head, All-nil, All-tail, filter-append, filter_passes, recursion_from_All}
 pub use Rattle.std.proofs.lemmas.List.Sums.{fold-append}
 pub use Rattle.std.proofs.lemmas.Option.{slice_get_within}
 pub use Rattle.sgf_properties.specs.declared.fault.MemoryFault.{MemoryFault}
@@ -13,11 +13,11 @@ pub use Rattle.sgf_outline.specs.FileOrder.{IsLeaf, node_at, ordered_nodes, Orde
 pub use Rattle.sgf_outline.specs.Traversal.{IsTakenOff}
 pub use Rattle.sgf_outline.specs.Tree.{Games, lone_property, Node, node_count, Property, told_property, values}
 pub use Rattle.tree_lines.specs.declared.sequence_cursor.Front.{Front}
-pub use Rattle.tree_lines.specs.Cursor.{advanced, CursorState, IsAfterPlace}
+pub use Rattle.tree_lines.specs.Cursor.{advanced, CursorState}
 pub use Rattle.tree_lines.specs.Following.{Continues, first_after, line_before, line_in, nodes_before, nodes_of, numbers_before, path_before}
 pub use Rattle.tree_lines.specs.Lines.{last_number, Line, lines}
 pub use Rattle.tree_lines.specs.Paths.{Path, paths}
-pub use Rattle.tree_lines.specs.Sequences.{nodes_in, RiseTo, SequencesState, SharesFront}
+pub use Rattle.tree_lines.specs.Sequences.{nodes_in, SequencesState, SharesFront}
 pub use Rattle.board_points.specs.Point.{IsRectOn}
 unfoldable pub use Rattle.board_points.specs.Point.{points}
 unfoldable pub use Rattle.board_points.specs.Values.{point_value, rect_value}
@@ -29,7 +29,7 @@ pub use Rattle.go_board.specs.declared.fault.TurnFault.{TurnFault}
 pub use Rattle.go_board.specs.declared.reason.Reason.{Reason}
 pub use Rattle.go_board.specs.State.{followed_by, HadSameBoardSince, starting, State, States, turned}
 pub use Rattle.judged_lines.specs.declared.judging.contents.Moves.TheVariants.{Nothing, Several}
-pub use Rattle.judged_lines.specs.declared.judging.contents.Setup.TheVariants.{Faulty, Meant}
+pub use Rattle.judged_lines.specs.declared.judging.contents.Setup.TheVariants.{Meant}
 pub use Rattle.judged_lines.specs.declared.judging.step.LegalStep.{LegalStep}
 pub use Rattle.judged_lines.specs.declared.over_lines.Before.{Before}
 pub use Rattle.judged_lines.specs.declared.over_lines.Before.TheVariants.{Held, Refused, Unheld}
@@ -40,12 +40,12 @@ pub use Rattle.judged_lines.specs.JudgedGames.{bad_size, board, game_kind, GameK
 pub use Rattle.judged_lines.specs.Judgement.{after, begun_game, board_in, IsEffectBy, IsLegalStep, IsStepOf, judged, Judgement, judging, unjudged}
 pub use Rattle.judged_lines.specs.Keeping.{fresh_plays, HasJudged, HoldsLine, HoldsVerdict, PlaysUpTo}
 pub use Rattle.judged_lines.specs.NodeContents.{first_value, Move, moves, moves_by, moves_in, players, players_in, Stones, stones, stones_in, stones_of}
-pub use Rattle.judged_lines.specs.NodeValues.{last_player, move_value, operation, operations, player_value}
+pub use Rattle.judged_lines.specs.NodeValues.{last_player, operations, player_value}
 pub use Rattle.judged_lines.specs.Plays.{all_judged_places, differ, different, judged_places, node_places, places_of, touched_places}
 pub use Rattle.judged_lines.specs.Step.{move_step, setup_step, step, step_by, turn_step}
-pub use Rattle.judged_lines.specs.Verdict.{IsVerdictAt, IsVerdictOf, judged_nodes, judged_on, score_in, verdict, verdict_at, verdict_by, verdict_of}
+pub use Rattle.judged_lines.specs.Verdict.{IsVerdictAt, judged_nodes, judged_on, score_in, verdict, verdict_at, verdict_by, verdict_of}
 pub use Rattle.judged_lines.specs.Walk.{before_root, HasIllegal, IllegalNode, IsAfter, judged_by, legal_on, LegalNode, next, no_node, one_node, Walk, walk}
 pub use Rattle.judged_lines.specs.inner.Gathered.{AddsRectangles, AreMoves, ComesAs, HoldsAlone, IsGathered, IsSetup, kind_of, setup_with_player, setup_with_stones}
-pub use Rattle.judged_lines.specs.inner.Judging.{back, back_from, back_to, IsDecided, IsScoreAt, IsScoreOf, IsStepFrom, IsStepped, IsUndecided, judgement_of, Judging, legal_by, setup_effect, size_said, state_after, state_of, verdict_in}
+pub use Rattle.judged_lines.specs.inner.Judging.{back, back_from, back_to, IsDecided, IsScoreAt, IsScoreOf, IsStepFrom, IsStepped, IsUndecided, judgement_of, Judging, legal_by, setup_effect, state_after, state_of, verdict_in}
 pub use Rattle.judged_lines.specs.declared.verdict.Verdict.TheVariants.{BadSize, NotGo}
 pub use Rattle.judged_lines.specs.inner.Keeping.{WentOn}

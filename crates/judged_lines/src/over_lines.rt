@@ -76,7 +76,7 @@ impl<'c, 'a, K: LineKeeper> OverLines<'c, 'a, K> {
         ensures stands { StandsBy self.new.before (nodes_before self.new.cursor.at) (K.holds self.new.keeper self.new.cursor) }
         ensures plays { PlaysLine K.counts self.old.before self.old.cursor.at (K.played self.old.keeper) (K.played self.new.keeper) result }
     {
-        // What is held already of the next line. After `Before::Refused` the cursor stands after that line already.
+        // What is held already of the next line. If that line was refused, the cursor stands after it.
         let held = if let Before::Refused = self.before {
             NO_FRONT
         } else {

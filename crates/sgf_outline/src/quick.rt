@@ -9,7 +9,7 @@
 //! |---|---|
 //! | `lead`: a node is recognized that is a move and then short properties, or has no properties | `SequenceNodes::next_unread` of `traversal` |
 //! | `lead`: the first property of a node such as `;B[pd]` is recognized | `Properties::next` of `sgf_properties` |
-//! | `lead`: two nodes such as `;B[pd]` are recognized by one comparison | looking at each byte, in `lead` and in `nodes` of `sgf_tree` |
+//! | `lead`: one node such as `;B[pd]`, or two, are recognized by one comparison | looking at each byte; `nodes` of `sgf_tree` uses it |
 //! | `properties`: a property with a name of two letters and a short value is recognized by one comparison | the same |
 
 pub(crate) mod lead;

@@ -147,7 +147,7 @@ enum Comes<'w> {
 }
 
 /// Whether the text's first node comes as wanted.
-fn leads(alloc: Global, text: &str, names: &[[u8; 2]], want: Comes<'_>) -> bool {
+fn first_comes(alloc: Global, text: &str, names: &[[u8; 2]], want: Comes<'_>) -> bool {
     match read(alloc, text.as_bytes()) {
         Ok(collection) => next_is(collection.outline(), names, want),
         Err(_) => false,
@@ -258,28 +258,28 @@ const UNREAD: [&str; 35] = [
 ];
 
 #[test]
-fn nodes_one_after_another(rt: HostRuntime) {
+fn first_nodes(rt: HostRuntime) {
     for &(text, names) in &LED {
         assert!(rt;
-            leads(rt.alloc(), text, &SETUP, Comes::Led(names)),
+            first_comes(rt.alloc(), text, &SETUP, Comes::Led(names)),
             "of {text:?}"
         );
     }
     for &text in &UNREAD {
         assert!(rt;
-            leads(rt.alloc(), text, &SETUP, Comes::Unread),
+            first_comes(rt.alloc(), text, &SETUP, Comes::Unread),
             "of {text:?}"
         );
     }
 }
 
 #[test]
-fn nodes_beside_other_names(rt: HostRuntime) {
+fn nodes_beside_other_names_or_without_properties(rt: HostRuntime) {
     let setup = "(;B[pd]AB[aa]PL[W];C[012345678901234567])";
-    assert!(rt; leads(rt.alloc(), setup, &[], Comes::Led("ABPL")));
-    assert!(rt; leads(rt.alloc(), setup, &[*b"AW"], Comes::Led("ABPL")));
-    assert!(rt; leads(rt.alloc(), setup, &[*b"AW", *b"PL"], Comes::Unread));
-    assert!(rt; leads(rt.alloc(), "(;;B[pd])", &[], Comes::Empty));
-    assert!(rt; leads(rt.alloc(), "(;(;B[pd]))", &[], Comes::Empty));
-    assert!(rt; leads(rt.alloc(), "(; ;B[pd])", &[], Comes::Unread));
+    assert!(rt; first_comes(rt.alloc(), setup, &[], Comes::Led("ABPL")));
+    assert!(rt; first_comes(rt.alloc(), setup, &[*b"AW"], Comes::Led("ABPL")));
+    assert!(rt; first_comes(rt.alloc(), setup, &[*b"AW", *b"PL"], Comes::Unread));
+    assert!(rt; first_comes(rt.alloc(), "(;;B[pd])", &[], Comes::Empty));
+    assert!(rt; first_comes(rt.alloc(), "(;(;B[pd]))", &[], Comes::Empty));
+    assert!(rt; first_comes(rt.alloc(), "(; ;B[pd])", &[], Comes::Unread));
 }

@@ -66,9 +66,8 @@ pub struct PrintPast {
     table: Table,
     /// The points that were emptied. A stone that stays can bring a colouring back only on one of these.
     emptied: Emptied,
-    /// A stone is played at once only if there were fewer steps than this, so at most as many colourings. Then the newest colouring is
-    /// settled, the table sleeps and has room, and the next step isn't a full one: one comparison tells it all. It is 0 if the newest isn't
-    /// settled, or the table is awake.
+    /// A stone is played at once only if there are fewer steps than this. Then the newest colouring is settled, the table sleeps and has
+    /// room, and the next step isn't a full one: one comparison tells it all. It is 0 if the newest isn't settled, or the table is awake.
     at_once_below: usize,
 }
 
@@ -418,7 +417,7 @@ fn at_once_below(colourings: &Colourings, table: &Table) -> usize
         return 0;
     }
     let room = table.room_asleep.saturating_sub(1);
-    // until the next full step there is room, and a lone stone is kept as a point alone
+    // before the next full step, `colourings` has room for each step, and keeps only the point of a lone stone
     let steps = colourings.len() - 1;
     room.min(steps - steps % FULL + (FULL - 1))
 }

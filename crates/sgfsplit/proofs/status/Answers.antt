@@ -8,7 +8,7 @@ returns-in-Ok-clause-split c = λ name given plain words. inl (c.in-Ok.job, c.in
 pub returns-in-Ok-clause-count : goal.returns-in-Ok-clause-count
 returns-in-Ok-clause-count c = λ name file named words. inl (c.in-Ok.job, c.in-Ok.ensures.count name file named words, c.opened.ensures)
 
--- the others are written out though the prover needs no help: it then refuses a wrong body sooner
+-- the prover needs no help with the others: with an answer it refuses a wrong body sooner
 pub returns-in-Ok-clause-any : goal.returns-in-Ok-clause-any
 returns-in-Ok-clause-any c = inl (c.in-Ok.job, c.in-Ok.ensures.faultless, c.opened.ensures)
 

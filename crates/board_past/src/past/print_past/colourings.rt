@@ -166,8 +166,8 @@ impl Colourings {
         self.is_at(number, board)
     }
 
-    /// The board of the colouring with this number. It is worked out in at most `FULL` steps: back from the newest colouring, or from the
-    /// next full step after the colouring if there is one.
+    /// The board of the colouring with this number. It is worked out in at most `FULL` steps. If a full step follows the colouring, they go
+    /// back from the next one; if not, from the newest colouring.
     pub(crate) fn board_at(&self, number: usize) -> Board
         requires { number < length (all_of self.now) }
         ensures { IsNumber (all_of self.now) number result }

@@ -1,4 +1,4 @@
-use Rattle.sgf_properties.proofs.Common.{arith, common_steps}
+use Rattle.sgf_properties.proofs.Common.{arith}
 use Rattle.sgf_properties.proofs.DecimalValue.{decimal_value_more, decimal_value_take, digits_more}
 use Rattle.sgf_properties.proofs.numbers.magnitude.Goals as goal
 

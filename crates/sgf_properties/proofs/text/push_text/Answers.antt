@@ -1,4 +1,4 @@
-use Rattle.sgf_properties.proofs.Common.{arith, append_assoc, append-nil, common_steps}
+use Rattle.sgf_properties.proofs.Common.{arith, append_assoc, append-nil}
 use Rattle.sgf_properties.proofs.text.push_text.Goals as goal
 
 pub loop-rest-preserved-in-Some : goal.loop-rest-preserved-in-Some

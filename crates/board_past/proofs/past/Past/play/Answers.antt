@@ -1,4 +1,4 @@
-use Rattle.board_past.proofs.Common.{◌≡◌, false, Contains, refl, sym, ap, subst, ◌∙◌, false≢true, play, Grid, newest_grid, present_stretch, with_next}
+use Rattle.board_past.proofs.Common.{false, Contains, refl, sym, ap, subst, ◌∙◌, false≢true, play, Grid, present_stretch, with_next}
 use Rattle.board_past.proofs.RepeatLemmas.{played_new, played_refused}
 use Rattle.board_past.proofs.past.Past.play.Goals as goal
 

@@ -3,7 +3,6 @@ use Rattle.board_past.proofs.RepeatLemmas.{emptied_by_play}
 use Rattle.board_past.proofs.AtOnceLemmas.{at_once_more, at_once_same}
 use Rattle.board_past.proofs.TableLemmas.{few_all, gap_same, print_same, table_same}
 use Rattle.board_past.proofs.past.print_past.add_stone.Goals as goal
-use Rattle.board_past.proofs.past.print_past.add_stone.Goals.{In_ok-reserve-2}
 
 abbrev next_of : PastColourings → Colour → Point → Held
 next_of was k p = record { colouring = play (newest_grid was) k p; begins = false }

@@ -20,8 +20,8 @@ pub invariant_of-self : goal.invariant_of-self
 invariant_of-self c = record { tabled = c.self.invariant.tabled; emptied_in = c.reserve.ensures.emptied (all_of c.self.inside.colourings) c.self.invariant.emptied_in; at_once = c.self.invariant.at_once }
 
 -- the room alone is changed
-kept : (c : After-reserve-2) → IsPrintPast c.self.inside.colourings c.reserve-2.new.self c.reserve.new.self c.self.inside.at_once_below
-kept c =
+invariant_kept : (c : After-reserve-2) → IsPrintPast c.self.inside.colourings c.reserve-2.new.self c.reserve.new.self c.self.inside.at_once_below
+invariant_kept c =
     let was = c.self.inside in
     let held = all_of was.colourings in
     record {
@@ -31,10 +31,10 @@ kept c =
     }
 
 pub invariant_of-self-in_err-reserve-2 : goal.invariant_of-self-in_err-reserve-2
-invariant_of-self-in_err-reserve-2 c = kept (goal.at.invariant_of-self-in_err-reserve-2 c).After-reserve-2
+invariant_of-self-in_err-reserve-2 c = invariant_kept (goal.at.invariant_of-self-in_err-reserve-2 c).After-reserve-2
 
 pub invariant_of-self-in_err-add : goal.invariant_of-self-in_err-add
-invariant_of-self-in_err-add c = rw c.in_err-add.ensures.err (kept (goal.at.invariant_of-self-in_err-add c).After-reserve-2)
+invariant_of-self-in_err-add c = rw c.in_err-add.ensures.err (invariant_kept (goal.at.invariant_of-self-in_err-add c).After-reserve-2)
 
 pub overflow_cast-number : goal.overflow_cast-number
 overflow_cast-number c = Fits-of_lt (omega (arith, c.len-number.ensures, few_all (all_of c.self.inside.colourings) c.self.inside.table c.self.invariant.tabled))

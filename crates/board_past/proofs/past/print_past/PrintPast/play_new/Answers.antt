@@ -29,23 +29,23 @@ print_after_clearing-requires-clause-print c =
     let was = c.self.inside.colourings in
     c.newest.ensures was.newest was.older (awake (goal.at.print_after_clearing-requires-clause-print c).Then-is_awake) ∙ ap (λ (g : Grid). print_of g) (sym c.newest-newest.ensures)
 
--- with as many colourings, or one stone more, the number holds still
-kept : (c : After-add_stone) → IsPrintPast c.add_stone.new.colourings c.add_stone.new.table c.add_stone.new.emptied c.self.inside.at_once_below
-kept c =
+-- whether the stone was added or memory was refused, the number is still right
+invariant_kept : (c : After-add_stone) → IsPrintPast c.add_stone.new.colourings c.add_stone.new.table c.add_stone.new.emptied c.self.inside.at_once_below
+invariant_kept c =
     let is = c.add_stone.ensures in
     record { tabled = is.table; emptied_in = is.emptied; at_once = is.at_once c.self.inside.at_once_below c.self.invariant.at_once }
 
 pub invariant_of-self : goal.invariant_of-self
-invariant_of-self c = kept (goal.at.invariant_of-self c).After-add_stone
+invariant_of-self c = invariant_kept (goal.at.invariant_of-self c).After-add_stone
 
 pub invariant_of-self-then-len-self : goal.invariant_of-self-then-len-self
 invariant_of-self-then-len-self c = record { tabled = c.add_stone.ensures.table; emptied_in = c.add_stone.ensures.emptied; at_once = c.at_once_below-self-inside.ensures }
 
 pub invariant_of-self-else-len-self : goal.invariant_of-self-else-len-self
-invariant_of-self-else-len-self c = kept (goal.at.invariant_of-self-else-len-self c).After-add_stone
+invariant_of-self-else-len-self c = invariant_kept (goal.at.invariant_of-self-else-len-self c).After-add_stone
 
 pub invariant_of-self-else-is_none : goal.invariant_of-self-else-is_none
-invariant_of-self-else-is_none c = kept (goal.at.invariant_of-self-else-is_none c).After-add_stone
+invariant_of-self-else-is_none c = invariant_kept (goal.at.invariant_of-self-else-is_none c).After-add_stone
 
 added : (c : In_ok-add_stone) → c.add_stone.new.colourings ≡ with_next c.args.self.now (play (newest_grid c.args.self.now) c.args.colour c.args.point) false
 added c = c.in_ok-add_stone.ensures.ok ∙ ap (λ (past : PastColourings). with_next past (play (newest_grid past) c.args.colour c.args.point) false) c.self.view_is

@@ -1,5 +1,5 @@
-use Rattle.board_past.proofs.Common.{◌≡◌, ◌+◌, ◌<◌, cond, false, ◌++◌, [], ◌∷◌, length, reverse, refl, ap, sym, ◌∙◌, arith, rules, Fits-of_lt, false≢true, Grid, Older, PastColourings, newest_grid, with_next, is_full, IsPast, KeepRows}
-use Rattle.board_past.proofs.ColouringsLemmas.{count-all, start_fits, past_held, room_for_all, grown}
+use Rattle.board_past.proofs.Common.{◌≡◌, ◌+◌, cond, false, ◌++◌, [], ◌∷◌, length, reverse, refl, ap, sym, ◌∙◌, arith, rules, Fits-of_lt, false≢true, Grid, Older, PastColourings, newest_grid, with_next, is_full, IsPast, KeepRows}
+use Rattle.board_past.proofs.ColouringsLemmas.{start_fits, past_held, room_for_all, grown}
 use Rattle.board_past.proofs.past.print_past.colourings.Colourings.add.Goals as goal
 use Rattle.board_past.proofs.past.print_past.colourings.Colourings.add.Goals.{After-copy-self-inside, then-begins, else-begins}
 

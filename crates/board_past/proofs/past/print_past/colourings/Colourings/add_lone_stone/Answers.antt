@@ -1,4 +1,4 @@
-use Rattle.board_past.proofs.Common.{◌≡◌, ◌+◌, [], false, true, length, reverse, refl, ap, sym, subst, ◌∙◌, ◌<◌, IsTrue, arith, rules, Fits-of_lt, has_unreaching, play, IsMove, Older, PastColourings, newest_grid, with_next, is_full, is_fresh, IsFreshStone, IsPast, side_play}
+use Rattle.board_past.proofs.Common.{◌≡◌, ◌+◌, [], false, true, length, reverse, refl, ap, sym, subst, ◌∙◌, IsTrue, arith, rules, Fits-of_lt, has_unreaching, play, IsMove, Older, PastColourings, newest_grid, with_next, is_full, is_fresh, IsFreshStone, IsPast, side_play}
 use Rattle.board_past.proofs.ChangesLemmas.{alone_back}
 use Rattle.board_past.proofs.ColouringsLemmas.{count-all, start_fits, past_held, room_before_full, grown_alone}
 use Rattle.board_past.proofs.past.print_past.colourings.Colourings.add_lone_stone.Goals as goal

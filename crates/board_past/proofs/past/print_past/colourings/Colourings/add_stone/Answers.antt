@@ -1,4 +1,4 @@
-use Rattle.board_past.proofs.Common.{common_steps, ◌≡◌, ◌+◌, ◌++◌, [], ◌∷◌, false, length, reverse, refl, ap, sym, subst, ◌∙◌, ◌<◌, IsTrue, arith, rules, Fits-of_lt, has_unreaching, play, IsMove, Older, PastColourings, newest_grid, with_next, is_full, is_fresh, is_settled, IsFreshStone, IsPast, KeepRows, side_play}
+use Rattle.board_past.proofs.Common.{common_steps, ◌≡◌, ◌+◌, ◌++◌, [], ◌∷◌, false, length, reverse, refl, ap, sym, subst, ◌∙◌, IsTrue, arith, rules, Fits-of_lt, has_unreaching, play, IsMove, Older, PastColourings, newest_grid, with_next, is_full, is_fresh, is_settled, IsFreshStone, IsPast, KeepRows, side_play}
 use Rattle.board_past.proofs.ChangesLemmas.{play_cells}
 use Rattle.board_past.proofs.ColouringsLemmas.{count-all, start_fits, past_held, room_for_all, grown}
 use Rattle.board_past.proofs.past.print_past.colourings.Colourings.add_stone.Goals as goal

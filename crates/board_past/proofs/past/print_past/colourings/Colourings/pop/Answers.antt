@@ -1,14 +1,15 @@
-use Rattle.board_past.proofs.Common.{◌≡◌, ◌+◌, ◌≤◌, ◌++◌, [], ◌∷◌, List, length, reverse, refl, ap, sym, subst, ◌∙◌, arith, rules, reverse-append, take_rest, Grid, Change, Older, AreKept}
+use Rattle.board_past.proofs.Common.{◌≡◌, ◌+◌, ◌≤◌, ◌++◌, [], ◌∷◌, List, length, reverse, refl, ap, sym, subst, ◌∙◌, arith, rules, reverse-append, take_rest, Older, AreKept}
 use Rattle.board_past.proofs.ColouringsLemmas.{past-pop}
 use Rattle.board_past.proofs.past.print_past.colourings.Colourings.pop.Goals as goal
 use Rattle.board_past.proofs.past.print_past.colourings.Colourings.pop.Goals.{After-unwrap-kept}
 
--- what is kept of the colouring that gets the newest
+-- the colouring that gets the newest comes first, and those before it follow
 turned : (c : After-unwrap-kept) → reverse c.self.inside.older.items ≡ c.unwrap-kept.result ∷ reverse c.pop.new.self.items
 turned c =
     let parts : c.self.inside.older.items ≡ c.pop.new.self.items ++ c.unwrap-kept.result ∷ [] = search rules in
     ap reverse parts ∙ reverse-append c.pop.new.self.items (c.unwrap-kept.result ∷ [])
 
+-- what is kept of the colouring that gets the newest
 kept-first : (c : After-unwrap-kept) → AreKept c.self.inside.newest (c.unwrap-kept.result ∷ reverse c.pop.new.self.items) c.self.inside.changes.items
 kept-first c = subst (λ (os : List Older). AreKept c.self.inside.newest os c.self.inside.changes.items) (turned c) c.self.invariant.0.kept
 

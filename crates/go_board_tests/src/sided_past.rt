@@ -1,4 +1,4 @@
-//! A past of boards of one side, so that the calls of it need no more than a board of this side.
+//! A past whose boards all have one side. Its calls ask for a board of this side, or for a point on it, and for nothing else.
 
 ghost use Rattle.std.specs.Prelude.{◌≡◌, ◌≤◌, length};
 ghost use Rattle.board_past.specs.Past.{HaveSide};
@@ -11,14 +11,14 @@ use std::process::Abort;
 
 /// A past, and the side of its boards.
 #[derive(Drop)]
-pub(crate) struct Kept<P: Past> {
+pub(crate) struct SidedPast<P: Past> {
     past: P,
     side: u8,
     /// So many colourings can be taken back, or more.
     depth: usize,
 }
 
-impl<P: Past> Model for Kept<P> {
+impl<P: Past> Model for SidedPast<P> {
     ghost use Rattle.std.specs.Prelude.{ℕ, ◌≤◌, length};
     ghost use Rattle.board_past.specs.Past.{HaveSide};
 
@@ -29,15 +29,15 @@ impl<P: Past> Model for Kept<P> {
     ghost invariant = { λ k. HaveSide k.side (P.held k.past) × (k.depth ≤ length (P.held k.past).older) };
 }
 
-impl<P: Past> Kept<P> {
+impl<P: Past> SidedPast<P> {
     /// A past of this one colouring.
-    pub(crate) fn new(rt: &impl Abort, alloc: Global, board: &Board) -> Kept<P>
+    pub(crate) fn new(rt: &impl Abort, alloc: Global, board: &Board) -> SidedPast<P>
         ensures { result ≡ board.now.side }
     {
         let Ok(past) = P::new(alloc, board) else {
             panic!(rt; "no past")
         };
-        Kept {
+        SidedPast {
             past,
             side: board.size().side(),
             depth: 0,
@@ -85,7 +85,7 @@ impl<P: Past> Kept<P> {
         self.depth = self.depth.saturating_add(1);
     }
 
-    /// Takes back the newest colouring, if there is an older one.
+    /// Takes back the newest colouring, if `depth` isn't 0.
     pub(crate) fn pop(&mut self)
         ensures { self.new ≡ self.old }
     {
@@ -95,7 +95,7 @@ impl<P: Past> Kept<P> {
         }
     }
 
-    /// Plays a stone, if its point is empty. Returns whether the past has one colouring more. It isn't counted in `depth`.
+    /// Plays a stone, if its point is empty, and returns whether the past has one colouring more. That one isn't counted in `depth`.
     pub(crate) fn play(&mut self, rt: &impl Abort, colour: Colour, point: Point) -> bool
         requires { IsOn self.old point }
         ensures { self.new ≡ self.old }
@@ -111,7 +111,7 @@ impl<P: Past> Kept<P> {
         added
     }
 
-    /// Colours one point of the newest colouring, which then begins a stretch. It isn't counted in `depth`.
+    /// Colours one point of the newest colouring. What comes of it begins a stretch, and isn't counted in `depth`.
     pub(crate) fn set_up(&mut self, rt: &impl Abort, cell: Cell, point: Point)
         requires { IsOn self.old point }
         ensures { self.new ≡ self.old }
