@@ -1,4 +1,5 @@
-use Rattle.key_trie.proofs.Common.{◌≡◌, suc, ◌+◌, ◌-◌, ◌<◌, ◌≤◌, ◌∙◌, ℕ, Bool, false, List, length, arith, rules, sym, ap, subst, inl, inr, cases_eq, false≢true, Node, IsTrieOf, IsOnWay, GoesOn, after_steps, depth_of, child_of}
+use Rattle.key_trie.proofs.Common.{◌≡◌, suc, ◌+◌, ◌-◌, ◌<◌, ◌≤◌, ◌∙◌, ℕ, Bool, false, List, length, arith, rules, sym, ap, subst, inl, inr, cases_eq, Node, IsTrieOf, IsOnWay, GoesOn, after_steps, depth_of, child_of}
+use Rattle.std.proofs.lemmas.Grind.{common_steps}
 use Rattle.key_trie.proofs.TrieLemmas.{trie_tree, way_begins, way_goes_on, way_names}
 use Rattle.key_trie.proofs.trie.Trie.passes.Goals as goal
 
@@ -60,7 +61,4 @@ down-preserved g c =
 
 -- only there for speed
 pub returns-then-deeper-depth : goal.returns-then-deeper-depth
-returns-then-deeper-depth g c = (λ no. absurd (false≢true no), λ all.
-    let nodes = c.as_slice-nodes.result.now in
-    let here = subst (λ (xs : List Node). GoesOn xs (g.K.Key.bits c.args.key.now) c.args.end c.down.counter) (sym c.as_slice-nodes.ensures.value) (all c.down.counter c.down-test.true) in
-    absurd (omega (arith, here, c.from-deeper.ensures ∙ ap (depth_of nodes) c.down.invariant.below, c.down.invariant.depth, c.then-deeper-depth.either)))
+returns-then-deeper-depth g c = grind (arith, common_steps)
